@@ -13,7 +13,7 @@ use Rattle.snoop_trace.specs.declared.step.Step.{Step}
 use Rattle.snoop_trace.specs.declared.step.Step.TheVariants.{Ask, Order, Respond}
 use Rattle.snoop_rules.specs.declared.names.CacheEvent.{CacheEvent}
 use Rattle.snoop_rules.specs.declared.names.CacheState.{CacheState}
-use Rattle.snoop_rules.specs.declared.names.CacheState.TheVariants.{I, IsAd, IsD, ImAd, ImD, S, SmAd, SmD, E, M, EiA, MiA, IiA}
+use Rattle.snoop_rules.specs.declared.names.CacheState.TheVariants.{I}
 use Rattle.snoop_rules.specs.declared.names.MemEvent.{MemEvent}
 use Rattle.snoop_rules.specs.declared.names.Request.{Request}
 use Rattle.snoop_rules.specs.declared.names.Request.TheVariants.{GetS, GetM, PutM}
@@ -49,35 +49,11 @@ has_in_range f line a (suc n) k low high has = elim (cases_eq k a) [
 
 has_unless_i : (requestor : ℕ) (s : CacheState) (line : Taken) → (DoesNothing (Order requestor) s → ⊥) → Contains (unless_i s line) line
 has_unless_i requestor I line h = absurd (h tt)
-has_unless_i requestor IsAd line h = has_one line
-has_unless_i requestor IsD line h = has_one line
-has_unless_i requestor ImAd line h = has_one line
-has_unless_i requestor ImD line h = has_one line
-has_unless_i requestor S line h = has_one line
-has_unless_i requestor SmAd line h = has_one line
-has_unless_i requestor SmD line h = has_one line
-has_unless_i requestor E line h = has_one line
-has_unless_i requestor M line h = has_one line
-has_unless_i requestor EiA line h = has_one line
-has_unless_i requestor MiA line h = has_one line
-has_unless_i requestor IiA line h = has_one line
+has_unless_i requestor _ line h = has_one line
 
 event_unless : (asking : Op) (s : CacheState) → ((asking ≡ op.Evict) × (s ≡ I) → ⊥) → event_asked asking s ≡ Some (asked asking)
-event_unless op.Load s h = refl
-event_unless (op.Store v) s h = refl
 event_unless op.Evict I h = absurd (h (refl, refl))
-event_unless op.Evict IsAd h = refl
-event_unless op.Evict IsD h = refl
-event_unless op.Evict ImAd h = refl
-event_unless op.Evict ImD h = refl
-event_unless op.Evict S h = refl
-event_unless op.Evict SmAd h = refl
-event_unless op.Evict SmD h = refl
-event_unless op.Evict E h = refl
-event_unless op.Evict M h = refl
-event_unless op.Evict EiA h = refl
-event_unless op.Evict MiA h = refl
-event_unless op.Evict IiA h = refl
+event_unless _ _ h = refl
 
 module _ (s : Situation) (g : Invariant s) where
   both_there : (core block : ℕ) → core < s.shape.cores → block < s.shape.blocks → nat_lt core s.shape.cores && nat_lt block s.shape.blocks ≡ true

@@ -1,9 +1,9 @@
 -- Only an Ask moves its core out of I.
 use Rattle.std.proofs.Common.{◌≡◌, ◌⊎◌, ℕ, ◌≤◌, Bool, true, false, List, [], length, Some, None, Option, refl, sym, ap, subst, ◌∙◌, inl, inr, arith}
-use Rattle.std.specs.Prelude.{◌==◌, ◌&&◌, ◌%◌, IfNone, IfSome, Ok, nat_lt, slice_get, unwrap_or, replicate, slice_index_or, slice_set, if◌then◌else◌}
+use Rattle.std.specs.Prelude.{◌==◌, ◌&&◌, ◌%◌, IfNone, IfSome, Ok, nat_lt, slice_get, unwrap_or, slice_index_or, slice_set, if◌then◌else◌}
 use Rattle.std.specs.Option.{option_map_or}
 use Rattle.std.proofs.lemmas.Bool.{cases_lt, le-ltb}
-use Rattle.std.proofs.lemmas.List.{get_or-replicate, get_or_past, length-replicate}
+use Rattle.std.proofs.lemmas.List.{get_or_past}
 use Rattle.snoop_trace.specs.Extent.{Extent}
 use Rattle.snoop_trace.specs.declared.protocol.Protocol.{Protocol}
 use Rattle.snoop_trace.specs.declared.protocol.Protocol.TheVariants.{Msi, Mesi}
@@ -15,7 +15,7 @@ use Rattle.snoop_rules.specs.declared.names.CacheEvent.{CacheEvent}
 use Rattle.snoop_rules.specs.declared.names.CacheState.{CacheState}
 use Rattle.snoop_rules.specs.declared.names.CacheState.TheVariants.{I}
 use Rattle.snoop_rules.specs.declared.names.Payload.{Payload}
-use Rattle.snoop_rules.specs.declared.names.Payload.TheVariants.{Data, DataE, NoData, NoDataE}
+use Rattle.snoop_rules.specs.declared.names.Payload.TheVariants.{Data}
 use Rattle.snoop_rules.specs.declared.names.Request.{Request}
 use Rattle.snoop_rules.specs.declared.names.Request.TheVariants.{GetS, GetM, PutM}
 use Rattle.snoop_rules.specs.Cell.{cell_of}
@@ -25,7 +25,7 @@ use Rattle.snoop_history.specs.declared.items.Item.{Item}
 use Rattle.snoop_blocks.specs.CoreSet.{Puts, has, set_of}
 use Rattle.snoop_bus.specs.Queues.{queue_of}
 use Rattle.snoop_bus.specs.Traffic.{Open}
-use Rattle.snoop_model.specs.Pictures.Situation.{IsHead, Situation, nothing_there, picture_of, reset, state_of, untouched}
+use Rattle.snoop_model.specs.Pictures.Situation.{IsHead, Situation, nothing_there, picture_of, state_of}
 use Rattle.snoop_model.specs.declared.replies.Reply.{Reply}
 use Rattle.snoop_model.specs.Pictures.Lines.{Line}
 use Rattle.snoop_model.specs.Pictures.Picture.{Picture, held_at, held_by, nothing_held, with_line}
@@ -43,28 +43,16 @@ use Rattle.snoop_engine.proofs.TakenLemmas.{same_shape}
 -- a request that a core in I sees leaves it there
 seen_row : (p : Protocol) (own_one : Bool) (request : Request) (row : CacheCell) → cell_of p I (if own_one then own request else other request) ≡ Some row → row.next ≡ I
 seen_row Msi true GetS row h = cc
-seen_row Msi true GetM row h = cc
-seen_row Msi true PutM row h = cc
 seen_row Msi false GetS row h = cc
-seen_row Msi false GetM row h = cc
-seen_row Msi false PutM row h = cc
 seen_row Mesi true GetS row h = cc
-seen_row Mesi true GetM row h = cc
-seen_row Mesi true PutM row h = cc
 seen_row Mesi false GetS row h = cc
-seen_row Mesi false GetM row h = cc
-seen_row Mesi false PutM row h = cc
+seen_row _ _ _ row h = cc
 
 -- no data comes to a core in I
 no_row : (p : Protocol) (payload : Payload) → option_map_or (λ event. cell_of p I event) (arrival payload) None ≡ None
 no_row Msi Data = refl
-no_row Msi DataE = refl
-no_row Msi NoData = refl
-no_row Msi NoDataE = refl
 no_row Mesi Data = refl
-no_row Mesi DataE = refl
-no_row Mesi NoData = refl
-no_row Mesi NoDataE = refl
+no_row _ _ = refl
 
 no_fill : (p : Protocol) (payload : Payload) (event : CacheEvent) (row : CacheCell) → arrival payload ≡ Some event → cell_of p I event ≡ Some row → ⊥
 no_fill p payload event row comes is =
@@ -171,26 +159,6 @@ follow_ask old new asker on word asking answer sets next are few goes puts =
           (let is : has (set_of next on) asker ≡ false = subst (λ (k : ℕ). has (set_of next on) k ≡ false) it.0 (subst (λ (b : ℕ). has (set_of next b) core ≡ false) it.1 out) in
           cc) in
           stays_in_i old new (Ask asker on word asking) answer goes core block another (are.others block core (sym (puts.apart block core (λ here same. another (same, here))) ∙ out));
-    }
-
--- at reset each core is in I of each block
-pub asks_none : (protocol : Protocol) (shape : Extent) (sets : List (List ℕ)) → length sets ≡ shape.blocks → AreAskers (reset protocol shape) sets
-asks_none protocol shape sets long =
-    let idle : (core : ℕ) → held_at (replicate shape.cores nothing_held) core ≡ nothing_held = λ core.
-    (elim (cases_lt core shape.cores) [
-      | inl there ↦ get_or-replicate shape.cores core nothing_held nothing_held there
-      | inr past ↦
-          let many : length (replicate shape.cores nothing_held) ≡ shape.cores = length-replicate shape.cores nothing_held in
-          get_or_past (replicate shape.cores nothing_held) core nothing_held (omega arith)
-    ]) in
-    record {
-      many = long;
-      others = λ block core out. elim (cases_lt block shape.blocks) [
-        | inl there ↦ ap (λ (x : Picture). (held_by x core).state) (get_or-replicate shape.blocks block (untouched protocol shape.cores) nothing_there there) ∙ ap (λ (l : Line). l.state) (idle core)
-        | inr past ↦
-            let many : length (replicate shape.blocks (untouched protocol shape.cores)) ≡ shape.blocks = length-replicate shape.blocks (untouched protocol shape.cores) in
-            ap (λ (x : Picture). (held_by x core).state) (get_or_past (replicate shape.blocks (untouched protocol shape.cores)) block nothing_there (omega arith))
-      ];
     }
 
 found_at : (there : Bool) (state : CacheState) → (let found : Option CacheState = if there then Some state else None in found ≡ Some I) → state ≡ I

@@ -12,11 +12,10 @@ use Rattle.snoop_trace.specs.declared.step.Step.TheVariants.{Ask, Order, Respond
 use Rattle.snoop_trace.specs.declared.step.Work.{Work}
 use Rattle.snoop_trace.specs.declared.protocol.Protocol.{Protocol}
 use Rattle.snoop_history.specs.declared.items.Item.{Item}
-use Rattle.snoop_rules.specs.Waits.{waiting_request}
 use Rattle.snoop_model.specs.declared.replies.Reply.{Reply}
 use Rattle.snoop_model.specs.declared.replies.Refused.{Refused}
 use Rattle.snoop_model.specs.Moves.Move.{FirstMove}
-use Rattle.snoop_model.specs.Pictures.Situation.{Situation, picture_of, reset, state_of}
+use Rattle.snoop_model.specs.Pictures.Situation.{Situation, reset}
 use Rattle.snoop_model.specs.Runs.Run.{FirstRunFrom, RunsGoOn, TheRun}
 use Rattle.snoop_model.specs.Turns.Serving.{IsUnderWay}
 use Rattle.snoop_model.specs.Turns.Turn.{turn_of}
@@ -33,9 +32,8 @@ use Rattle.snoop_engine.specs.Todo.{Todo, block_of_work, left_in, nothing_to_do,
 use Rattle.snoop_engine.proofs.CourseLemmas.{driver_leads, fewer_in_order, in_order_ends, in_order_leads}
 use Rattle.snoop_engine.proofs.Driving.{first_in, fit_begins, fit_idles, fit_moves, goes_begun, goes_on, over_idle, over_now, takes_first}
 use Rattle.snoop_engine.proofs.Fewer.{leaves_fewer, left_same}
-use Rattle.snoop_engine.proofs.InOrderLemmas.{at_rest, begun_asks, begun_enabled, begun_fit, begun_takes_up, begun_under_way, begun_within, goes_on_asks_nothing, goes_on_enabled, goes_on_under_way, in_order_moves}
+use Rattle.snoop_engine.proofs.InOrderLemmas.{at_rest, begun_enabled, begun_fit, begun_takes_up, begun_under_way, begun_within, goes_on_enabled, in_order_moves, under_way_asks_nothing}
 use Rattle.snoop_engine.proofs.InOrderLemmas as order
-use Rattle.snoop_engine.proofs.RowLemmas.{under_way_asks_nothing}
 use Rattle.snoop_engine.proofs.Rounds.{all_done}
 use Rattle.snoop_engine.proofs.TakenLemmas.{run_more}
 
@@ -168,8 +166,8 @@ module _ (go_on : RunsGoOn) (protocol : Protocol) (shape : Extent) where
     by_step : (work : Work) → (todo_of lanes core).work ≡ Some work → (r : Option Step) → r ≡ turn_of s core work.block work.word work.op true → Ends s lanes (core ∷ turns)
     by_step work works None is = by_left (over_now turn_rule s lanes (core ∷ turns) fit core has_core work works None is) (todo_of lanes core).left refl
     by_step work works (Some step) is =
-        let own = under_way_asks_nothing (waiting_request (state_of s core work.block)) (picture_of s work.block).transaction core work.block step (sym is) in
-        by lanes step fit (own.2 (lanes_under_way lanes)) (goes_on turn_rule s lanes (core ∷ turns) fit core has_core work works (Some step) is)
+        let own = under_way_asks_nothing s core work.block work.word work.op (Some step) is in
+        by lanes step fit (own.1 (lanes_under_way lanes)) (goes_on turn_rule s lanes (core ∷ turns) fit core has_core work works (Some step) is)
         (λ k. ap (λ (o : Option Work). option_to_list o ++ (todo_of lanes k).left) (sym (no_ask step own.0 k)))
 
     by_work : (work : Option Work) → (todo_of lanes core).work ≡ work → Ends s lanes (core ∷ turns)
@@ -196,12 +194,12 @@ module _ (go_on : RunsGoOn) (protocol : Protocol) (shape : Extent) where
       (run : TheRun protocol shape before answered s) (fit : IsInOrder s left row) (few : remaining_in_order (record { situation = s; left = left; row = row }) < suc fuel) where
     -- by one step more
     then : (rest : List Row) (next : Option Row) (step : Step) → IsInOrder s rest next → IsUnderWay (in_order.row_under_way s.shape next) step → IsEnabled s step
-        → TakesUpNext (record { situation = s; left = left; row = row }) step (record { situation = s; left = rest; row = next }) → EndsSo s left row
+        → TakesUpNext (record { situation = s; left = left; row = row }) step rest → EndsSo s left row
     then rest next step fit_next its enabled takes =
         let one = taken before answered s run step enabled in
         let old : InOrder = record { situation = s; left = left; row = row } in
         let new : InOrder = record { situation = one.1.0; left = rest; row = next } in
-        let follows : FollowsInOrder old step one.0 new = record { entry = one.1.1.0; move = one.1.1.1; takes_up = record { first = takes.first; left = takes.left; asked = takes.asked; rest = takes.rest } } in
+        let follows : FollowsInOrder old step one.0 new = record { entry = one.1.1.0; move = one.1.1.1; takes_up = takes } in
         let fewer : remaining_in_order new < remaining_in_order old = fewer_in_order old new step one.0 follows in
         let later =
         again (before ++ step ∷ []) (answered ++ Ok one.0 ∷ []) one.1.0 rest next
@@ -209,10 +207,8 @@ module _ (go_on : RunsGoOn) (protocol : Protocol) (shape : Extent) where
         (in_order_moves s one.1.0 rest next step one.0 one.1.1.0 fit_next its one.1.1.1) (omega (arith, fewer, few)) in
         (step ∷ later.0, (Ok one.0 ∷ later.1.0, (later.1.1.0, in_order_leads old new step one.0 follows later.0 later.1.0 later.1.1.0 later.1.1.1)))
 
-    then_left : ServesOnly s.shape nothing s → (rows : List Row) → left ≡ rows → EndsSo s left row
-    then_left serves [] none =
-        let at : InOrder = record { situation = s; left = left; row = row } in
-        ([], ([], (s, in_order_ends at at (record { situation = refl; left = none; quiet = at_rest s serves }))))
+    then_left : ServesOnly nothing s → (rows : List Row) → left ≡ rows → EndsSo s left row
+    then_left serves [] none = ([], ([], (s, in_order_ends (record { situation = s; left = left; row = row }) none (at_rest s serves))))
     then_left serves (next ∷ rest) first =
         let within = (begun_within s left rest next first fit.within).0 in
         let block : ℕ = next.address / s.shape.block_bytes in
@@ -228,14 +224,13 @@ module _ (go_on : RunsGoOn) (protocol : Protocol) (shape : Extent) where
     then_step own its at (Some step) is =
         let block : ℕ = own.address / s.shape.block_bytes in
         let word : ℕ = word_asked s.shape own.address own.op in
-        let asks_nothing : is_ask step ≡ false = goes_on_asks_nothing s own at.limits at.begun block word refl refl at.serves (Some step) is in
-        let under = goes_on_under_way s own at.limits at.begun block word refl refl at.serves (Some step) is in
-        then left row step fit (subst (λ (o : Option Row). IsUnderWay (in_order.row_under_way s.shape o) step) (sym its) under)
+        let none = under_way_asks_nothing s own.core block word own.op (Some step) is in
+        then left row step fit (none.1 (in_order.row_under_way s.shape row))
         (goes_on_enabled s own at.limits at.begun block word refl refl at.serves (Some step) is)
-        (order.asks_nothing_more (record { situation = s; left = left; row = row }) (record { situation = s; left = left; row = row }) step asks_nothing refl)
+        (order.asks_nothing_more (record { situation = s; left = left; row = row }) step none.0)
 
     then_row : (own : Option Row) → row ≡ own → EndsSo s left row
-    then_row None none = then_left (subst (λ (o : Option Row). ServesOnly s.shape (in_order.row_under_way s.shape o) s) none fit.serves) left refl
+    then_row None none = then_left (subst (λ (o : Option Row). ServesOnly (in_order.row_under_way s.shape o) s) none fit.serves) left refl
     then_row (Some own) its =
         then_step own its (subst (λ (o : Option Row). IsInOrder s left o) its fit)
         (turn_of s own.core (own.address / s.shape.block_bytes) (word_asked s.shape own.address own.op) own.op true) refl

@@ -15,55 +15,80 @@ use Rattle.snoop_model.specs.declared.replies.Reply.{Reply}
 use Rattle.snoop_model.specs.declared.replies.Refused.{Refused}
 use Rattle.snoop_model.specs.Pictures.Situation.{Situation, reset}
 use Rattle.snoop_model.specs.Moves.Move.{FirstMove}
-use Rattle.snoop_model.specs.Runs.Run.{FirstRunFrom}
+use Rattle.snoop_model.specs.Runs.Run.{FirstRunFrom, GoesFirst, TheRun}
 use Rattle.snoop_model.specs.Turns.Quiet.{IsQuiet}
 use Rattle.snoop_model.specs.Turns.Serving.{steps_owed, steps_paid}
 use Rattle.snoop_model.proofs.Turns.Laws.{turn_rule}
-use Rattle.snoop_engine.specs.Courses.{Leading, LeadsOn}
-use Rattle.snoop_engine.specs.InOrder.{EndsInOrder, FindsInOrder, FollowsInOrder, InOrder, IsDoneInOrder, LeadsToRest, remaining_in_order}
+use Rattle.snoop_engine.specs.Courses.{CanEnd, HoldsAtEnd, Leading, LeadsOn}
+use Rattle.snoop_engine.specs.InOrder.{EndsInOrder, FindsInOrder, FollowsInOrder, InOrder, LeadsToRest, remaining_in_order}
 use Rattle.snoop_engine.specs.Inputs.{StepsServe, StepsServeSerially}
 use Rattle.snoop_engine.specs.Journey.{IsAtTheEnd, IsAtTheStart}
-use Rattle.snoop_engine.specs.Round.{Finds, Advances, IsDone, Progress, TakesUp, remaining}
-use Rattle.snoop_engine.specs.Serial.{all_asks, ask_for, is_ask}
-use Rattle.snoop_engine.specs.Served.{ask_of, asks_of}
-use Rattle.snoop_engine.specs.Todo.{Todo, todo_of}
+use Rattle.snoop_engine.specs.Round.{Finds, Advances, IsDone, Progress, TakesUp}
+use Rattle.snoop_engine.specs.Serial.{ServesSerially, all_asks, ask_for, is_ask}
+use Rattle.snoop_engine.specs.Served.{Serves, ask_of, asks_of}
+use Rattle.snoop_engine.specs.Todo.{Todo}
 use Rattle.snoop_engine.proofs.Fewer.{leaves_fewer}
 use Rattle.snoop_engine.proofs.Journeys.{end_serves, owed_reset}
 use Rattle.snoop_engine.proofs.SerialLemmas.{asks_among, asks_of_rows}
-use Rattle.snoop_engine.proofs.TakenLemmas.{same_shape}
+use Rattle.snoop_engine.proofs.TakenLemmas.{run_more, same_shape}
 
--- what leads on from here leads on from the first place too, after the steps so far
-pub record Gathered (first now : Leading) (steps : List Step) : Type 0 where
+-- what leads on from here leads on from the first place too, after these steps
+abbrev pub LeadsFrom : Leading → Leading → List Step → List (Result Reply Refused) → Type 0
+LeadsFrom first now steps outcomes =
+    (rest : List Step) (more : List (Result Reply Refused)) (final : Situation) → now rest more final → first (steps ++ rest) (outcomes ++ more) final
+
+pub leads_more : (first now next : Leading) (steps : List Step) (outcomes : List (Result Reply Refused)) (step : Step) (outcome : Result Reply Refused)
+    → LeadsFrom first now steps outcomes → LeadsOn now step outcome next → LeadsFrom first next (steps ++ step ∷ []) (outcomes ++ outcome ∷ [])
+leads_more first now next steps outcomes step outcome far on rest more final h =
+    rw (append_assoc steps (step ∷ []) rest, append_assoc outcomes (outcome ∷ []) more) (far (step ∷ rest) (outcome ∷ more) final (on rest more final h))
+
+pub leads_all : (first now : Leading) (steps : List Step) (outcomes : List (Result Reply Refused)) (final : Situation) → LeadsFrom first now steps outcomes
+    → now [] [] final → first steps outcomes final
+leads_all first now steps outcomes final far over = rw (append-nil steps, append-nil outcomes) at (far [] [] final over)
+
+-- some steps of a course were taken, from reset to here, and it can go on to its end
+pub record Along (protocol : Protocol) (shape : Extent) (first now : Leading) (here : Situation) : Type 0 where
+  pub steps : List Step
   pub outcomes : List (Result Reply Refused)
-  pub leads : (rest : List Step) (more : List (Result Reply Refused)) (final : Situation) → now rest more final → first (steps ++ rest) (outcomes ++ more) final
+  pub run : TheRun protocol shape steps outcomes here
+  pub leads : LeadsFrom first now steps outcomes
+  pub can_end : CanEnd now
 
-pub gathered_none : (first : Leading) (steps : List Step) → steps ≡ [] → Gathered first first steps
-gathered_none first steps e = record {
-  outcomes = [];
-  leads = λ rest more final h. subst (λ (l : List Step). first (l ++ rest) more final) (sym e) h;
-}
+unfoldable pub along_none : (protocol : Protocol) (shape : Extent) (first : Leading) (here : Situation) → here ≡ reset protocol shape → CanEnd first
+    → Along protocol shape first first here
+along_none protocol shape first here at end = record { steps = []; outcomes = []; run = at; leads = λ rest more final h. h; can_end = end }
 
-module _ (first now : Leading) (steps : List Step) (far : Gathered first now steps) where
-  pub gathered_more : (next : Leading) (step : Step) (outcome : Result Reply Refused) (grown : List Step) → grown ≡ steps ++ step ∷ [] → LeadsOn now step outcome next → Gathered first next grown
-  gathered_more next step outcome grown e on = record {
-    outcomes = far.outcomes ++ outcome ∷ [];
-    leads = λ rest more final h.
-        (let later : first (steps ++ step ∷ rest) (far.outcomes ++ outcome ∷ more) final = far.leads (step ∷ rest) (outcome ∷ more) final (on rest more final h) in
-        let answered : first (steps ++ step ∷ rest) ((far.outcomes ++ outcome ∷ []) ++ more) final =
-        subst (λ (l : List (Result Reply Refused)). first (steps ++ step ∷ rest) l final) (sym (append_assoc far.outcomes (outcome ∷ []) more)) later in
-        subst (λ (l : List Step). first l ((far.outcomes ++ outcome ∷ []) ++ more) final) (sym (append_assoc steps (step ∷ []) rest) ∙ ap (λ (l : List Step). l ++ rest) (sym e)) answered);
-  }
+module _ {protocol : Protocol} {shape : Extent} {first now : Leading} {here : Situation} (along : Along protocol shape first now here) where
+  unfoldable pub along_more : (next : Leading) (step : Step) (outcome : Result Reply Refused) (after : Situation) → GoesFirst here step outcome after
+      → LeadsOn now step outcome next
+      → ((steps : List Step) (outcomes : List (Result Reply Refused)) → TheRun protocol shape steps outcomes after → CanEnd next)
+      → Along protocol shape first next after
+  along_more next step outcome after goes on can_end =
+      let run = run_more along.steps along.outcomes (reset protocol shape) here after step outcome along.run goes in
+      record {
+        steps = along.steps ++ step ∷ [];
+        outcomes = along.outcomes ++ outcome ∷ [];
+        run = run;
+        leads = leads_more first now next along.steps along.outcomes step outcome along.leads on;
+        can_end = can_end (along.steps ++ step ∷ []) (along.outcomes ++ outcome ∷ []) run;
+      }
 
-  pub gathered_all : (final : Situation) → now [] [] final → (outcomes : List (Result Reply Refused)) × ((end : Situation) × first steps outcomes end)
-  gathered_all final h =
-      let all : first (steps ++ []) (far.outcomes ++ []) final = far.leads [] [] final h in (
-        far.outcomes,
-        (
-          final,
-          subst (λ (l : List Step). first l far.outcomes final) (append-nil steps)
-              (subst (λ (l : List (Result Reply Refused)). first (steps ++ []) l final) (append-nil far.outcomes) all),
-        ),
-      )
+  -- what holds of these steps and then others to the end
+  pub ends_on : (all : Leading) → (let end = along.can_end in all (along.steps ++ end.steps) (along.outcomes ++ end.outcomes) end.final) → HoldsAtEnd first all
+  ends_on all holds =
+      let end = along.can_end in
+      record {
+        steps = along.steps ++ end.steps;
+        outcomes = along.outcomes ++ end.outcomes;
+        final = end.final;
+        way = along.leads end.steps end.outcomes end.final end.way;
+        holds = holds;
+      }
+
+  -- what holds of these steps, which are all
+  pub ends_here : (all : Leading) (final : Situation) → now [] [] final → all along.steps along.outcomes final → HoldsAtEnd first all
+  ends_here all final over holds =
+      record { steps = along.steps; outcomes = along.outcomes; final = final; way = leads_all first now along.steps along.outcomes final along.leads over; holds = holds }
 
 -- a core's Asks, one step more at the head
 asks_first : (core : ℕ) (step : Step) (steps : List Step) → option_to_list (ask_of core step) ++ asks_of steps core ≡ asks_of (step ∷ steps) core
@@ -93,14 +118,20 @@ driver_ends old new done = record {
   few = omega arith;
 }
 
+-- the driver's steps from reset serve its rows
+pub driver_served : (protocol : Protocol) (shape : Extent) (rows : List Row) (start : Progress) (steps : List Step) (outcomes : List (Result Reply Refused)) (final : Situation)
+    → IsAtTheStart protocol shape rows start → IsAtTheEnd start steps outcomes final
+    → TheRun protocol shape steps outcomes final × Serves shape rows steps outcomes final
+driver_served protocol shape rows start steps outcomes final begins end = (
+  subst (λ (s : Situation). FirstRunFrom s steps outcomes final) begins.situation end.run,
+  end_serves protocol shape rows start steps outcomes final begins.situation begins.left begins.all end,
+)
+
 pub driver_serves : (protocol : Protocol) (shape : Extent) (rows : List Row) (start : Progress) (steps : List Step) (outcomes : List (Result Reply Refused)) (final : Situation)
     → IsAtTheStart protocol shape rows start → IsAtTheEnd start steps outcomes final → StepsServe protocol shape rows steps
-driver_serves protocol shape rows start steps outcomes final begins end = record {
-  outcomes = outcomes;
-  final = final;
-  run = subst (λ (s : Situation). FirstRunFrom s steps outcomes final) begins.situation end.run;
-  serves = end_serves protocol shape rows start steps outcomes final begins.situation begins.left begins.all end;
-}
+driver_serves protocol shape rows start steps outcomes final begins end =
+    let served = driver_served protocol shape rows start steps outcomes final begins end in
+    record { outcomes = outcomes; final = final; run = served.0; serves = served.1 }
 
 -- an Ask pays for three steps
 paid_asks : (step : Step) → steps_paid step ≡ 3 * length (all_asks (step ∷ []))
@@ -158,32 +189,30 @@ module _ (old new : InOrder) (step : Step) (answer : Reply) (follows : FollowsIn
       few = omega (arith, fewer_in_order, h.few);
     }
 
-pub in_order_ends : (old new : InOrder) → IsDoneInOrder old new → EndsInOrder old [] [] old.situation
-in_order_ends old new done = record {
+pub in_order_ends : (old : InOrder) → old.left ≡ [] → IsQuiet old.situation → EndsInOrder old [] [] old.situation
+in_order_ends old none quiet = record {
   run = refl;
   taken = All-nil IsOk;
-  asked = ap (map (ask_for old.situation.shape)) (sym done.left);
-  apart = λ before after step split its. absurd (none before after step split);
-  quiet = done.quiet;
+  asked = ap (map (ask_for old.situation.shape)) (sym none);
+  apart = λ before after step split its. absurd (no_split before after step split);
+  quiet = quiet;
   few = omega arith;
 }
   where
-    none : (before after : List Step) (step : Step) → [] ≡ before ++ step ∷ after → ⊥
-    none before after step split =
+    no_split : (before after : List Step) (step : Step) → [] ≡ before ++ step ∷ after → ⊥
+    no_split before after step split =
         let long : 0 ≡ length (before ++ step ∷ after) = ap (λ (l : List Step). length l) split in
         absurd (omega (arith, long, length-append before (step ∷ after)))
 
-pub in_order_serves : (protocol : Protocol) (shape : Extent) (rows : List Row) (start : InOrder) (steps : List Step) (outcomes : List (Result Reply Refused)) (final : Situation)
-    → start.situation ≡ reset protocol shape → start.left ≡ rows → EndsInOrder start steps outcomes final → StepsServeSerially protocol shape rows steps
-in_order_serves protocol shape rows start steps outcomes final at left end =
+pub in_order_served : (protocol : Protocol) (shape : Extent) (rows : List Row) (start : InOrder) (steps : List Step) (outcomes : List (Result Reply Refused)) (final : Situation)
+    → start.situation ≡ reset protocol shape → start.left ≡ rows → EndsInOrder start steps outcomes final
+    → TheRun protocol shape steps outcomes final × ServesSerially protocol shape rows steps outcomes final
+in_order_served protocol shape rows start steps outcomes final at left end =
     let asked : all_asks steps ≡ map (ask_for shape) rows = end.asked ∙ (ap (λ (s : Situation). map (ask_for s.shape) start.left) at ∙ ap (map (ask_for shape)) left) in
     let none : steps_owed start.situation ≡ 0 = ap (λ (s : Situation). steps_owed s) at ∙ owed_reset protocol shape in
-    let all : length start.left ≡ length rows = ap (λ (l : List Row). length l) left in
-    record {
-      outcomes = outcomes;
-      final = final;
-      run = subst (λ (s : Situation). FirstRunFrom s steps outcomes final) at end.run;
-      serves = record {
+    let all : length start.left ≡ length rows = ap (λ (l : List Row). length l) left in (
+      subst (λ (s : Situation). FirstRunFrom s steps outcomes final) at end.run,
+      record {
         serves = record {
           taken = end.taken;
           asked = λ core. asks_among core steps ∙ (ap (λ (l : List Step). asks_of l core) asked ∙ asks_of_rows shape core rows);
@@ -194,8 +223,14 @@ in_order_serves protocol shape rows start steps outcomes final at left end =
         apart = λ before after step split its.
             (let rest = end.apart before after step split its in
             record { outcomes = rest.outcomes; reached = rest.reached; run = subst (λ (s : Situation). FirstRunFrom s before rest.outcomes rest.reached) at rest.run; quiet = rest.quiet });
-      };
-    }
+      },
+    )
+
+pub in_order_serves : (protocol : Protocol) (shape : Extent) (rows : List Row) (start : InOrder) (steps : List Step) (outcomes : List (Result Reply Refused)) (final : Situation)
+    → start.situation ≡ reset protocol shape → start.left ≡ rows → EndsInOrder start steps outcomes final → StepsServeSerially protocol shape rows steps
+in_order_serves protocol shape rows start steps outcomes final at left end =
+    let served = in_order_served protocol shape rows start steps outcomes final at left end in
+    record { outcomes = outcomes; final = final; run = served.0; serves = served.1 }
 
 -- a step that a driver found, taken
 module _ (before old new : Progress) (step : Step) (answer : Reply) (finds : Finds before step old) (move : (entry : Option Item) × FirstMove old.situation step answer new.situation entry) (lanes : new.lanes ≡ old.lanes) where
@@ -211,12 +246,7 @@ module _ (before old new : InOrder) (step : Step) (answer : Reply) (finds : Find
   in_order_follows = record {
     entry = move.0;
     move = subst (λ (s : Situation). FirstMove s step answer new.situation move.0) finds.situation move.1;
-    takes_up = record {
-      first = finds.takes_up.first;
-      left = finds.takes_up.left ∙ ap (λ (l : List Row). finds.takes_up.first ++ l) (sym left);
-      asked = finds.takes_up.asked;
-      rest = finds.takes_up.rest;
-    };
+    takes_up = rw left finds.takes_up;
   }
 
 -- at the end
@@ -226,4 +256,4 @@ driver_end old new None h = driver_ends old new h
 
 pub in_order_end : (old : InOrder) (r : Option Step) → IfNone r ((old.left ≡ []) × IsQuiet old.situation) → IfNone r (EndsInOrder old [] [] old.situation)
 in_order_end old (Some step) h = tt
-in_order_end old None h = in_order_ends old old (record { situation = refl; left = h.0; quiet = h.1 })
+in_order_end old None h = in_order_ends old h.0 h.1

@@ -1,5 +1,5 @@
 -- What dealing the rows to their cores gives.
-use Rattle.std.proofs.Common.{◌≡◌, ℕ, zero, suc, ◌+◌, ◌/◌, ◌<◌, Bool, true, false, cond, Option, Some, None, List, [], ◌∷◌, ◌++◌, length, map, filter, append_assoc, refl, sym, ◌∙◌, ap, subst, arith, inl, inr, ltb}
+use Rattle.std.proofs.Common.{◌≡◌, ℕ, zero, suc, ◌+◌, ◌/◌, ◌<◌, Bool, true, false, cond, Option, Some, None, List, [], ◌∷◌, ◌++◌, length, map, filter, append-nil, append_assoc, refl, sym, ◌∙◌, ap, subst, arith, inl, inr, ltb}
 use Rattle.std.specs.Prelude.{◌==◌, All, Contains, IfSome, slice_set}
 use Rattle.std.proofs.lemmas.Bool.{cases_eq, cases_lt, eq-eqb, ne_eqb, lt-ltb}
 use Rattle.std.proofs.lemmas.Option.{same_Some}
@@ -54,10 +54,6 @@ dealt_none shape all lanes within cores none = record {
   within = within;
 }
 
-append_nil : {A : Type 0} (xs : List A) → xs ++ [] ≡ xs
-append_nil [] = refl
-append_nil (x ∷ xs) = ap (λ l. x ∷ l) (append_nil xs)
-
 -- the first of the asks that are left
 pub first_within : (shape : Extent) (all rest more : List Asked) (asked : Asked) (lanes : List Todo) → Dealt shape all rest lanes → rest ≡ asked ∷ more
     → IsAskedWithin shape asked × All (IsAskedWithin shape) more
@@ -105,7 +101,7 @@ dealt_more shape all rest more asked lanes next dealt first has_lane left work =
 -- all were dealt
 pub dealt_all : (shape : Extent) (all rest : List Asked) (lanes : List Todo) → Dealt shape all rest lanes → rest ≡ [] → ((core : ℕ) → (todo_of lanes core).left ≡ works_by all core) × (left_in lanes ≡ length all)
 dealt_all shape all rest lanes dealt none = (
-  λ core. sym (append_nil (todo_of lanes core).left) ∙ (ap (λ (l : List Asked). (todo_of lanes core).left ++ works_by l core) (sym none) ∙ dealt.left core),
+  λ core. sym (append-nil (todo_of lanes core).left) ∙ (ap (λ (l : List Asked). (todo_of lanes core).left ++ works_by l core) (sym none) ∙ dealt.left core),
   (let long : left_in lanes + 0 ≡ length all = ap (λ (l : List Asked). left_in lanes + length l) (sym none) ∙ dealt.counted in omega (arith, long)),
 )
 

@@ -4,11 +4,9 @@ use Rattle.std.specs.Prelude.{Contains, All, IfSome, IfNone, option_to_list, sli
 use Rattle.std.proofs.lemmas.Bool.{cases_eq, eq-eqb, ne_eqb}
 use Rattle.std.proofs.lemmas.Option.{same_Some}
 use Rattle.std.proofs.lemmas.List.{length-set, get_or-set_same, get_or-set_other}
-use Rattle.std.proofs.lemmas.List.Elements.{All-head, All-tail, All-same, All-weaker}
+use Rattle.std.proofs.lemmas.List.Elements.{All-head, All-nil, All-tail}
 use Rattle.snoop_trace.specs.Extent.{Extent}
-use Rattle.snoop_trace.specs.Words.{HasWord, IsWord}
-use Rattle.snoop_trace.specs.declared.step.Op.{Op}
-use Rattle.snoop_trace.specs.declared.step.Op.TheVariants as op
+use Rattle.snoop_trace.specs.Words.{HasWord}
 use Rattle.snoop_trace.specs.declared.step.Step.{Step}
 use Rattle.snoop_trace.specs.declared.step.Step.TheVariants.{Ask}
 use Rattle.snoop_history.specs.declared.items.Item.{Item}
@@ -27,35 +25,19 @@ use Rattle.snoop_engine.specs.Round.{IsOver, IsEnabled, IsFit, IsIdle, IsTodoWit
 use Rattle.snoop_engine.specs.Served.{ask_of}
 use Rattle.snoop_engine.proofs.TakenLemmas.{same_shape}
 
-within_of : (o : Option Work) (w : Work) (s : Situation) → o ≡ Some w → IfSome o (IsWorkWithin s) → IsWorkWithin s w
-within_of None w s e h = cc
-within_of (Some x) w s e h = let P : Option Work → Type 0 = λ o. IfSome o (IsWorkWithin s) in subst P e h
-
 -- what lies within a shape lies within the same shape
-word_along : (s t : Situation) (word : ℕ) (asking : Op) → t.shape ≡ s.shape → HasWord s.shape word asking → HasWord t.shape word asking
-word_along s t word op.Load e h = let P : Extent → Type 0 = λ x. IsWord x word in subst P (sym e) h
-word_along s t word (op.Store stored) e h = let P : Extent → Type 0 = λ x. IsWord x word in subst P (sym e) h
-word_along s t word op.Evict e h = tt
-
-work_along : (s t : Situation) (w : Work) → t.shape ≡ s.shape → IsWorkWithin s w → IsWorkWithin t w
-work_along s t w e h = let P : Extent → Type 0 = λ x. w.block < x.blocks in (subst P (sym e) h.0, word_along s t w.word w.op e h.1)
-
 todo_along : (s t : Situation) (todo : Todo) → t.shape ≡ s.shape → IsTodoWithin s todo → IsTodoWithin t todo
 todo_along s t todo e h = record {
-  left = All-weaker (IsWorkWithin s) (IsWorkWithin t) (λ w within. work_along s t w e within) todo.left h.left;
-  work = of_work todo.work h.work;
+  left = subst (λ (x : Extent). All (λ (w : Work). (w.block < x.blocks) × HasWord x w.word w.op) todo.left) (sym e) h.left;
+  work = subst (λ (x : Extent). IfSome todo.work (λ w. (w.block < x.blocks) × HasWord x w.word w.op)) (sym e) h.work;
 }
-  where
-    of_work : (o : Option Work) → IfSome o (IsWorkWithin s) → IfSome o (IsWorkWithin t)
-    of_work None within = tt
-    of_work (Some w) within = work_along s t w e within
 
 module _ (rule : TurnLaws) (s : Situation) (lanes : List Todo) (turns : List ℕ) (fit : IsFit s lanes turns) (core : ℕ) (has_core : core < s.shape.cores) where
   module _ (work : Work) (works : (todo_of lanes core).work ≡ Some work) where
     pub goes_on : (r : Option Step) → r ≡ turn_of s core work.block work.word work.op true → IfSome r (IsEnabled s)
     goes_on None is = tt
     goes_on (Some step) is =
-        let within : IsWorkWithin s work = within_of (todo_of lanes core).work work s works (fit.within core).work in
+        let within : IsWorkWithin s work = rw works at (fit.within core).work in
         rule.never_refused s (lanes_under_way lanes) core work.block work.word work.op true step fit.serving fit.kept has_core
         within.0 within.1 (ap block_of_work works) (sym is)
 
@@ -79,9 +61,7 @@ module _ (rule : TurnLaws) (s : Situation) (lanes : List Todo) (turns : List ℕ
       }
 
   pub first_in : (w : Work) (rest : List Work) → (todo_of lanes core).left ≡ w ∷ rest → IsWorkWithin s w
-  first_in w rest e =
-      let P : Work → Type 0 = IsWorkWithin s in
-      All-head P w rest (All-same P (w ∷ rest) (todo_of lanes core).left (sym e) (fit.within core).left)
+  first_in w rest e = All-head (IsWorkWithin s) w rest (rw e at (fit.within core).left)
 
   -- a core with a turn may have any other lane, once its work is over
   pub fit_lane : IsOver lanes s core → Contains turns core → (next : Todo) → IsTodoWithin s next → IsFit s (slice_set lanes core next) turns
@@ -110,21 +90,10 @@ module _ (rule : TurnLaws) (s : Situation) (lanes : List Todo) (turns : List ℕ
 
   pub fit_begins : IsOver lanes s core → Contains turns core → (next : Todo) (w : Work) → (todo_of lanes core).left ≡ w ∷ next.left → next.work ≡ Some w → IsFit s (slice_set lanes core next) turns
   fit_begins over turn next w e its =
-      let P : Work → Type 0 = IsWorkWithin s in
-      let W : Option Work → Type 0 = λ o. IfSome o (IsWorkWithin s) in
-      fit_lane over turn next (record {
-        left = All-tail P w next.left (All-same P (w ∷ next.left) (todo_of lanes core).left (sym e) (fit.within core).left);
-        work = subst W (sym its) (first_in w next.left e);
-      })
+      fit_lane over turn next (record { left = All-tail (IsWorkWithin s) w next.left (rw e at (fit.within core).left); work = rw its (first_in w next.left e) })
 
   pub fit_idles : IsOver lanes s core → Contains turns core → (next : Todo) → next.left ≡ [] → next.work ≡ None → IsFit s (slice_set lanes core next) turns
-  fit_idles over turn next none idle =
-      let L : List Work → Type 0 = λ l. All (IsWorkWithin s) l in
-      let W : Option Work → Type 0 = λ o. IfSome o (IsWorkWithin s) in
-      fit_lane over turn next (record {
-        left = subst L (sym none) (λ i d lt. absurd (omega arith));
-        work = subst W (sym idle) tt;
-      })
+  fit_idles over turn next none idle = fit_lane over turn next (record { left = rw none (All-nil (IsWorkWithin s)); work = rw idle tt })
 
   pub goes_begun : IsOver lanes s core → (w : Work) → IsWorkWithin s w → (r : Option Step) → r ≡ Some (Ask core w.block w.word w.op) → IfSome r (IsEnabled s)
   goes_begun over w within None is = tt
@@ -166,9 +135,4 @@ fit_moves rule s t lanes turns step answer entry fit its move =
 -- what no cause refuses is refused out of memory alone
 pub only_memory : (s : Situation) (step : Step) (cause : Refused) → RefusedFor s step cause → IsEnabled s step → cause ≡ refused.NoMemory
 only_memory s step refused.NoMemory h goes = refl
-only_memory s step refused.NoCore h goes = absurd (goes refused.NoCore h)
-only_memory s step refused.NoBlock h goes = absurd (goes refused.NoBlock h)
-only_memory s step (refused.Stalled state) h goes = absurd (goes (refused.Stalled state) h)
-only_memory s step refused.NothingWaiting h goes = absurd (goes refused.NothingWaiting h)
-only_memory s step (refused.BusTaken block) h goes = absurd (goes (refused.BusTaken block) h)
-only_memory s step refused.NoTransaction h goes = absurd (goes refused.NoTransaction h)
+only_memory s step cause h goes = absurd (goes cause h)

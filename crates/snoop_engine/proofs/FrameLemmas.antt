@@ -1,5 +1,5 @@
 -- Frames: as a run, and one after another.
-use Rattle.std.proofs.Common.{◌≡◌, List, [], ◌∷◌, ◌++◌, length, refl, ap, subst, ◌∙◌, arith}
+use Rattle.std.proofs.Common.{◌≡◌, List, [], ◌∷◌, ◌++◌, refl, ap, subst, ◌∙◌}
 use Rattle.std.specs.Prelude.{Result, Ok, Err}
 use Rattle.snoop_trace.specs.declared.step.Step.{Step}
 use Rattle.snoop_model.specs.declared.replies.Reply.{Reply}
@@ -51,8 +51,3 @@ frames_keep (f ∷ fs) old new run =
 pub steps_of_on : (first rest : List Frame) → steps_of (first ++ rest) ≡ steps_of first ++ steps_of rest
 steps_of_on [] rest = refl
 steps_of_on (f ∷ fs) rest = ap (λ (l : List Step). f.step ∷ l) (steps_of_on fs rest)
-
--- as many steps as frames
-pub steps_counted : (frames : List Frame) → length (steps_of frames) ≡ length frames
-steps_counted [] = refl
-steps_counted (f ∷ fs) = let more = steps_counted fs in omega arith

@@ -23,37 +23,22 @@ dropped_on (suc (suc n)) xs more one few = absurd (omega arith)
 
 few_words : (k : Kind) → worded_by k ≤ 1
 few_words kind.Load = omega arith
-few_words kind.Store = omega arith
-few_words kind.Evict = omega arith
-few_words kind.LoadOfWord = omega arith
-few_words kind.StoreOfWord = omega arith
-few_words kind.EvictOfWord = omega arith
-few_words kind.Order = omega arith
-few_words kind.Respond = omega arith
+few_words _ = omega arith
 
 few_values : (k : Kind) → stored_by k ≤ 1
 few_values kind.Load = omega arith
-few_values kind.Store = omega arith
-few_values kind.Evict = omega arith
-few_values kind.LoadOfWord = omega arith
-few_values kind.StoreOfWord = omega arith
-few_values kind.EvictOfWord = omega arith
-few_values kind.Order = omega arith
-few_values kind.Respond = omega arith
+few_values _ = omega arith
 
 -- a head's step is the same with more words and values after its own
 step_on : (k : Kind) (h : Head) (ws mw vs mv : List ℕ) → worded_by k ≤ length ws → stored_by k ≤ length vs
     → step_by k h (slice_index_or (ws ++ mw) 0 0) (slice_index_or (vs ++ mv) 0 0) ≡ step_by k h (slice_index_or ws 0 0) (slice_index_or vs 0 0)
-step_on kind.Load h ws mw vs mv w v = refl
 step_on kind.Store h ws mw vs mv w v = ap (λ (x : ℕ). Ask h.core h.block 0 (op.Store x)) (first_on vs mv v)
-step_on kind.Evict h ws mw vs mv w v = refl
 step_on kind.LoadOfWord h ws mw vs mv w v = ap (λ (x : ℕ). Ask h.core h.block x op.Load) (first_on ws mw w)
 step_on kind.StoreOfWord h ws mw vs mv w v =
     ap (λ (x : ℕ). Ask h.core h.block x (op.Store (slice_index_or (vs ++ mv) 0 0))) (first_on ws mw w)
     ∙ ap (λ (x : ℕ). Ask h.core h.block (slice_index_or ws 0 0) (op.Store x)) (first_on vs mv v)
 step_on kind.EvictOfWord h ws mw vs mv w v = ap (λ (x : ℕ). Ask h.core h.block x op.Evict) (first_on ws mw w)
-step_on kind.Order h ws mw vs mv w v = refl
-step_on kind.Respond h ws mw vs mv w v = refl
+step_on _ h ws mw vs mv w v = refl
 
 worded_more : (hs : List Head) (h : Head) → worded_in (hs ++ h ∷ []) ≡ worded_in hs + worded_by h.kind
 worded_more [] h = omega arith

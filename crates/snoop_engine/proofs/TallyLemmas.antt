@@ -1,6 +1,6 @@
 -- Counters, one of which goes up.
-use Rattle.std.proofs.Common.{◌≡◌, ℕ, ◌+◌, ◌*◌, ◌<◌, Bool, true, false, ◌&&◌, List, [], ◌∷◌, ◌++◌, cond, filter, length, length-append, get_or, set, replicate, refl, sym, ap, ◌∙◌, inl, inr, arith}
-use Rattle.std.specs.Prelude.{◌==◌, Option, Some, None}
+use Rattle.std.proofs.Common.{◌≡◌, ℕ, ◌+◌, ◌*◌, ◌<◌, Bool, true, false, ◌&&◌, List, [], ◌∷◌, ◌++◌, cond, filter, length, length-append, get_or, set, replicate, sym, ap, ◌∙◌, inl, inr, arith}
+use Rattle.std.specs.Prelude.{◌==◌, Some}
 use Rattle.std.proofs.lemmas.Bool.{cases_eq, eq-eqb}
 use Rattle.std.proofs.lemmas.Bool.Decides.{nat_tests}
 use Rattle.std.proofs.lemmas.Grind.{common_steps}
@@ -19,56 +19,24 @@ use Rattle.snoop_engine.specs.Numbers.{event_number, memory_event_number, memory
 use Rattle.snoop_engine.specs.Counts.{takes_memory_row, takes_row}
 use Rattle.snoop_engine.specs.Tallies.{Tallies, core_place, memory_place}
 use Rattle.snoop_engine.specs.declared.taken.Taken.{Taken}
-use Rattle.snoop_engine.specs.declared.taken.Taken.TheVariants.{Core, Memory, Nobody}
+use Rattle.snoop_engine.specs.declared.taken.Taken.TheVariants.{Core, Memory}
 
 -- the numbers are within the tables
 state_within : (s : CacheState) → state_number s < 13
 state_within state.I = omega arith
-state_within state.IsAd = omega arith
-state_within state.IsD = omega arith
-state_within state.ImAd = omega arith
-state_within state.ImD = omega arith
-state_within state.S = omega arith
-state_within state.SmAd = omega arith
-state_within state.SmD = omega arith
-state_within state.E = omega arith
-state_within state.M = omega arith
-state_within state.EiA = omega arith
-state_within state.MiA = omega arith
-state_within state.IiA = omega arith
+state_within _ = omega arith
 
 event_within : (e : CacheEvent) → event_number e < 11
 event_within event.Load = omega arith
-event_within event.Store = omega arith
-event_within event.Evict = omega arith
-event_within event.OwnGetS = omega arith
-event_within event.OwnGetM = omega arith
-event_within event.OwnPutM = omega arith
-event_within event.OtherGetS = omega arith
-event_within event.OtherGetM = omega arith
-event_within event.OtherPutM = omega arith
-event_within event.Data = omega arith
-event_within event.DataE = omega arith
+event_within _ = omega arith
 
 memory_state_within : (s : MemState) → memory_state_number s < 10
 memory_state_within mem_state.IorS = omega arith
-memory_state_within mem_state.M = omega arith
-memory_state_within mem_state.IorSD = omega arith
-memory_state_within mem_state.MD = omega arith
-memory_state_within mem_state.I = omega arith
-memory_state_within mem_state.S = omega arith
-memory_state_within mem_state.EorM = omega arith
-memory_state_within mem_state.ID = omega arith
-memory_state_within mem_state.SD = omega arith
-memory_state_within mem_state.EorMD = omega arith
+memory_state_within _ = omega arith
 
 memory_event_within : (e : MemEvent) → memory_event_number e < 6
 memory_event_within mem_event.GetS = omega arith
-memory_event_within mem_event.GetM = omega arith
-memory_event_within mem_event.PutM = omega arith
-memory_event_within mem_event.Data = omega arith
-memory_event_within mem_event.NoData = omega arith
-memory_event_within mem_event.NoDataE = omega arith
+memory_event_within _ = omega arith
 
 core_below : (s : CacheState) (e : CacheEvent) → core_place s e < 143
 core_below s e = let a = state_within s in let b = event_within e in omega arith
@@ -91,32 +59,16 @@ not_equal a b ne = grind (arith, common_steps, nat_tests)
 
 -- two pairs of numbers are the same exactly if their places in rows of this width are
 same_pair_of_11 : (a b c d : ℕ) → b < 11 → d < 11 → (a == c && b == d) ≡ (a * 11 + b == c * 11 + d)
-same_pair_of_11 a b c d x y = elim (cases_eq a c) [
-  | inl e ↦ elim (cases_eq b d) [
-    | inl f ↦ rw (eq-eqb a c e, eq-eqb b d f) (sym (eq-eqb (a * 11 + b) (c * 11 + d) (omega arith)))
-    | inr f ↦ rw (eq-eqb a c e, not_equal b d f) (sym (not_equal (a * 11 + b) (c * 11 + d) (λ q. f (omega arith))))
-  ]
-  | inr e ↦ rw (not_equal a c e) (sym (not_equal (a * 11 + b) (c * 11 + d) (λ q. e (omega arith))))
-]
+same_pair_of_11 a b c d x y = grind (arith, common_steps, nat_tests)
 
 same_pair_of_6 : (a b c d : ℕ) → b < 6 → d < 6 → (a == c && b == d) ≡ (143 + a * 6 + b == 143 + c * 6 + d)
-same_pair_of_6 a b c d x y = elim (cases_eq a c) [
-  | inl e ↦ elim (cases_eq b d) [
-    | inl f ↦ rw (eq-eqb a c e, eq-eqb b d f) (sym (eq-eqb (143 + a * 6 + b) (143 + c * 6 + d) (omega arith)))
-    | inr f ↦ rw (eq-eqb a c e, not_equal b d f) (sym (not_equal (143 + a * 6 + b) (143 + c * 6 + d) (λ q. f (omega arith))))
-  ]
-  | inr e ↦ rw (not_equal a c e) (sym (not_equal (143 + a * 6 + b) (143 + c * 6 + d) (λ q. e (omega arith))))
-]
+same_pair_of_6 a b c d x y = grind (arith, common_steps, nat_tests)
 
 -- one line more, of which the test says whether its counter is the one here
 module _ (p : Taken → Bool) (lines : List Taken) (line : Taken) where
-  one_if : (b : Bool) → p line ≡ b → length (filter p (line ∷ [])) ≡ cond b 1 0
-  one_if true e = rw e refl
-  one_if false e = rw e refl
-
   one_more : (b : Bool) → p line ≡ b → length (filter p (lines ++ line ∷ [])) ≡ length (filter p lines) + cond b 1 0
-  one_more b e =
-      ap length (filter-append p lines (line ∷ [])) ∙ length-append (filter p lines) (filter p (line ∷ [])) ∙ ap (λ n. length (filter p lines) + n) (one_if b e)
+  one_more true e = rw (filter-append p lines (line ∷ []), e) (length-append (filter p lines) (line ∷ []))
+  one_more false e = rw (filter-append p lines (line ∷ []), e) (length-append (filter p lines) [])
 
   counted_more : (counters new : List ℕ) (place here : ℕ) → place < length counters → new ≡ set counters place (capped (get_or counters place 0 + 1))
       → p line ≡ (place == here) → get_or counters here 0 ≡ capped (length (filter p lines)) → get_or new here 0 ≡ capped (length (filter p (lines ++ line ∷ [])))
@@ -170,16 +122,11 @@ tallies_memory lines block met at counters new is far =
 not_counted : (p : Taken → Bool) (lines : List Taken) (line : Taken) → p line ≡ false → capped (length (filter p lines)) ≡ capped (length (filter p (lines ++ line ∷ [])))
 not_counted p lines line none = let n = one_more p lines line false none in omega (arith, n)
 
-pub tallies_no_event : (lines : List Taken) (core block : ℕ) (at : CacheState) (counters : List ℕ) → Tallies counters lines → Tallies counters (lines ++ Core core block None at ∷ [])
-tallies_no_event lines core block at counters far = record {
+pub tallies_more : (lines : List Taken) (line : Taken) (counters : List ℕ) → ((s : CacheState) (e : CacheEvent) → takes_row s e line ≡ false)
+    → ((s : MemState) (e : MemEvent) → takes_memory_row s e line ≡ false)
+    → Tallies counters lines → Tallies counters (lines ++ line ∷ [])
+tallies_more lines line counters no_row no_memory_row far = record {
   long = far.long;
-  cores = λ s e. far.cores s e ∙ not_counted (takes_row s e) lines (Core core block None at) refl;
-  memory = λ s e. far.memory s e ∙ not_counted (takes_memory_row s e) lines (Core core block None at) refl;
-}
-
-pub tallies_nobody : (lines : List Taken) (core block : Option ℕ) (counters : List ℕ) → Tallies counters lines → Tallies counters (lines ++ Nobody core block ∷ [])
-tallies_nobody lines core block counters far = record {
-  long = far.long;
-  cores = λ s e. far.cores s e ∙ not_counted (takes_row s e) lines (Nobody core block) refl;
-  memory = λ s e. far.memory s e ∙ not_counted (takes_memory_row s e) lines (Nobody core block) refl;
+  cores = λ s e. far.cores s e ∙ not_counted (takes_row s e) lines line (no_row s e);
+  memory = λ s e. far.memory s e ∙ not_counted (takes_memory_row s e) lines line (no_memory_row s e);
 }

@@ -1,6 +1,6 @@
 -- Courses of steps, to their ends.
 -- Source: this project's profile.
-use Rattle.std.specs.Prelude.{◌≡◌, List, [], ◌∷◌, Result}
+use Rattle.std.specs.Prelude.{◌≡◌, List, ◌∷◌, Result}
 use Rattle.snoop_trace.specs.declared.step.Step.{Step}
 use Rattle.snoop_model.specs.declared.replies.Reply.{Reply}
 use Rattle.snoop_model.specs.declared.replies.Refused.{Refused}
@@ -24,12 +24,12 @@ pub record CanEnd (leads : Leading) : Type 0 where
   pub way : leads steps outcomes final
 
 -- this holds of steps that lead to the end
-pub record HoldsAtEnd (leads : Leading) (all : List Step → Type 0) : Type 0 where
+pub record HoldsAtEnd (leads all : Leading) : Type 0 where
   pub steps : List Step
   pub outcomes : List (Result Reply Refused)
   pub final : Situation
   pub way : leads steps outcomes final
-  pub holds : all steps
+  pub holds : all steps outcomes final
 
 -- the steps are those that are left, and lead on from here
 abbrev pub LeadsListed : List Step → Situation → Leading

@@ -33,23 +33,23 @@ pub record IsInOrder (s : Situation) (left : List Row) (row : Option Row) : Type
   pub limits : IsWithinLimits s.shape
   pub within : All (IsRowWithin s.shape) left
   pub begun : IfSome row (IsRowWithin s.shape)
-  pub serves : ServesOnly s.shape (row_under_way s.shape row) s
+  pub serves : ServesOnly (row_under_way s.shape row) s
 
 -- the steps that may still come: three for each row that is left, and those that are owed
 abbrev pub remaining_in_order : InOrder → ℕ
 remaining_in_order d = 3 * length d.left + steps_owed d.situation
 
 -- the step asks the row that was left first, while nothing waits and nothing is open, or it asks nothing
-pub record TakesUpNext (old : InOrder) (step : Step) (new : InOrder) : Type 0 where
+pub record TakesUpNext (old : InOrder) (step : Step) (after : List Row) : Type 0 where
   pub first : List Row
-  pub left : old.left ≡ first ++ new.left
+  pub left : old.left ≡ first ++ after
   pub asked : all_asks (step ∷ []) ≡ map (ask_for old.situation.shape) first
   pub rest : is_ask step ≡ true → IsQuiet old.situation
 
 -- the step is the next one: the Ask of the row that was left first, or of the row under way, and no cause refuses it
 pub record FindsInOrder (old : InOrder) (step : Step) (new : InOrder) : Type 0 where
   pub situation : new.situation ≡ old.situation
-  pub takes_up : TakesUpNext old step new
+  pub takes_up : TakesUpNext old step new.left
   pub under_way : IsUnderWay (row_under_way new.situation.shape new.row) step
   pub enabled : IsEnabled new.situation step
 
@@ -57,13 +57,7 @@ pub record FindsInOrder (old : InOrder) (step : Step) (new : InOrder) : Type 0 w
 pub record FollowsInOrder (old : InOrder) (step : Step) (answer : Reply) (new : InOrder) : Type 0 where
   pub entry : Option Item
   pub move : FirstMove old.situation step answer new.situation entry
-  pub takes_up : TakesUpNext old step new
-
--- no row is left, and the machine is quiet
-pub record IsDoneInOrder (old new : InOrder) : Type 0 where
-  pub situation : new.situation ≡ old.situation
-  pub left : old.left ≡ []
-  pub quiet : IsQuiet old.situation
+  pub takes_up : TakesUpNext old step new.left
 
 -- these steps lead from here to rest
 pub record LeadsToRest (here : Situation) (steps : List Step) : Type 0 where

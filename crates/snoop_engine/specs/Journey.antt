@@ -1,6 +1,6 @@
 -- How far a driver has come with its rows.
 -- Source: this project's profile.
-use Rattle.std.specs.Prelude.{◌≡◌, ℕ, ◌+◌, ◌≤◌, List, ◌++◌, length, All, IsOk, Result}
+use Rattle.std.specs.Prelude.{◌≡◌, ℕ, ◌≤◌, List, length, All, IsOk, Result}
 use Rattle.snoop_trace.specs.Extent.{Extent}
 use Rattle.snoop_trace.specs.declared.protocol.Protocol.{Protocol}
 use Rattle.snoop_trace.specs.declared.step.Row.{Row}
@@ -19,13 +19,6 @@ pub record IsAtTheStart (protocol : Protocol) (shape : Extent) (rows : List Row)
   pub situation : start.situation ≡ reset protocol shape
   pub left : (core : ℕ) → (todo_of start.lanes core).left ≡ works_of shape rows core
   pub all : left_in start.lanes ≡ length rows
-
--- the steps so far, each taken, lead on from the start and ask what each core had left first
-pub record IsOnTheWay (start : Progress) (steps : List Step) (outcomes : List (Result Reply Refused)) (here : Progress) : Type 0 where
-  pub run : FirstRunFrom start.situation steps outcomes here.situation
-  pub taken : All IsOk outcomes
-  pub asked : (core : ℕ) → (todo_of start.lanes core).left ≡ asks_of steps core ++ (todo_of here.lanes core).left
-  pub few : length steps + remaining here ≤ remaining start
 
 -- the steps, each taken, ask all that each core had left, and end in rest
 pub record IsAtTheEnd (start : Progress) (steps : List Step) (outcomes : List (Result Reply Refused)) (final : Situation) : Type 0 where

@@ -7,7 +7,6 @@ pub mod Todo
 pub mod Round
 pub mod Served
 pub mod Journey
-pub mod Driven
 pub mod SimulatedRun
 pub mod Serial
 pub mod SimulatedSerial

@@ -1,15 +1,18 @@
 //! Courses of steps, each of which is found when the one before it was taken.
-ghost use Rattle.std.specs.Prelude.{◌≡◌, ◌<◌, ◌∷◌, [], ℕ, List, length, IfErr, IfOk, IfSome, IfNone, Result};
+ghost use Rattle.std.specs.Prelude.{◌≡◌, ◌<◌, ◌∷◌, [], ℕ, List, length, IfErr, IfOk, IfSome, IfNone, Option, Result};
+ghost use Rattle.snoop_history.specs.declared.items.Item.{Item};
 ghost use Rattle.snoop_model.specs.declared.replies.Refused.{Refused as Cause};
 ghost use Rattle.snoop_model.specs.declared.replies.Refused.TheVariants.{NoMemory as OutOfMemory};
 ghost use Rattle.snoop_model.specs.declared.replies.Reply.{Reply as Answer};
 ghost use Rattle.snoop_model.specs.Pictures.Situation.{Situation, reset};
+ghost use Rattle.snoop_model.specs.Moves.Move.{FirstMove};
 ghost use Rattle.snoop_model.specs.Moves.Refuses.{RefusedFor};
 ghost use Rattle.snoop_model.specs.Runs.Run.{GoesFirst, TheRun};
 ghost use Rattle.snoop_trace.specs.Extent.{Extent};
 ghost use Rattle.snoop_trace.specs.declared.protocol.Protocol.{Protocol};
 ghost use Rattle.snoop_trace.specs.declared.step.Step.{Step as Given};
 ghost use Rattle.snoop_engine.specs.Courses.{CanEnd, FindsListed, LeadsListed, LeadsOn};
+ghost use Rattle.snoop_engine.specs.Round.{IsEnabled};
 
 use crate::script::Script;
 use snoop_machine::laws::runs_go_on;
@@ -57,6 +60,20 @@ pub(crate) trait Course {
     fn can_end(&self)
         ensures { (protocol : Protocol) (shape : Extent) (steps : List Given) (outcomes : List (Result Answer Cause))
             → TheRun protocol shape steps outcomes (situation self.now) → CanEnd (leads self.now) };
+}
+
+/// Takes a step that no cause refuses.
+#[inline(always)]
+pub(crate) fn take_enabled(machine: &mut Machine, step: Step) -> Result<Reply, NoMemory>
+    requires { IsEnabled machine.old.situation step }
+    ensures taken { IfOk result (λ reply. (entry : Option Item) × FirstMove machine.old.situation step reply machine.new.situation entry) }
+    ensures refused { IfErr result (λ _. machine.new.situation ≡ machine.old.situation) }
+{
+    match machine.step(step) {
+        Ok(reply) => Ok(reply),
+        Err(Refused::NoMemory) => Err(NoMemory),
+        Err(_) => unreachable!(),
+    }
 }
 
 /// Steps that are all known before the first is taken.

@@ -1,19 +1,16 @@
 //! The driver of rows: whose turn it is, and which step the turn takes.
-ghost use Rattle.std.specs.Prelude.{◌≡◌, ◌≢◌, ℕ, ◌<◌, ◌+◌, [], All, Contains, Option, Some, None, IfOk, IfSome, IfNone, length, slice_get};
-ghost use Rattle.snoop_history.specs.declared.items.Item.{Item};
-ghost use Rattle.snoop_model.specs.Moves.Move.{FirstMove};
+ghost use Rattle.std.specs.Prelude.{◌≡◌, ◌≢◌, ℕ, ◌<◌, ◌+◌, [], All, Contains, Some, None, IfOk, IfSome, IfNone, length, slice_get};
 ghost use Rattle.snoop_model.specs.Pictures.Situation.{reset};
 ghost use Rattle.snoop_model.specs.Turns.Quiet.{IsQuiet};
 ghost use Rattle.snoop_model.specs.Turns.Serving.{IsUnderWay};
 ghost use Rattle.snoop_engine.specs.Todo.{IsAskedWithin, todo_of, lanes_under_way, left_in, works_by};
 ghost use Rattle.snoop_engine.specs.Served.{ask_of};
-ghost use Rattle.snoop_engine.specs.Round.{TakesUp, Finds, IsIdle, IsOver, IsEnabled, Advances, IsDone};
+ghost use Rattle.snoop_engine.specs.Round.{TakesUp, Finds, IsIdle, IsOver, IsEnabled, IsDone};
 
 use crate::asks::AskQueue;
-use crate::course::Course;
+use crate::course::{Course, take_enabled};
 use crate::deal::{all_cores, deal};
 use crate::lane::Lane;
-use snoop_history::Log;
 use snoop_machine::laws::runs_go_on;
 use snoop_machine::{Machine, Refused, Reply};
 use snoop_rules::Protocol;
@@ -62,14 +59,6 @@ impl Driver {
             lanes,
             turns,
         })
-    }
-
-    /// The history of the steps so far.
-    pub(crate) fn log(&self) -> &Log
-        ensures items { result.now.items ≡ self.now.situation.log }
-        ensures words { result.now.words ≡ self.now.situation.shape.words }
-    {
-        self.machine.log()
     }
 
     /// The core whose turn is next; none once every row is done.
@@ -150,21 +139,6 @@ impl Driver {
         self.begun(core)
     }
 
-    /// Takes the step.
-    #[inline(always)]
-    fn take_step(&mut self, step: Step) -> Result<Reply, NoMemory>
-        requires lanes_under_way { IsUnderWay (lanes_under_way self.old.lanes) step }
-        requires enabled { IsEnabled self.old.situation step }
-        ensures taken { IfOk result (λ reply. (entry : Option Item) × FirstMove self.old.situation step reply self.new.situation entry) }
-        ensures lanes { self.new.lanes ≡ self.old.lanes }
-    {
-        match self.machine.step(step) {
-            Ok(reply) => Ok(reply),
-            Err(Refused::NoMemory) => Err(NoMemory),
-            Err(_) => unreachable!(),
-        }
-    }
-
     /// Finds the next step; `None` once every row is done.
     #[inline(always)]
     fn next_step(&mut self) -> Option<Step>
@@ -180,19 +154,6 @@ impl Driver {
             self.dismiss(core);
         }
         None
-    }
-
-    /// Takes the next step, and answers it with its reply; `None` once every row is done. After `NoMemory` the run can't go on.
-    #[inline(always)]
-    pub(crate) fn next(&mut self) -> Result<Option<(Step, Reply)>, NoMemory>
-        ensures step { IfOk result (λ taken. IfSome taken (λ t. Advances self.old t.0 t.1 self.new)) }
-        ensures done { IfOk result (λ taken. IfNone taken (IsDone self.old self.new)) }
-    {
-        let Some(step) = self.next_step() else {
-            return Ok(None);
-        };
-        let reply = self.take_step(step)?;
-        Ok(Some((step, reply)))
     }
 }
 
@@ -219,7 +180,7 @@ impl Course for Driver {
 
     #[inline(always)]
     fn take(&mut self, step: Step) -> Result<Result<Reply, Refused>, NoMemory> {
-        let reply = self.take_step(step)?;
+        let reply = take_enabled(&mut self.machine, step)?;
         Ok(Ok(reply))
     }
 

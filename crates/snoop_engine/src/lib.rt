@@ -19,6 +19,7 @@ mod gather;
 mod input;
 mod lane;
 mod line;
+mod lines;
 mod packed;
 mod run;
 mod script;

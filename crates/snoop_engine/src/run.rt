@@ -1,23 +1,17 @@
 //! The command `run`: the rows of a text, one at a time on each core.
-ghost use Rattle.std.specs.Prelude.{◌≡◌, ◌≢◌, true, List, map, All, Err, OnOk, OnErr};
-ghost use Rattle.snoop_trace.specs.Asked.{asked_of};
+ghost use Rattle.std.specs.Prelude.{◌≡◌, ◌≢◌, true, Err};
 ghost use Rattle.snoop_trace.specs.Output.{BlamesWriter};
 ghost use Rattle.snoop_trace.specs.Text.{BlamesReader};
 ghost use Rattle.snoop_trace.specs.declared.fault.TextFault.{TextFault};
 ghost use Rattle.snoop_trace.specs.declared.fault.TextFault.TheVariants as text_fault;
-ghost use Rattle.snoop_engine.specs.Driven.{WritesDriven, WritesDrivenFront};
-ghost use Rattle.snoop_trace.specs.declared.step.Row.{Row as Given};
-ghost use Rattle.snoop_engine.specs.SimulatedRun.{BeginsRun, ReportsRun, SimulatesRun};
-ghost use Rattle.snoop_engine.specs.Todo.{IsAskedWithin};
+ghost use Rattle.snoop_engine.specs.SimulatedRun.{SimulatesRun};
 
-use crate::asks::AskQueue;
-use crate::driver::Driver;
 use crate::fault::SimFault;
-use crate::line::push_line;
-use snoop_history::write_report;
+use crate::gather::read_driver;
+use crate::lines::write_lines;
 use snoop_rules::Protocol;
-use snoop_trace::streams::{Sink, Source, gather_asked, spill, write_whole};
-use snoop_trace::{Shape, WriteFault};
+use snoop_trace::Shape;
+use snoop_trace::streams::{Sink, Source};
 use std::alloc::Global;
 
 /// Reads a text of rows to its end, and lets each core do its rows in the order of the text, one at a time, on a
@@ -41,49 +35,7 @@ pub fn simulate_run<R: Source, W: Sink>(
     ensures read_blamed { BlamesReader (R.failed reader.old) (R.failed reader.new) (result ≡ Err (SimFault.Text text_fault.Read)) }
     ensures blamed { BlamesWriter (W.failed writer.old) (W.failed writer.new) (result ≡ Err SimFault.Write) }
 {
-    shape.within_limits();
-    let asks = gather_asked(alloc, reader, shape, AskQueue::new(alloc)).map_err(SimFault::Text)?;
-    write_run(alloc, writer, protocol, shape, asks)?;
-    Ok(())
-}
-
-/// Serves the rows that ask for this on a machine at reset, and writes the lines of the steps and the report.
-fn write_run<W: Sink>(
-    alloc: Global,
-    writer: &mut W,
-    protocol: Protocol,
-    shape: Shape,
-    asks: AskQueue,
-) -> Result<(), WriteFault>
-    requires { All (IsAskedWithin shape) asks }
-    ensures ok { OnOk result ((rows : List Given) → asks ≡ map (asked_of shape) rows → ReportsRun protocol shape rows (W.contents writer.old) (W.contents writer.new)) }
-    ensures front { OnErr result ((rows : List Given) → asks ≡ map (asked_of shape) rows → BeginsRun protocol shape rows (W.contents writer.old) (W.contents writer.new)) }
-    ensures never_blamed { W.never_fails ≡ true → result ≢ Err WriteFault.Write }
-    ensures blamed { BlamesWriter (W.failed writer.old) (W.failed writer.new) (result ≡ Err WriteFault.Write) }
-{
-    let mut driver = Driver::new(alloc, protocol, shape, asks)?;
-    write_driven(alloc, writer, shape, &mut driver)?;
-    write_report(alloc, writer, driver.log())?;
-    Ok(())
-}
-
-/// Lets the driver take all its steps, and writes the line of each.
-fn write_driven<W: Sink>(
-    alloc: Global,
-    writer: &mut W,
-    shape: Shape,
-    driver: &mut Driver,
-) -> Result<(), WriteFault>
-    ensures ok { OnOk result (WritesDriven shape driver.old driver.new (W.contents writer.old) (W.contents writer.new)) }
-    ensures front { OnErr result (WritesDrivenFront shape driver.old (W.contents writer.old) (W.contents writer.new)) }
-    ensures never_blamed { W.never_fails ≡ true → result ≢ Err WriteFault.Write }
-    ensures blamed { BlamesWriter (W.failed writer.old) (W.failed writer.new) (result ≡ Err WriteFault.Write) }
-{
-    let mut chunk = Vec::new(alloc);
-    while let Some((step, reply)) = driver.next()? {
-        push_line(&mut chunk, shape, step, Ok(reply))?;
-        spill(writer, &mut chunk)?;
-    }
-    write_whole(writer, &chunk)?;
+    let mut driver = read_driver(alloc, reader, protocol, shape).map_err(SimFault::Text)?;
+    write_lines(alloc, writer, &mut driver)?;
     Ok(())
 }

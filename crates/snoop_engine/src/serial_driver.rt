@@ -1,17 +1,15 @@
 //! The driver of rows that are served one after another.
-ghost use Rattle.std.specs.Prelude.{◌≡◌, [], All, IfOk, IfNone, IfSome, Option, false};
-ghost use Rattle.snoop_history.specs.declared.items.Item.{Item};
-ghost use Rattle.snoop_model.specs.Moves.Move.{FirstMove};
+ghost use Rattle.std.specs.Prelude.{◌≡◌, [], All, IfOk, IfNone, IfSome, false};
 ghost use Rattle.snoop_model.specs.Pictures.Situation.{reset};
 ghost use Rattle.snoop_model.specs.Turns.Quiet.{IsQuiet};
 ghost use Rattle.snoop_model.specs.Turns.Serving.{IsUnderWay};
 ghost use Rattle.snoop_trace.specs.Grammar.{IsRowWithin};
-ghost use Rattle.snoop_engine.specs.InOrder.{FollowsInOrder, IsDoneInOrder, TakesUpNext, row_under_way};
+ghost use Rattle.snoop_engine.specs.InOrder.{TakesUpNext, row_under_way};
 ghost use Rattle.snoop_engine.specs.OneRow.{ServesOnly, nothing};
 ghost use Rattle.snoop_engine.specs.Round.{IsEnabled};
 ghost use Rattle.snoop_engine.specs.Serial.{is_ask};
 
-use crate::course::Course;
+use crate::course::{Course, take_enabled};
 use snoop_machine::laws::runs_go_on;
 use snoop_machine::{Machine, Refused, Reply};
 use snoop_rules::Protocol;
@@ -64,7 +62,7 @@ impl<'a> SerialDriver<'a> {
         ensures asks_nothing { IfSome result (λ step. is_ask step ≡ false) }
         ensures row_under_way { IfSome result (IsUnderWay (row_under_way self.now.situation.shape self.now.row)) }
         ensures enabled { IfSome result (IsEnabled self.now.situation) }
-        ensures over { IfNone result (ServesOnly self.now.situation.shape nothing self.now.situation) }
+        ensures over { IfNone result (ServesOnly nothing self.now.situation) }
     {
         let row = self.row?;
         let shape = self.machine.shape();
@@ -75,9 +73,9 @@ impl<'a> SerialDriver<'a> {
 
     /// The Ask of the next row, which is under way from here on.
     fn begun(&mut self) -> Option<Step>
-        requires { ServesOnly self.old.situation.shape nothing self.old.situation }
+        requires { ServesOnly nothing self.old.situation }
         ensures machine { self.new.situation ≡ self.old.situation }
-        ensures takes_up { IfSome result (λ step. TakesUpNext self.old step self.new) }
+        ensures takes_up { IfSome result (λ step. TakesUpNext self.old step self.new.left) }
         ensures row_under_way { IfSome result (IsUnderWay (row_under_way self.new.situation.shape self.new.row)) }
         ensures enabled { IfSome result (IsEnabled self.new.situation) }
         ensures done { IfNone result (self.old.left ≡ []) }
@@ -99,7 +97,7 @@ impl<'a> SerialDriver<'a> {
     /// The step that comes next; `None` once every row is served.
     fn turn(&mut self) -> Option<Step>
         ensures machine { self.new.situation ≡ self.old.situation }
-        ensures takes_up { IfSome result (λ step. TakesUpNext self.old step self.new) }
+        ensures takes_up { IfSome result (λ step. TakesUpNext self.old step self.new.left) }
         ensures row_under_way { IfSome result (IsUnderWay (row_under_way self.new.situation.shape self.new.row)) }
         ensures enabled { IfSome result (IsEnabled self.new.situation) }
         ensures done { IfNone result ((self.old.left ≡ []) × IsQuiet self.old.situation) }
@@ -108,21 +106,6 @@ impl<'a> SerialDriver<'a> {
             return Some(step);
         }
         self.begun()
-    }
-
-    /// Takes the step.
-    #[inline(always)]
-    fn take_step(&mut self, step: Step) -> Result<Reply, NoMemory>
-        requires row_under_way { IsUnderWay (row_under_way self.old.situation.shape self.old.row) step }
-        requires enabled { IsEnabled self.old.situation step }
-        ensures taken { IfOk result (λ reply. (entry : Option Item) × FirstMove self.old.situation step reply self.new.situation entry) }
-        ensures left { self.new.left ≡ self.old.left }
-    {
-        match self.machine.step(step) {
-            Ok(reply) => Ok(reply),
-            Err(Refused::NoMemory) => Err(NoMemory),
-            Err(_) => unreachable!(),
-        }
     }
 }
 
@@ -148,7 +131,7 @@ impl<'a> Course for SerialDriver<'a> {
 
     #[inline(always)]
     fn take(&mut self, step: Step) -> Result<Result<Reply, Refused>, NoMemory> {
-        let reply = self.take_step(step)?;
+        let reply = take_enabled(&mut self.machine, step)?;
         Ok(Ok(reply))
     }
 

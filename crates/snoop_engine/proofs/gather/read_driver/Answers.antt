@@ -1,5 +1,5 @@
 use Rattle.snoop_engine.proofs.Dealing.{asks_within, left_of_rows}
-use Rattle.snoop_engine.proofs.DrivenLemmas.{rows_read}
+use Rattle.snoop_engine.proofs.WrittenLemmas.{rows_read}
 use Rattle.snoop_engine.proofs.gather.read_driver.Goals as goal
 
 pub new-requires-2 : goal.new-requires-2

@@ -1,19 +1,31 @@
-use Rattle.std.proofs.Common.{rules, ◌≡◌, Ok}
-use Rattle.snoop_engine.proofs.Dealing.{asks_within}
-use Rattle.snoop_engine.proofs.DrivenLemmas.{simulates_run}
+use Rattle.std.proofs.Common.{rules, ◌≡◌, ◌∙◌, ap, Err, Ok}
+use Rattle.std.proofs.lemmas.Result.{err_from_is_err_and}
+use Rattle.snoop_engine.specs.SimulatedRun.{SimulatesRun}
+use Rattle.snoop_engine.proofs.WrittenLemmas.{begins_run, reports_run, write_faults}
 use Rattle.snoop_engine.proofs.run.simulate_run.Goals as goal
 
-pub write_run-requires : goal.write_run-requires
-write_run-requires g c =
+pub returns-in_err-write_lines-clause-does : goal.returns-in_err-write_lines-clause-does
+returns-in_err-write_lines-clause-does g c =
     let a = c.map_err.ensures.cases in
-    let b = c.in_ok-asks.was in
-    let is : c.gather_asked.result ≡ Ok c.in_ok-asks.asks = search rules in
-    let asked = rw is at c.gather_asked.ensures.read in
-    asks_within c.args.shape asked.rows c.in_ok-asks.asks c.within_limits.ensures asked.within asked.asks
+    let b = c.in_ok-driver.was in
+    let is : c.read_driver.result ≡ Ok c.in_ok-driver.driver = search rules in
+    let read = rw is at c.read_driver.ensures.rows in
+    let begins = begins_run c.args.protocol c.args.shape read.0 c.in_ok-driver.driver read.1.1 _ _ c.in_err-write_lines.ensures.front in
+    let p = err_from_is_err_and c.from_residual-in_err-write_lines.result c.from_residual-in_err-write_lines.ensures.1 in
+    write_faults (λ r. SimulatesRun c.args.protocol c.args.shape (g.R.Read.remaining c.args.reader.now) r (g.W.Write.contents c.args.writer.now) (g.W.Write.contents c.write_lines.new.writer)) c.in_err-write_lines.field-0.0 _ (p.1 ∙ ap (λ f. Err f) p.2)
+    (read.0, (read.1.0, begins)) (read.0, (read.1.0, begins))
 
 pub returns-clause-does : goal.returns-clause-does
 returns-clause-does g c =
     let a = c.map_err.ensures.cases in
-    let b = c.in_ok-asks.was in
-    let is : c.gather_asked.result ≡ Ok c.in_ok-asks.asks = search rules in
-    simulates_run c.args.protocol c.args.shape (g.R.Read.remaining c.args.reader.now) c.in_ok-asks.asks _ _ (rw is at c.gather_asked.ensures.read) c.in_ok-write_run.ensures.ok
+    let b = c.in_ok-driver.was in
+    let is : c.read_driver.result ≡ Ok c.in_ok-driver.driver = search rules in
+    let read = rw is at c.read_driver.ensures.rows in
+    (read.0, (read.1.0, reports_run c.args.protocol c.args.shape read.0 c.in_ok-driver.driver read.1.1 _ _ c.in_ok-write_lines.ensures.ok))
+
+pub returns-clause-read_blamed : goal.returns-clause-read_blamed
+returns-clause-read_blamed g c none =
+    let a = c.map_err.ensures.cases in
+    let b = c.in_ok-driver.was in
+    let is : c.read_driver.result ≡ Ok c.in_ok-driver.driver = search rules in
+    (λ failed. cc, λ kept. (c.read_driver.ensures.blamed none).1 (λ failed. cc))

@@ -1,11 +1,9 @@
-use Rattle.std.proofs.Common.{◌≡◌, ap, ◌∙◌, [], sym, subst}
+use Rattle.std.proofs.Common.{ap, ◌∙◌, [], sym, subst}
 use Rattle.snoop_trace.proofs.OutputLemmas.{on_err}
 use Rattle.snoop_trace.specs.Extent.{Extent}
 use Rattle.snoop_model.specs.Pictures.Situation.{Situation}
 use Rattle.snoop_engine.specs.Askers.{AreAskers}
-use Rattle.snoop_engine.specs.Courses.{CanEnd}
-use Rattle.snoop_engine.specs.Frames.{outcomes_of, steps_of}
-use Rattle.snoop_engine.proofs.ShownLemmas.{ends_with_nothing, showing_cut, showing_cut_at_end, showing_done, showing_more, showing_none, showing_run, showing_spilled, showing_stop}
+use Rattle.snoop_engine.proofs.ShownLemmas.{ends_with_nothing, showing_cut, showing_cut_at_end, showing_done, showing_more, showing_none, showing_spilled, showing_stop}
 use Rattle.snoop_engine.proofs.show.show.Goals as goal
 
 pub returns-in_err-askers-clause-front : goal.returns-in_err-askers-clause-front
@@ -24,8 +22,8 @@ pub loop-step-init : goal.loop-step-init
 loop-step-init g c =
     let s = g.C.Course.situation c.args.course.now in
     let blocks = c.blocks-2.ensures.value ∙ ap (λ (x : Extent). x.blocks) (c.shape.ensures ∙ ap (λ (m : Situation). m.shape) c.machine.ensures) in (
-      showing_none s.protocol s.shape _ _ _ _ s _ _ _ c.requires (rw c.machine-2.ensures at c.in_ok-begin.ensures.begins) c.new-chunk.ensures.items (rw c.machine-2.ensures at c.in_ok-begin.ensures.text),
-      c.can_end.ensures s.protocol s.shape [] [] c.requires,
+      showing_none s.protocol s.shape (g.V.View.heading c.args.view.now) (g.V.View.shows c.args.view.now) (λ p s frames. g.V.View.has_seen c.args.view.now p s frames c.begin.new.self) _ s _ _ _
+          c.requires (c.can_end.ensures s.protocol s.shape [] [] c.requires) (rw c.machine-2.ensures at c.in_ok-begin.ensures.begins) c.new-chunk.ensures.items (rw c.machine-2.ensures at c.in_ok-begin.ensures.text),
       (λ none. none),
       subst (λ (m : Situation). AreAskers m c.in_ok-askers.askers.sets) (sym c.requires) (c.in_ok-askers.ensures s.protocol s.shape (sym blocks)),
     )
@@ -34,45 +32,30 @@ pub take_step-requires-clause-found : goal.take_step-requires-clause-found
 take_step-requires-clause-found g c = (c.loop-step.course, c.in-Some.ensures.found)
 
 pub take_step-requires-clause-askers : goal.take_step-requires-clause-askers
-take_step-requires-clause-askers g c = subst (λ (m : Situation). AreAskers m c.loop-step.askers.sets) (sym c.in-Some.ensures.same) c.loop-step.invariant.3
+take_step-requires-clause-askers g c = rw c.in-Some.ensures.same c.loop-step.invariant.2
 
 pub take_step-requires-clause-head : goal.take_step-requires-clause-head
 take_step-requires-clause-head g c = rw c.machine-in-Some.ensures at c.head_for-head.ensures
 
 pub returns-in_err-number-clause-front : goal.returns-in_err-number-clause-front
-returns-in_err-number-clause-front g c =
-    let s = g.C.Course.situation c.args.course.now in
-    on_err c.from_residual-in_err-number.result _
-    (showing_stop s.protocol s.shape _ (g.V.View.shows c.args.view.now) (λ p s frames. g.V.View.has_seen c.args.view.now p s frames c.loop-step.view) _ _ _ _ _ _ _ c.loop-step.invariant.0
-    (g.V.View.ending c.args.view.now) c.runs_go_on.ensures c.loop-step.invariant.1)
+returns-in_err-number-clause-front g c = on_err c.from_residual-in_err-number.result _ (showing_stop c.loop-step.invariant.0 (g.V.View.ending c.args.view.now) c.runs_go_on.ensures)
 
 pub returns-in_err-outcome-clause-front : goal.returns-in_err-outcome-clause-front
-returns-in_err-outcome-clause-front g c =
-    let s = g.C.Course.situation c.args.course.now in
-    on_err c.from_residual-in_err-outcome.result _
-    (showing_stop s.protocol s.shape _ (g.V.View.shows c.args.view.now) (λ p s frames. g.V.View.has_seen c.args.view.now p s frames c.loop-step.view) _ _ _ _ _ _ _ c.loop-step.invariant.0
-    (g.V.View.ending c.args.view.now) c.runs_go_on.ensures c.loop-step.invariant.1)
+returns-in_err-outcome-clause-front g c = on_err c.from_residual-in_err-outcome.result _ (showing_stop c.loop-step.invariant.0 (g.V.View.ending c.args.view.now) c.runs_go_on.ensures)
 
 pub returns-in_err-see-clause-front : goal.returns-in_err-see-clause-front
-returns-in_err-see-clause-front g c =
-    let s = g.C.Course.situation c.args.course.now in
-    on_err c.from_residual-in_err-see.result _
-    (showing_stop s.protocol s.shape _ (g.V.View.shows c.args.view.now) (λ p s frames. g.V.View.has_seen c.args.view.now p s frames c.loop-step.view) _ _ _ _ _ _ _ c.loop-step.invariant.0
-    (g.V.View.ending c.args.view.now) c.runs_go_on.ensures c.loop-step.invariant.1)
+returns-in_err-see-clause-front g c = on_err c.from_residual-in_err-see.result _ (showing_stop c.loop-step.invariant.0 (g.V.View.ending c.args.view.now) c.runs_go_on.ensures)
 
 pub loop-step-preserved : goal.loop-step-preserved
 loop-step-preserved g c =
     let s = g.C.Course.situation c.args.course.now in
     let head = rw (c.machine-in-Some.ensures, c.in-Some.ensures.same) at c.head_for-head.ensures in
     let far =
-    showing_more s.protocol s.shape _ (g.V.View.shows c.args.view.now) (λ p s frames. g.V.View.has_seen c.args.view.now p s frames c.loop-step.view) _ _ _ _ _ _ _ c.loop-step.invariant.0
-    (λ p s frames. g.V.View.has_seen c.args.view.now p s frames c.see.new.self) _ _ _ _ c.in_ok-number.ensures (rw c.in-Some.ensures.same at c.in_ok-outcome.ensures.goes)
+    showing_more c.loop-step.invariant.0 (λ p s frames. g.V.View.has_seen c.args.view.now p s frames c.see.new.self) _ _ _ _ c.in_ok-number.ensures (rw c.in-Some.ensures.same at c.in_ok-outcome.ensures.goes)
     (c.deref.ensures.value ∙ (rw c.in-Some.ensures.same at c.in_ok-outcome.ensures.lines)) (c.block_of-block.ensures (g.C.Course.situation c.loop-step.course) head)
-    (c.in_ok-outcome.ensures.leads c.loop-step.course c.in-Some.ensures.found) (rw c.machine-in-Some-2.ensures at (c.in_ok-see.ensures c.args.view.now)) in
-    let run = showing_run s.protocol s.shape _ (g.V.View.shows c.args.view.now) (λ p s frames. g.V.View.has_seen c.args.view.now p s frames c.see.new.self) _ _ _ _ _ _ _ far in (
-      showing_spilled s.protocol s.shape _ (g.V.View.shows c.args.view.now) (λ p s frames. g.V.View.has_seen c.args.view.now p s frames c.see.new.self) _ _ _ _ _ _ _ far _ _ c.in_ok-spill.ensures.ok,
-      c.can_end-in-Some.ensures s.protocol s.shape (steps_of far.frames) (outcomes_of far.frames) run,
-      (λ none. (c.in_ok-spill.ensures.blamed (c.loop-step.invariant.2 none)).1 (λ failed. cc)),
+    (c.in_ok-outcome.ensures.leads c.loop-step.course c.in-Some.ensures.found) (c.can_end-in-Some.ensures s.protocol s.shape) (rw c.machine-in-Some-2.ensures at (c.in_ok-see.ensures c.args.view.now)) in (
+      showing_spilled far _ _ c.in_ok-spill.ensures.ok,
+      (λ none. (c.in_ok-spill.ensures.blamed (c.loop-step.invariant.1 none)).1 (λ failed. cc)),
       c.in_ok-outcome.ensures.askers,
     )
 
@@ -81,35 +64,21 @@ returns-in_err-spill-clause-front g c =
     let s = g.C.Course.situation c.args.course.now in
     let head = rw (c.machine-in-Some.ensures, c.in-Some.ensures.same) at c.head_for-head.ensures in
     let far =
-    showing_more s.protocol s.shape _ (g.V.View.shows c.args.view.now) (λ p s frames. g.V.View.has_seen c.args.view.now p s frames c.loop-step.view) _ _ _ _ _ _ _ c.loop-step.invariant.0
-    (λ p s frames. g.V.View.has_seen c.args.view.now p s frames c.see.new.self) _ _ _ _ c.in_ok-number.ensures (rw c.in-Some.ensures.same at c.in_ok-outcome.ensures.goes)
+    showing_more c.loop-step.invariant.0 (λ p s frames. g.V.View.has_seen c.args.view.now p s frames c.see.new.self) _ _ _ _ c.in_ok-number.ensures (rw c.in-Some.ensures.same at c.in_ok-outcome.ensures.goes)
     (c.deref.ensures.value ∙ (rw c.in-Some.ensures.same at c.in_ok-outcome.ensures.lines)) (c.block_of-block.ensures (g.C.Course.situation c.loop-step.course) head)
-    (c.in_ok-outcome.ensures.leads c.loop-step.course c.in-Some.ensures.found) (rw c.machine-in-Some-2.ensures at (c.in_ok-see.ensures c.args.view.now)) in
-    let run = showing_run s.protocol s.shape _ (g.V.View.shows c.args.view.now) (λ p s frames. g.V.View.has_seen c.args.view.now p s frames c.see.new.self) _ _ _ _ _ _ _ far in
-    on_err c.from_residual-in_err-spill.result _
-    (showing_cut s.protocol s.shape _ (g.V.View.shows c.args.view.now) (λ p s frames. g.V.View.has_seen c.args.view.now p s frames c.see.new.self) _ _ _ _ _ _ _ far
-    (g.V.View.ending c.args.view.now) c.runs_go_on.ensures (c.can_end-in-Some.ensures s.protocol s.shape (steps_of far.frames) (outcomes_of far.frames) run) _ c.in_err-spill.ensures.front)
+    (c.in_ok-outcome.ensures.leads c.loop-step.course c.in-Some.ensures.found) (c.can_end-in-Some.ensures s.protocol s.shape) (rw c.machine-in-Some-2.ensures at (c.in_ok-see.ensures c.args.view.now)) in
+    on_err c.from_residual-in_err-spill.result _ (showing_cut far (g.V.View.ending c.args.view.now) c.runs_go_on.ensures _ c.in_err-spill.ensures.front)
 
 pub returns-in_err-end-clause-front : goal.returns-in_err-end-clause-front
-returns-in_err-end-clause-front g c =
-    let s = g.C.Course.situation c.args.course.now in
-    on_err c.from_residual-in_err-end.result _
-    (showing_stop s.protocol s.shape _ (g.V.View.shows c.args.view.now) (λ p s frames. g.V.View.has_seen c.args.view.now p s frames c.loop-step.view) _ _ _ _ _ _ _ c.loop-step.invariant.0
-    (g.V.View.ending c.args.view.now) c.runs_go_on.ensures c.loop-step.invariant.1)
+returns-in_err-end-clause-front g c = on_err c.from_residual-in_err-end.result _ (showing_stop c.loop-step.invariant.0 (g.V.View.ending c.args.view.now) c.runs_go_on.ensures)
 
 pub returns-in_err-write_whole-clause-front : goal.returns-in_err-write_whole-clause-front
 returns-in_err-write_whole-clause-front g c =
-    let s = g.C.Course.situation c.args.course.now in
-    let over = rw c.in_default.is at c.find.ensures.end in
-    let cut = rw c.deref-2.ensures.value at c.in_err-write_whole.ensures.front in
     on_err c.from_residual-in_err-write_whole.result _
-    (showing_cut_at_end s.protocol s.shape _ (g.V.View.shows c.args.view.now) (λ p s frames. g.V.View.has_seen c.args.view.now p s frames c.loop-step.view) _ _ _ _ _ _ _ c.loop-step.invariant.0
-    (g.V.View.ending c.args.view.now) c.end.new.out.items _ over (rw (c.machine-3.ensures, c.find.ensures.same) at (c.in_ok-end.ensures c.args.view.now)) _ cut)
+    (showing_cut_at_end c.loop-step.invariant.0 (g.V.View.ending c.args.view.now) c.end.new.out.items _ (rw c.in_default.is at c.find.ensures.end)
+    (rw (c.machine-3.ensures, c.find.ensures.same) at (c.in_ok-end.ensures c.args.view.now)) _ (rw c.deref-2.ensures.value at c.in_err-write_whole.ensures.front))
 
 pub returns-clause-ok : goal.returns-clause-ok
 returns-clause-ok g c =
-    let s = g.C.Course.situation c.args.course.now in
-    let over = rw c.in_default.is at c.find.ensures.end in
-    let all = rw c.deref-2.ensures.value at c.in_ok-write_whole.ensures.ok in
-    showing_done s.protocol s.shape _ (g.V.View.shows c.args.view.now) (λ p s frames. g.V.View.has_seen c.args.view.now p s frames c.loop-step.view) _ _ _ _ _ _ _ c.loop-step.invariant.0
-    (g.V.View.ending c.args.view.now) c.end.new.out.items _ over (rw (c.machine-3.ensures, c.find.ensures.same) at (c.in_ok-end.ensures c.args.view.now)) _ all
+    showing_done c.loop-step.invariant.0 (g.V.View.ending c.args.view.now) c.end.new.out.items _ (rw c.in_default.is at c.find.ensures.end)
+    (rw (c.machine-3.ensures, c.find.ensures.same) at (c.in_ok-end.ensures c.args.view.now)) _ (rw c.deref-2.ensures.value at c.in_ok-write_whole.ensures.ok)

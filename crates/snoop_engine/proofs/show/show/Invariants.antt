@@ -1,16 +1,15 @@
 use Rattle.std.proofs.Common.{◌≡◌, Some, false}
 use Rattle.snoop_engine.specs.Askers.{AreAskers}
-use Rattle.snoop_engine.specs.Courses.{CanEnd}
 use Rattle.snoop_engine.proofs.ShownLemmas.{Showing}
 use Rattle.snoop_engine.proofs.show.show.Given as goal
 
--- so many steps were taken and seen, what was shown of them was written or stands in the chunk, the course can go on to its end, no write has failed, and the askers are those of the machine
+-- so many steps were taken and seen, what was shown of them was written or stands in the chunk, no write has failed, and the askers are those of the machine
 abbrev pub invariant-loop-step : goal.invariant-loop-step
 invariant-loop-step g l =
     let s = g.C.Course.situation l.fn.course in
-    Showing s.protocol s.shape (g.V.View.heading l.fn.view s.protocol s.shape) (g.V.View.shows l.fn.view s.protocol s.shape) (λ frames. g.V.View.has_seen l.fn.view s.protocol s.shape frames l.view)
+    Showing s.protocol s.shape (g.V.View.heading l.fn.view) (g.V.View.shows l.fn.view) (λ p s frames. g.V.View.has_seen l.fn.view p s frames l.view)
     (g.C.Course.leads l.fn.course) (g.C.Course.leads l.course) l.number (g.C.Course.situation l.course) (g.W.Write.contents l.fn.writer) (g.W.Write.contents l.writer) l.chunk.items
-    × CanEnd (g.C.Course.leads l.course) × (g.W.Sink.failed l.fn.writer ≡ Some false → g.W.Sink.failed l.writer ≡ Some false) × AreAskers (g.C.Course.situation l.course) l.askers.sets
+    × (g.W.Sink.failed l.fn.writer ≡ Some false → g.W.Sink.failed l.writer ≡ Some false) × AreAskers (g.C.Course.situation l.course) l.askers.sets
 
 abbrev pub decreases-loop-step : goal.decreases-loop-step
 decreases-loop-step g l = g.C.Course.left l.course

@@ -1,6 +1,5 @@
-use Rattle.std.proofs.Common.{◌≡◌}
 use Rattle.snoop_trace.proofs.OutputLemmas.{on_err}
-use Rattle.snoop_engine.proofs.ShownLemmas.{all_listed_err, all_listed_ok, begins_nothing}
+use Rattle.snoop_engine.proofs.ShownLemmas.{begins_nothing}
 use Rattle.snoop_engine.proofs.show.show_script.Goals as goal
 
 pub returns-in_err-course-clause-front : goal.returns-in_err-course-clause-front

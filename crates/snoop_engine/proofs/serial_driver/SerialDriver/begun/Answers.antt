@@ -1,4 +1,4 @@
-use Rattle.std.proofs.Common.{rules, ◌≡◌, ◌∷◌, Some, sym, subst}
+use Rattle.std.proofs.Common.{rules, ◌≡◌, ◌∷◌, sym, subst}
 use Rattle.snoop_trace.specs.declared.step.Step.TheVariants.{Ask}
 use Rattle.snoop_engine.specs.InOrder.{InOrder, TakesUpNext}
 use Rattle.snoop_engine.specs.OneRow.{ServesOnly, nothing}
@@ -12,7 +12,7 @@ invariant_of-self c =
     let a = c.in_ok-row.ensures.cases in
     let b = c.in_ok-row.is in
     let first : c.self.inside.rows.now ≡ c.in_ok-row.row.now ∷ c.in_ok-row.rest.now = search rules in
-    let serves = subst (λ (d : InOrder). ServesOnly d.situation.shape nothing d.situation) (sym c.self.view_is) c.requires in
+    let serves = subst (λ (d : InOrder). ServesOnly nothing d.situation) (sym c.self.view_is) c.requires in
     begun_fit s c.self.inside.rows.now c.in_ok-row.rest.now c.in_ok-row.row.now c.self.inside.row c.self.invariant serves first
 
 pub returns-clause-takes_up : goal.returns-clause-takes_up
@@ -23,12 +23,11 @@ returns-clause-takes_up c =
     let a = c.in_ok-row.ensures.cases in
     let b = c.in_ok-row.is in
     let first : c.self.inside.rows.now ≡ row ∷ rest = search rules in
-    let serves = subst (λ (d : InOrder). ServesOnly d.situation.shape nothing d.situation) (sym c.self.view_is) c.requires in
+    let serves = subst (λ (d : InOrder). ServesOnly nothing d.situation) (sym c.self.view_is) c.requires in
     let within = begun_within s c.self.inside.rows.now rest row first c.self.invariant.within in
     let block = block_is s.shape row within.0 c.block_of.result c.unwrap-block.result (rw c.shape-shape.ensures at c.block_of.ensures) c.unwrap-block.ensures in
     let word = rw c.shape-shape.ensures at c.word_asked-word.ensures in
-    let now : InOrder = record { situation = s; left = rest; row = Some row } in
-    subst (λ (d : InOrder). TakesUpNext d (Ask row.core c.unwrap-block.result c.word_asked-word.result row.op) now) c.self.view_is
+    subst (λ (d : InOrder). TakesUpNext d (Ask row.core c.unwrap-block.result c.word_asked-word.result row.op) rest) c.self.view_is
     (begun_takes_up s row c.self.invariant.limits within.0 c.unwrap-block.result c.word_asked-word.result block word c.self.inside.rows.now rest c.self.inside.row serves first)
 
 pub returns-clause-enabled : goal.returns-clause-enabled
@@ -39,7 +38,7 @@ returns-clause-enabled c =
     let a = c.in_ok-row.ensures.cases in
     let b = c.in_ok-row.is in
     let first : c.self.inside.rows.now ≡ row ∷ rest = search rules in
-    let serves = subst (λ (d : InOrder). ServesOnly d.situation.shape nothing d.situation) (sym c.self.view_is) c.requires in
+    let serves = subst (λ (d : InOrder). ServesOnly nothing d.situation) (sym c.self.view_is) c.requires in
     let within = begun_within s c.self.inside.rows.now rest row first c.self.invariant.within in
     let block = block_is s.shape row within.0 c.block_of.result c.unwrap-block.result (rw c.shape-shape.ensures at c.block_of.ensures) c.unwrap-block.ensures in
     let word = rw c.shape-shape.ensures at c.word_asked-word.ensures in

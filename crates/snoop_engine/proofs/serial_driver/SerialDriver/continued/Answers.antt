@@ -31,5 +31,5 @@ returns-clause-over c =
     let fit = subst (λ (r : Option Row). IsInOrder s c.self.inside.rows.now r) under c.self.invariant in
     let block = block_is s.shape row fit.begun c.block_of.result c.unwrap-block.result (rw c.shape-shape.ensures at c.block_of.ensures) c.unwrap-block.ensures in
     let word = rw c.shape-shape.ensures at c.word_asked-word.ensures in
-    subst (λ (d : InOrder). IfNone c.turn_step.result (ServesOnly d.situation.shape nothing d.situation)) c.self.view_is
+    subst (λ (d : InOrder). IfNone c.turn_step.result (ServesOnly nothing d.situation)) c.self.view_is
     (over_now s row fit.limits fit.begun c.unwrap-block.result c.word_asked-word.result block word fit.serves c.turn_step.result c.turn_step.ensures)

@@ -1,6 +1,7 @@
-use Rattle.std.proofs.Common.{ℕ, ◌+◌, get_or, set, ◌∙◌, ap}
+use Rattle.std.proofs.Common.{ℕ, ◌+◌, get_or, set, ◌∙◌, ap, refl}
+use Rattle.snoop_engine.specs.declared.taken.Taken.TheVariants.{Nobody}
 use Rattle.snoop_history.specs.Totals.{capped}
-use Rattle.snoop_engine.proofs.TallyLemmas.{tallies_memory, tallies_nobody}
+use Rattle.snoop_engine.proofs.TallyLemmas.{tallies_memory, tallies_more}
 use Rattle.snoop_engine.proofs.tally.Tally.add.Goals as goal
 
 pub returns-in-Core : goal.returns-in-Core
@@ -16,4 +17,4 @@ returns-in-Memory c lines far =
 pub returns-in-Nobody : goal.returns-in-Nobody
 returns-in-Nobody c lines far =
     let at = c.in-Nobody in
-    rw at.is (tallies_nobody lines at.core at.block c.args.self.now.counters far)
+    rw at.is (tallies_more lines (Nobody at.core at.block) c.args.self.now.counters (λ s e. refl) (λ s e. refl) far)

@@ -1,0 +1,176 @@
+-- The lines of a course's steps, written or in the chunk, and then the report.
+use Rattle.std.proofs.Common.{◌≡◌, ℕ, List, [], ◌∷◌, ◌++◌, Option, Some, None, refl, sym, ap, ◌∙◌, append_assoc, inr}
+use Rattle.std.specs.Prelude.{Result, Ok, Err, IfSome}
+use Rattle.std.specs.Io.KnownBytes.{Appends}
+use Rattle.std.proofs.lemmas.List.{append-nil}
+use Rattle.snoop_trace.specs.Extent.{Extent}
+use Rattle.snoop_trace.specs.Output.{AppendsFront, Gathers, Spills}
+use Rattle.snoop_trace.specs.Text.{rows_of}
+use Rattle.snoop_trace.specs.declared.fault.WriteFault.{WriteFault}
+use Rattle.snoop_trace.specs.declared.fault.WriteFault.TheVariants as write
+use Rattle.snoop_trace.specs.declared.protocol.Protocol.{Protocol}
+use Rattle.snoop_trace.specs.declared.step.Row.{Row}
+use Rattle.snoop_trace.specs.declared.step.Step.{Step}
+use Rattle.snoop_trace.proofs.GathersLemmas.{gathers_cut, gathers_done, gathers_more, gathers_none, gathers_spilled, gathers_stop}
+use Rattle.snoop_trace.proofs.OutputLemmas.{appends_more, appends_none_of, front_after}
+use Rattle.snoop_history.specs.declared.items.Item.{Item}
+use Rattle.snoop_history.specs.Report.{report_of}
+use Rattle.snoop_model.specs.declared.replies.Reply.{Reply}
+use Rattle.snoop_model.specs.declared.replies.Refused.{Refused}
+use Rattle.snoop_model.specs.Pictures.Situation.{Situation, reset}
+use Rattle.snoop_model.specs.Runs.Run.{FirstRunFrom, GoesFirst, RunsGoOn, TheRun}
+use Rattle.snoop_engine.specs.Courses.{CanEnd, HoldsAtEnd, Leading, LeadsOn}
+use Rattle.snoop_engine.specs.Fault.{fault_of_write}
+use Rattle.snoop_engine.specs.InOrder.{EndsInOrder, InOrder}
+use Rattle.snoop_engine.specs.Journey.{IsAtTheEnd, IsAtTheStart}
+use Rattle.snoop_engine.specs.Line.{line_text, line_texts}
+use Rattle.snoop_engine.specs.Round.{Progress}
+use Rattle.snoop_engine.specs.Simulated.{Begins}
+use Rattle.snoop_engine.specs.SimulatedRun.{BeginsRun, ReadsRows, ReportsRun}
+use Rattle.snoop_engine.specs.SimulatedSerial.{BeginsSerial, ReportsSerial}
+use Rattle.snoop_engine.specs.Written.{run_text}
+use Rattle.snoop_engine.specs.declared.fault.SimFault.{SimFault}
+use Rattle.snoop_engine.specs.declared.fault.SimFault.TheVariants as fault
+use Rattle.snoop_engine.proofs.CourseLemmas.{Along, along_more, along_none, driver_served, ends_here, ends_on, in_order_served}
+use Rattle.snoop_engine.proofs.TakenLemmas.{line_texts_more, run_shape}
+
+-- the lines of a run that goes on
+line_texts_on : (shape : Extent) (first rest : List Step) (outcomes more : List (Result Reply Refused)) (old new : Situation)
+    → FirstRunFrom old first outcomes new
+    → line_texts shape (first ++ rest) (outcomes ++ more) ≡ line_texts shape first outcomes ++ line_texts shape rest more
+line_texts_on shape [] rest [] more old new run = refl
+line_texts_on shape (s ∷ ss) rest (o ∷ os) more old new run =
+    ap (λ (t : List ℕ). line_text shape s o ++ t) (line_texts_on shape ss rest os more run.0 new run.1.1)
+    ∙ sym (append_assoc (line_text shape s o) (line_texts shape ss os) (line_texts shape rest more))
+line_texts_on shape [] rest (o ∷ os) more old new run = absurd run
+line_texts_on shape (s ∷ ss) rest [] more old new run = absurd run
+
+-- steps of a course were taken, and their lines were written or stand in the chunk
+pub record Writing (protocol : Protocol) (shape : Extent) (first now : Leading) (here : Situation) (old new : Option (List ℕ)) (chunk : List ℕ) : Type 0 where
+  pub along : Along protocol shape first now here
+  pub lines : Gathers old new chunk (line_texts shape along.steps along.outcomes)
+
+pub writing_none : (protocol : Protocol) (shape : Extent) (first : Leading) (here : Situation) (a : Option (List ℕ)) (chunk : List ℕ)
+    → here ≡ reset protocol shape → CanEnd first → chunk ≡ []
+    → Writing protocol shape first first here a a chunk
+unfolding along_none
+writing_none protocol shape first here a chunk at can_end e = record { along = along_none protocol shape first here at can_end; lines = gathers_none a chunk e }
+
+module _ {protocol : Protocol} {shape : Extent} {first now : Leading} {here : Situation} {a b : Option (List ℕ)} {chunk : List ℕ} (far : Writing protocol shape first now here a b chunk) where
+  pub writing_more : (next : Leading) (step : Step) (outcome : Result Reply Refused) (after : Situation) (grown : List ℕ) → GoesFirst here step outcome after
+      → LeadsOn now step outcome next
+      → ((steps : List Step) (outcomes : List (Result Reply Refused)) → TheRun protocol shape steps outcomes after → CanEnd next)
+      → grown ≡ chunk ++ line_text shape step outcome
+      → Writing protocol shape first next after a b grown
+  unfolding along_more
+  writing_more next step outcome after grown goes on can_end e = record {
+    along = along_more far.along next step outcome after goes on can_end;
+    lines = rw (line_texts_more shape far.along.steps far.along.outcomes (reset protocol shape) here step outcome far.along.run)
+        (gathers_more a b chunk grown (line_texts shape far.along.steps far.along.outcomes) (line_text shape step outcome) far.lines e);
+  }
+
+  pub writing_spilled : (c : Option (List ℕ)) (left : List ℕ) → Spills b chunk c left → Writing protocol shape first now here a c left
+  writing_spilled c left spills =
+      record { along = far.along; lines = gathers_spilled a b c chunk left (line_texts shape far.along.steps far.along.outcomes) far.lines spills }
+
+  -- what is written of the steps so far is a beginning of what is written of all
+  begun : (c : Option (List ℕ)) → ((rest : List ℕ) → AppendsFront a c (line_texts shape far.along.steps far.along.outcomes ++ rest))
+      → HoldsAtEnd first (λ steps outcomes final. AppendsFront a c (run_text shape steps outcomes final))
+  begun c cut =
+      let end = far.along.can_end in
+      ends_on far.along (λ steps outcomes final. AppendsFront a c (run_text shape steps outcomes final))
+      (rw (line_texts_on shape far.along.steps end.steps far.along.outcomes end.outcomes (reset protocol shape) here far.along.run, append_assoc)
+      (cut (line_texts shape end.steps end.outcomes ++ report_of shape.words end.final.log)))
+
+  -- a stop before a write
+  pub writing_stop : HoldsAtEnd first (λ steps outcomes final. AppendsFront a b (run_text shape steps outcomes final))
+  writing_stop = begun b (λ rest. gathers_stop a b chunk (line_texts shape far.along.steps far.along.outcomes) rest far.lines)
+
+  -- a stop in a write of the chunk
+  pub writing_cut : (c : Option (List ℕ)) → AppendsFront b c chunk
+      → HoldsAtEnd first (λ steps outcomes final. AppendsFront a c (run_text shape steps outcomes final))
+  writing_cut c cut = begun c (λ rest. gathers_cut a b c chunk (line_texts shape far.along.steps far.along.outcomes) rest far.lines cut)
+
+  module _ (over : now [] [] here) (c d : Option (List ℕ)) (fault_of_write : Appends b c chunk) (words : ℕ) (items : List Item) (these : words ≡ here.shape.words) (last : items ≡ here.log) where
+    lines : Appends a c (line_texts shape far.along.steps far.along.outcomes)
+    lines = gathers_done a b c chunk (line_texts shape far.along.steps far.along.outcomes) far.lines fault_of_write
+
+    report : report_of words items ≡ report_of shape.words here.log
+    report =
+        let same = run_shape far.along.steps far.along.outcomes (reset protocol shape) here far.along.run in
+        rw (last, these, same)
+
+    -- a stop in a write of the report
+    pub writing_report_cut : AppendsFront c d (report_of words items)
+        → HoldsAtEnd first (λ steps outcomes final. AppendsFront a d (run_text shape steps outcomes final))
+    writing_report_cut cut =
+        ends_here far.along (λ steps outcomes final. AppendsFront a d (run_text shape steps outcomes final)) here over
+        (front_after a c d (line_texts shape far.along.steps far.along.outcomes) (report_of shape.words here.log) lines (rw report at cut))
+
+    -- all was written
+    pub writing_done : Appends c d (report_of words items) → HoldsAtEnd first (λ steps outcomes final. Appends a d (run_text shape steps outcomes final))
+    writing_done all =
+        ends_here far.along (λ steps outcomes final. Appends a d (run_text shape steps outcomes final)) here over
+        (appends_more a c d (line_texts shape far.along.steps far.along.outcomes) (report_of shape.words here.log) lines (rw report at all))
+
+-- nothing was written
+pub begins_nothing : RunsGoOn → (protocol : Protocol) (shape : Extent) (steps : List Step) (a : Option (List ℕ)) → Begins protocol shape steps a a
+begins_nothing go_on protocol shape steps a =
+    let all = go_on protocol shape [] steps [] (reset protocol shape) refl in
+    record { outcomes = all.0; final = all.1.0; run = all.1.1; output = appends_none_of a (run_text shape steps all.0 all.1.0) }
+
+-- a driver at its end has served its rows
+module _ (protocol : Protocol) (shape : Extent) (rows : List Row) (start : Progress) (at : IsAtTheStart protocol shape rows start) (a b : Option (List ℕ)) where
+  pub reports_run : HoldsAtEnd (λ steps outcomes final. IsAtTheEnd start steps outcomes final) (λ steps outcomes final. Appends a b (run_text start.situation.shape steps outcomes final)) → ReportsRun protocol shape rows a b
+  reports_run end =
+      let served = driver_served protocol shape rows start end.steps end.outcomes end.final at end.way in
+      record { steps = end.steps; outcomes = end.outcomes; final = end.final; run = served.0; serves = served.1; output = rw at.situation at end.holds }
+
+  pub begins_run : HoldsAtEnd (λ steps outcomes final. IsAtTheEnd start steps outcomes final) (λ steps outcomes final. AppendsFront a b (run_text start.situation.shape steps outcomes final)) → BeginsRun protocol shape rows a b
+  begins_run end =
+      let served = driver_served protocol shape rows start end.steps end.outcomes end.final at end.way in
+      record {
+        steps = end.steps;
+        outcomes = end.outcomes;
+        reached = end.final;
+        run = served.0;
+        taken = served.1.taken;
+        asked = λ core. ([], sym (served.1.asked core) ∙ sym (append-nil _));
+        output = inr (served.1, rw at.situation at end.holds);
+      }
+
+-- and so has one that serves them one after another
+module _ (protocol : Protocol) (shape : Extent) (rows : List Row) (start : InOrder) (at : start.situation ≡ reset protocol shape) (left : start.left ≡ rows) (a b : Option (List ℕ)) where
+  pub reports_serial : HoldsAtEnd (λ steps outcomes final. EndsInOrder start steps outcomes final) (λ steps outcomes final. Appends a b (run_text start.situation.shape steps outcomes final)) → ReportsSerial protocol shape rows a b
+  reports_serial end =
+      let served = in_order_served protocol shape rows start end.steps end.outcomes end.final at left end.way in
+      record { steps = end.steps; outcomes = end.outcomes; final = end.final; run = served.0; serves = served.1; output = rw at at end.holds }
+
+  pub begins_serial : HoldsAtEnd (λ steps outcomes final. EndsInOrder start steps outcomes final) (λ steps outcomes final. AppendsFront a b (run_text start.situation.shape steps outcomes final)) → BeginsSerial protocol shape rows a b
+  begins_serial end =
+      let served = in_order_served protocol shape rows start end.steps end.outcomes end.final at left end.way in
+      record {
+        steps = end.steps;
+        outcomes = end.outcomes;
+        reached = end.final;
+        run = served.0;
+        taken = served.1.serves.taken;
+        first = rows;
+        left = [];
+        whole = sym (append-nil rows);
+        asked = served.1.asked;
+        apart = served.1.apart;
+        output = inr (served.1, rw at at end.holds);
+      }
+
+-- a failed write, or out of memory, after the whole text was read
+pub write_faults : (P : Result (Unit {0}) SimFault → Type 0) (cause : WriteFault) (result : Result (Unit {0}) SimFault) → result ≡ Err (fault_of_write cause)
+    → P (Err fault.Write) → P (Err fault.NoMemory) → P result
+write_faults P write.Write result e failed full = rw e failed
+write_faults P write.NoMemory result e failed full = rw e full
+
+-- the rows of a text are read where what they ask for is
+pub rows_read : (shape : Extent) (input : Option (List ℕ)) (rows : List Row) → IfSome input (λ bytes. rows_of shape bytes ≡ Ok rows)
+    → ReadsRows shape input (Ok rows)
+rows_read shape None rows given = tt
+rows_read shape (Some bytes) rows given = given
