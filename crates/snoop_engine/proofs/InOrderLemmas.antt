@@ -37,17 +37,17 @@ away core block other ne = ap (λ (b : Bool). cond {A = Option ℕ} b (Some bloc
 
 -- a step of work under way is no Ask
 abbrev pub AsksNothing : Step → Type 0
-AsksNothing step = (is_ask step ≡ false) × ((row_under_way : ℕ → Option ℕ) → IsUnderWay row_under_way step)
+AsksNothing step = (is_ask step ≡ false) × ((under_way : ℕ → Option ℕ) → IsUnderWay under_way step)
 
 asks_nothing : (request : Option Request) (open_there : Option Open) (core block : ℕ) → IfSome (step_under_way request open_there core block) AsksNothing
 asks_nothing None None core block = tt
 asks_nothing None (Some transaction) core block = go (transaction.core == core)
   where
     go : (own : Bool) → IfSome (cond {A = Option Step} own (Some (Respond block)) None) AsksNothing
-    go true = (refl, λ row_under_way. tt)
+    go true = (refl, λ under_way. tt)
     go false = tt
-asks_nothing (Some request) None core block = (refl, λ row_under_way. tt)
-asks_nothing (Some request) (Some transaction) core block = (refl, λ row_under_way. tt)
+asks_nothing (Some request) None core block = (refl, λ under_way. tt)
+asks_nothing (Some request) (Some transaction) core block = (refl, λ under_way. tt)
 
 pub under_way_asks_nothing : (s : Situation) (core block word : ℕ) (asking : Op) (r : Option Step) → r ≡ turn_of s core block word asking true
     → IfSome r AsksNothing

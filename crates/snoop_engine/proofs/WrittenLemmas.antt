@@ -91,9 +91,9 @@ module _ {protocol : Protocol} {shape : Extent} {first now : Leading} {here : Si
       → HoldsAtEnd first (λ steps outcomes final. AppendsFront a c (run_text shape steps outcomes final))
   writing_cut c cut = begun c (λ rest. gathers_cut a b c chunk (line_texts shape far.along.steps far.along.outcomes) rest far.lines cut)
 
-  module _ (over : now [] [] here) (c d : Option (List ℕ)) (fault_of_write : Appends b c chunk) (words : ℕ) (items : List Item) (these : words ≡ here.shape.words) (last : items ≡ here.log) where
+  module _ (over : now [] [] here) (c d : Option (List ℕ)) (flushed : Appends b c chunk) (words : ℕ) (items : List Item) (these : words ≡ here.shape.words) (last : items ≡ here.log) where
     lines : Appends a c (line_texts shape far.along.steps far.along.outcomes)
-    lines = gathers_done a b c chunk (line_texts shape far.along.steps far.along.outcomes) far.lines fault_of_write
+    lines = gathers_done a b c chunk (line_texts shape far.along.steps far.along.outcomes) far.lines flushed
 
     report : report_of words items ≡ report_of shape.words here.log
     report =

@@ -17,6 +17,8 @@ use std::alloc::Global;
 /// Reads a text of rows to its end, and lets each core do its rows in the order of the text, one at a time, on a
 /// machine at reset: in each round the cores take one step each by rising number, where they have one. Writes the line of
 /// each step and then the report.
+///
+/// Out of memory before the first step, also in dealing the rows to the cores, is `Text(NoMemory)`: nothing is written then.
 pub fn simulate_run<R: Source, W: Sink>(
     alloc: Global,
     reader: &mut R,
