@@ -1,22 +1,18 @@
 -- The last steps in which something happened, and one step more.
-use Rattle.std.proofs.Common.{◌≡◌, ℕ, ◌+◌, ◌-◌, Bool, true, false, List, [], ◌∷◌, ◌++◌, length, length-append, refl, sym, ap, subst, ◌∙◌, arith}
-use Rattle.std.specs.Prelude.{◌||◌, cond, not, reverse, Option, Some, if◌then◌else◌}
+use Rattle.std.proofs.Common.{◌≡◌, ℕ, ◌+◌, ◌-◌, Bool, true, false, List, [], ◌∷◌, ◌++◌, length, length-append, refl, sym, ◌∙◌, arith}
+use Rattle.std.specs.Prelude.{◌||◌, cond, not, reverse, Option, if◌then◌else◌}
 use Rattle.std.specs.List.{list_any, position_or_len}
 use Rattle.std.proofs.lemmas.List.{reverse-append}
 use Rattle.std.proofs.lemmas.List.Folds.{list_any-append}
-use Rattle.snoop_rules.specs.declared.names.CacheEvent.{CacheEvent}
-use Rattle.snoop_rules.specs.declared.names.CacheState.{CacheState}
 use Rattle.snoop_history.specs.declared.items.Did.{Did}
 use Rattle.snoop_model.specs.Pictures.Situation.{Situation}
 use Rattle.snoop_engine.specs.Frames.{Frame, FramesFrom}
 use Rattle.snoop_engine.specs.Taken.{lines_of_step}
 use Rattle.snoop_engine.specs.declared.taken.Taken.{Taken}
-use Rattle.snoop_engine.specs.declared.taken.Taken.TheVariants.{Core}
-use Rattle.snoop_counts.specs.Causes.{cause_after, cause_of, gives_up, is_stored_to, last_step, loses, operation_in, takes_such_row, word_of}
-use Rattle.snoop_counts.specs.Counted.{is_giving_up, is_loss, is_miss}
+use Rattle.snoop_counts.specs.Causes.{gives_up, is_stored_to, last_step, loses, operation_in, takes_such_row}
+use Rattle.snoop_counts.specs.Counted.{is_giving_up, is_loss}
 use Rattle.snoop_counts.specs.LastSteps.{KnowsLastSteps, HasLastSteps, Marks, MarksLines, MarksStore, number_at}
 use Rattle.snoop_counts.specs.declared.copies.Copies.{Copies}
-use Rattle.snoop_counts.specs.declared.count.Cause.{Cause}
 use Rattle.snoop_counts.specs.declared.last_steps.LastSteps.{LastSteps}
 
 one_step : (b : Bool) (n p : ℕ) → n + 1 - cond (not b) (1 + p) 0 ≡ (if b then 1 + n else n - p)
@@ -26,36 +22,26 @@ one_step false n p = omega arith
 -- one step more is the last, if it passes
 last_more : (test : Frame → Bool) (frames : List Frame) (frame : Frame) → last_step test (frames ++ frame ∷ []) ≡ (if test frame then 1 + length frames else last_step test frames)
 last_more test frames frame =
-    ap (λ (l : List Frame). length (frames ++ frame ∷ []) - position_or_len test l) (reverse-append frames (frame ∷ []))
-    ∙ ap (λ (n : ℕ). n - position_or_len test (frame ∷ reverse frames)) (length-append frames (frame ∷ []))
-    ∙ one_step (test frame) (length frames) (position_or_len test (reverse frames))
+    rw (reverse-append frames (frame ∷ []), length-append frames (frame ∷ [])) (one_step (test frame) (length frames) (position_or_len test (reverse frames)))
 
 -- the number of the step is written where the test passes of it
 module _ (test : ℕ → ℕ → Frame → Bool) (frames : List Frame) (frame : Frame) (number : ℕ) (old new : LastSteps) where
   last_marked : number ≡ 1 + length frames → HasLastSteps test frames old → Marks (λ block at. test block at frame) number old new → HasLastSteps test (frames ++ frame ∷ []) new
   last_marked is far marks = record {
-    number = λ block at.
-        marks block at ∙ ap (λ (n : ℕ). if test block at frame then n else number_at old.rows.items block at) is
-        ∙ ap (λ (n : ℕ). if test block at frame then 1 + length frames else n) (far.number block at)
-        ∙ sym (last_more (test block at) frames frame);
+    number = λ block at. rw (marks block at, is, far.number block at) (sym (last_more (test block at) frames frame));
   }
 
 either : (a b : Bool) (n k : ℕ) → (if b then n else (if a then n else k)) ≡ (if a || b then n else k)
 either true true n k = refl
-either true false n k = refl
-either false true n k = refl
-either false false n k = refl
+either a b n k = refl
 
 -- marks of some lines, and of one more
 marks_more : (test : ℕ → ℕ → Taken → Bool) (number : ℕ) (lines : List Taken) (line : Taken) (old middle new : LastSteps)
     → Marks (λ block at. list_any (test block at) lines) number old middle → Marks (λ block at. list_any (test block at) (line ∷ [])) number middle new
     → Marks (λ block at. list_any (test block at) (lines ++ line ∷ [])) number old new
 marks_more test number lines line old middle new first next block at =
-    let n = number_at old.rows.items block at in
-    let here : Bool = list_any (test block at) (line ∷ []) in
-    next block at ∙ ap (λ (k : ℕ). if here then number else k) (first block at)
-    ∙ either (list_any (test block at) lines) here number n
-    ∙ ap (λ (b : Bool). if b then number else n) (sym (list_any-append (test block at) lines (line ∷ [])))
+    rw (next block at, first block at, list_any-append (test block at) lines (line ∷ []))
+    (either (list_any (test block at) lines) (list_any (test block at) (line ∷ [])) number (number_at old.rows.items block at))
 
 pub lines_more : (number : ℕ) (lines : List Taken) (line : Taken) (old middle new : Copies) → MarksLines number lines old middle → MarksLines number (line ∷ []) middle new → MarksLines number (lines ++ line ∷ []) old new
 lines_more number lines line old middle new first next = record {
@@ -64,28 +50,19 @@ lines_more number lines line old middle new first next = record {
   stored = next.stored ∙ first.stored;
 }
 
-pub lines_none : (number : ℕ) (copies : Copies) → MarksLines number [] copies copies
-lines_none number copies = record { given_up = λ block at. refl; lost = λ block at. refl; stored = refl }
-
 -- a step's lines and its store are marked
 pub follows_more : (frames : List Frame) (frame : Frame) (number : ℕ) (lines : List Taken) (operation : Option Did) (old middle new : Copies) → KnowsLastSteps frames old → number ≡ 1 + length frames
     → lines ≡ lines_of_step frame.before frame.step frame.outcome → operation ≡ operation_in frame → MarksLines number lines old middle → MarksStore number operation middle new → KnowsLastSteps (frames ++ frame ∷ []) new
 follows_more frames frame number lines operation old middle new far is same did marks stores =
-    let marked = subst (λ (l : List Taken). MarksLines number l old middle) same marks in
-    let stored = subst (λ (o : Option Did). MarksStore number o middle new) did stores in
-    let begun : HasLastSteps is_stored_to frames middle.stored = subst (HasLastSteps is_stored_to frames) (sym marked.stored) far.stored in
+    let marked = rw same at marks in
+    let stored = rw did at stores in
     record {
-      given_up = subst (HasLastSteps gives_up (frames ++ frame ∷ [])) (sym stored.given_up) (last_marked gives_up frames frame number old.given_up middle.given_up is far.given_up marked.given_up);
-      lost = subst (HasLastSteps loses (frames ++ frame ∷ [])) (sym stored.lost) (last_marked loses frames frame number old.lost middle.lost is far.lost marked.lost);
-      stored = last_marked is_stored_to frames frame number middle.stored new.stored is begun stored.stored;
+      given_up = rw stored.given_up (last_marked gives_up frames frame number old.given_up middle.given_up is far.given_up marked.given_up);
+      lost = rw stored.lost (last_marked loses frames frame number old.lost middle.lost is far.lost marked.lost);
+      stored = last_marked is_stored_to frames frame number middle.stored new.stored is (rw marked.stored far.stored) stored.stored;
     }
 
 -- the machine is where the last frame led
 pub led_by_last : (frames : List Frame) (frame : Frame) (old new : Situation) → FramesFrom old (frames ++ frame ∷ []) new → new ≡ frame.after
 led_by_last [] frame old new run = run.1
 led_by_last (f ∷ fs) frame old new run = led_by_last fs frame f.after new run.1
-
--- the cause of a line that is a miss
-pub missed : (frames : List Frame) (operation : Option Did) (line : Taken) (core block : ℕ) (event : CacheEvent) (before : CacheState) (cause : Cause) → line ≡ Core core block (Some event) before → is_miss before event ≡ true
-    → cause ≡ cause_after frames block core (word_of operation) → Some cause ≡ cause_of frames operation line
-missed frames operation line core block event before cause is miss same = rw is (rw miss (ap (λ (w : Cause). Some w) same))

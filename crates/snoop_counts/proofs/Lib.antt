@@ -1,5 +1,5 @@
+pub mod CountedLemmas
 pub mod TallyLemmas
-pub mod RowLemmas
 pub mod ViewLemmas
 pub mod BlockLemmas
 pub mod RankingLemmas

@@ -14,20 +14,14 @@ use Rattle.snoop_counts.proofs.ViewLemmas.{seen_on}
 pub seen_last_more : (size : ℕ) (frames : List Frame) (frame : Frame) → size ≤ length frames → seen_last (size + 1) (frames ++ frame ∷ []) ≡ seen_last size frames ++ seen_in frames frame
 seen_last_more size frames frame le =
     let k : ℕ = length frames - size in
-    let long : length (frames ++ frame ∷ []) ≡ length frames + 1 = length-append frames (frame ∷ []) in
-    let same : length (frames ++ frame ∷ []) - (size + 1) ≡ k = omega arith in
+    let same : length (frames ++ frame ∷ []) - (size + 1) ≡ k = omega (arith, length-append frames (frame ∷ [])) in
     let within : k ≤ length frames = omega arith in
-    ap (λ (n : ℕ). seen_after (take n (frames ++ frame ∷ [])) (drop n (frames ++ frame ∷ []))) same
-    ∙ ap (λ (l : List Frame). seen_after l (drop k (frames ++ frame ∷ []))) (take-append-le k frames (frame ∷ []) within)
-    ∙ ap (λ (l : List Frame). seen_after (take k frames) l) (drop-append-le k frames (frame ∷ []) within)
-    ∙ seen_on (take k frames) (drop k frames) frame
-    ∙ ap (λ (l : List Frame). seen_after (take k frames) (drop k frames) ++ seen_in l frame) (take-append-drop k frames)
+    rw (same, take-append-le k frames (frame ∷ []) within, drop-append-le k frames (frame ∷ []) within)
+    (rw (seen_on (take k frames) (drop k frames) frame, take-append-drop k frames))
 
 -- no step
 pub seen_last_none : (frames : List Frame) → seen_last 0 frames ≡ []
-seen_last_none frames =
-    let k : ℕ = length frames - 0 in
-    ap (λ (l : List Frame). seen_after (take k frames) l) (drop_all k frames (omega arith))
+seen_last_none frames = rw (drop_all (length frames - 0) frames (omega arith))
 
 -- one more is left over, or nothing is
 pub left_over : (n every : ℕ) → 0 < every → (((n + 1) % every ≡ 0) × (n % every + 1 ≡ every)) ⊎ ((n + 1) % every ≡ n % every + 1)

@@ -1,32 +1,34 @@
--- What holds of each element of a list that grows, or in which one changes.
-use Rattle.std.proofs.Common.{◌≡◌, ℕ, ◌+◌, ◌<◌, List, [], ◌∷◌, ◌++◌, length, length-append, get_or, ap, ◌∙◌, inl, inr, subst, sym, refl, arith}
-use Rattle.std.specs.Prelude.{slice_set}
-use Rattle.std.specs.List.{HoldsAt}
-use Rattle.std.proofs.Math.Seq.{get_or-append_seam}
+-- Lists that grow or in which an element changes, and what holds of each element; a fact on a value that is there.
+use Rattle.std.proofs.Common.{◌≡◌, refl, ℕ, ◌+◌, ◌<◌, Bool, filter, List, [], ◌∷◌, ◌++◌, length, inl, inr, arith}
+use Rattle.std.specs.Prelude.{OnOk, Result, Ok, Err, if◌then◌else◌, slice_set}
+use Rattle.std.specs.List.{HoldsAt, range_with_len}
 use Rattle.std.proofs.lemmas.Bool.{cases_eq}
-use Rattle.std.proofs.lemmas.List.{get_or_append_left, get_or-set_other}
+use Rattle.std.proofs.lemmas.List.{get_or_append_left, get_or_push, get_or-set_other}
+use Rattle.std.proofs.lemmas.List.Elements.{filter-append}
 use Rattle.std.proofs.lemmas.Grind.{get_or-set_at}
+use Rattle.snoop_engine.proofs.RangeLemmas.{more_from_zero}
 
-pub longer : {X : Type 0} (xs : List X) (x : X) (n : ℕ) → length xs ≡ n → length (xs ++ x ∷ []) ≡ n + 1
-longer xs x n e = length-append xs (x ∷ []) ∙ ap (λ k. k + 1) e
+-- the numbers of a range that pass, one by one
+pub kept_more : (p : ℕ → Bool) (k : ℕ) (before now : List ℕ) → before ≡ filter p (range_with_len 0 k) → now ≡ before ++ (if p k then k ∷ [] else [])
+    → now ≡ filter p (range_with_len 0 (k + 1))
+kept_more p k before now far e = rw (e, far, more_from_zero k, filter-append p)
 
 -- one element more
 pub held_more : {X : Type 0} (P : ℕ → X → Type 0) (xs : List X) (x : X) (n : ℕ) → length xs ≡ n
     → ((k : ℕ) → k < n → HoldsAt (P k) xs k) → P n x → (k : ℕ) → k < n + 1 → HoldsAt (P k) (xs ++ x ∷ []) k
 held_more P xs x n e so_far here k h d = elim (cases_eq k n) [
-  | inl same ↦
-      let at : length xs ≡ k = omega arith in
-      let is : get_or (xs ++ x ∷ []) k d ≡ x = subst (λ (j : ℕ). get_or (xs ++ x ∷ []) j d ≡ x) at (get_or-append_seam xs x [] d) in
-      rw is (subst (λ (j : ℕ). P j x) (sym same) here)
-  | inr other ↦
-      let low : k < n = omega arith in
-      let in_xs : k < length xs = omega arith in
-      rw (get_or_append_left xs (x ∷ []) d k in_xs) (so_far k low d)
+  | inl same ↦ rw (get_or_push xs x d k (omega arith), same) here
+  | inr other ↦ rw (get_or_append_left xs (x ∷ []) d k (omega arith)) (so_far k (omega arith) d)
 ]
 
 -- one element changes
-pub held_at : {X : Type 0} (P : X → Type 0) (xs : List X) (i : ℕ) (x : X) → i < length xs → P x → HoldsAt P (slice_set xs i x) i
-held_at P xs i x h has d = rw (get_or-set_at xs i i x d refl h) has
+pub held_set : {X : Type 0} (P : ℕ → X → Type 0) (xs : List X) (i k : ℕ) (x : X) → i < length xs → P i x → ((k ≡ i → ⊥) → HoldsAt (P k) xs k)
+    → HoldsAt (P k) (slice_set xs i x) k
+held_set P xs i k x low here beside d = elim (cases_eq k i) [
+  | inl same ↦ rw (get_or-set_at xs i k x d same low, same) here
+  | inr other ↦ rw (get_or-set_other xs i k x d other) (beside other d)
+]
 
-pub held_beside : {X : Type 0} (P : X → Type 0) (xs : List X) (i k : ℕ) (x : X) → (k ≡ i → ⊥) → HoldsAt P xs k → HoldsAt P (slice_set xs i x) k
-held_beside P xs i k x other has d = rw (get_or-set_other xs i k x d other) (has d)
+pub on_ok_from : {T E Q : Type 0} (r : Result T E) → ((a : T) → r ≡ Ok a → Q) → OnOk r Q
+on_ok_from (Ok a) f = f a refl
+on_ok_from (Err e) f = tt

@@ -1,7 +1,4 @@
-pub mod OnOkLemmas
-pub mod ListLemmas
 pub mod HoldsLemmas
-pub mod AskLemmas
 pub mod RowLemmas
 pub mod ShownLemmas
 pub mod TableLemmas

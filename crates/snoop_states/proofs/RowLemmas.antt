@@ -1,5 +1,5 @@
 -- A row by its cells, as a row by its columns.
-use Rattle.std.proofs.Common.{◌≡◌, ℕ, List, [], ◌∷◌, ◌++◌, map, refl, sym, ap, ◌∙◌, append-nil, append_assoc}
+use Rattle.std.proofs.Common.{◌≡◌, ℕ, List, [], ◌∷◌, map, refl, sym, ap, ◌∙◌}
 use Rattle.std.specs.List.{flat_map}
 use Rattle.std.proofs.lemmas.List.Folds.{flat_map-map}
 use Rattle.snoop_states.specs.declared.column.Column.{Column}
@@ -24,13 +24,3 @@ cells_of columns text next cells has =
     let change : Column × List ℕ → Column × List ℕ = λ p. (p.0, next p.0) in
     let old : Column → Column × List ℕ = λ column. (column, text column) in
     sym (map_map pair change cells) ∙ ap (map change) has ∙ map_map old change columns
-
--- a row, and then what follows it
-pub row_then : (old cells line middle new : List ℕ) → middle ≡ old ++ (cells ++ []) → new ≡ middle ++ line → new ≡ old ++ (cells ++ line)
-row_then old cells line middle new e f =
-    f ∙ ap (λ l. l ++ line) (e ∙ ap (λ l. old ++ l) (append-nil cells)) ∙ append_assoc old cells line
-
--- the first row
-pub first_then : (old cells line middle new : List ℕ) → old ≡ [] → middle ≡ old ++ (cells ++ []) → new ≡ middle ++ line → new ≡ (cells ++ line) ++ []
-first_then old cells line middle new none e f =
-    row_then old cells line middle new e f ∙ ap (λ l. l ++ (cells ++ line)) none ∙ sym (append-nil (cells ++ line))

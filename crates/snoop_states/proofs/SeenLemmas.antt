@@ -1,9 +1,8 @@
 -- The tables of all blocks, when one frame more is seen.
-use Rattle.std.proofs.Common.{◌≡◌, ℕ, ◌+◌, ◌<◌, ◌≤◌, Bool, true, false, cond, Option, Some, None, List, [], ◌∷◌, ◌++◌, length, get_or, length-set, inl, inr, refl, sym, ap, subst, ◌∙◌, arith}
-use Rattle.std.specs.Prelude.{◌==◌, ◌&&◌, nat_le, slice_set}
-use Rattle.std.specs.List.{HoldsAt}
+use Rattle.std.proofs.Common.{◌≡◌, ℕ, ◌+◌, ◌<◌, ◌≤◌, true, false, Option, Some, None, List, [], ◌∷◌, ◌++◌, length, get_or, length-set, inl, inr, refl, sym, ap, subst, ◌∙◌, arith}
+use Rattle.std.specs.Prelude.{◌==◌, ◌&&◌, nat_le}
 use Rattle.std.specs.Option.{option_map_or}
-use Rattle.std.proofs.lemmas.Bool.{and_from, and_left, and_parts, and_right, both_ways, cases_Bool, cases_eq, cases_lt, cond-true, eq-eqb, eqb-true, leb-true, ne_eqb}
+use Rattle.std.proofs.lemmas.Bool.{and_from, and_parts, and_right, both_ways, cases_Bool, cases_eq, cases_lt, eq-eqb, eqb-true, leb-true, ne_eqb}
 use Rattle.snoop_trace.specs.Extent.{Extent}
 use Rattle.snoop_trace.specs.declared.protocol.Protocol.{Protocol}
 use Rattle.snoop_model.specs.Pictures.Situation.{Situation}
@@ -17,7 +16,9 @@ use Rattle.snoop_engine.specs.Chosen.{Chosen, is_chosen, is_in_range}
 use Rattle.snoop_states.specs.Tables.{shown_block}
 use Rattle.snoop_states.specs.Seen.{AreTables, HalfBegun, HasRows, IsEmpty, IsGrownAt, IsStartedAt, IsTable}
 use Rattle.snoop_states.specs.Tables.{is_of}
-use Rattle.snoop_states.proofs.HoldsLemmas.{held_at, held_beside}
+use Rattle.snoop_states.proofs.HoldsLemmas.{held_set}
+use Rattle.std.proofs.lemmas.List.{get_or-set_other}
+use Rattle.std.proofs.lemmas.Option.{cond_some}
 use Rattle.snoop_states.proofs.TableLemmas.{table_grows, table_starts, table_stays, table_waits}
 
 -- what follows of the table of each block
@@ -31,18 +32,12 @@ not_shown : (choice : Chosen) (block number : ℕ) (frame : Frame) → is_chosen
 not_shown choice block number frame chosen = with_block (block_of_step frame.before frame.step) where
   with_block : (of : Option ℕ) → shown_block choice of number ≡ None → (is_in_range choice number && option_map_or (λ b. b == block) of false) ≡ false
   with_block None h = and_right (is_in_range choice number) false refl
-  with_block (Some b) h = elim (cases_Bool (b == block)) [
-    | inl same ↦
-        elim (cases_Bool (is_in_range choice number)) [
-          | inl within ↦
-              let e : b ≡ block = eqb-true b block same in
-              let both : (is_chosen choice.block b && is_in_range choice number) ≡ true = rw (e, chosen, within) refl in
-              let some : shown_block choice (Some b) number ≡ Some b = cond-true (is_chosen choice.block b && is_in_range choice number) (Some b) None both in
-              let never : Some b ≡ None = sym some ∙ h in
-              absurd cc
-          | inr out ↦ and_left (is_in_range choice number) (b == block) out
-        ]
-    | inr other ↦ and_right (is_in_range choice number) (b == block) other
+  with_block (Some b) h = elim (cases_Bool (is_in_range choice number && b == block)) [
+    | inl on ↦
+        let both = and_parts (is_in_range choice number) (b == block) on in
+        let never : Some block ≡ None = rw (eqb-true b block both.1, chosen, both.0) at h in
+        absurd cc
+    | inr off ↦ off
   ]
 
 -- a step that is shown
@@ -53,16 +48,10 @@ pub record IsShown (choice : Chosen) (of : Option ℕ) (block number : ℕ) : Ty
 
 shown_is : (choice : Chosen) (of : Option ℕ) (block number : ℕ) → shown_block choice of number ≡ Some block → IsShown choice of block number
 shown_is choice None block number h = absurd cc
-shown_is choice (Some b) block number h = elim (cases_Bool (is_chosen choice.block b && is_in_range choice number)) [
-  | inl on ↦
-      let some : shown_block choice (Some b) number ≡ Some b = cond-true (is_chosen choice.block b && is_in_range choice number) (Some b) None on in
-      let e : b ≡ block = cc in
-      let both = and_parts (is_chosen choice.block b) (is_in_range choice number) on in
-      record { is = ap (λ n. Some n) e; chosen = subst (λ (n : ℕ). is_chosen choice.block n ≡ true) e both.0; within = both.1 }
-  | inr off ↦
-      let none : shown_block choice (Some b) number ≡ None = ap (λ (t : Bool). cond t (Some b) None) off in
-      absurd cc
-]
+shown_is choice (Some b) block number h =
+    let some = cond_some (is_chosen choice.block b && is_in_range choice number) b block h in
+    let both = and_parts (is_chosen choice.block b) (is_in_range choice number) some.0 in
+    record { is = ap (λ n. Some n) some.1; chosen = rw some.1 at both.0; within = both.1 }
 
 module _ (widths : Widths) (choice : Chosen) (protocol : Protocol) (shape : Extent) (columns : ℕ → List Column) (frames : List Frame) (frame : Frame) (tables : List Table)
     (so_far : AreTables shape choice (λ block. IsTable widths choice protocol shape (columns block) frames block) tables) where
@@ -85,16 +74,13 @@ module _ (widths : Widths) (choice : Chosen) (protocol : Protocol) (shape : Exte
       → AreTables shape choice (λ block. IsTable widths choice protocol shape (columns block) (frames ++ frame ∷ []) block) tables
   all_stay h none = record {
     count = so_far.count;
-    each = λ block low chosen d.
-        let one = so_far.each block low chosen d in
-        elim (cases_lt (1 + length frames) choice.from) [
-          | inl early ↦
-              let far : 2 + length frames < choice.from = omega arith in
-              table_waits widths choice protocol shape block (columns block) frames frame (get_or tables block d) one far
-          | inr late ↦
-              table_stays widths choice protocol shape block (columns block) frames frame (get_or tables block d) one late
-              (not_shown choice block (1 + length frames) frame chosen none)
-        ];
+    each = λ block low chosen d. elim (cases_lt (1 + length frames) choice.from) [
+      | inl early ↦
+          table_waits widths choice protocol shape block (columns block) frames frame (get_or tables block d) (so_far.each block low chosen d) (omega arith)
+      | inr late ↦
+          table_stays widths choice protocol shape block (columns block) frames frame (get_or tables block d) (so_far.each block low chosen d) late
+          (not_shown choice block (1 + length frames) frame chosen none)
+    ];
   }
 
   -- the step is shown, and the tables of other blocks stay as they were
@@ -130,14 +116,9 @@ module _ (widths : Widths) (choice : Chosen) (protocol : Protocol) (shape : Exte
       table_grows widths choice protocol shape block (columns block) frames frame (get_or tables block grown.table) old grown.table late on (grown.grows grown.table (columns block)) in
       rw grown.rest (record {
         count = length-set tables block grown.table ∙ so_far.count;
-        each = λ k low chosen. elim (cases_eq k block) [
-          | inl same ↦
-              subst (λ (j : ℕ). HoldsAt (IsTable widths choice protocol shape (columns j) (frames ++ frame ∷ []) j) (slice_set tables block grown.table) j) (sym same)
-              (held_at (IsTable widths choice protocol shape (columns block) (frames ++ frame ∷ []) block) tables block grown.table here grows)
-          | inr other ↦
-              held_beside (IsTable widths choice protocol shape (columns k) (frames ++ frame ∷ []) k) tables block k grown.table other
-              (λ d. others_stay block k is other (get_or tables k d) (so_far.each k low chosen d))
-        ];
+        each = λ k low chosen.
+            held_set (λ j. IsTable widths choice protocol shape (columns j) (frames ++ frame ∷ []) j) tables block k grown.table here grows
+            (λ other d. others_stay block k is other (get_or tables k d) (so_far.each k low chosen d));
       })
 
 -- the tables of the first blocks are begun
@@ -167,11 +148,10 @@ module _ (widths : Widths) (choice : Chosen) (here : Situation) (columns : ℕ �
       let one : HasRows widths choice here.shape n (columns n) here [] started.table = started.starts started.table (columns n) (half.rest n same_rest low on started.table) in
       rw started.rest (record {
         count = length-set tables n started.table ∙ half.count;
-        begun = λ block below inside chosen. elim (cases_eq block n) [
-          | inl same ↦
-              subst (λ (j : ℕ). HoldsAt (HasRows widths choice here.shape j (columns j) here []) (slice_set tables n started.table) j) (sym same)
-              (held_at (HasRows widths choice here.shape n (columns n) here []) tables n started.table in_tables one)
-          | inr other ↦ held_beside (HasRows widths choice here.shape block (columns block) here []) tables n block started.table other (half.begun block (omega arith) inside chosen)
-        ];
-        rest = λ block high inside chosen. held_beside (IsEmpty (columns block)) tables n block started.table (λ e. absurd (omega arith)) (half.rest block (omega arith) inside chosen);
+        begun = λ block below inside chosen.
+            held_set (λ j. HasRows widths choice here.shape j (columns j) here []) tables n block started.table in_tables one
+            (λ other. half.begun block (omega arith) inside chosen);
+        rest =
+            λ block high inside chosen d. rw (get_or-set_other tables n block started.table d (λ e. absurd (omega arith)))
+            (half.rest block (omega arith) inside chosen d);
       })

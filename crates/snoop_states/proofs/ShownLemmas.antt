@@ -1,8 +1,8 @@
 -- What one frame more adds to what is shown.
-use Rattle.std.proofs.Common.{◌≡◌, ℕ, ◌+◌, ◌-◌, ◌<◌, ◌≤◌, Bool, false, List, [], ◌∷◌, ◌++◌, map, length, length-append, refl, sym, ap, ◌∙◌, append_assoc, append-nil, arith}
+use Rattle.std.proofs.Common.{◌≡◌, ℕ, ◌+◌, ◌-◌, ◌≤◌, false, List, [], ◌∷◌, ◌++◌, map, length, length-append, refl, ap, ◌∙◌, append_assoc, append-nil, arith}
 use Rattle.std.specs.Prelude.{◌&&◌, if◌then◌else◌, nat_le}
 use Rattle.std.specs.List.{filter}
-use Rattle.std.proofs.lemmas.Bool.{and_left, cond-false, lt-leb}
+use Rattle.std.proofs.lemmas.Bool.{and_left, lt-leb}
 use Rattle.std.proofs.lemmas.List.{take-append-le, take_all}
 use Rattle.std.proofs.lemmas.List.Elements.{filter-append}
 use Rattle.snoop_trace.specs.Extent.{Extent}
@@ -23,10 +23,7 @@ use Rattle.snoop_states.specs.Tables.{first_shown, is_of, rows_text, shown_of}
 pub shown_on : (choice : Chosen) (block : ℕ) (frames : List Frame) (frame : Frame) (number : ℕ) → number ≡ 1 + length frames
     → shown_of choice block (frames ++ frame ∷ []) ≡ shown_of choice block frames ++ (if is_in_range choice number && is_of block frame then (record { number = number; frame = frame }) ∷ [] else [])
 shown_on choice block frames frame number e =
-    let test : Numbered → Bool = λ n. is_in_range choice n.number && is_of block n.frame in
-    let one : ℕ → Numbered = λ n. record { number = n; frame = frame } in
-    ap (filter test) (numbered_on 1 frames frame) ∙ filter-append test (numbered_from 1 frames) (one (1 + length frames) ∷ [])
-    ∙ ap (λ (n : ℕ). filter test (numbered_from 1 frames) ++ filter test (one n ∷ [])) (sym e)
+    rw (numbered_on 1 frames frame, filter-append (λ (n : Numbered). is_in_range choice n.number && is_of block n.frame), e)
 
 -- the machine before the first step that is shown, once it is there
 pub first_stays : (choice : Chosen) (protocol : Protocol) (shape : Extent) (frames : List Frame) (frame : Frame) → choice.from ≤ 1 + length frames
@@ -47,21 +44,15 @@ pub rows_on : (widths : Widths) (shape : Extent) (block : ℕ) (columns : List C
     ++ (cells_text widths columns (cell_text (led_to above (map (λ m. m.frame) ns)) block) (cell_text n.frame.after block) n.number ++ line_text shape n.frame.step n.frame.outcome)
 rows_on widths shape block columns above [] n =
     append-nil (cells_text widths columns (cell_text above block) (cell_text n.frame.after block) n.number ++ line_text shape n.frame.step n.frame.outcome)
-rows_on widths shape block columns above (m ∷ ms) n =
-    let first : List ℕ = cells_text widths columns (cell_text above block) (cell_text m.frame.after block) m.number ++ line_text shape m.frame.step m.frame.outcome in
-    let last : List ℕ =
-    cells_text widths columns (cell_text (led_to m.frame.after (map (λ k. k.frame) ms)) block) (cell_text n.frame.after block) n.number ++ line_text shape n.frame.step n.frame.outcome in
-    ap (λ (t : List ℕ). first ++ t) (rows_on widths shape block columns m.frame.after ms n) ∙ sym (append_assoc first (rows_text widths shape block columns m.frame.after ms) last)
+rows_on widths shape block columns above (m ∷ ms) n = rw (rows_on widths shape block columns m.frame.after ms n) (simp append_assoc)
 
 none_from : (choice : Chosen) (block number : ℕ) (frames : List Frame) → number + length frames ≤ choice.from
     → filter (λ (n : Numbered). is_in_range choice n.number && is_of block n.frame) (numbered_from number frames) ≡ []
 none_from choice block number [] h = refl
 none_from choice block number (f ∷ fs) h =
-    let low : number < choice.from = omega arith in
-    let more : number + 1 + length fs ≤ choice.from = omega arith in
     let off : (nat_le choice.from number && nat_le number choice.to && is_of block f) ≡ false =
-    and_left (nat_le choice.from number && nat_le number choice.to) (is_of block f) (and_left (nat_le choice.from number) (nat_le number choice.to) (lt-leb choice.from number low)) in
-    cond-false (is_in_range choice number && is_of block f) _ _ off ∙ none_from choice block (number + 1) fs more
+    and_left (is_in_range choice number) (is_of block f) (and_left (nat_le choice.from number) _ (lt-leb choice.from number (omega arith))) in
+    rw off (none_from choice block (number + 1) fs (omega arith))
 
 -- nothing is shown before the first step that is
 pub none_yet : (choice : Chosen) (block : ℕ) (frames : List Frame) → 1 + length frames ≤ choice.from → shown_of choice block frames ≡ []

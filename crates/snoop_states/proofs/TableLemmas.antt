@@ -1,5 +1,5 @@
 -- The table of a block, when one frame more is seen.
-use Rattle.std.proofs.Common.{◌≡◌, ℕ, ◌+◌, ◌-◌, ◌<◌, ◌≤◌, Bool, true, false, cond, List, [], ◌∷◌, ◌++◌, map, take, length, length-append, refl, sym, ap, subst, ◌∙◌, append_assoc, append-nil, arith, codes, inl, inr}
+use Rattle.std.proofs.Common.{◌≡◌, ℕ, ◌+◌, ◌-◌, ◌<◌, ◌≤◌, true, false, List, [], ◌∷◌, ◌++◌, map, length, length-append, refl, sym, ap, ◌∙◌, append_assoc, append-nil, arith, codes, inl, inr}
 use Rattle.std.specs.Prelude.{◌&&◌, nat_lt}
 use Rattle.std.proofs.lemmas.Bool.{both_ways, cases_lt, false≢true, lt-ltb}
 use Rattle.std.proofs.lemmas.List.{map-append, take_all}
@@ -15,7 +15,7 @@ use Rattle.snoop_states.specs.declared.widths.Widths.{Widths}
 use Rattle.snoop_states.specs.declared.table.Table.{Table}
 use Rattle.snoop_states.specs.Cells.{cell_text}
 use Rattle.snoop_engine.specs.Chosen.{Chosen, is_in_range}
-use Rattle.snoop_states.specs.Rows.{cells_text, names_text}
+use Rattle.snoop_states.specs.Rows.{names_text}
 use Rattle.snoop_states.specs.Seen.{HasCells, HasRows, IsEmpty, IsRowMore, IsTable}
 use Rattle.snoop_states.specs.Tables.{first_row, first_shown, heading_text, is_of, rows_text, shown_of, table_text}
 use Rattle.snoop_states.proofs.ShownLemmas.{first_comes, first_stays, none_yet, rows_on, shown_on}
@@ -39,27 +39,20 @@ module _ (widths : Widths) (choice : Chosen) (protocol : Protocol) (shape : Exte
   -- the next step is the first one that is shown: the table gets its first row
   pub table_starts : (new : Table) → choice.from ≡ 2 + length frames → HasRows widths choice shape block columns frame.after [] new
       → IsTable widths choice protocol shape columns (frames ++ frame ∷ []) block new
-  table_starts new h has =
-      let here : first_shown choice protocol shape (frames ++ frame ∷ []) ≡ frame.after = first_comes choice protocol shape frames frame h in
-      let few : 1 + length (frames ++ frame ∷ []) ≤ choice.from = omega (arith, longer frames frame) in
-      let none : shown_of choice block (frames ++ frame ∷ []) ≡ [] = none_yet choice block (frames ++ frame ∷ []) few in
-      record {
-        early = λ e. absurd (omega (arith, longer frames frame));
-        late = λ _. rw (here, none) has;
-      }
+  table_starts new h has = record {
+    early = λ e. absurd (omega (arith, longer frames frame));
+    late = λ _. rw (first_comes choice protocol shape frames frame h, none_yet choice block (frames ++ frame ∷ []) (omega (arith, longer frames frame))) has;
+  }
 
   -- the step is not shown
   pub table_stays : choice.from ≤ 1 + length frames → (is_in_range choice (1 + length frames) && is_of block frame) ≡ false
       → IsTable widths choice protocol shape columns (frames ++ frame ∷ []) block table
-  table_stays h off =
-      let here : first_shown choice protocol shape (frames ++ frame ∷ []) ≡ first_shown choice protocol shape frames = first_stays choice protocol shape frames frame h in
-      let one : Numbered = record { number = 1 + length frames; frame = frame } in
-      let same : shown_of choice block (frames ++ frame ∷ []) ≡ shown_of choice block frames =
-      shown_on choice block frames frame (1 + length frames) refl ∙ ap (λ (b : Bool). shown_of choice block frames ++ cond b (one ∷ []) []) off ∙ append-nil (shown_of choice block frames) in
-      record {
-        early = λ e. absurd (omega (arith, longer frames frame));
-        late = λ _. rw (here, same) (so_far.late (omega arith));
-      }
+  table_stays h off = record {
+    early = λ e. absurd (omega (arith, longer frames frame));
+    late =
+        λ _. rw (first_stays choice protocol shape frames frame h, shown_on choice block frames frame (1 + length frames) refl, off, append-nil)
+        (so_far.late (omega arith));
+  }
 
   -- the step is shown: the table gets its row
   pub table_grows : (new : Table) → choice.from ≤ 1 + length frames → (is_in_range choice (1 + length frames) && is_of block frame) ≡ true
@@ -71,21 +64,16 @@ module _ (widths : Widths) (choice : Chosen) (protocol : Protocol) (shape : Exte
       let start : Situation = first_shown choice protocol shape frames in
       let shown : List Numbered = shown_of choice block frames in
       let one : Numbered = record { number = 1 + length frames; frame = frame } in
-      let here : first_shown choice protocol shape (frames ++ frame ∷ []) ≡ start = first_stays choice protocol shape frames frame h in
-      let longer_by_one : shown_of choice block (frames ++ frame ∷ []) ≡ shown ++ one ∷ [] =
-      shown_on choice block frames frame (1 + length frames) refl ∙ ap (λ (b : Bool). shown ++ cond b (one ∷ []) []) on in
       let last : led_to start (map (λ n. n.frame) (shown ++ one ∷ [])) ≡ frame.after =
       ap (led_to start) (map-append (λ (n : Numbered). n.frame) shown (one ∷ [])) ∙ led_on start (map (λ n. n.frame) shown) frame in
       let row = more (cell_text (led_to start (map (λ n. n.frame) shown)) block) old.cells in
-      let row_text : List ℕ =
-      cells_text widths columns (cell_text (led_to start (map (λ n. n.frame) shown)) block) (cell_text frame.after block) (1 + length frames) ++ line_text shape frame.step frame.outcome in
       let some : 0 < length (shown ++ one ∷ []) = omega (arith, length-append shown (one ∷ [])) in
       record {
         early = λ e. absurd (omega (arith, longer frames frame));
-        late = λ _. rw (here, longer_by_one) (record {
-          cells = rw last (row.0.cells);
-          rows = row.0.rows ∙ ap (λ (t : List ℕ). t ++ row_text) old.rows ∙ append_assoc (first_row widths choice block columns start) (rows_text widths shape block columns start shown) row_text
-              ∙ ap (λ (t : List ℕ). first_row widths choice block columns start ++ t) (sym (rows_on widths shape block columns start shown one));
+        late = λ _. rw (first_stays choice protocol shape frames frame h, shown_on choice block frames frame (1 + length frames) refl, on) (record {
+          cells = rw last row.0.cells;
+          rows =
+              row.0.rows ∙ rw (old.rows, rows_on widths shape block columns start shown one) (append_assoc (first_row widths choice block columns start) _ _);
           is_shown = row.1 ∙ sym (lt-ltb 0 (length (shown ++ one ∷ [])) some);
         });
       }
@@ -140,12 +128,7 @@ pub begun_at_reset : (widths : Widths) (choice : Chosen) (protocol : Protocol) (
     → choice.from ≡ 1 → here ≡ reset protocol shape → HasRows widths choice shape block columns here [] table → IsTable widths choice protocol shape columns [] block table
 begun_at_reset widths choice protocol shape block columns here table one at has =
     let frames : List Frame = [] in
-    let none : take (choice.from - 1) frames ≡ frames = take_all (choice.from - 1) frames (omega arith) in
-    let first : here ≡ first_shown choice protocol shape [] = at ∙ ap (led_to (reset protocol shape)) (sym none) in
-    record {
-      early = λ e. absurd (omega arith);
-      late = λ _. subst (λ (s : Situation). HasRows widths choice shape block columns s [] table) first has;
-    }
+    record { early = λ e. absurd (omega arith); late = λ _. rw (take_all (choice.from - 1) frames (omega arith), ← at) has }
 
 pub empty_at_reset : (widths : Widths) (choice : Chosen) (protocol : Protocol) (shape : Extent) (block : ℕ) (columns : List Column) (table : Table)
     → 1 < choice.from → IsEmpty columns table → IsTable widths choice protocol shape columns [] block table

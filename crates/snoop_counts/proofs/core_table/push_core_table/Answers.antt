@@ -1,5 +1,4 @@
-use Rattle.std.proofs.Common.{◌≡◌, ℕ, List, ◌++◌, ap, ◌∙◌, append_assoc, arith}
-use Rattle.std.specs.List.{flat_map, range_with_len}
+use Rattle.std.proofs.Common.{◌≡◌, ◌++◌, ◌∙◌, append_assoc, arith}
 use Rattle.snoop_engine.proofs.RangeLemmas.{range_piece}
 use Rattle.snoop_counts.specs.CoreTable.{core_header, core_line}
 use Rattle.snoop_counts.proofs.core_table.push_core_table.Goals as goal
@@ -11,7 +10,6 @@ loop-core-preserved c seen far =
 
 pub returns : goal.returns
 returns c seen far =
-    let old : List ℕ = c.args.out.now.items in
     let all : c.loop-core.core ≡ c.args.cores = omega (arith, c.loop-core-test.false, c.loop-core.auto.core-end) in
-    c.loop-core.invariant seen far ∙ ap (λ (n : ℕ). (old ++ core_header) ++ flat_map (core_line seen) (range_with_len 0 n)) all
-    ∙ append_assoc old core_header (flat_map (core_line seen) (range_with_len 0 c.args.cores))
+    let whole = rw all at (c.loop-core.invariant seen far) in
+    whole ∙ append_assoc c.args.out.now.items core_header _

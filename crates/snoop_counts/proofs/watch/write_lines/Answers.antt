@@ -1,5 +1,5 @@
-use Rattle.std.proofs.Common.{[], ◌∷◌, ◌++◌, None, get_or, map, sym, ap, ◌∙◌}
-use Rattle.std.proofs.lemmas.List.{map_more, take_all}
+use Rattle.std.proofs.Common.{[], ◌∷◌, ◌++◌, None, get_or, sym, ◌∙◌}
+use Rattle.std.proofs.lemmas.List.{map_more}
 use Rattle.snoop_rules.specs.declared.names.CacheState.TheVariants.{I}
 use Rattle.snoop_engine.specs.declared.taken.Taken.{Taken}
 use Rattle.snoop_engine.specs.declared.taken.Taken.TheVariants.{Core}
@@ -17,8 +17,3 @@ loop-line-preserved c frames far =
     let why = c.cause_of-cause.ensures frames far in
     c.in_ok-push.ensures ∙ (λ i. c.loop-line.invariant frames far i ++ Line c.args.step c.args.outcome line (why i) ∷ [])
     ∙ sym (map_more f lines at (Core 0 0 None I) c.loop-line-test.true)
-
-pub returns : goal.returns
-returns c frames far =
-    let f : Taken → Happening = λ line. Line c.args.step c.args.outcome line (cause_of frames c.args.operation line) in
-    c.loop-line.invariant frames far ∙ ap (map f) (take_all c.loop-line.line-index c.args.lines.now c.loop-line-test.false)

@@ -1,5 +1,4 @@
-use Rattle.std.proofs.Common.{◌≡◌, ℕ, List, ◌++◌, ap, ◌∙◌, append_assoc, arith}
-use Rattle.std.specs.List.{flat_map, range_with_len}
+use Rattle.std.proofs.Common.{◌≡◌, ◌++◌, ◌∙◌, append_assoc, arith}
 use Rattle.snoop_engine.proofs.RangeLemmas.{range_piece}
 use Rattle.snoop_counts.specs.ByWord.{word_header, word_lines}
 use Rattle.snoop_counts.proofs.word_table.push_word_table.Goals as goal
@@ -11,7 +10,6 @@ loop-block-preserved c seen far =
 
 pub returns : goal.returns
 returns c seen far =
-    let old : List ℕ = c.args.out.now.items in
     let all : c.loop-block.block ≡ c.args.shape.blocks = omega (arith, c.loop-block-test.false, c.loop-block.auto.block-end, c.blocks-block-end.ensures.value) in
-    c.loop-block.invariant seen far ∙ ap (λ (n : ℕ). (old ++ word_header) ++ flat_map (word_lines c.args.shape seen) (range_with_len 0 n)) all
-    ∙ append_assoc old word_header (flat_map (word_lines c.args.shape seen) (range_with_len 0 c.args.shape.blocks))
+    let whole = rw all at (c.loop-block.invariant seen far) in
+    whole ∙ append_assoc c.args.out.now.items word_header _

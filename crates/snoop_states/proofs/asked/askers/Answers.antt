@@ -1,18 +1,8 @@
-use Rattle.std.proofs.Common.{◌≡◌, ℕ, arith, Bool, ap, ◌∷◌, [], ◌++◌, ◌∙◌}
-use Rattle.std.specs.Prelude.{if◌then◌else◌}
-use Rattle.std.specs.List.{flat_map, range_with_len}
-use Rattle.snoop_engine.proofs.RangeLemmas.{range_piece}
 use Rattle.snoop_states.specs.Asked.{mark_at}
-use Rattle.snoop_states.proofs.ListLemmas.{filter_pieces}
+use Rattle.snoop_states.proofs.HoldsLemmas.{kept_more}
 use Rattle.snoop_states.proofs.asked.askers.Goals as goal
 
 pub loop-core-preserved : goal.loop-core-preserved
 loop-core-preserved c =
-    range_piece (λ k. if mark_at c.args.asked.now c.args.block k then k ∷ [] else []) c.loop-core.core [] c.loop-core.cores.items c.add_if.new.numbers.items
-    c.loop-core.invariant (c.in_ok-add_if.ensures ∙ ap (λ (b : Bool). c.loop-core.cores.items ++ (if b then c.loop-core.core ∷ [] else [])) c.has_asked.ensures)
-
-pub returns : goal.returns
-returns c =
-    let all : c.loop-core.core ≡ c.cores-core-end.result = omega arith in
-    c.loop-core.invariant ∙ ap (λ (n : ℕ). flat_map (λ k. if mark_at c.args.asked.now c.args.block k then k ∷ [] else []) (range_with_len 0 n)) (all ∙ c.cores-core-end.ensures.value)
-    ∙ filter_pieces (mark_at c.args.asked.now c.args.block) (range_with_len 0 c.args.shape.cores)
+    kept_more (mark_at c.args.asked.now c.args.block) c.loop-core.core c.loop-core.cores.items c.add_if.new.numbers.items c.loop-core.invariant
+    (rw c.has_asked.ensures at c.in_ok-add_if.ensures)

@@ -1,6 +1,4 @@
-use Rattle.std.proofs.Common.{◌≡◌, ℕ, ◌<◌, ◌++◌, ap, ◌∙◌, arith}
-use Rattle.std.specs.List.{flat_map, range_with_len}
-use Rattle.snoop_trace.specs.Extent.{Extent}
+use Rattle.std.proofs.Common.{◌≡◌, ◌<◌, arith}
 use Rattle.snoop_engine.proofs.RangeLemmas.{range_piece}
 use Rattle.snoop_states.specs.Whole.{block_table}
 use Rattle.snoop_states.proofs.tables.push_tables.Goals as goal
@@ -8,17 +6,11 @@ use Rattle.snoop_states.proofs.tables.push_tables.Goals as goal
 pub loop-block-preserved : goal.loop-block-preserved
 loop-block-preserved c columns frames are =
     let s = c.args.machine.now.situation in
-    let shape = c.shape.ensures in
-    let same : c.shape.result.blocks ≡ s.shape.blocks = ap (λ (e : Extent). e.blocks) shape in
-    let low : c.loop-block.block < s.shape.blocks = omega (arith, c.blocks-block-end.ensures.value) in
+    let low : c.loop-block.block < s.shape.blocks = omega (arith, rw c.shape.ensures at c.blocks-block-end.ensures.value) in
     range_piece (block_table c.args.widths c.args.choice s.protocol s.shape columns frames) c.loop-block.block c.args.out.now.items c.loop-block.out.items c.push_table.new.out.items
     (c.loop-block.invariant columns frames are) (c.in_ok-push_table.ensures columns frames are low)
 
 pub returns : goal.returns
 returns c columns frames are =
-    let s = c.args.machine.now.situation in
-    let shape = c.shape.ensures in
-    let same : c.shape.result.blocks ≡ s.shape.blocks = ap (λ (e : Extent). e.blocks) shape in
-    let all : c.loop-block.block ≡ s.shape.blocks = omega (arith, c.blocks-block-end.ensures.value) in
-    c.loop-block.invariant columns frames are
-    ∙ ap (λ (n : ℕ). c.args.out.now.items ++ flat_map (block_table c.args.widths c.args.choice s.protocol s.shape columns frames) (range_with_len 0 n)) all
+    let all : c.loop-block.block ≡ c.args.machine.now.situation.shape.blocks = omega (arith, rw c.shape.ensures at c.blocks-block-end.ensures.value) in
+    rw all at (c.loop-block.invariant columns frames are)

@@ -1,9 +1,6 @@
-use Rattle.std.proofs.Common.{List, ◌%◌, refl, subst, sym}
+use Rattle.std.proofs.Common.{◌%◌, refl}
 use Rattle.std.specs.Int.NonZero.{non_zero_u64_get}
 use Rattle.std.proofs.lemmas.Result.{on_ok_weaker}
-use Rattle.snoop_counts.specs.Tally.{HasCounted}
-use Rattle.snoop_counts.specs.declared.count.Happening.{Happening}
-use Rattle.snoop_counts.specs.declared.count.Subjects.TheVariants.{Machine}
 use Rattle.snoop_counts.proofs.WindowLemmas.{none_begun}
 use Rattle.snoop_counts.proofs.by_steps.ByStepsView.begin.Goals as goal
 
@@ -15,6 +12,6 @@ returns-clause-begins c =
       every = refl;
       steps = refl;
       watched = c.new.ensures machine.protocol machine.shape;
-      counted = subst (λ (l : List Happening). HasCounted Machine 1 l c.in_ok-new.field-0) (sym (none_begun (0 % non_zero_u64_get c.args.self.now.every))) c.in_ok-new.ensures;
+      counted = rw (none_begun (0 % non_zero_u64_get c.args.self.now.every)) c.in_ok-new.ensures;
     })
     c.push_text.ensures.ok

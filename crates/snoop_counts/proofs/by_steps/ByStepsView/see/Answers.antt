@@ -1,9 +1,6 @@
-use Rattle.std.proofs.Common.{◌≡◌, ℕ, ◌-◌, ◌%◌, ◌<◌, List, ◌++◌, append-nil, length, subst, sym, ap, ◌∙◌, arith}
+use Rattle.std.proofs.Common.{◌≡◌, ◌-◌, ◌%◌, ◌<◌, append-nil, sym, ap, ◌∙◌, arith}
 use Rattle.std.specs.Int.NonZero.{non_zero_u64_get}
 use Rattle.snoop_engine.specs.Views.{frame_seen}
-use Rattle.snoop_counts.specs.BySteps.{seen_last}
-use Rattle.snoop_counts.specs.Tally.{HasCounted}
-use Rattle.snoop_counts.specs.declared.count.Happening.{Happening}
 use Rattle.snoop_counts.specs.declared.count.Subjects.TheVariants.{Machine}
 use Rattle.snoop_counts.proofs.WindowLemmas.{begins_anew, goes_on, line_now, nothing_yet, numbered}
 use Rattle.snoop_counts.proofs.by_steps.ByStepsView.see.Goals as goal
@@ -16,17 +13,16 @@ returns-then-seen-every-ne0 c first frames before has next =
     let every = non_zero_u64_get first.every in
     let get : c.get-every.result ≡ every = c.get-every.ensures.value ∙ ap (λ x. non_zero_u64_get x) has.every in
     let some : 0 < every = omega (arith, get, c.get-every.ensures.nonzero) in
-    let so_far : List Happening = seen_last (length frames % every) frames in
     let watched = c.in_ok-see.ensures machine.protocol machine.shape frames before machine has.watched next c.log.ensures.items in
-    let counted = subst (λ (l : List Happening). HasCounted Machine 1 (so_far ++ l) c.add_all.new.self) (c.happenings.ensures ∙ watched.1) (c.add_all.ensures Machine 1 so_far (rw c.in-Some.is at has.counted)) in
+    let counted = rw (c.happenings.ensures ∙ watched.1) at (c.add_all.ensures Machine 1 _ (rw c.in-Some.is at has.counted)) in
     let not : number % every ≡ 0 → ⊥ = λ e. c.if-seen-every-ne0.true ((λ i. number % get i) ∙ e) in (
       record {
         every = has.every;
         steps = numbered every some frames frame number next.number;
         watched = watched.0;
-        counted = subst (λ (l : List Happening). HasCounted Machine 1 l c.add_all.new.self) (goes_on every some frames frame number next.number not) counted;
+        counted = rw (goes_on every some frames frame number next.number not) at counted;
       },
-      sym (append-nil c.args.out.now.items) ∙ ap (λ (t : List ℕ). c.args.out.now.items ++ t) (sym (nothing_yet every some frames frame number next.number not)),
+      rw (nothing_yet every some frames frame number next.number not) (sym (append-nil c.args.out.now.items)),
     )
 
 pub returns-in_ok-push_steps-in-Some : goal.returns-in_ok-push_steps-in-Some
@@ -37,16 +33,15 @@ returns-in_ok-push_steps-in-Some c first frames before has next =
     let every = non_zero_u64_get first.every in
     let get : c.get-every.result ≡ every = c.get-every.ensures.value ∙ ap (λ x. non_zero_u64_get x) has.every in
     let some : 0 < every = omega (arith, get, c.get-every.ensures.nonzero) in
-    let so_far : List Happening = seen_last (length frames % every) frames in
     let watched = c.in_ok-see.ensures machine.protocol machine.shape frames before machine has.watched next c.log.ensures.items in
-    let counted = subst (λ (l : List Happening). HasCounted Machine 1 (so_far ++ l) c.add_all.new.self) (c.happenings.ensures ∙ watched.1) (c.add_all.ensures Machine 1 so_far (rw c.in-Some.is at has.counted)) in
-    let zero : number % every ≡ 0 = sym (λ i. number % get i) ∙ c.if-seen-every-ne0.false in
-    let begins : c.first_of.result ≡ number - (every - 1) = c.first_of.ensures ∙ (λ i. number - (get i - 1)) in (
+    let counted = rw (c.happenings.ensures ∙ watched.1) at (c.add_all.ensures Machine 1 _ (rw c.in-Some.is at has.counted)) in
+    let zero : number % every ≡ 0 = rw get at c.if-seen-every-ne0.false in
+    let begins : c.first_of.result ≡ number - (every - 1) = rw get at c.first_of.ensures in (
       record {
         every = has.every;
         steps = numbered every some frames frame number next.number;
         watched = watched.0;
-        counted = subst (λ (l : List Happening). HasCounted Machine 1 l c.restart.new.self) (begins_anew every some frames frame number next.number zero) (c.restart.ensures Machine _ counted);
+        counted = rw (← begins_anew every some frames frame number next.number zero) (c.restart.ensures Machine _ counted);
       },
-      c.in_ok-push_steps-in-Some.ensures _ counted ∙ ap (λ (t : List ℕ). c.args.out.now.items ++ t) (line_now every some frames frame number next.number zero c.first_of.result begins),
+      rw (← line_now every some frames frame number next.number zero c.first_of.result begins) (c.in_ok-push_steps-in-Some.ensures _ counted),
     )

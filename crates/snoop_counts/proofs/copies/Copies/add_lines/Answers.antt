@@ -1,12 +1,9 @@
 use Rattle.std.proofs.Common.{List, subst, sym, take}
-use Rattle.std.proofs.lemmas.List.{take_all, take_more}
+use Rattle.std.proofs.lemmas.List.{take_more}
 use Rattle.snoop_engine.specs.declared.taken.Taken.{Taken}
 use Rattle.snoop_counts.specs.LastSteps.{MarksLines}
-use Rattle.snoop_counts.proofs.CauseLemmas.{lines_more, lines_none}
+use Rattle.snoop_counts.proofs.CauseLemmas.{lines_more}
 use Rattle.snoop_counts.proofs.copies.Copies.add_lines.Goals as goal
-
-pub loop-line-init : goal.loop-line-init
-loop-line-init c = lines_none c.args.number c.args.self.now
 
 pub loop-line-preserved : goal.loop-line-preserved
 loop-line-preserved c =
@@ -14,6 +11,3 @@ loop-line-preserved c =
     let i = c.loop-line.line-index in
     subst (λ (l : List Taken). MarksLines c.args.number l c.args.self.now c.add_line.new.self) (sym (take_more lines i _ c.loop-line-test.true))
     (lines_more c.args.number (take i lines) _ c.args.self.now c.loop-line.self c.add_line.new.self c.loop-line.invariant c.in_ok-add_line.ensures)
-
-pub returns : goal.returns
-returns c = subst (λ (l : List Taken). MarksLines c.args.number l c.args.self.now c.loop-line.self) (take_all c.loop-line.line-index c.args.lines.now c.loop-line-test.false) c.loop-line.invariant

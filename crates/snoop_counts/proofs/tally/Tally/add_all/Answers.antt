@@ -1,7 +1,5 @@
-use Rattle.std.proofs.Common.{List, ◌++◌, subst, take}
+use Rattle.std.proofs.Common.{◌++◌, take}
 use Rattle.std.proofs.lemmas.List.{take_all}
-use Rattle.snoop_counts.specs.Tally.{HasCounted}
-use Rattle.snoop_counts.specs.declared.count.Happening.{Happening}
 use Rattle.snoop_counts.proofs.TallyLemmas.{one_happening_more}
 use Rattle.snoop_counts.proofs.tally.Tally.add_all.Goals as goal
 
@@ -9,10 +7,9 @@ pub loop-happening-preserved : goal.loop-happening-preserved
 loop-happening-preserved c whose many seen before =
     let all = c.args.happenings.now in
     let i = c.loop-happening.happening-index in
-    subst (λ (l : List Happening). HasCounted whose many l c.add.new.self) (one_happening_more seen all i _ c.loop-happening-test.true)
+    rw (one_happening_more seen all i _ c.loop-happening-test.true) at
     (c.add.ensures whose many (seen ++ take i all) (c.loop-happening.invariant whose many seen before))
 
 pub returns : goal.returns
 returns c whose many seen before =
-    subst (λ (l : List Happening). HasCounted whose many (seen ++ l) c.loop-happening.self) (take_all c.loop-happening.happening-index c.args.happenings.now c.loop-happening-test.false)
-    (c.loop-happening.invariant whose many seen before)
+    rw (take_all c.loop-happening.happening-index c.args.happenings.now c.loop-happening-test.false) at (c.loop-happening.invariant whose many seen before)

@@ -1,7 +1,5 @@
-use Rattle.std.proofs.Common.{List, ◌++◌, subst, take}
+use Rattle.std.proofs.Common.{◌++◌, take}
 use Rattle.std.proofs.lemmas.List.{take_all}
-use Rattle.snoop_counts.specs.WordTally.{CountsWords}
-use Rattle.snoop_counts.specs.declared.count.Happening.{Happening}
 use Rattle.snoop_counts.proofs.TallyLemmas.{one_happening_more}
 use Rattle.snoop_counts.proofs.word_tally.WordTally.add_all.Goals as goal
 
@@ -9,10 +7,8 @@ pub loop-happening-preserved : goal.loop-happening-preserved
 loop-happening-preserved c shape seen before =
     let all = c.args.happenings.now in
     let i = c.loop-happening.happening-index in
-    subst (λ (l : List Happening). CountsWords shape l c.add.new.self) (one_happening_more seen all i _ c.loop-happening-test.true)
-    (c.add.ensures shape (seen ++ take i all) (c.loop-happening.invariant shape seen before))
+    rw (one_happening_more seen all i _ c.loop-happening-test.true) at (c.add.ensures shape (seen ++ take i all) (c.loop-happening.invariant shape seen before))
 
 pub returns : goal.returns
 returns c shape seen before =
-    subst (λ (l : List Happening). CountsWords shape (seen ++ l) c.loop-happening.self) (take_all c.loop-happening.happening-index c.args.happenings.now c.loop-happening-test.false)
-    (c.loop-happening.invariant shape seen before)
+    rw (take_all c.loop-happening.happening-index c.args.happenings.now c.loop-happening-test.false) at (c.loop-happening.invariant shape seen before)

@@ -1,0 +1,42 @@
+-- What a count of items alone counts of a line: nothing.
+use Rattle.std.proofs.Common.{◌≡◌, Bool, false, refl, ◌∙◌}
+use Rattle.std.specs.Prelude.{◌||◌, Option, Some, None, Result, Ok}
+use Rattle.std.specs.Option.{option_map_or}
+use Rattle.snoop_trace.specs.declared.step.Step.{Step}
+use Rattle.snoop_rules.specs.declared.names.CacheEvent.{CacheEvent}
+use Rattle.snoop_rules.specs.declared.names.CacheState.{CacheState}
+use Rattle.snoop_model.specs.declared.replies.Refused.{Refused}
+use Rattle.snoop_model.specs.declared.replies.Reply.{Reply}
+use Rattle.snoop_engine.specs.declared.taken.Taken.{Taken}
+use Rattle.snoop_engine.specs.declared.taken.Taken.TheVariants.{Core}
+use Rattle.snoop_counts.specs.Counted.{counts, counts_cause, counts_lines, counts_refusal, counts_row, has_row, is_refused}
+use Rattle.snoop_counts.specs.declared.count.Cause.{Cause}
+use Rattle.snoop_counts.specs.declared.count.Count.{Count}
+use Rattle.snoop_counts.specs.declared.count.Happening.TheVariants as happening
+
+pub no_row : (line : Taken) → has_row (λ state event. false) line ≡ false
+no_row (Core core block (Some event) before) = refl
+no_row line = refl
+
+pub not_refused : (outcome : Result Reply Refused) → is_refused (λ cause. false) outcome ≡ false
+not_refused (Ok answer) = refl
+not_refused outcome = refl
+
+pub no_cause : (why : Option Cause) → option_map_or (λ (cause : Cause). false) why false ≡ false
+no_cause None = refl
+no_cause why = refl
+
+-- what a count counts of lines: all, by their rows, of refused steps, and by the causes of misses
+abbrev OfLines : Type 0
+OfLines = Bool × (CacheState → CacheEvent → Bool) × (Refused → Bool) × (Cause → Bool)
+
+-- the count is of items alone
+abbrev pub IsOfItems : Count → Type 0
+IsOfItems c =
+    ◌≡◌ {A = OfLines} (counts_lines c, counts_row c, counts_refusal c, counts_cause c) (false, (λ state event. false), (λ cause. false), (λ cause. false))
+
+pub no_line : (c : Count) → IsOfItems c → (step : Step) (outcome : Result Reply Refused) (line : Taken) (why : Option Cause)
+    → counts c (happening.Line step outcome line why) ≡ false
+no_line c items step outcome line why =
+    (λ i. (items i).0 || has_row (items i).1 line || is_refused (items i).2 outcome || option_map_or (items i).3 why false)
+    ∙ (λ i. no_row line i || not_refused outcome i || no_cause why i)
