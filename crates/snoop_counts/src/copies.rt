@@ -131,8 +131,8 @@ impl Copies {
         operation: Option<Did>,
     ) -> Result<(), NoMemory>
         ensures { (frames : List Frame) (frame : Frame) → KnowsLastSteps frames self.old → number ≡ 1 + length frames
-            → lines.now ≡ lines_of frame.before frame.step frame.outcome → operation ≡ operation_in frame
-            → OnOk result (Follows (frames ++ frame ∷ []) self.new) }
+            → lines.now ≡ lines_of_step frame.before frame.step frame.outcome → operation ≡ operation_in frame
+            → OnOk result (KnowsLastSteps (frames ++ frame ∷ []) self.new) }
     {
         self.add_lines(number, lines)?;
         self.add_operation(number, operation)

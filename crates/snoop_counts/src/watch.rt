@@ -103,7 +103,7 @@ impl Watch {
     /// Sees the next step, after which the history is this.
     pub(crate) fn see(&mut self, log: &Log, seen: Seen<'_>) -> Result<(), NoMemory>
         ensures { (protocol : Protocol) (shape : Extent) (frames : List Frame) (before after : Situation)
-            → HasWatched protocol shape frames self.old → IsNext protocol shape frames before seen.entry after → log.now.items ≡ after.log
+            → HasWatched protocol shape frames self.old → IsNextSeen protocol shape frames before seen.entry after → log.now.items ≡ after.log
             → OnOk result (HasWatched protocol shape (frames ++ frame_seen before seen.entry after ∷ []) self.new
             × (self.new.seen.items ≡ seen_in frames (frame_seen before seen.entry after))) }
     {

@@ -94,7 +94,7 @@ impl Driver {
     fn continued(&self, core: u32) -> Option<Step>
         requires core { core < self.now.situation.shape.cores }
         ensures asks_nothing { IfSome result (λ step. (k : ℕ) → ask_of k step ≡ None) }
-        ensures lanes_under_way { IfSome result (IsUnderWay (lanes_under_way self.now.lanes)) }
+        ensures under_way { IfSome result (IsUnderWay (lanes_under_way self.now.lanes)) }
         ensures enabled { IfSome result (IsEnabled self.now.situation) }
         ensures over { IfNone result (IsOver self.now.lanes self.now.situation core) }
     {
@@ -112,7 +112,7 @@ impl Driver {
         ensures turns { self.new.turns ≡ self.old.turns }
         ensures others { (k : ℕ) → k ≢ core → todo_of self.new.lanes k ≡ todo_of self.old.lanes k }
         ensures takes_up { IfSome result (λ step. TakesUp self.old.lanes step self.new.lanes) }
-        ensures lanes_under_way { IfSome result (IsUnderWay (lanes_under_way self.new.lanes)) }
+        ensures under_way { IfSome result (IsUnderWay (lanes_under_way self.new.lanes)) }
         ensures enabled { IfSome result (IsEnabled self.new.situation) }
         ensures idle { IfNone result (((todo_of self.old.lanes core).left ≡ []) × IsIdle (todo_of self.new.lanes core)) }
     {
@@ -129,7 +129,7 @@ impl Driver {
         ensures turns { self.new.turns ≡ self.old.turns }
         ensures others { (k : ℕ) → k ≢ core → todo_of self.new.lanes k ≡ todo_of self.old.lanes k }
         ensures takes_up { IfSome result (λ step. TakesUp self.old.lanes step self.new.lanes) }
-        ensures lanes_under_way { IfSome result (IsUnderWay (lanes_under_way self.new.lanes)) }
+        ensures under_way { IfSome result (IsUnderWay (lanes_under_way self.new.lanes)) }
         ensures enabled { IfSome result (IsEnabled self.new.situation) }
         ensures idle { IfNone result (((todo_of self.old.lanes core).left ≡ []) × IsIdle (todo_of self.new.lanes core)) }
     {

@@ -60,7 +60,7 @@ impl<'a> SerialDriver<'a> {
     /// The next step of the row under way.
     fn continued(&self) -> Option<Step>
         ensures asks_nothing { IfSome result (λ step. is_ask step ≡ false) }
-        ensures row_under_way { IfSome result (IsUnderWay (row_under_way self.now.situation.shape self.now.row)) }
+        ensures under_way { IfSome result (IsUnderWay (row_under_way self.now.situation.shape self.now.row)) }
         ensures enabled { IfSome result (IsEnabled self.now.situation) }
         ensures over { IfNone result (ServesOnly nothing self.now.situation) }
     {
@@ -76,7 +76,7 @@ impl<'a> SerialDriver<'a> {
         requires { ServesOnly nothing self.old.situation }
         ensures machine { self.new.situation ≡ self.old.situation }
         ensures takes_up { IfSome result (λ step. TakesUpNext self.old step self.new.left) }
-        ensures row_under_way { IfSome result (IsUnderWay (row_under_way self.new.situation.shape self.new.row)) }
+        ensures under_way { IfSome result (IsUnderWay (row_under_way self.new.situation.shape self.new.row)) }
         ensures enabled { IfSome result (IsEnabled self.new.situation) }
         ensures done { IfNone result (self.old.left ≡ []) }
     {
@@ -98,7 +98,7 @@ impl<'a> SerialDriver<'a> {
     fn turn(&mut self) -> Option<Step>
         ensures machine { self.new.situation ≡ self.old.situation }
         ensures takes_up { IfSome result (λ step. TakesUpNext self.old step self.new.left) }
-        ensures row_under_way { IfSome result (IsUnderWay (row_under_way self.new.situation.shape self.new.row)) }
+        ensures under_way { IfSome result (IsUnderWay (row_under_way self.new.situation.shape self.new.row)) }
         ensures enabled { IfSome result (IsEnabled self.new.situation) }
         ensures done { IfNone result ((self.old.left ≡ []) × IsQuiet self.old.situation) }
     {

@@ -35,7 +35,7 @@ pub trait View {
     fn see(&mut self, out: &mut Vec<u8>, machine: &Machine, seen: Seen<'_>) -> Result<(), NoMemory>
         ensures { (first : Self) (frames : List Frame) (before : Situation)
             → has_seen first machine.now.situation.protocol machine.now.situation.shape frames self.old
-            → IsNext machine.now.situation.protocol machine.now.situation.shape frames before seen.entry machine.now.situation
+            → IsNextSeen machine.now.situation.protocol machine.now.situation.shape frames before seen.entry machine.now.situation
             → OnOk result (has_seen first machine.now.situation.protocol machine.now.situation.shape (frames ++ frame_seen before seen.entry machine.now.situation ∷ []) self.new
             × (out.new.items ≡ out.old.items ++ shows first machine.now.situation.protocol machine.now.situation.shape frames (frame_seen before seen.entry machine.now.situation))) };
 

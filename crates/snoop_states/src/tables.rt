@@ -214,7 +214,7 @@ fn show_step(
     outcome: Result<Reply, Refused>,
 ) -> Result<(), NoMemory>
     ensures { (protocol : Protocol) (columns : ℕ → List Column) (frames : List Frame) (frame : Frame)
-        → frame.after ≡ machine.now.situation → frame.step ≡ step → frame.outcome ≡ outcome → number ≡ 1 + length frames → of ≡ block_of frame.before frame.step
+        → frame.after ≡ machine.now.situation → frame.step ≡ step → frame.outcome ≡ outcome → number ≡ 1 + length frames → of ≡ block_of_step frame.before frame.step
         → AreTables machine.now.situation.shape choice (λ block. IsTable widths choice protocol machine.now.situation.shape (columns block) frames block) tables.old.items
         → OnOk result (AreTables machine.now.situation.shape choice (λ block. IsTable widths choice protocol machine.now.situation.shape (columns block) (frames ++ frame ∷ []) block) tables.new.items) }
 {
