@@ -1,3 +1,4 @@
+mod Cases
 pub mod Recorded
 pub mod Within
 pub mod Places

@@ -1,18 +1,21 @@
 -- What a seat has done of its rows.
-use Rattle.std.proofs.Common.{◌≡◌, ℕ, ◌+◌, ◌<◌, List, [], ◌∷◌, ◌++◌, length, take, filter, Option, get_or, refl, sym, ap, ◌∙◌, subst, append-nil, append_assoc}
+use Rattle.std.proofs.Common.{ℕ, ◌+◌, ◌<◌, List, [], ◌∷◌, ◌++◌, length, take, filter, Option, get_or, ap, ◌∙◌, append_assoc}
 use Rattle.std.specs.List.{AllZip}
 use Rattle.std.proofs.lemmas.List.{take_more}
 use Rattle.std.proofs.lemmas.List.Elements.{filter-append}
-use Rattle.std.proofs.lemmas.Option.{slice_get-get_or}
 use Rattle.snoop_trace.specs.Extent.{Extent}
+use Rattle.snoop_trace.specs.declared.step.Op.TheVariants.{Load}
 use Rattle.snoop_trace.specs.declared.step.Row.{Row}
 use Rattle.snoop_history.specs.declared.items.Did.{Did}
 use Rattle.snoop_cores.specs.Seats.{Seating}
-use Rattle.snoop_cores.specs.declared.fault.SeatFault.{SeatFault}
 use Rattle.snoop_cores.specs.declared.stop.Stop.{Stop}
 use Rattle.snoop_cores.specs.Calls.{Stays, IsSettled}
-use Rattle.snoop_cores.specs.Rows.{is_answered, DoesRow, AnswersRows, MayDo, MayDoFirst, Leaves, Grows, FailsRow, IsRefused}
-use Rattle.snoop_cores.proofs.Beginnings.{starts_on, starts_same}
+use Rattle.snoop_cores.specs.Rows.{is_answered, DoesRow, AnswersRows, MayDoFirst, Leaves, Grows}
+use Rattle.snoop_cores.proofs.Beginnings.{starts_on}
+
+-- a row that stands where none does
+abbrev pub no_row : Row
+no_row = record { core = 0; op = Load; address = 0 }
 
 pub AllZip-append : {A B : Type 0} (R : A → B → Type 0) (xs us : List A) (ys vs : List B) → AllZip R xs ys → AllZip R us vs → AllZip R (xs ++ us) (ys ++ vs)
 AllZip-append R [] us [] vs h k = k
@@ -22,7 +25,7 @@ AllZip-append R (x ∷ xs) us (y ∷ ys) vs h k = (h.0, AllZip-append R xs us ys
 
 pub answers-append : (shape : Extent) (rows more : List Row) (dids also : List Did) → AnswersRows shape rows dids → AnswersRows shape more also → AnswersRows shape (rows ++ more) (dids ++ also)
 answers-append shape rows more dids also h k =
-    subst (λ (l : List Row). AllZip (DoesRow shape) l (dids ++ also)) (sym (filter-append (λ row. is_answered row.op) rows more))
+    rw (filter-append (λ row. is_answered row.op) rows more)
     (AllZip-append (DoesRow shape) (filter (λ row. is_answered row.op) rows) (filter (λ row. is_answered row.op) more) dids also h k)
 
 pub stays_on : (s t u : Seating) → Stays s t → Stays t u → Stays s u
@@ -35,17 +38,14 @@ settled_noted stop s h = record { legal = h.legal; shown = h.shown; pending = h.
 began_more : (rows more : List Row) (s t : Seating) → Leaves rows s t → MayDoFirst rows s → MayDoFirst more t → MayDoFirst (rows ++ more) s
 began_more [] [] s t h b k = tt
 began_more [] (row ∷ more) s t h b k =
-    let same : MayDo row (record s { stop = t.stop }) = subst (MayDo row) h k in (same.0, same.1, record { strange = same.2.strange; pending = same.2.pending })
+    let same = rw h at k in (same.0, same.1, record { strange = same.2.strange; pending = same.2.pending })
 began_more (row ∷ rows) more s t h b k = b
 
 leaves_more : (rows more : List Row) (s t u : Seating) → Leaves rows s t → Leaves more t u → Leaves (rows ++ more) s u
 leaves_more [] [] s t u h k = k ∙ ap (λ (x : Seating). record x { stop = u.stop }) h
 leaves_more [] (row ∷ more) s t u h k = k
-leaves_more (row ∷ rows) [] s t u h k = subst IsSettled (sym k) (settled_noted u.stop t h)
+leaves_more (row ∷ rows) [] s t u h k = rw k (settled_noted u.stop t h)
 leaves_more (row ∷ rows) (other ∷ more) s t u h k = k
-
-pub grows_none : (s : Seating) → Grows [] s s
-grows_none s = record { began = tt; stays = record { core = refl; shape = refl; begins = starts_same s.seen }; added = ([], sym (append-nil s.answers), tt); leaves = refl }
 
 pub grows_more : (rows more : List Row) (s t u : Seating) → Grows rows s t → Grows more t u → Grows (rows ++ more) s u
 grows_more rows more s t u h k = record {
@@ -54,15 +54,11 @@ grows_more rows more s t u h k = record {
   added = (
     h.added.0 ++ k.added.0,
     k.added.1 ∙ ap (λ (l : List Did). l ++ k.added.0) h.added.1 ∙ append_assoc s.answers h.added.0 k.added.0,
-    answers-append s.shape rows more h.added.0 k.added.0 h.added.2 (subst (λ (shape : Extent). AnswersRows shape more k.added.0) h.stays.shape k.added.2),
+    answers-append s.shape rows more h.added.0 k.added.0 h.added.2 (rw h.stays.shape at k.added.2),
   );
   leaves = leaves_more rows more s t u h.leaves k.leaves;
 }
 
 -- it did the next row
 pub did_row : (rows : List Row) (i : ℕ) (d : Row) (s t u : Seating) → i < length rows → Grows (take i rows) s t → Grows (get_or rows i d ∷ []) t u → Grows (take (i + 1) rows) s u
-did_row rows i d s t u h grows one = subst (λ (l : List Row). Grows l s u) (sym (take_more rows i d h)) (grows_more (take i rows) (get_or rows i d ∷ []) s t u grows one)
-
--- it was refused the next row
-pub refused : (rows : List Row) (i : ℕ) (d : Row) (s t u : Seating) (fault : SeatFault) → i < length rows → Grows (take i rows) s t → FailsRow fault (get_or rows i d) t u → IsRefused i fault rows s u
-refused rows i d s t u fault h grows fails = record { row = get_or rows i d; there = slice_get-get_or rows i d h; between = t; grown = grows; fails = fails }
+did_row rows i d s t u h grows one = rw (take_more rows i d h) (grows_more (take i rows) (get_or rows i d ∷ []) s t u grows one)

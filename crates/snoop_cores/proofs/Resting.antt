@@ -1,8 +1,8 @@
 -- A bench with nothing under way joins the seats.
-use Rattle.std.proofs.Common.{◌≡◌, ℕ, ◌<◌, ◌≤◌, ◌⊎◌, List, length, Option, Some, None, refl, sym, ap, ◌∙◌, subst, arith, inl, inr, count_by}
-use Rattle.std.specs.Prelude.{slice_index_or, option_map, option_and_then}
+use Rattle.std.proofs.Common.{◌≡◌, ℕ, ◌<◌, ◌≤◌, ◌⊎◌, List, length, Option, Some, None, refl, ap, arith, inl, inr, count_by}
+use Rattle.std.specs.Prelude.{slice_index_or}
 use Rattle.std.specs.Option.{option_map_or}
-use Rattle.std.proofs.lemmas.Bool.{cases_order}
+use Rattle.std.proofs.lemmas.Bool.{cases_lt}
 use Rattle.std.proofs.lemmas.Option.{slice_get_past}
 use Rattle.snoop_trace.specs.Extent.{Extent}
 use Rattle.snoop_trace.specs.declared.step.Step.{Step}
@@ -25,30 +25,24 @@ use Rattle.snoop_bench.specs.Locked.{Locked, IsKept}
 use Rattle.snoop_cores.specs.Seats.{Seating}
 use Rattle.snoop_cores.specs.Joined.{OneForEach, IsFree, IsAnswered, IsJoined}
 
--- no core has work under way, inside the shape or outside
-nothing_under_way : (works : List (Option Work)) (cores : ℕ) → length works ≡ cores → ((core : ℕ) → core < cores → work_at works core ≡ None) → (core : ℕ) → work_at works core ≡ None
-nothing_under_way works cores size free core = by_order (cases_order core cores)
-  where
-    past : cores ≤ core → work_at works core ≡ None
-    past le = ap (λ (o : Option (Option Work)). option_and_then (λ work. work) o) (slice_get_past works core (omega (arith, le, size)))
-
-    by_order : ((core ≡ cores) ⊎ ((core < cores) ⊎ (cores < core))) → work_at works core ≡ None
-    by_order (inl e) = past (omega (arith, e))
-    by_order (inr (inl l)) = free core l
-    by_order (inr (inr g)) = past (omega (arith, g))
-
--- so nothing is served
-serves_nothing : (works : List (Option Work)) (s : Situation) → ((core : ℕ) → work_at works core ≡ None) → IsServing (works_under_way works) s → IsServing (λ _. None) s
-serves_nothing works s none serving = record {
+-- where no core of the shape has work under way, nothing is served
+serves_nothing : (works : List (Option Work)) (s : Situation) → length works ≡ s.shape.cores → ((core : ℕ) → core < s.shape.cores → work_at works core ≡ None)
+    → IsServing (works_under_way works) s → IsServing (λ _. None) s
+serves_nothing works s size free serving = record {
   waits = λ core k d lt. never core (slice_index_or (queue_of s.queues core) k d) (serving.waits core k d lt);
   opened = λ block transaction is. never transaction.core block (serving.opened block transaction is);
 }
   where
+    none : (core : ℕ) → (core < s.shape.cores) ⊎ (s.shape.cores ≤ core) → work_at works core ≡ None
+    none core (inl lt) = free core lt
+    none core (inr le) = rw (slice_get_past works core (omega (arith, le, size))) refl
+
     never : (core block : ℕ) → works_under_way works core ≡ Some block → None ≡ Some block
-    never core block is = sym (ap (λ (o : Option Work). option_map (λ work. work.block) o) (none core)) ∙ is
+    never core block is = rw (none core (cases_lt core s.shape.cores)) at is
 
 -- at rest no operation waits, so those asked are those performed
-asked_once : (s : Situation) (steps : List Step) → IsQuiet s → ((core block : ℕ) (wanted : Access) → tally s core block wanted ≡ count_by (asks core block wanted) steps)
+asked_once : (s : Situation) (steps : List Step) → IsQuiet s
+    → ((core block : ℕ) (wanted : Access) → tally s core block wanted ≡ count_by (asks core block wanted) steps)
     → (core block : ℕ) (wanted : Access) → count_by (did_it block wanted) (answers_of s.log core) ≡ count_by (asks core block wanted) steps
 asked_once s steps quiet tallied core block wanted =
     let none : waits_for s core block wanted ≡ 0 = ap (λ (o : Option Access). option_map_or (λ access. one_if (same_access wanted access)) o 0) (quiet.performed core block) in
@@ -59,23 +53,20 @@ pub joins : (b : Locked) (seats : List Seating) (items : List Item) (steps : Lis
     → OneForEach b.situation.shape.cores seats → ((core : ℕ) → core < b.situation.shape.cores → IsFree b seats core)
     → ((core : ℕ) → core < b.situation.shape.cores → IsAnswered b.situation.log seats core)
     → items ≡ b.situation.log → steps ≡ b.steps → IsJoined b.situation.protocol b.situation.shape seats items steps
-joins b seats items steps kept safe rests tallied one_each free answered items_are steps_are =
-    subst (λ (l : List Item). IsJoined b.situation.protocol b.situation.shape seats l steps) (sym items_are)
-    (subst (λ (l : List Step). IsJoined b.situation.protocol b.situation.shape seats b.situation.log l) (sym steps_are)
-    (record {
-      at = b.situation;
-      taken = kept.run;
-      readable = kept.readable;
-      log_is = refl;
-      joins = record {
-        legal = safe.coherent.legal;
-        answered = λ k d lt. answered (slice_index_or seats k d).core (one_each.known k d lt) k d lt refl;
-      };
-      quiet = quiet;
-      one_each = one_each;
-      idle = λ k d lt. (free (slice_index_or seats k d).core (one_each.known k d lt)).1 k d lt refl;
-      once = asked_once b.situation b.steps quiet (tallied b.situation.protocol b.situation.shape b.steps b.situation kept.run);
-    }))
+joins b seats items steps kept safe rests tallied one_each free answered items_are steps_are = rw (items_are, steps_are) (record {
+  at = b.situation;
+  taken = kept.run;
+  readable = kept.readable;
+  log_is = refl;
+  joins = record {
+    legal = safe.coherent.legal;
+    answered = λ k d lt. answered (slice_index_or seats k d).core (one_each.known k d lt) k d lt refl;
+  };
+  quiet = quiet;
+  one_each = one_each;
+  idle = λ k d lt. (free (slice_index_or seats k d).core (one_each.known k d lt)).1 k d lt refl;
+  once = asked_once b.situation b.steps quiet (tallied b.situation.protocol b.situation.shape b.steps b.situation kept.run);
+})
   where
     quiet : IsQuiet b.situation
-    quiet = rests b.situation (serves_nothing b.works b.situation (nothing_under_way b.works b.situation.shape.cores kept.places (λ core lt. (free core lt).0)) kept.serving) safe.well_kept
+    quiet = rests b.situation (serves_nothing b.works b.situation kept.places (λ core lt. (free core lt).0) kept.serving) safe.well_kept

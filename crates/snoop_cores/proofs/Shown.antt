@@ -1,5 +1,5 @@
 -- What a reader of one version knows of a core's operations.
-use Rattle.std.proofs.Common.{◌≡◌, ◌≢◌, ℕ, ◌+◌, ◌<◌, ◌≤◌, List, [], ◌∷◌, ◌++◌, length, Option, Some, None, Bool, true, nat_lt, if◌then◌else◌, refl, sym, ap, ◌∙◌, subst, arith, length-append, append-nil}
+use Rattle.std.proofs.Common.{◌≡◌, ◌≢◌, ℕ, ◌+◌, ◌<◌, ◌≤◌, List, [], ◌∷◌, ◌++◌, length, Option, Some, None, true, nat_lt, if◌then◌else◌, refl, sym, ap, ◌∙◌, arith, length-append, append-nil}
 use Rattle.std.proofs.lemmas.Bool.Decides.{nat_tests}
 use Rattle.snoop_history.specs.declared.items.Did.{Did}
 use Rattle.snoop_history.specs.History.{answers_of, next_number, last_of}
@@ -14,23 +14,20 @@ use Rattle.snoop_cores.specs.Own.{most, Shows, Judged}
 use Rattle.snoop_cores.specs.Calls.{IsStranger}
 use Rattle.snoop_cores.proofs.Beginnings.{begins_on, last_in, last_push}
 
-single : (rest dids : List Did) (did : Did) → length rest ≡ 1 → last_in (dids ++ rest) ≡ Some did → rest ≡ did ∷ []
-single [] dids did n last = absurd (omega arith)
-single (x ∷ []) dids did n last = let k = last_push dids x in let s : Some x ≡ Some did = sym k ∙ last in cc
-single (x ∷ y ∷ rest) dids did n last = absurd (omega arith)
-
-long : (all dids : List Did) (b : StartsWith all dids) → length all ≡ length dids + length b.0
-long all dids b = ap length b.1 ∙ length-append dids b.0
-
 one_more : (all dids : List Did) (did : Did) → StartsWith all dids → capped (length all) ≡ length dids + 1 → length dids + 1 < most → last_in all ≡ Some did → all ≡ dids ++ did ∷ []
-one_more all dids did b count below last =
-    let len = long all dids b in
-    b.1 ∙ ap (λ (l : List Did). dids ++ l) (single b.0 dids did (omega (arith, len, count, below)) (ap last_in (sym b.1) ∙ last))
+one_more all dids did (rest, is) count below last =
+    let long = ap length is ∙ length-append dids rest in
+    is ∙ ap (λ (l : List Did). dids ++ l) (single rest (omega (arith, long, count, below)) (ap last_in (sym is) ∙ last))
+  where
+    single : (rest : List Did) → length rest ≡ 1 → last_in (dids ++ rest) ≡ Some did → rest ≡ did ∷ []
+    single [] n last = absurd (omega arith)
+    single (x ∷ []) n last = let k = last_push dids x in cc
+    single (x ∷ y ∷ rest) n last = absurd (omega arith)
 
 none_more : (all dids : List Did) → StartsWith all dids → capped (length all) ≡ length dids → length dids < most → all ≡ dids
-none_more all dids b count below =
-    let len = long all dids b in
-    b.1 ∙ ap (λ (l : List Did). dids ++ l) (empty b.0 (omega (arith, len, count, below))) ∙ append-nil dids
+none_more all dids (rest, is) count below =
+    let long = ap length is ∙ length-append dids rest in
+    is ∙ ap (λ (l : List Did). dids ++ l) (empty rest (omega (arith, long, count, below))) ∙ append-nil dids
   where
     empty : (rest : List Did) → length rest ≡ 0 → rest ≡ []
     empty [] n = refl
@@ -43,10 +40,7 @@ some_is : (o : Option ℕ) (a b : ℕ) → o ≡ Some a → o ≡ Some b → a �
 some_is o a b e f = cc
 
 inside : {A : Type 0} (core cores : ℕ) (o here : Option A) → core < cores → o ≡ (if nat_lt core cores then here else None) → o ≡ here
-inside core cores o here lt is = is ∙ ap (λ (b : Bool). if b then here else None) (tests core cores lt)
-  where
-    tests : (core cores : ℕ) → core < cores → nat_lt core cores ≡ true
-    tests core cores lt = grind (arith, nat_tests)
+inside core cores o here lt is = let yes : nat_lt core cores ≡ true = grind (arith, nat_tests) in rw yes at is
 
 -- what is judged is shown
 pub own_shown : (own : Own) (core : ℕ) (v w : Viewing) (answers : List Did) (count : Option ℕ) (last : Option Did)
@@ -54,32 +48,30 @@ pub own_shown : (own : Own) (core : ℕ) (v w : Viewing) (answers : List Did) (c
     → count ≡ (if nat_lt core w.cores then Some (capped (next_number w.seen core)) else None)
     → last ≡ (if nat_lt core w.cores then last_of w.seen core else None)
     → Judged own count last (length answers) → Shows own core answers w.seen
-own_shown own core v w answers count last e lt b counted lasts =
-    by_case own
+own_shown own core v w answers count last e lt b counted lasts = by_case own
   where
     within : core < w.cores
-    within = let s = e.shape.0 in omega (arith, s)
-
-    count_is : count ≡ Some (capped (length (answers_of w.seen core)))
-    count_is = inside core w.cores count (Some (capped (next_number w.seen core))) within counted
-
-    last_is : last ≡ last_of w.seen core
-    last_is = inside core w.cores last (last_of w.seen core) within lasts
+    within = omega (arith, lt, e.shape.0)
 
     all : List Did
     all = answers_of w.seen core
 
-    begins : StartsWith (answers_of w.seen core) answers
+    counts : (n : ℕ) → count ≡ Some n → capped (length all) ≡ n
+    counts n is = some_is count (capped (length all)) n (inside core w.cores count (Some (capped (next_number w.seen core))) within counted) is
+
+    last_is : last ≡ last_of w.seen core
+    last_is = inside core w.cores last (last_of w.seen core) within lasts
+
+    begins : StartsWith all answers
     begins = begins_on core w.seen v.seen answers e.begins b
 
     by_case : (own : Own) → Judged own count last (length answers) → Shows own core answers w.seen
     by_case Unseen j = tt
-    by_case Same j = (none_more (answers_of w.seen core) answers begins (some_is count (capped (length (answers_of w.seen core))) (length answers) count_is j.0) j.1, e.legal)
-    by_case (More did) j = (one_more (answers_of w.seen core) answers did begins (some_is count (capped (length (answers_of w.seen core))) (length answers + 1) count_is j.0) j.2 (sym last_is ∙ j.1), e.legal)
-    by_case (Strange did) j = (
-      sym last_is ∙ j.2,
-      several (length (answers_of w.seen core)) (length answers) j.0 (let n = long (answers_of w.seen core) answers begins in omega (arith, n)) (some_is count (capped (length (answers_of w.seen core))) j.0 count_is j.1) j.3 j.4 j.5,
-    )
+    by_case Same j = (none_more all answers begins (counts (length answers) j.0) j.1, e.legal)
+    by_case (More did) j = (one_more all answers did begins (counts (length answers + 1) j.0) j.2 (sym last_is ∙ j.1), e.legal)
+    by_case (Strange did) j =
+        let long = ap length begins.1 ∙ length-append answers begins.0 in
+        (sym last_is ∙ j.2, several (length all) (length answers) j.0 (omega (arith, long)) (counts j.0 j.1) j.3 j.4 j.5)
 
 -- one operation more is not none more, and is not another
 one_more_is : (dids : List Did) (did : Did) → (dids ++ did ∷ [] ≢ dids) × ((own : Did) → dids ++ did ∷ [] ≡ dids ++ own ∷ [] → did ≡ own)
@@ -93,13 +85,5 @@ pub stranger_more : (did : Did) (work : Work) (dids answers : List Did) → ¬ D
 stranger_more did work dids answers other is = record {
   last = ap last_in is ∙ last_push answers did;
   more = λ same. (one_more_is answers did).0 (sym is ∙ same);
-  other = λ own does same. other (subst (λ (d : Did). Does d work) (sym ((one_more_is answers did).1 own (sym is ∙ same))) does);
-}
-
--- the last of several more is a stranger's
-pub stranger_several : (did : Did) (work : Work) (dids answers : List Did) → last_in dids ≡ Some did → length answers + 1 < length dids → IsStranger did work dids answers
-stranger_several did work dids answers last several = record {
-  last = last;
-  more = λ same. let n = ap length same in omega (arith, n, several);
-  other = λ own does same. let n : length dids ≡ length answers + 1 = ap length same ∙ length-append answers (own ∷ []) in omega (arith, n, several);
+  other = λ own does same. other (rw ((one_more_is answers did).1 own (sym is ∙ same)) does);
 }

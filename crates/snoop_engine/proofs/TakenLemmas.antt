@@ -12,6 +12,7 @@ use Rattle.snoop_model.specs.Pictures.Situation.{Situation}
 use Rattle.snoop_model.specs.Moves.Move.{FirstMove}
 use Rattle.snoop_engine.specs.Line.{line_text, line_texts}
 use Rattle.snoop_model.specs.Runs.Run.{FirstRunFrom, GoesFirst}
+use Rattle.snoop_model.proofs.Runs.Along as along
 
 -- a step keeps the shape
 pub same_shape : (s t : Situation) (step : Step) (answer : Reply) (entry : Option Item) → FirstMove s step answer t entry → t.shape ≡ s.shape
@@ -30,10 +31,7 @@ run_shape (s ∷ ss) (Err cause ∷ os) old new run = run_shape ss os run.0 new 
 -- one more step of a run
 pub run_more : (steps : List Step) (outcomes : List (Result Reply Refused)) (old middle new : Situation) (step : Step) (outcome : Result Reply Refused)
     → FirstRunFrom old steps outcomes middle → GoesFirst middle step outcome new → FirstRunFrom old (steps ++ step ∷ []) (outcomes ++ outcome ∷ []) new
-run_more [] [] old middle new step outcome all one = (new, (subst (λ (s : Situation). GoesFirst s step outcome new) all one, refl))
-run_more [] (o ∷ os) old middle new step outcome all one = absurd all
-run_more (s ∷ ss) [] old middle new step outcome all one = absurd all
-run_more (s ∷ ss) (o ∷ os) old middle new step outcome all one = (all.0, (all.1.0, run_more ss os all.0 middle new step outcome all.1.1 one))
+run_more = along.run_more GoesFirst
 
 -- one more line
 pub line_texts_more : (shape : Extent) (steps : List Step) (outcomes : List (Result Reply Refused)) (old new : Situation) (step : Step) (outcome : Result Reply Refused)

@@ -1,13 +1,13 @@
 -- What one frame more adds to what is drawn.
-use Rattle.std.proofs.Common.{◌≡◌, ℕ, ◌+◌, ◌-◌, ◌<◌, ◌≤◌, Bool, true, false, cond, List, [], ◌∷◌, ◌++◌, length, length-append, refl, sym, ap, ◌∙◌, append-nil, arith}
+use Rattle.std.proofs.Common.{◌≡◌, ℕ, ◌+◌, ◌-◌, ◌<◌, ◌≤◌, true, false, cond, List, [], ◌∷◌, ◌++◌, length, refl, ap, ◌∙◌, append-nil, arith}
 use Rattle.std.specs.Prelude.{nat_le}
 use Rattle.std.specs.List.{filter}
-use Rattle.std.proofs.lemmas.Bool.{and_left, cond-false, lt-leb}
-use Rattle.std.proofs.lemmas.List.{take-append-le, take_all}
+use Rattle.std.proofs.lemmas.Bool.{and_left, lt-leb}
+use Rattle.std.proofs.lemmas.List.{length_push, take-append-le, take_all}
 use Rattle.std.proofs.lemmas.List.Elements.{filter-append}
 use Rattle.snoop_trace.specs.Extent.{Extent}
 use Rattle.snoop_trace.specs.declared.protocol.Protocol.{Protocol}
-use Rattle.snoop_model.specs.Pictures.Situation.{Situation, reset}
+use Rattle.snoop_model.specs.Pictures.Situation.{reset}
 use Rattle.snoop_engine.specs.Frames.{Frame}
 use Rattle.snoop_engine.specs.Views.{block_of_step}
 use Rattle.snoop_engine.specs.Chosen.{Chosen}
@@ -21,7 +21,7 @@ abbrev pub after : ℕ → Frame → AfterSteps
 after number frame = record { number = number; situation = frame.after }
 
 -- a frame more is drawn, or is not
-pub drawn_on : (choice : Chosen) (frames : List Frame) (frame : Frame)
+drawn_on : (choice : Chosen) (frames : List Frame) (frame : Frame)
     → drawn choice (frames ++ frame ∷ []) ≡ drawn choice frames ++ cond (has_row choice (numbered (1 + length frames) frame)) (numbered (1 + length frames) frame ∷ []) []
 drawn_on choice frames frame =
     ap (filter (has_row choice)) (numbered_on 1 frames frame) ∙ filter-append (has_row choice) (numbered_from 1 frames) (numbered (1 + length frames) frame ∷ [])
@@ -30,9 +30,8 @@ none_from : (choice : Chosen) (number : ℕ) (frames : List Frame) → number + 
 none_from choice number [] h = refl
 none_from choice number (f ∷ fs) h =
     let low : number < choice.from = omega arith in
-    let more : number + 1 + length fs ≤ choice.from = omega arith in
     let off : has_row choice (numbered number f) ≡ false = not_within choice (block_of_step f.before f.step) number (and_left (nat_le choice.from number) (nat_le number choice.to) (lt-leb choice.from number low)) in
-    cond-false (has_row choice (numbered number f)) _ _ off ∙ none_from choice (number + 1) fs more
+    rw off (none_from choice (number + 1) fs (omega arith))
 
 -- nothing is drawn before the first number
 pub none_yet : (choice : Chosen) (frames : List Frame) → 1 + length frames ≤ choice.from → drawn choice frames ≡ []
@@ -42,44 +41,36 @@ last_on : (above : AfterSteps) (ns : List Numbered) (n : Numbered) → last_stan
 last_on above [] n = refl
 last_on above (m ∷ ms) n = last_on (after m.number m.frame) ms n
 
-longer : (frames : List Frame) (frame : Frame) → length (frames ++ frame ∷ []) ≡ 1 + length frames
-longer frames frame = omega (arith, length-append frames (frame ∷ []))
-
 module _ (choice : Chosen) (protocol : Protocol) (shape : Extent) (frames : List Frame) (frame : Frame) where
-  first_stays : choice.from ≤ 1 + length frames → first_standing choice protocol shape (frames ++ frame ∷ []) ≡ first_standing choice protocol shape frames
-  first_stays h =
-      let short : choice.from - 1 ≤ length frames = omega arith in
-      let standing_at : Situation → AfterSteps = λ s. record { number = choice.from - 1; situation = s } in
-      ap (λ (fs : List Frame). standing_at (led_to (reset protocol shape) fs)) (take-append-le (choice.from - 1) frames (frame ∷ []) short)
-
   -- the frame is the last one before the first number
   pub standing_starts : choice.from ≡ 2 + length frames → standing choice protocol shape (frames ++ frame ∷ []) ≡ after (1 + length frames) frame
   standing_starts h =
-      let all : length (frames ++ frame ∷ []) ≤ choice.from - 1 = omega (arith, longer frames frame) in
-      let few : 1 + length (frames ++ frame ∷ []) ≤ choice.from = omega (arith, longer frames frame) in
+      let all : length (frames ++ frame ∷ []) ≤ choice.from - 1 = omega (arith, length_push frames frame) in
       let number : choice.from - 1 ≡ 1 + length frames = omega arith in
-      let standing_at : ℕ → Situation → AfterSteps = λ n s. record { number = n; situation = s } in
-      ap (last_standing (first_standing choice protocol shape (frames ++ frame ∷ []))) (none_yet choice (frames ++ frame ∷ []) few)
-      ∙ ap (λ (fs : List Frame). standing_at (choice.from - 1) (led_to (reset protocol shape) fs)) (take_all (choice.from - 1) (frames ++ frame ∷ []) all)
-      ∙ ap (standing_at (choice.from - 1)) (led_on (reset protocol shape) frames frame) ∙ ap (λ (n : ℕ). standing_at n frame.after) number
+      let led = ap (led_to (reset protocol shape)) (take_all (choice.from - 1) (frames ++ frame ∷ []) all) ∙ led_on (reset protocol shape) frames frame in
+      ap (last_standing (first_standing choice protocol shape (frames ++ frame ∷ [])))
+      (none_yet choice (frames ++ frame ∷ []) (omega (arith, length_push frames frame)))
+      ∙ (λ i. record { number = number i; situation = led i })
 
-  module _ (late : choice.from ≤ 1 + length frames) where
-    -- the frame is drawn
-    pub drawn_grows : has_row choice (numbered (1 + length frames) frame) ≡ true → drawn choice (frames ++ frame ∷ []) ≡ drawn choice frames ++ numbered (1 + length frames) frame ∷ []
-    drawn_grows on = drawn_on choice frames frame ∙ ap (λ (b : Bool). drawn choice frames ++ cond b (numbered (1 + length frames) frame ∷ []) []) on
+  -- the frame is drawn
+  module _ (on : has_row choice (numbered (1 + length frames) frame) ≡ true) where
+    pub drawn_grows : drawn choice (frames ++ frame ∷ []) ≡ drawn choice frames ++ numbered (1 + length frames) frame ∷ []
+    drawn_grows = drawn_on choice frames frame ∙ (λ i. drawn choice frames ++ cond (on i) (numbered (1 + length frames) frame ∷ []) [])
 
-    pub standing_grows : has_row choice (numbered (1 + length frames) frame) ≡ true → standing choice protocol shape (frames ++ frame ∷ []) ≡ after (1 + length frames) frame
-    standing_grows on =
-        ap (last_standing (first_standing choice protocol shape (frames ++ frame ∷ []))) (drawn_grows on)
-        ∙ last_on (first_standing choice protocol shape (frames ++ frame ∷ [])) (drawn choice frames) (numbered (1 + length frames) frame)
+    pub standing_grows : standing choice protocol shape (frames ++ frame ∷ []) ≡ after (1 + length frames) frame
+    standing_grows =
+        ap (last_standing (first_standing choice protocol shape (frames ++ frame ∷ []))) drawn_grows
+        ∙ last_on _ (drawn choice frames) (numbered (1 + length frames) frame)
 
   -- the frame is not drawn
-  pub drawn_stays : has_row choice (numbered (1 + length frames) frame) ≡ false → drawn choice (frames ++ frame ∷ []) ≡ drawn choice frames
-  drawn_stays off =
-      drawn_on choice frames frame ∙ ap (λ (b : Bool). drawn choice frames ++ cond b (numbered (1 + length frames) frame ∷ []) []) off ∙ append-nil (drawn choice frames)
+  module _ (off : has_row choice (numbered (1 + length frames) frame) ≡ false) where
+    pub drawn_stays : drawn choice (frames ++ frame ∷ []) ≡ drawn choice frames
+    drawn_stays =
+        drawn_on choice frames frame ∙ (λ i. drawn choice frames ++ cond (off i) (numbered (1 + length frames) frame ∷ []) [])
+        ∙ append-nil (drawn choice frames)
 
-  pub standing_stays : choice.from ≤ 1 + length frames → has_row choice (numbered (1 + length frames) frame) ≡ false
-      → standing choice protocol shape (frames ++ frame ∷ []) ≡ standing choice protocol shape frames
-  standing_stays late off =
-      ap (last_standing (first_standing choice protocol shape (frames ++ frame ∷ []))) (drawn_stays off)
-      ∙ ap (λ (above : AfterSteps). last_standing above (drawn choice frames)) (first_stays late)
+    pub standing_stays : choice.from ≤ 1 + length frames → standing choice protocol shape (frames ++ frame ∷ []) ≡ standing choice protocol shape frames
+    standing_stays late =
+        let short : choice.from - 1 ≤ length frames = omega arith in
+        let same = take-append-le (choice.from - 1) frames (frame ∷ []) short in
+        λ i. last_standing (record { number = choice.from - 1; situation = led_to (reset protocol shape) (same i) }) (drawn_stays i)

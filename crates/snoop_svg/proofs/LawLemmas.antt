@@ -1,11 +1,10 @@
 -- Edges and bold words.
-use Rattle.std.proofs.Common.{◌≡◌, ◌≢◌, ℕ, Bool, true, false, List, codes, Decides, get_or, refl, sym, ap, ◌∙◌, inl, inr}
+use Rattle.std.proofs.Common.{◌≡◌, ◌≢◌, ℕ, Bool, List, codes, Decides, get_or, refl, sym, ap, ◌∙◌, inl, inr}
 use Rattle.std.specs.Prelude.{nat_eq, not}
 use Rattle.std.specs.Cmp.{unsigned_Decides}
 use Rattle.std.specs.Cmp.Lexicographic.{pointwise}
 use Rattle.std.proofs.lemmas.Bool.{false≢true, false_from_ne_true}
 use Rattle.std.proofs.lemmas.Slice.Eq.{slice_eq-Decides}
-use Rattle.snoop_trace.specs.declared.protocol.Protocol.{Protocol}
 use Rattle.snoop_rules.specs.declared.names.CacheState.{CacheState}
 use Rattle.snoop_model.specs.Pictures.Situation.{Situation}
 use Rattle.snoop_draw.specs.Events.{may}
@@ -13,40 +12,15 @@ use Rattle.snoop_draw.specs.Laws.{HasOneEdge as MarksOneEdge}
 use Rattle.snoop_draw.specs.Rows.{held_in}
 use Rattle.snoop_draw.specs.declared.marks.Mark.{Mark}
 use Rattle.snoop_draw.specs.declared.marks.Mark.TheVariants as sign
-use Rattle.snoop_svg.specs.declared.bands.Band.TheVariants.{Bare, Clean, Write, Read}
-use Rattle.snoop_svg.specs.Bands.{HasEdge, core_band, is_clean, marked_band}
+use Rattle.snoop_svg.specs.Bands.{HasEdge, marked_band}
 use Rattle.snoop_svg.specs.Cells.{class_of_words}
 use Rattle.snoop_svg.specs.Laws.{HasOneEdge, NewWordsAreBold}
 
 -- a band with an edge is that of a core that may write
 edged : (mark : Mark) (held : CacheState) → HasEdge (marked_band mark held) → mark ≡ sign.MayWrite
 edged sign.MayWrite held e = refl
-edged sign.MayRead held (inl e) = absurd cc
-edged sign.MayRead held (inr e) = absurd cc
-edged sign.Blank held (inl e) = absurd cc
-edged sign.Blank held (inr e) = absurd cc
-edged sign.Done held (inl e) = absurd cc
-edged sign.Done held (inr e) = absurd cc
-edged sign.Refused held (inl e) = absurd cc
-edged sign.Refused held (inr e) = absurd cc
-edged sign.Issued held (inl e) = absurd cc
-edged sign.Issued held (inr e) = absurd cc
-edged sign.AwaitsOrder held (inl e) = absurd cc
-edged sign.AwaitsOrder held (inr e) = absurd cc
-edged sign.Ordered held (inl e) = absurd cc
-edged sign.Ordered held (inr e) = absurd cc
-edged sign.Sends held (inl e) = absurd cc
-edged sign.Sends held (inr e) = absurd cc
-edged sign.AwaitsData held (inl e) = absurd cc
-edged sign.AwaitsData held (inr e) = absurd cc
-edged sign.Gets held (inl e) = absurd cc
-edged sign.Gets held (inr e) = absurd cc
-edged sign.Tip held (inl e) = absurd cc
-edged sign.Tip held (inr e) = absurd cc
-edged sign.Wire held (inl e) = absurd cc
-edged sign.Wire held (inr e) = absurd cc
-edged sign.Broken held (inl e) = absurd cc
-edged sign.Broken held (inr e) = absurd cc
+edged _ held (inl e) = absurd cc
+edged _ held (inr e) = absurd cc
 
 -- one edge, by the marks
 pub one_edge_by : (s : Situation) → MarksOneEdge s → HasOneEdge s

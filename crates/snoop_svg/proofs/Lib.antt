@@ -2,7 +2,6 @@ pub mod TextLemmas
 pub mod LayoutLemmas
 pub mod DrawnLemmas
 pub mod SeenLemmas
-pub mod BeginLemmas
 pub mod FrameLemmas
 pub mod RowLemmas
 pub mod WholeLemmas

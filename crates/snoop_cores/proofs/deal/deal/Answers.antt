@@ -1,26 +1,20 @@
-use Rattle.std.proofs.Common.{◌≡◌, ◌<◌, ◌∙◌, length, take, get_or, refl, sym, subst, arith}
+use Rattle.std.proofs.Common.{◌<◌, ◌∙◌, length, get_or, refl, sym, subst, arith}
 use Rattle.std.proofs.lemmas.List.{get_or_default, take_all, length-set}
 use Rattle.std.proofs.lemmas.List.Elements.{All-get_or}
-use Rattle.snoop_trace.specs.declared.step.Op.TheVariants.{Load}
 use Rattle.snoop_trace.specs.declared.step.Row.{Row}
 use Rattle.snoop_cores.specs.Rows.{AreDealt}
-use Rattle.snoop_cores.proofs.Dealing.{dealt_none, dealt_more}
+use Rattle.snoop_cores.proofs.Performed.{no_row}
+use Rattle.snoop_cores.proofs.Dealing.{dealt_more}
 use Rattle.snoop_cores.proofs.deal.deal.Goals as goal
-
-abbrev none : Row
-none = record { core = 0; op = Load; address = 0 }
-
-pub loop-row-init : goal.loop-row-init
-loop-row-init c = (c.in_ok-dealt.ensures.count, dealt_none c.in_ok-dealt.dealt.items c.in_ok-dealt.ensures.empty)
 
 pub loop-row-preserved : goal.loop-row-preserved
 loop-row-preserved c =
-    let row : Row = get_or c.args.rows.now c.loop-row.row-index none in
-    let few : row.core < c.args.cores = All-get_or (λ (row : Row). row.core < c.args.cores) c.args.rows.now c.loop-row.row-index none c.loop-row-test.true c.requires in
+    let row : Row = get_or c.args.rows.now c.loop-row.row-index no_row in
+    let few : row.core < c.args.cores = All-get_or (λ (row : Row). row.core < c.args.cores) c.args.rows.now c.loop-row.row-index no_row c.loop-row-test.true c.requires in
     let count = c.loop-row.invariant.0 in
     let inside : row.core < length c.loop-row.dealt.items = omega (arith, few, count) in (
       length-set c.loop-row.dealt.items row.core c.push.new.self ∙ count,
-      dealt_more c.args.rows.now c.loop-row.row-index none c.loop-row.dealt.items _ c.index_mut.result.now c.push.new.self c.loop-row-test.true refl inside (get_or_default c.loop-row.dealt.items row.core _ c.index_mut.result.now inside ∙ sym c.index_mut.ensures.value) c.in_ok-push.ensures.items c.loop-row.invariant.1,
+      dealt_more c.args.rows.now c.loop-row.row-index no_row c.loop-row.dealt.items _ c.index_mut.result.now c.push.new.self c.loop-row-test.true refl inside (get_or_default c.loop-row.dealt.items row.core _ c.index_mut.result.now inside ∙ sym c.index_mut.ensures.value) c.in_ok-push.ensures.items c.loop-row.invariant.1,
     )
 
 pub returns-clause-dealt : goal.returns-clause-dealt

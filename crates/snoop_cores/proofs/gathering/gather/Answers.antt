@@ -1,38 +1,36 @@
-use Rattle.std.proofs.Common.{◌≡◌, ◌∙◌, ℕ, List, ap, sym, subst, Result, Ok, Err, IfErr}
+use Rattle.std.proofs.Common.{◌∙◌, ℕ, List, ap, sym, subst, Result, Ok, Err, IfErr}
 use Rattle.snoop_trace.specs.Extent.{Extent}
 use Rattle.snoop_trace.specs.declared.protocol.Protocol.{Protocol}
 use Rattle.snoop_bench.specs.Locked.{Locked, IsKept}
 use Rattle.snoop_cores.specs.Seats.{Seating}
-use Rattle.snoop_cores.specs.Joined.{IsNotAllSeats, IsHeld, RefusesJoin, RefusesGather, OneForEach}
+use Rattle.snoop_cores.specs.Joined.{IsHeld, RefusesJoin, RefusesGather, OneForEach}
 use Rattle.snoop_cores.specs.declared.gathering.Gathered.{Gathered}
 use Rattle.snoop_cores.specs.declared.fault.GatherFault.{GatherFault}
-use Rattle.snoop_cores.specs.declared.fault.GatherFault.TheVariants.{Mismatch, Pending, NoMemory, NotAllSeats}
+use Rattle.snoop_cores.specs.declared.fault.GatherFault.TheVariants.{NotAllSeats}
 use Rattle.snoop_cores.proofs.Joining.{odd_one, not_odd}
 use Rattle.snoop_cores.proofs.gathering.gather.Goals as goal
 
 pub returns-in-Some-clause-not_all : goal.returns-in-Some-clause-not_all
 returns-in-Some-clause-not_all g c = λ core odd.
-    let cores : c.cores.result ≡ c.args.shared.now.shape.cores = c.cores.ensures.value ∙ ap (λ (e : Extent). e.cores) c.shape.ensures in
-    ap (λ (k : ℕ). Err (NotAllSeats k)) (odd_one c.args.shared.now.shape.cores c.args.seats.now c.in-Some.core core (subst (λ (n : ℕ). IsNotAllSeats n c.args.seats.now c.in-Some.core) cores c.in-Some.ensures.some) odd)
+    let cores = c.cores.ensures.value ∙ ap (λ (e : Extent). e.cores) c.shape.ensures in
+    ap (λ (k : ℕ). Err (NotAllSeats k)) (odd_one c.args.shared.now.shape.cores c.args.seats.now c.in-Some.core core (rw cores at c.in-Some.ensures.some) odd)
 
 pub returns-clause-not_all : goal.returns-clause-not_all
 returns-clause-not_all g c = λ core odd.
-    let cores : c.cores.result ≡ c.args.shared.now.shape.cores = c.cores.ensures.value ∙ ap (λ (e : Extent). e.cores) c.shape.ensures in
-    absurd (not_odd c.args.shared.now.shape.cores c.args.seats.now core (subst (λ (n : ℕ). OneForEach n c.args.seats.now) cores c.in_default.ensures.none) odd)
+    let cores = c.cores.ensures.value ∙ ap (λ (e : Extent). e.cores) c.shape.ensures in
+    absurd (not_odd c.args.shared.now.shape.cores c.args.seats.now core (rw cores at c.in_default.ensures.none) odd)
 
 -- what refuses to join a bench of the machine refuses to gather
 refuses : (protocol : Protocol) (shape : Extent) (seats : List Seating) (b : Locked) (answer : Result Gathered GatherFault) → OneForEach shape.cores seats → IsHeld protocol shape b → IfErr answer (RefusesJoin b seats) → IfErr answer (RefusesGather protocol shape seats)
 refuses protocol shape seats b (Ok gathered) one_each held joined = tt
 refuses protocol shape seats b (Err (NotAllSeats core)) one_each held joined = absurd joined
-refuses protocol shape seats b (Err (Pending core)) one_each held joined = (one_each, (b, held, joined))
-refuses protocol shape seats b (Err (Mismatch core place)) one_each held joined = (one_each, (b, held, joined))
-refuses protocol shape seats b (Err NoMemory) one_each held joined = (one_each, (b, held, joined))
+refuses protocol shape seats b (Err fault) one_each held joined = (one_each, (b, held, joined))
 
 pub returns-clause-err : goal.returns-clause-err
 returns-clause-err g c =
     let bench = c.deref-2.result.now in
-    let protocol : bench.situation.protocol ≡ c.args.shared.now.protocol = ap (λ (b : Locked). b.situation.protocol) c.deref-2.ensures ∙ c.lock-bench.ensures.protocol in
-    let shape : bench.situation.shape ≡ c.args.shared.now.shape = ap (λ (b : Locked). b.situation.shape) c.deref-2.ensures ∙ c.lock-bench.ensures.shape in
-    let cores : c.cores.result ≡ c.args.shared.now.shape.cores = c.cores.ensures.value ∙ ap (λ (e : Extent). e.cores) c.shape.ensures in
-    refuses c.args.shared.now.protocol c.args.shared.now.shape c.args.seats.now bench c.join.result (subst (λ (n : ℕ). OneForEach n c.args.seats.now) cores c.in_default.ensures.none)
+    let protocol = ap (λ (b : Locked). b.situation.protocol) c.deref-2.ensures ∙ c.lock-bench.ensures.protocol in
+    let shape = ap (λ (b : Locked). b.situation.shape) c.deref-2.ensures ∙ c.lock-bench.ensures.shape in
+    let cores = c.cores.ensures.value ∙ ap (λ (e : Extent). e.cores) c.shape.ensures in
+    refuses c.args.shared.now.protocol c.args.shared.now.shape c.args.seats.now bench c.join.result (rw cores at c.in_default.ensures.none)
     (record { kept = subst IsKept (c.deref.ensures ∙ sym c.deref-2.ensures) c.kept.ensures.kept; protocol_is = protocol; shape_is = shape }) c.join.ensures.err

@@ -1,18 +1,12 @@
-use Rattle.std.proofs.Common.{ap, ◌++◌, ◌∙◌}
-use Rattle.std.proofs.lemmas.List.{get_or_read}
-use Rattle.snoop_rules.proofs.TextLemmas.{piece_more, pieces_all}
+use Rattle.std.proofs.Common.{◌++◌, ◌∙◌}
 use Rattle.std.specs.Prelude.{[]}
+use Rattle.snoop_rules.proofs.TextLemmas.{piece_more}
 use Rattle.snoop_draw.specs.Rows.{panel_text}
 use Rattle.snoop_draw.specs.declared.event.Event.TheVariants.{Before}
-use Rattle.snoop_draw.specs.Panels.{Panel}
-use Rattle.snoop_draw.proofs.PanelLemmas.{nothing}
 use Rattle.snoop_draw.proofs.drawing.push_standing_panels.Goals as goal
 
 pub loop-panel-preserved : goal.loop-panel-preserved
 loop-panel-preserved c =
-    piece_more (panel_text c.args.style c.args.machine.now.situation Before []) c.args.panels.now c.loop-panel.panel-index nothing c.args.out.now.items c.loop-panel.out.items c.push_panel.new.out.items
-    c.loop-panel-test.true c.loop-panel.invariant
-    (c.in_ok-push_panel.ensures ∙ ap (λ (panel : Panel). c.loop-panel.out.items ++ panel_text c.args.style c.args.machine.now.situation Before [] panel) (get_or_read c.args.panels.now c.loop-panel.panel-index c.panel-item.result c.loop-panel-test.true c.panel-item.is nothing))
-
-pub returns : goal.returns
-returns c = pieces_all (panel_text c.args.style c.args.machine.now.situation Before []) c.args.panels.now c.loop-panel.panel-index c.args.out.now.items c.loop-panel.out.items c.loop-panel-test.false c.loop-panel.invariant
+    let text = panel_text c.args.style c.args.machine.now.situation Before [] in
+    piece_more text c.args.panels.now c.loop-panel.panel-index c.panel-item.result _ _ _
+    c.loop-panel-test.true c.loop-panel.invariant (c.in_ok-push_panel.ensures ∙ (λ i. c.loop-panel.out.items ++ text (c.panel-item.is i)))

@@ -1,7 +1,9 @@
-use Rattle.std.proofs.Common.{◌≡◌, ◌+◌, ◌*◌, [], ◌∷◌, cond, false, get_or}
-use Rattle.std.specs.List.{flat_map, range_with_len}
+use Rattle.std.proofs.Common.{◌≡◌, List}
+use Rattle.std.specs.List.{filter, range_with_len}
+use Rattle.snoop_trace.specs.declared.step.Step.{Step}
+use Rattle.snoop_draw.specs.Panels.{IsAskedTable, asks_somewhere}
 use Rattle.snoop_draw.proofs.panels.columns.Given as goal
 
--- the columns so far
+-- the columns so far, whatever steps the table is of
 abbrev pub invariant-loop-core : goal.invariant-loop-core
-invariant-loop-core l = l.cores.items ≡ flat_map (λ core. cond (get_or l.table (l.block * l.shape.cores + core) false) (core ∷ []) []) (range_with_len 0 l.core)
+invariant-loop-core l = (steps : List Step) → IsAskedTable l.shape steps l.table → l.cores.items ≡ filter (asks_somewhere steps l.block) (range_with_len 0 l.core)

@@ -1,17 +1,19 @@
-use Rattle.std.proofs.Common.{◌≡◌, ℕ, ◌+◌, List, length, get_or, take, ap, ◌∙◌, arith}
-use Rattle.std.proofs.lemmas.List.{get_or_read, take_more}
+use Rattle.std.proofs.Common.{◌≡◌, ◌+◌, List, [], ◌∷◌, ◌++◌, length, take, ap, ◌∙◌, arith}
+use Rattle.std.proofs.lemmas.List.{take_more}
 use Rattle.snoop_draw.specs.Panels.{Panel}
 use Rattle.snoop_draw.specs.Size.{columns_of}
-use Rattle.snoop_draw.proofs.PanelLemmas.{nothing}
-use Rattle.snoop_draw.proofs.SizeLemmas.{columns_more}
 use Rattle.snoop_draw.proofs.size.columns_of.Goals as goal
+
+-- one panel more
+columns_more : (panels : List Panel) (panel : Panel) → columns_of (panels ++ panel ∷ []) ≡ columns_of panels + (length panel.cores + 2)
+columns_more [] panel = omega arith
+columns_more (first ∷ panels) panel = let rest = columns_more panels panel in omega arith
 
 pub loop-panel-preserved : goal.loop-panel-preserved
 loop-panel-preserved c =
-    let panels : List Panel = c.args.panels.now in
-    let i : ℕ = c.loop-panel.panel-index in
-    let here : Panel = get_or panels i nothing in
-    let more : columns_of (take (i + 1) panels) ≡ columns_of (take i panels) + (length here.cores + 2) = ap columns_of (take_more panels i nothing c.loop-panel-test.true) ∙ columns_more (take i panels) here in
-    let item = get_or_read panels i c.panel-item.result c.loop-panel-test.true c.panel-item.is nothing in
-    let cores : length c.cores.result.now ≡ length here.cores = ap length (c.cores.ensures ∙ ap (λ (panel : Panel). panel.cores) item) in
-    omega (arith, c.saturating_add-columns.ensures, more, cores, c.loop-panel.invariant)
+    let panels = c.args.panels.now in
+    let i = c.loop-panel.panel-index in
+    let item : Panel = c.panel-item.result in
+    let more : columns_of (take (i + 1) panels) ≡ columns_of (take i panels) + (length item.cores + 2) =
+    rw (← c.panel-item.is) at (ap columns_of (take_more panels i item c.loop-panel-test.true)) ∙ columns_more (take i panels) item in
+    omega (arith, c.saturating_add-columns.ensures, more, ap length c.cores.ensures, c.loop-panel.invariant)

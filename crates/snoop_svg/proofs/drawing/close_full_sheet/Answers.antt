@@ -1,12 +1,9 @@
-use Rattle.std.proofs.Common.{ℕ, ◌++◌, ap, ◌∙◌}
+use Rattle.std.proofs.Common.{◌++◌, ◌∙◌}
 use Rattle.std.proofs.lemmas.Result.{on_ok_weaker}
-use Rattle.snoop_trace.specs.declared.protocol.Protocol.{Protocol}
 use Rattle.snoop_svg.specs.Sheets.{sheet_closed}
 use Rattle.snoop_svg.proofs.drawing.close_full_sheet.Goals as goal
 
 pub returns : goal.returns
 returns c =
     on_ok_weaker c.close_sheet.result
-    (λ e. e ∙ ap (λ (p : Protocol). c.args.out.now.items ++ sheet_closed p c.rows_per_sheet.result) c.protocol.ensures
-    ∙ ap (λ (rows : ℕ). c.args.out.now.items ++ sheet_closed c.args.machine.now.situation.protocol rows) c.rows_per_sheet.ensures.value)
-    c.close_sheet.ensures
+    (λ e. e ∙ (λ i. c.args.out.now.items ++ sheet_closed (c.protocol.ensures i) (c.rows_per_sheet.ensures.value i))) c.close_sheet.ensures

@@ -1,9 +1,4 @@
-use Rattle.std.proofs.Common.{◌≡◌, ◌∙◌, sym, ap, subst}
 use Rattle.snoop_bench.specs.Works.{access_of}
-use Rattle.snoop_model.specs.Pictures.Situation.{Situation}
-use Rattle.snoop_model.specs.Invariant.WellKept.{IsWellKept}
-use Rattle.snoop_bench.specs.Locked.{Locked, IsKept}
-use Rattle.snoop_bench.specs.Keeps.{locked}
 use Rattle.snoop_bench.proofs.Outcomes.{ends_with, closed_turn}
 use Rattle.snoop_bench.proofs.bench.Bench.kept.Goals as goal
 
@@ -12,13 +7,15 @@ returns-clause-kept c =
     let s = c.self.inside.recorder.situation in
     let u = c.self.invariant in
     let r = c.recorded.ensures in
-    let well : IsWellKept s = subst IsWellKept c.machine.ensures c.coherent.ensures.well_kept in
-    let kept : IsKept (locked c.self.inside) = record {
+    rw (← c.self.view_is) (record {
       run = r.run;
       readable = r.readable;
       places = u.places;
       serving = u.serving;
-      closed = λ core work its isnt closed. ends_with s core work (c.turns_are_served.ensures.closed_is_last s core work.block work.word work.op (access_of work) well (u.owed core work its isnt) (closed_turn s core work.block work.word work.op closed));
+      closed = λ core work its isnt closed.
+          let well = rw c.machine.ensures at c.coherent.ensures.well_kept in
+          let last = c.turns_are_served.ensures.closed_is_last s core work.block work.word work.op (access_of work)
+          well (u.owed core work its isnt) (closed_turn s core work.block work.word work.op closed) in
+          ends_with s core work last;
       published = r.published;
-    } in
-    subst IsKept c.self.view_is kept
+    })

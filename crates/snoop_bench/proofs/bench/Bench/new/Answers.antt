@@ -1,15 +1,13 @@
-use Rattle.std.proofs.Common.{◌≡◌, ◌∙◌, rules, List, Option, None, sym, ap, subst}
+use Rattle.std.proofs.Common.{◌≡◌, ◌∙◌, rules, None, ap}
 use Rattle.std.specs.Prelude.{replicate}
-use Rattle.snoop_model.specs.Pictures.Situation.{Situation, reset}
-use Rattle.snoop_trace.specs.declared.step.Work.{Work}
+use Rattle.snoop_model.specs.Pictures.Situation.{reset}
 use Rattle.snoop_bench.specs.Recording.{Recording}
-use Rattle.snoop_bench.specs.Keeps.{AreUnderWay}
 use Rattle.snoop_bench.proofs.Turning.{reset_under_way}
 use Rattle.snoop_bench.proofs.bench.Bench.new.Goals as goal
 
 pub invariant_of-result : goal.invariant_of-result
 invariant_of-result c =
-    let works : c.in_ok-works.works.items ≡ replicate c.args.shape.cores None = c.in_ok-works.ensures.items_if_clones_equal (λ y h. search (rules, h)) ∙ ap (λ n. replicate n None) c.cores.ensures.value in
+    let works : c.in_ok-works.works.items ≡ replicate c.args.shape.cores None =
+    c.in_ok-works.ensures.items_if_clones_equal (λ y h. search (rules, h)) ∙ ap (λ n. replicate n None) c.cores.ensures.value in
     let situation : c.in_ok-recorder.recorder.situation ≡ reset c.args.protocol c.args.shape = ap (λ (r : Recording). r.situation) c.in_ok-recorder.ensures in
-    subst (λ (s : Situation). AreUnderWay c.in_ok-works.works.items s) (sym situation)
-    (subst (λ (l : List (Option Work)). AreUnderWay l (reset c.args.protocol c.args.shape)) (sym works) (reset_under_way c.turns_are_served.ensures c.args.protocol c.args.shape))
+    rw (works, situation) (reset_under_way c.turns_are_served.ensures c.args.protocol c.args.shape)

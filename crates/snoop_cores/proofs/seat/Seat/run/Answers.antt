@@ -6,4 +6,5 @@ use Rattle.snoop_cores.proofs.seat.Seat.run.Goals as goal
 
 pub returns-clause-ran : goal.returns-clause-ran
 returns-clause-ran g c =
-    ran_noted c.run_rows-stop.result c.run_rows-stop.result (shown c.args.rows.now) c.args.self.now (the_view c.self.inside) (subst (Ran c.run_rows-stop.result (shown c.args.rows.now) c.args.self.now) (sym c.self.view_is) c.run_rows-stop.ensures.ran)
+    let ran = subst (Ran c.run_rows-stop.result (shown c.args.rows.now) c.args.self.now) (sym c.self.view_is) c.run_rows-stop.ensures.ran in
+    ran_noted c.run_rows-stop.result c.run_rows-stop.result (shown c.args.rows.now) c.args.self.now (the_view c.self.inside) ran

@@ -1,13 +1,9 @@
-use Rattle.std.proofs.Common.{◌<◌, ◌∷◌, [], length, sym, ◌∙◌, subst, arith, Bor}
+use Rattle.std.proofs.Common.{◌<◌, ◌∷◌, [], length, sym, subst, arith, Bor}
 use Rattle.std.proofs.lemmas.List.{get_or-map, length-map}
-use Rattle.snoop_trace.specs.declared.step.Op.TheVariants.{Load}
 use Rattle.snoop_trace.specs.declared.step.Row.{Row}
 use Rattle.snoop_cores.specs.Rows.{Grows, shown}
-use Rattle.snoop_cores.proofs.Performed.{did_row}
+use Rattle.snoop_cores.proofs.Performed.{no_row, did_row}
 use Rattle.snoop_cores.proofs.seat.Seat.run_rows.Goals as goal
-
-abbrev none : Row
-none = record { core = 0; op = Load; address = 0 }
 
 pub loop-number-preserved : goal.loop-number-preserved
 loop-number-preserved g c =
@@ -15,5 +11,5 @@ loop-number-preserved g c =
     let few = c.loop-number-test.true in
     let long = length-map rows (λ (row : Bor Row). row.now) in
     let inside : c.loop-number.number < length (shown rows) = omega (arith, few, long) in
-    did_row (shown rows) c.loop-number.number none c.args.self.now c.loop-number.self c.perform_row.new.self inside c.loop-number.invariant
-    (subst (λ (row : Row). Grows (row ∷ []) c.loop-number.self c.perform_row.new.self) (sym (get_or-map (λ (row : Bor Row). row.now) rows c.loop-number.number _ none few)) c.in_default.ensures.ok)
+    did_row (shown rows) c.loop-number.number no_row c.args.self.now c.loop-number.self c.perform_row.new.self inside c.loop-number.invariant
+    (subst (λ (row : Row). Grows (row ∷ []) c.loop-number.self c.perform_row.new.self) (sym (get_or-map (λ (row : Bor Row). row.now) rows c.loop-number.number _ no_row few)) c.in_default.ensures.ok)

@@ -1,4 +1,4 @@
-use Rattle.std.proofs.Common.{◌+◌, ap, arith}
+use Rattle.std.proofs.Common.{◌+◌, ap}
 use Rattle.snoop_svg.proofs.drawing.Drawing.push_drawn.Goals as goal
 
 pub returns-clause-place : goal.returns-clause-place

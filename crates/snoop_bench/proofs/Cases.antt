@@ -1,0 +1,40 @@
+-- The step of each case of a work under way.
+use Rattle.std.proofs.Common.{◌≡◌, ℕ, ◌==◌, Bool, true, false, Option, Some, None, refl}
+use Rattle.std.specs.Prelude.{is_some, if◌then◌else◌}
+use Rattle.snoop_trace.specs.declared.step.Op.{Op}
+use Rattle.snoop_trace.specs.declared.step.Step.{Step}
+use Rattle.snoop_trace.specs.declared.step.Step.TheVariants.{Order, Respond}
+use Rattle.snoop_rules.specs.declared.names.Request.{Request}
+use Rattle.snoop_bus.specs.Traffic.{Open}
+use Rattle.snoop_rules.specs.Waits.{waiting_request}
+use Rattle.snoop_model.specs.Pictures.Situation.{Situation, picture_of, state_of}
+use Rattle.snoop_model.specs.Turns.Turn.{turn_of, step_under_way}
+use Rattle.snoop_bench.specs.Turns.{Case, case_of, case_under_way}
+use Rattle.snoop_bench.specs.Turns.Case.{orders, helps, ends, over}
+
+-- the case, whether a request waits in it, and the step that is taken
+pub data IsCase (core block : ℕ) : Case → Bool → Option Step → Type 0 where
+  ordering : IsCase core block orders true (Some (Order core))
+  helping : IsCase core block helps true (Some (Respond block))
+  ending : IsCase core block ends false (Some (Respond block))
+  closed : IsCase core block over false None
+
+case_is : (w : Option Request) (o : Option Open) (core block : ℕ) → IsCase core block (case_under_way w o core) (is_some w) (step_under_way w o core block)
+case_is (Some request) None core block = ordering
+case_is (Some request) (Some transaction) core block = helping
+case_is None None core block = closed
+case_is None (Some transaction) core block = by_core (transaction.core == core)
+  where
+    by_core : (own : Bool) → IsCase core block (if own then ends else over) false (if own then Some (Respond block) else None)
+    by_core true = ending
+    by_core false = closed
+
+-- the case of a turn whose work is under way, by whether its request waits and by its step
+pub at_case : (s : Situation) (core block word : ℕ) (asking : Op) {waits : Bool} {step : Option Step}
+    → is_some (waiting_request (state_of s core block)) ≡ waits → turn_of s core block word asking true ≡ step
+    → IsCase core block (case_of s core block true) waits step
+at_case s core block word asking e f = rw (← e, ← f) (case_is (waiting_request (state_of s core block)) (picture_of s block).transaction core block)
+
+-- where no request waits the step is the response
+pub a_response : {core block : ℕ} {k : Case} {step : Step} → IsCase core block k false (Some step) → step ≡ Respond block
+a_response ending = refl
