@@ -11,7 +11,7 @@ use Rattle.snoop_model.specs.declared.replies.Reply.{Reply}
 use Rattle.snoop_model.specs.Pictures.Situation.{Situation}
 use Rattle.snoop_model.specs.Runs.Run.{AllTaken}
 use Rattle.snoop_model.proofs.Runs.AllTaken.{taken_goes_on}
-use Rattle.snoop_model.proofs.Runs.Prepared.{move-log}
+use Rattle.snoop_model.proofs.Runs.Logged.{move-log}
 use Rattle.snoop_bench.specs.Recording.{Recording, IsRecorded, TakesAndPublishes}
 
 -- the run is that of the machine's protocol and shape now

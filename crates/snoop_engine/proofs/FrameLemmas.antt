@@ -1,14 +1,13 @@
 -- Frames: as a run, and one after another.
 use Rattle.std.proofs.Common.{◌≡◌, List, [], ◌∷◌, ◌++◌, refl, ap, subst, ◌∙◌}
-use Rattle.std.specs.Prelude.{Result, Ok, Err}
+use Rattle.std.specs.Prelude.{Result}
 use Rattle.snoop_trace.specs.declared.step.Step.{Step}
 use Rattle.snoop_model.specs.declared.replies.Reply.{Reply}
 use Rattle.snoop_model.specs.declared.replies.Refused.{Refused}
 use Rattle.snoop_model.specs.Pictures.Situation.{Situation, reset}
 use Rattle.snoop_model.specs.Runs.Run.{FirstRunFrom, GoesFirst}
 use Rattle.snoop_engine.specs.Frames.{Frame, FramesAreTheRun, FramesFrom, outcomes_of, steps_of}
-use Rattle.snoop_engine.proofs.TakenLemmas.{same_shape}
-use Rattle.snoop_engine.proofs.TrueLines.{same_protocol}
+use Rattle.snoop_engine.proofs.TakenLemmas.{goes_alike}
 
 -- frames are a run
 frames_run : (frames : List Frame) (old new : Situation) → FramesFrom old frames new → FirstRunFrom old (steps_of frames) (outcomes_of frames) new
@@ -35,16 +34,11 @@ pub frames_on : (first rest : List Frame) (old middle new : Situation) → Frame
 frames_on [] rest old middle new run later = subst (λ (s : Situation). FramesFrom s rest new) run later
 frames_on (f ∷ fs) rest old middle new run later = (run.0, frames_on fs rest f.after middle new run.1 later)
 
--- a step keeps the protocol and the shape
-step_keeps : (old new : Situation) (step : Step) (outcome : Result Reply Refused) → GoesFirst old step outcome new → (new.protocol ≡ old.protocol) × (new.shape ≡ old.shape)
-step_keeps old new step (Ok answer) goes = (same_protocol old new step (Ok answer) goes, same_shape old new step answer goes.0 goes.1)
-step_keeps old new step (Err cause) goes = (ap (λ (s : Situation). s.protocol) goes.1, ap (λ (s : Situation). s.shape) goes.1)
-
--- and so do frames
+-- frames keep the protocol and the shape
 pub frames_keep : (frames : List Frame) (old new : Situation) → FramesFrom old frames new → (new.protocol ≡ old.protocol) × (new.shape ≡ old.shape)
 frames_keep [] old new run = (ap (λ (s : Situation). s.protocol) run, ap (λ (s : Situation). s.shape) run)
 frames_keep (f ∷ fs) old new run =
-    let one = step_keeps f.before f.after f.step f.outcome run.0.goes in
+    let one = goes_alike f.before f.step f.outcome f.after run.0.goes in
     let rest = frames_keep fs f.after new run.1 in
     (rest.0 ∙ one.0 ∙ ap (λ (s : Situation). s.protocol) run.0.before, rest.1 ∙ one.1 ∙ ap (λ (s : Situation). s.shape) run.0.before)
 

@@ -55,6 +55,7 @@ use Rattle.snoop_engine.specs.TrueLines.{FitsStep, HasAllLines, ShowsRows, HasTa
 use Rattle.snoop_engine.proofs.AllLines.{asker_listed, cores_listed, memory_rows_listed}
 use Rattle.snoop_engine.specs.declared.taken.Taken.{Taken}
 use Rattle.snoop_engine.specs.declared.taken.Taken.TheVariants.{Core, Memory, Nobody}
+use Rattle.snoop_engine.proofs.TakenLemmas.{goes_alike}
 
 abbrev stalls : CacheAction → Bool
 stalls action.Stall = true
@@ -278,16 +279,6 @@ step_fits old new (Respond block) (Ok answer) steady goes =
     (respond_fits old new (Respond block) (Ok answer) block tt closing did steady.0 moved.0 moved.1
     (λ other event comes. (closing, (refl, moved.1.opened, refl, other, comes))) (λ takes. (closing, (refl, moved.1.opened, takes, refl))))
 
--- a step keeps the protocol
-pub same_protocol : (old new : Situation) (step : Step) (outcome : Result Reply Refused) → GoesFirst old step outcome new → new.protocol ≡ old.protocol
-same_protocol old new step (Err cause) goes = ap (λ (s : Situation). s.protocol) goes.1
-same_protocol old new (Ask core block word asking) (Ok answer) goes = elim goes.1.1.1.moves [
-  | inl absent ↦ ap (λ (s : Situation). s.protocol) absent.3
-  | inr a ↦ ap (λ (s : Situation). s.protocol) a.after
-]
-same_protocol old new (Order core) (Ok answer) goes = ap (λ (s : Situation). s.protocol) goes.1.1.1.orders.after
-same_protocol old new (Respond block) (Ok answer) goes = ap (λ (s : Situation). s.protocol) goes.1.1.1.responds.after
-
 -- none is left out
 step_whole : (old new : Situation) (step : Step) (outcome : Result Reply Refused) → IsSteady old → GoesFirst old step outcome new → HasTakenRows outcome → HasAllLines (here old new step outcome)
 step_whole old new step (Ok answer) steady goes takes = record {
@@ -307,7 +298,7 @@ frames_show : (frames : List Frame) (old new : Situation) → IsSteady old → F
 frames_show [] old new steady run = All-nil ShowsRows
 frames_show (f ∷ fs) old new steady run =
     let from : IsSteady f.before = subst IsSteady (sym run.0.before) steady in
-    All-cons ShowsRows f fs (record { stays = same_protocol f.before f.after f.step f.outcome run.0.goes; fit = step_fits f.before f.after f.step f.outcome from run.0.goes; all = step_whole f.before f.after f.step f.outcome from run.0.goes })
+    All-cons ShowsRows f fs (record { stays = (goes_alike f.before f.step f.outcome f.after run.0.goes).0; fit = step_fits f.before f.after f.step f.outcome from run.0.goes; all = step_whole f.before f.after f.step f.outcome from run.0.goes })
     (frames_show fs f.after new (steady_on keeps_well f.before f.step f.outcome f.after from run.0.goes) run.1)
 
 -- the frames of a run from reset
