@@ -75,8 +75,11 @@ The history has operations in the order in which they are performed, at a hit or
 came. That need not be the order in which a core asked: while its store to a block waits for its
 request, a load of the block may hit, and reads what was there before the store. Nothing is said of
 the order of one core's operations on different blocks, of time, nor that a request is ever ordered
-or answered. Who sends a message is part of a move; the target that a row names is not looked at:
-memory takes the message of a PutM, and another's where its state waits for one (`takes_payload`).
+or answered: an operation that is not lost may wait for ever. Who sends a message is part of a move;
+the target that a row names is not looked at: memory takes the message of a PutM, and another's
+where its state waits for one (`takes_payload`). That a reply has the value that the history has, and
+that a core which awaits data is the requestor of an open transaction, stands in the moves below and
+in what every machine promises of itself (`hit` of `Machine::step`, `IsSafe`), and in no clause here.
 
 That the code takes such steps and no others is what `Machine::step` and `run_steps` promise
 (docs/PROVED.md), and why all this holds is in docs/COHERENCE.md. `tools/theorem.py --write` makes
@@ -84,19 +87,24 @@ this page of the sources, whose files say where each rule comes from.
 
 ## How to read it
 
-A fact is spelled like a type (`OneWriter`), a function like a function (`flat`), and `f a b` is `f`
+The call `coherent` does nothing: what it ensures is a law. `pub` and `abbrev` may be passed over. A
+fact is spelled like a type (`OneWriter`), a function like a function (`flat`), and `f a b` is `f`
 of a and b. A definition begins with the types of its arguments and of what it is; `Type 0` says
 that it is a fact or a type. Below stands what it means, case by case, the first that fits, with `_`
-for any value. A record of facts holds where all of them do, and `record s {{ .. }}` is s with these
-fields; with no `s` all of them stand there. `x.log` is a field. `{{A : Type 0}}` is a type that the
-other arguments tell. A member of a type may stand with a short name of its type before it, as
-`op.Load`, `state.ImAd`, `mem.IorS` or `reply.Hit`, and what it carries follows it in order, as in
+for any value. A record of facts holds where all of them do; a field that is no fact, as `done` of
+`IsSenderLine`, is a value that there is. `record s {{ .. }}` is s with these fields; with no `s`
+all of them stand there. `x.log` is a field. `{{A : Type 0}}` is a type that the other arguments
+tell. A member of a type may stand with a short name of its type before it, as `op.Load`,
+`state.ImAd`, `mem.IorS` or `reply.Hit`, and what it carries follows it in order, as in
 `Ask core block word op`; `Nothing` is a controller's `None`. Each cache is a controller, and memory
 is one. A row is what a controller's table has for a state and an event; where it has none, the cell
-is impossible. The log is the history.
+is impossible (an Evict in I asks no table). States are printed with underscores elsewhere: `ImAd`
+is IM_AD. A block is free where no transaction is open on it. The log is the history. What the
+types' comments say of texts is in docs/TEXTS.md.
 
-`A × B` is "A and B", `(x : T) × P` "there is an x with P", `(x : T) → P` "P for every x", `A → B`
-"if A then B", `¬ A` "not A", `⊥` what never holds, and `λ x. ..` a function of x.
+`(a, b)` is a pair. Between facts `A × B` is "A and B", between types it is their pairs;
+`(x : T) × P` "there is an x with P", `(x : T) → P` "P for every x", `A → B` "if A then B", `¬ A`
+"not A", `⊥` what never holds, and `λ x. ..` a function of x.
 
 Look-ups have a default: outside a machine's shape a core holds nothing (state I), no transaction is
 open and memory's words are 0.
