@@ -190,7 +190,7 @@ module _ (rule : TurnLaws) (works : List (Option Work)) (core : ℕ) (work : Wor
 
   -- one that issued none has no step left
   pub ended : ((request : Request) → answer ≢ reply.Issued request) → turn_of t core work.block work.word work.op true ≡ None
-  ended none = rule.asked_once s t (works_under_way works) core work.block work.word work.op answer m.entry u.serving (its_block _ _ idle) m.kept m.move none
+  ended none = rule.ends_at_once s t (works_under_way works) core work.block work.word work.op answer m.entry u.serving (its_block _ _ idle) m.kept m.move none
 
   -- and so nothing under way
   ended_keeps : ((request : Request) → answer ≢ reply.Issued request) → AreUnderWay works t

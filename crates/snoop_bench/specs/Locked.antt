@@ -2,7 +2,7 @@
 -- Source: this project's profile.
 use Rattle.std.specs.Prelude.{◌≡◌, ◌≢◌, ℕ, List, [], length, replicate, All, Option, Some, None}
 use Rattle.snoop_trace.specs.Extent.{Extent}
-use Rattle.snoop_trace.specs.Output.{IsStepWithin}
+use Rattle.snoop_trace.specs.Output.{IsReadableStep}
 use Rattle.snoop_trace.specs.declared.step.Op.TheVariants as op
 use Rattle.snoop_trace.specs.declared.step.Step.{Step}
 use Rattle.snoop_trace.specs.declared.protocol.Protocol.{Protocol}
@@ -48,7 +48,7 @@ pub record IsKept (b : Locked) : Type 0 where
   -- the situation, with its log, is that of the run of the stored steps from reset, all taken
   pub run : AllTaken b.situation.protocol b.situation.shape b.steps b.situation
   -- each step is one that is read again from its text
-  pub readable : All (IsStepWithin b.situation.shape) b.steps
+  pub readable : All (IsReadableStep b.situation.shape) b.steps
   -- each core has a place for its work
   pub places : length b.works ≡ b.situation.shape.cores
   -- a core waits, and has a transaction open, on no block but that of its work under way

@@ -1,7 +1,7 @@
 -- A machine whose steps are recorded, and whose items are published as they come.
 -- Source: this project's profile.
 use Rattle.std.specs.Prelude.{◌≡◌, List, [], ◌∷◌, ◌++◌, All, Option, option_to_list}
-use Rattle.snoop_trace.specs.Output.{IsStepWithin}
+use Rattle.snoop_trace.specs.Output.{IsReadableStep}
 use Rattle.snoop_trace.specs.declared.step.Step.{Step}
 use Rattle.snoop_history.specs.declared.items.Item.{Item}
 use Rattle.snoop_model.specs.declared.replies.Reply.{Reply}
@@ -24,7 +24,7 @@ recording r = record { situation = r.machine.situation; steps = r.steps.items; p
 pub record IsRecorded (r : Recording) : Type 0 where
   pub run : AllTaken r.situation.protocol r.situation.shape r.steps r.situation
   -- each step is one that is read again from its text
-  pub readable : All (IsStepWithin r.situation.shape) r.steps
+  pub readable : All (IsReadableStep r.situation.shape) r.steps
   pub published : r.published ≡ r.situation.log
 
 -- what every recorder keeps: nothing is left to publish, and the versions are of the machine's shape

@@ -1,7 +1,7 @@
 //! The value under the lock.
 ghost use Rattle.std.specs.Prelude.{◌≡◌, ◌≢◌, ◌<◌, ◌^◌, ◌↔◌, IsTrue, true, false, is_some, length, IsOk, IfOk, IfErr, OnOk, OnErr, Err, Some, None, slice_set};
 ghost use Rattle.snoop_trace.specs.Words.{HasWord};
-ghost use Rattle.snoop_trace.specs.Output.{IsStepWithin};
+ghost use Rattle.snoop_trace.specs.Output.{IsReadableStep};
 ghost use Rattle.snoop_trace.specs.declared.step.Step.TheVariants.{Ask};
 ghost use Rattle.snoop_rules.specs.Waits.{waiting_request};
 ghost use Rattle.snoop_model.specs.declared.replies.Reply.{Reply};
@@ -162,7 +162,7 @@ impl Bench {
     // The core, which has no work under way, asks.
     fn begin<R: Wait>(&mut self, rt: &R, core: u32, work: Work) -> Result<Turn, NoMemory>
         requires inside { IsInside core work self.old }
-        requires within { IsStepWithin self.old.situation.shape (Ask core work.block work.word work.op) }
+        requires within { IsReadableStep self.old.situation.shape (Ask core work.block work.word work.op) }
         requires idle { work_at self.old.works core ≡ None }
         ensures ok { IfOk result (λ given. TurnsIn asks core work given self.old self.new) }
         ensures err { OnErr result (self.new ≡ self.old) }

@@ -1,6 +1,6 @@
 //! A machine whose steps are recorded, and whose items are published as they come.
 ghost use Rattle.std.specs.Prelude.{◌≡◌, ◌<◌, ◌^◌, ℕ, [], ◌∷◌, ◌++◌, IfOk, OnOk, OnErr, Ok, Option, option_to_list};
-ghost use Rattle.snoop_trace.specs.Output.{IsStepWithin};
+ghost use Rattle.snoop_trace.specs.Output.{IsReadableStep};
 ghost use Rattle.snoop_model.specs.declared.replies.Refused.{Refused};
 ghost use Rattle.snoop_model.specs.declared.replies.Reply.TheVariants.{Hit};
 ghost use Rattle.snoop_model.specs.Pictures.Situation.{Situation, reset};
@@ -86,7 +86,7 @@ impl Recorder {
     /// Takes a step that no cause refuses, and publishes its item. `NoMemory` changes nothing: all growths come before the step.
     pub(crate) fn take<R: Wait>(&mut self, rt: &R, step: Step) -> Result<Reply, NoMemory>
         requires allowed { (cause : Refused) → ¬ Refuses self.old.situation step cause }
-        requires within { IsStepWithin self.old.situation.shape step }
+        requires within { IsReadableStep self.old.situation.shape step }
         ensures takes { IfOk result (λ answer. TakesAndPublishes step answer self.old self.new) }
         ensures replied { IfOk result (λ answer. IsReplyTo step answer) }
         ensures hit { IfOk result (λ answer. (value : ℕ) → answer ≡ Hit value → IsLoadHit step value self.old.situation.log self.new.situation.log) }

@@ -2,7 +2,7 @@
 -- Source: this project's profile.
 use Rattle.std.specs.Prelude.{◌≡◌, ◌≢◌, ◌⊎◌, ℕ, ◌<◌, ◌≤◌, ◌==◌, List, length, take, filter, count_by, All, None, slice_get, slice_index_or}
 use Rattle.snoop_trace.specs.Extent.{Extent}
-use Rattle.snoop_trace.specs.Output.{IsStepWithin}
+use Rattle.snoop_trace.specs.Output.{IsReadableStep}
 use Rattle.snoop_trace.specs.declared.step.Step.{Step}
 use Rattle.snoop_trace.specs.declared.protocol.Protocol.{Protocol}
 use Rattle.snoop_history.specs.declared.items.Did.{Did}
@@ -85,7 +85,7 @@ pub record IsJoined (protocol : Protocol) (shape : Extent) (seats : List Seating
   pub at : Situation
   pub taken : AllTaken protocol shape steps at
   -- each step is one that is read again from its text
-  pub readable : All (IsStepWithin shape) steps
+  pub readable : All (IsReadableStep shape) steps
   pub log_is : items ≡ at.log
   pub joins : Joins items seats
   -- no core waits, and no transaction is open

@@ -31,7 +31,7 @@ pub record Watching : Type 0 where
   pub seen : List Item
 
 -- a version was read: its list is legal, and begins with what was seen before
-pub record SeesMore (before after : List Item) : Type 0 where
+pub record SeesOn (before after : List Item) : Type 0 where
   pub legal : Legal after
   pub begins : StartsWith after before
 

@@ -7,7 +7,7 @@ ghost use Rattle.snoop_history.specs.History.{answers_of, flat};
 ghost use Rattle.snoop_history.specs.Totals.{capped_totals, totals_of};
 ghost use Rattle.snoop_bench.specs.Works.{Does};
 ghost use Rattle.snoop_versions.specs.Readings.{IsOfShape, StartsWith};
-ghost use Rattle.snoop_cores.specs.Seats.{IsNew, SeesMore};
+ghost use Rattle.snoop_cores.specs.Seats.{IsNew, SeesOn};
 ghost use Rattle.snoop_cores.specs.Calls.{MayBegin, Completes, Fails, RefusedAtOnce};
 ghost use Rattle.snoop_cores.specs.Rows.{FailsRow, Grows, IsNotLate, Ran, shown};
 ghost use Rattle.snoop_cores.specs.declared.fault.ViewFault.TheVariants.{NoBlock, NoVersion};
@@ -189,7 +189,7 @@ impl Seat {
     /// `NoBlock` where the block or the word is outside the shape; `NoVersion` where there is none to enter.
     pub fn value(&mut self, block: u32, word: u32) -> Result<u64, ViewFault>
         ensures value { IfOk result (λ value. value ≡ flat self.new.seen block word) }
-        ensures sees { OnOk result (SeesMore self.old.seen self.new.seen) }
+        ensures sees { OnOk result (SeesOn self.old.seen self.new.seen) }
         ensures outside { (result ≡ Err NoBlock) ↔ ((self.old.shape.blocks ≤ block) ⊎ (self.old.shape.words ≤ word)) }
         ensures own { StartsWith (answers_of self.new.seen self.new.core) self.new.answers }
         ensures same { self.new ≡ record self.old { seen = self.new.seen } }
@@ -203,7 +203,7 @@ impl Seat {
     /// `NoVersion` where there is none to enter.
     pub fn totals(&mut self) -> Result<Totals, ViewFault>
         ensures totals { IfOk result (λ totals. totals ≡ capped_totals (totals_of self.new.seen)) }
-        ensures sees { OnOk result (SeesMore self.old.seen self.new.seen) }
+        ensures sees { OnOk result (SeesOn self.old.seen self.new.seen) }
         ensures own { StartsWith (answers_of self.new.seen self.new.core) self.new.answers }
         ensures same { self.new ≡ record self.old { seen = self.new.seen } }
         ensures err { IfErr result (λ fault. (fault ≡ NoVersion) × (self.new ≡ self.old)) }

@@ -2,7 +2,7 @@
 ghost use Rattle.std.specs.Prelude.{◌≡◌, ◌≤◌, ◌⊎◌, ◌↔◌, Err, IfOk, IfErr, OnOk, OnErr};
 ghost use Rattle.snoop_history.specs.History.{flat};
 ghost use Rattle.snoop_history.specs.Totals.{capped_totals, totals_of};
-ghost use Rattle.snoop_cores.specs.Seats.{SeesMore};
+ghost use Rattle.snoop_cores.specs.Seats.{SeesOn};
 ghost use Rattle.snoop_cores.specs.declared.fault.ViewFault.TheVariants.{NoBlock, NoVersion};
 
 use crate::fault::ViewFault;
@@ -45,7 +45,7 @@ impl Watch {
     /// `NoVersion` where there is none to enter.
     pub fn value(&mut self, block: u32, word: u32) -> Result<u64, ViewFault>
         ensures value { IfOk result (λ value. value ≡ flat self.new.seen block word) }
-        ensures sees { OnOk result (SeesMore self.old.seen self.new.seen) }
+        ensures sees { OnOk result (SeesOn self.old.seen self.new.seen) }
         ensures outside { (result ≡ Err NoBlock) ↔ ((self.old.shape.blocks ≤ block) ⊎ (self.old.shape.words ≤ word)) }
         ensures same { self.new ≡ record self.old { seen = self.new.seen } }
         ensures err { OnErr result (self.new ≡ self.old) }
@@ -56,7 +56,7 @@ impl Watch {
     /// The counts of one published version. `NoVersion` where there is none to enter.
     pub fn totals(&mut self) -> Result<Totals, ViewFault>
         ensures totals { IfOk result (λ totals. totals ≡ capped_totals (totals_of self.new.seen)) }
-        ensures sees { OnOk result (SeesMore self.old.seen self.new.seen) }
+        ensures sees { OnOk result (SeesOn self.old.seen self.new.seen) }
         ensures same { self.new ≡ record self.old { seen = self.new.seen } }
         ensures err { IfErr result (λ fault. (fault ≡ NoVersion) × (self.new ≡ self.old)) }
     {

@@ -47,7 +47,7 @@ use Rattle.snoop_engine.proofs.FrameLemmas.{frames_keep}
 use Rattle.snoop_engine.proofs.RangeLemmas.{filter_range}
 use Rattle.snoop_engine.proofs.TrueLines.{lines_fit}
 use Rattle.snoop_counts.specs.Causes.{cause_of, operation_in}
-use Rattle.snoop_counts.specs.Counted.{counts, counts_item, has_row, is_counted, is_invalidation, is_it, named_place, own_core, own_word, place_of_word, requestor_of, responder_named, times_counted}
+use Rattle.snoop_counts.specs.Counted.{counts, counts_item, has_row, is_counted, is_invalidation, is_it, named_place, own_core, own_word, place_of_word, requestor_of, response_sender, times_counted}
 use Rattle.snoop_counts.specs.Happenings.{happenings}
 use Rattle.snoop_counts.specs.Laws.{sum_of, sum_of_words}
 use Rattle.snoop_counts.specs.declared.count.Cause.{Cause}
@@ -62,7 +62,7 @@ use Rattle.snoop_counts.proofs.TotalLemmas.{IsOfOneBlock, all_of_one_block, item
 
 -- a core sent it, and is there
 sender_there : (cores blocks words : ℕ) (entry : Item) → IsItemWithin cores blocks words entry → counts_item count.Supplied entry ≡ true
-    → IsSomeAnd (responder_named (happening.Item entry)) (λ k. k < cores)
+    → IsSomeAnd (response_sender (happening.Item entry)) (λ k. k < cores)
 sender_there cores blocks words (item.Came came did) within = sent came.from within.sender
   where
     sent : (from : Option ℕ) → ForSome from (λ sender. sender < cores) → (is_some from && not (is_put_m came.request)) ≡ true → IsSomeAnd from (λ k. k < cores)

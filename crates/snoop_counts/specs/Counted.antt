@@ -224,14 +224,14 @@ requestor_of (happening.Line (Order core) outcome line why) = Some core
 requestor_of _ = None
 
 -- the core that sent the response
-abbrev pub responder_named : Happening → Option ℕ
-responder_named (happening.Item (item.Came came did)) = came.from
-responder_named _ = None
+abbrev pub response_sender : Happening → Option ℕ
+response_sender (happening.Item (item.Came came did)) = came.from
+response_sender _ = None
 
 -- the core for which it is counted: the one that it is of, but for what a core does to others
 abbrev pub core_counted : Count → Happening → Option ℕ
 core_counted count.Invalidates = requestor_of
-core_counted count.Supplied = responder_named
+core_counted count.Supplied = response_sender
 core_counted _ = own_core
 
 -- for whom it is counted

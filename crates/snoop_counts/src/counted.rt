@@ -1,7 +1,7 @@
 //! What each count counts, and for whom.
 ghost use Rattle.std.specs.Prelude.{◌≡◌, ◌||◌, false, None};
 ghost use Rattle.std.specs.Option.{option_map_or};
-ghost use Rattle.snoop_counts.specs.Counted.{block_named, core_counted, core_named, counts, counts_cause, counts_lines, counts_refusal, counts_row, has_row, is_downgrade, is_from_cache, is_giving_up, is_invalidation, is_loss, is_lost_upgrade, is_miss, is_overtaking, is_refused, is_some_row, is_taking, is_upgrade, named_place, own_block, own_core, own_word, requestor_of, responder_named, subject_of};
+ghost use Rattle.snoop_counts.specs.Counted.{block_named, core_counted, core_named, counts, counts_cause, counts_lines, counts_refusal, counts_row, has_row, is_downgrade, is_from_cache, is_giving_up, is_invalidation, is_loss, is_lost_upgrade, is_miss, is_overtaking, is_refused, is_some_row, is_taking, is_upgrade, named_place, own_block, own_core, own_word, requestor_of, response_sender, subject_of};
 ghost use Rattle.snoop_counts.specs.declared.count.Happening.TheVariants as happening;
 ghost use Rattle.snoop_history.specs.declared.items.Item.TheVariants as item;
 
@@ -379,7 +379,7 @@ fn requestor_of(happening: &Happening) -> Option<u32>
 // The core that sent the response.
 #[inline(always)]
 fn sender_of(happening: &Happening) -> Option<u32>
-    ensures { result ≡ responder_named happening.now }
+    ensures { result ≡ response_sender happening.now }
 {
     match happening {
         Happening::Item(Item::Came(came, _)) => came.from,

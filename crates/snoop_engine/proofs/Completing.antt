@@ -24,7 +24,7 @@ use Rattle.snoop_engine.specs.Courses.{CanEnd}
 use Rattle.snoop_engine.specs.InOrder.{EndsInOrder, FollowsInOrder, InOrder, IsInOrder, TakesUpNext, remaining_in_order}
 use Rattle.snoop_engine.specs.InOrder as in_order
 use Rattle.snoop_engine.specs.Journey.{IsAtTheEnd}
-use Rattle.snoop_engine.specs.OneRow.{ServesOnly, nothing}
+use Rattle.snoop_engine.specs.UnderWay.{ServesOnly, nothing}
 use Rattle.snoop_engine.specs.Round.{IsEnabled, IsFit, IsIdle, IsOver, Progress, TakesUp, remaining}
 use Rattle.snoop_engine.specs.Serial.{is_ask}
 use Rattle.snoop_engine.specs.Served.{ask_of}

@@ -19,7 +19,7 @@ use Rattle.snoop_model.specs.Runs.Run.{FirstRunFrom, GoesFirst, TheRun}
 use Rattle.snoop_model.specs.Turns.Quiet.{IsQuiet}
 use Rattle.snoop_model.specs.Turns.Serving.{steps_owed, steps_paid}
 use Rattle.snoop_model.proofs.Turns.Laws.{turn_rule}
-use Rattle.snoop_engine.specs.Courses.{CanEnd, HoldsAtEnd, Leading, LeadsOn}
+use Rattle.snoop_engine.specs.Courses.{CanEnd, LeadsToEndWith, Leading, LeadsOn}
 use Rattle.snoop_engine.specs.InOrder.{EndsInOrder, FindsInOrder, FollowsInOrder, InOrder, LeadsToRest, remaining_in_order}
 use Rattle.snoop_engine.specs.Inputs.{StepsServe, StepsServeSerially}
 use Rattle.snoop_engine.specs.Journey.{IsAtTheEnd, IsAtTheStart}
@@ -74,7 +74,7 @@ module _ {protocol : Protocol} {shape : Extent} {first now : Leading} {here : Si
       }
 
   -- what holds of these steps and then others to the end
-  pub ends_on : (all : Leading) → (let end = along.can_end in all (along.steps ++ end.steps) (along.outcomes ++ end.outcomes) end.final) → HoldsAtEnd first all
+  pub ends_on : (all : Leading) → (let end = along.can_end in all (along.steps ++ end.steps) (along.outcomes ++ end.outcomes) end.final) → LeadsToEndWith first all
   ends_on all holds =
       let end = along.can_end in
       record {
@@ -86,7 +86,7 @@ module _ {protocol : Protocol} {shape : Extent} {first now : Leading} {here : Si
       }
 
   -- what holds of these steps, which are all
-  pub ends_here : (all : Leading) (final : Situation) → now [] [] final → all along.steps along.outcomes final → HoldsAtEnd first all
+  pub ends_here : (all : Leading) (final : Situation) → now [] [] final → all along.steps along.outcomes final → LeadsToEndWith first all
   ends_here all final over holds =
       record { steps = along.steps; outcomes = along.outcomes; final = final; way = leads_all first now along.steps along.outcomes final along.leads over; holds = holds }
 

@@ -23,7 +23,7 @@ use Rattle.snoop_model.specs.Turns.Serving.{IsUnderWay}
 use Rattle.snoop_model.specs.Turns.Turn.{step_under_way, turn_of}
 use Rattle.snoop_model.proofs.Turns.Laws.{turn_rule}
 use Rattle.snoop_engine.specs.InOrder.{InOrder, IsInOrder, TakesUpNext, row_under_way}
-use Rattle.snoop_engine.specs.OneRow.{ServesOnly, nothing, only}
+use Rattle.snoop_engine.specs.UnderWay.{ServesOnly, nothing, only}
 use Rattle.snoop_engine.specs.Round.{IsEnabled}
 use Rattle.snoop_engine.specs.Serial.{is_ask}
 use Rattle.snoop_engine.proofs.TakenLemmas.{same_shape}

@@ -13,7 +13,7 @@ use Rattle.snoop_model.specs.declared.replies.Reply.{Reply}
 use Rattle.snoop_model.specs.declared.replies.Refused.{Refused}
 use Rattle.snoop_model.specs.Pictures.Situation.{Situation, reset}
 use Rattle.snoop_model.specs.Runs.Run.{GoesFirst, RunsGoOn, TheRun}
-use Rattle.snoop_engine.specs.Courses.{CanEnd, HoldsAtEnd, Leading, LeadsOn}
+use Rattle.snoop_engine.specs.Courses.{CanEnd, LeadsToEndWith, Leading, LeadsOn}
 use Rattle.snoop_engine.specs.Fault.{fault_of_write}
 use Rattle.snoop_engine.specs.Frames.{AreFrames, Frame, FramesFrom}
 use Rattle.snoop_engine.specs.Inputs.{GivesSteps}
@@ -63,7 +63,7 @@ module _ (protocol : Protocol) (shape : Extent) (heading : List ℕ) (shows : Li
 
 -- nothing was written, and the course can go on to its end
 pub ends_with_nothing : (protocol : Protocol) (shape : Extent) (heading : List ℕ) (shows : List Frame → Frame → List ℕ) (ending : List Frame → Situation → List ℕ) (leads : Leading) → RunsGoOn → CanEnd leads
-    → (a : Option (List ℕ)) → HoldsAtEnd leads (λ steps _ _. BeginsToShow protocol shape (view_text heading shows ending) steps a a)
+    → (a : Option (List ℕ)) → LeadsToEndWith leads (λ steps _ _. BeginsToShow protocol shape (view_text heading shows ending) steps a a)
 ends_with_nothing protocol shape heading shows ending leads go_on end a =
     record { steps = end.steps; outcomes = end.outcomes; final = end.final; way = end.way; holds = begins_nothing protocol shape heading shows ending end.steps go_on a }
 
@@ -144,17 +144,17 @@ module _ {protocol : Protocol} {shape : Extent} {heading : Protocol → Extent �
     -- the course can go on to its end, and something was written
     stopped : RunsGoOn → (c : Option (List ℕ))
         → ((rest : List ℕ) → AppendsFront a c ((heading protocol shape ++ shown (shows protocol shape) [] far.frames) ++ rest))
-        → HoldsAtEnd first (λ steps _ _. BeginsToShow protocol shape text steps a c)
+        → LeadsToEndWith first (λ steps _ _. BeginsToShow protocol shape text steps a c)
     stopped go_on c cut =
         ends_on far.along (λ steps _ _. BeginsToShow protocol shape text steps a c)
         (begins_on protocol shape (heading protocol shape) (shows protocol shape) (ending protocol shape) go_on far.along.steps far.along.can_end.steps far.along.outcomes far.frames to a c far.along.run far.are cut)
 
     -- a stop before a write
-    pub showing_stop : RunsGoOn → HoldsAtEnd first (λ steps _ _. BeginsToShow protocol shape text steps a b)
+    pub showing_stop : RunsGoOn → LeadsToEndWith first (λ steps _ _. BeginsToShow protocol shape text steps a b)
     showing_stop go_on = stopped go_on b (λ rest. gathers_stop a b chunk (heading protocol shape ++ shown (shows protocol shape) [] far.frames) rest far.lines)
 
     -- a stop in a write of the chunk
-    pub showing_cut : RunsGoOn → (c : Option (List ℕ)) → AppendsFront b c chunk → HoldsAtEnd first (λ steps _ _. BeginsToShow protocol shape text steps a c)
+    pub showing_cut : RunsGoOn → (c : Option (List ℕ)) → AppendsFront b c chunk → LeadsToEndWith first (λ steps _ _. BeginsToShow protocol shape text steps a c)
     showing_cut go_on c cut = stopped go_on c (λ rest. gathers_cut a b c chunk (heading protocol shape ++ shown (shows protocol shape) [] far.frames) rest far.lines cut)
 
     -- what the view does at the end
@@ -169,7 +169,7 @@ module _ {protocol : Protocol} {shape : Extent} {heading : Protocol → Extent �
           gathers_more a b chunk grown (heading protocol shape ++ shown (shows protocol shape) [] far.frames) (ending protocol shape far.frames to) far.lines (here far.frames far.has_seen far.are.run)
 
       -- all was written
-      pub showing_done : (c : Option (List ℕ)) → Appends b c grown → HoldsAtEnd first (λ steps _ _. ShowsRun protocol shape text steps a c)
+      pub showing_done : (c : Option (List ℕ)) → Appends b c grown → LeadsToEndWith first (λ steps _ _. ShowsRun protocol shape text steps a c)
       showing_done c all =
           ends_here far.along (λ steps _ _. ShowsRun protocol shape text steps a c) final over (record {
             frames = far.frames;
@@ -181,7 +181,7 @@ module _ {protocol : Protocol} {shape : Extent} {heading : Protocol → Extent �
           })
 
       -- the last write was cut
-      pub showing_cut_at_end : (c : Option (List ℕ)) → AppendsFront b c grown → HoldsAtEnd first (λ steps _ _. BeginsToShow protocol shape text steps a c)
+      pub showing_cut_at_end : (c : Option (List ℕ)) → AppendsFront b c grown → LeadsToEndWith first (λ steps _ _. BeginsToShow protocol shape text steps a c)
       showing_cut_at_end c cut =
           ends_here far.along (λ steps _ _. BeginsToShow protocol shape text steps a c) final over (record {
             frames = far.frames;

@@ -19,7 +19,7 @@ use Rattle.snoop_model.specs.declared.replies.Reply.{Reply}
 use Rattle.snoop_model.specs.declared.replies.Refused.{Refused}
 use Rattle.snoop_model.specs.Pictures.Situation.{Situation, reset}
 use Rattle.snoop_model.specs.Runs.Run.{FirstRunFrom, GoesFirst, RunsGoOn, TheRun}
-use Rattle.snoop_engine.specs.Courses.{CanEnd, HoldsAtEnd, Leading, LeadsOn}
+use Rattle.snoop_engine.specs.Courses.{CanEnd, LeadsToEndWith, Leading, LeadsOn}
 use Rattle.snoop_engine.specs.Fault.{fault_of_write}
 use Rattle.snoop_engine.specs.InOrder.{EndsInOrder, InOrder}
 use Rattle.snoop_engine.specs.Journey.{IsAtTheEnd, IsAtTheStart}
@@ -75,7 +75,7 @@ module _ {protocol : Protocol} {shape : Extent} {first now : Leading} {here : Si
 
   -- what is written of the steps so far is a beginning of what is written of all
   begun : (c : Option (List ℕ)) → ((rest : List ℕ) → AppendsFront a c (line_texts shape far.along.steps far.along.outcomes ++ rest))
-      → HoldsAtEnd first (λ steps outcomes final. AppendsFront a c (run_text shape steps outcomes final))
+      → LeadsToEndWith first (λ steps outcomes final. AppendsFront a c (run_text shape steps outcomes final))
   begun c cut =
       let end = far.along.can_end in
       ends_on far.along (λ steps outcomes final. AppendsFront a c (run_text shape steps outcomes final))
@@ -83,12 +83,12 @@ module _ {protocol : Protocol} {shape : Extent} {first now : Leading} {here : Si
       (cut (line_texts shape end.steps end.outcomes ++ report_of shape.words end.final.log)))
 
   -- a stop before a write
-  pub writing_stop : HoldsAtEnd first (λ steps outcomes final. AppendsFront a b (run_text shape steps outcomes final))
+  pub writing_stop : LeadsToEndWith first (λ steps outcomes final. AppendsFront a b (run_text shape steps outcomes final))
   writing_stop = begun b (λ rest. gathers_stop a b chunk (line_texts shape far.along.steps far.along.outcomes) rest far.lines)
 
   -- a stop in a write of the chunk
   pub writing_cut : (c : Option (List ℕ)) → AppendsFront b c chunk
-      → HoldsAtEnd first (λ steps outcomes final. AppendsFront a c (run_text shape steps outcomes final))
+      → LeadsToEndWith first (λ steps outcomes final. AppendsFront a c (run_text shape steps outcomes final))
   writing_cut c cut = begun c (λ rest. gathers_cut a b c chunk (line_texts shape far.along.steps far.along.outcomes) rest far.lines cut)
 
   module _ (over : now [] [] here) (c d : Option (List ℕ)) (flushed : Appends b c chunk) (words : ℕ) (items : List Item) (these : words ≡ here.shape.words) (last : items ≡ here.log) where
@@ -102,13 +102,13 @@ module _ {protocol : Protocol} {shape : Extent} {first now : Leading} {here : Si
 
     -- a stop in a write of the report
     pub writing_report_cut : AppendsFront c d (report_of words items)
-        → HoldsAtEnd first (λ steps outcomes final. AppendsFront a d (run_text shape steps outcomes final))
+        → LeadsToEndWith first (λ steps outcomes final. AppendsFront a d (run_text shape steps outcomes final))
     writing_report_cut cut =
         ends_here far.along (λ steps outcomes final. AppendsFront a d (run_text shape steps outcomes final)) here over
         (front_after a c d (line_texts shape far.along.steps far.along.outcomes) (report_of shape.words here.log) lines (rw report at cut))
 
     -- all was written
-    pub writing_done : Appends c d (report_of words items) → HoldsAtEnd first (λ steps outcomes final. Appends a d (run_text shape steps outcomes final))
+    pub writing_done : Appends c d (report_of words items) → LeadsToEndWith first (λ steps outcomes final. Appends a d (run_text shape steps outcomes final))
     writing_done all =
         ends_here far.along (λ steps outcomes final. Appends a d (run_text shape steps outcomes final)) here over
         (appends_more a c d (line_texts shape far.along.steps far.along.outcomes) (report_of shape.words here.log) lines (rw report at all))
@@ -121,12 +121,12 @@ begins_nothing go_on protocol shape steps a =
 
 -- a driver at its end has served its rows
 module _ (protocol : Protocol) (shape : Extent) (rows : List Row) (start : Progress) (at : IsAtTheStart protocol shape rows start) (a b : Option (List ℕ)) where
-  pub reports_run : HoldsAtEnd (λ steps outcomes final. IsAtTheEnd start steps outcomes final) (λ steps outcomes final. Appends a b (run_text start.situation.shape steps outcomes final)) → ReportsRun protocol shape rows a b
+  pub reports_run : LeadsToEndWith (λ steps outcomes final. IsAtTheEnd start steps outcomes final) (λ steps outcomes final. Appends a b (run_text start.situation.shape steps outcomes final)) → ReportsRun protocol shape rows a b
   reports_run end =
       let served = driver_served protocol shape rows start end.steps end.outcomes end.final at end.way in
       record { steps = end.steps; outcomes = end.outcomes; final = end.final; run = served.0; serves = served.1; output = rw at.situation at end.holds }
 
-  pub begins_run : HoldsAtEnd (λ steps outcomes final. IsAtTheEnd start steps outcomes final) (λ steps outcomes final. AppendsFront a b (run_text start.situation.shape steps outcomes final)) → BeginsRun protocol shape rows a b
+  pub begins_run : LeadsToEndWith (λ steps outcomes final. IsAtTheEnd start steps outcomes final) (λ steps outcomes final. AppendsFront a b (run_text start.situation.shape steps outcomes final)) → BeginsRun protocol shape rows a b
   begins_run end =
       let served = driver_served protocol shape rows start end.steps end.outcomes end.final at end.way in
       record {
@@ -141,12 +141,12 @@ module _ (protocol : Protocol) (shape : Extent) (rows : List Row) (start : Progr
 
 -- and so has one that serves them one after another
 module _ (protocol : Protocol) (shape : Extent) (rows : List Row) (start : InOrder) (at : start.situation ≡ reset protocol shape) (left : start.left ≡ rows) (a b : Option (List ℕ)) where
-  pub reports_serial : HoldsAtEnd (λ steps outcomes final. EndsInOrder start steps outcomes final) (λ steps outcomes final. Appends a b (run_text start.situation.shape steps outcomes final)) → ReportsSerial protocol shape rows a b
+  pub reports_serial : LeadsToEndWith (λ steps outcomes final. EndsInOrder start steps outcomes final) (λ steps outcomes final. Appends a b (run_text start.situation.shape steps outcomes final)) → ReportsSerial protocol shape rows a b
   reports_serial end =
       let served = in_order_served protocol shape rows start end.steps end.outcomes end.final at left end.way in
       record { steps = end.steps; outcomes = end.outcomes; final = end.final; run = served.0; serves = served.1; output = rw at at end.holds }
 
-  pub begins_serial : HoldsAtEnd (λ steps outcomes final. EndsInOrder start steps outcomes final) (λ steps outcomes final. AppendsFront a b (run_text start.situation.shape steps outcomes final)) → BeginsSerial protocol shape rows a b
+  pub begins_serial : LeadsToEndWith (λ steps outcomes final. EndsInOrder start steps outcomes final) (λ steps outcomes final. AppendsFront a b (run_text start.situation.shape steps outcomes final)) → BeginsSerial protocol shape rows a b
   begins_serial end =
       let served = in_order_served protocol shape rows start end.steps end.outcomes end.final at left end.way in
       record {

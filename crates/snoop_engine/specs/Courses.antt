@@ -23,8 +23,8 @@ pub record CanEnd (leads : Leading) : Type 0 where
   pub final : Situation
   pub way : leads steps outcomes final
 
--- this holds of steps that lead to the end
-pub record HoldsAtEnd (leads all : Leading) : Type 0 where
+-- some steps lead to the end, and this holds of them, their outcomes and where they lead
+pub record LeadsToEndWith (leads all : Leading) : Type 0 where
   pub steps : List Step
   pub outcomes : List (Result Reply Refused)
   pub final : Situation

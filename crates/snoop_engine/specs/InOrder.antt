@@ -13,7 +13,7 @@ use Rattle.snoop_model.specs.Moves.Move.{FirstMove}
 use Rattle.snoop_model.specs.Runs.Run.{FirstRunFrom}
 use Rattle.snoop_model.specs.Turns.Quiet.{IsQuiet}
 use Rattle.snoop_model.specs.Turns.Serving.{IsUnderWay, steps_owed}
-use Rattle.snoop_engine.specs.OneRow.{ServesOnly, nothing, only}
+use Rattle.snoop_engine.specs.UnderWay.{ServesOnly, nothing, only}
 use Rattle.snoop_engine.specs.Round.{IsEnabled}
 use Rattle.snoop_engine.specs.Serial.{all_asks, ask_for, is_ask}
 

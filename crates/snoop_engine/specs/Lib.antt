@@ -10,7 +10,7 @@ pub mod Journey
 pub mod SimulatedRun
 pub mod Serial
 pub mod SimulatedSerial
-pub mod OneRow
+pub mod UnderWay
 pub mod Frames
 pub mod Taken
 pub mod Askers

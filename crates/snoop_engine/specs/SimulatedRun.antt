@@ -50,7 +50,7 @@ pub record BeginsRun (protocol : Protocol) (shape : Extent) (rows : List Row) (o
       AppendsFront old new (line_texts shape steps outcomes)
       ⊎ (Serves shape rows steps outcomes reached × AppendsFront old new (line_texts shape steps outcomes ++ report_of shape.words reached.log))
 
--- the whole text was read, and its rows served and all of it written, or a beginning of it; or the text was refused
+-- the whole text was read, and its rows served and all of it written, or a beginning of it; or the text was refused, or memory before the first step
 abbrev pub SimulatesRun : Protocol → Extent → Option (List ℕ) → Result (Unit {0}) SimFault → Option (List ℕ) → Option (List ℕ) → Type 0
 SimulatesRun protocol shape input (Ok u) old new = (rows : List Row) × (ReadsRows shape input (Ok rows) × ReportsRun protocol shape rows old new)
 SimulatesRun protocol shape input (Err (Text fault)) old new = ReadsRows shape input (Err fault)

@@ -43,7 +43,7 @@ pub record BeginsSerial (protocol : Protocol) (shape : Extent) (rows : List Row)
       AppendsFront old new (line_texts shape steps outcomes)
       ⊎ (ServesSerially protocol shape rows steps outcomes reached × AppendsFront old new (line_texts shape steps outcomes ++ report_of shape.words reached.log))
 
--- the whole text was read, and its rows served one after another and all of it written, or a beginning of it; or the text was refused
+-- the whole text was read, and its rows served one after another and all of it written, or a beginning of it; or the text was refused, or memory before the first step
 abbrev pub SimulatesSerial : Protocol → Extent → Option (List ℕ) → Result (Unit {0}) SimFault → Option (List ℕ) → Option (List ℕ) → Type 0
 SimulatesSerial protocol shape input (Ok u) old new = (rows : List Row) × (ReadsRows shape input (Ok rows) × ReportsSerial protocol shape rows old new)
 SimulatesSerial protocol shape input (Err (Text fault)) old new = ReadsRows shape input (Err fault)

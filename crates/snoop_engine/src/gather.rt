@@ -47,7 +47,7 @@ pub fn read_input<R: Source>(
     }
 }
 
-/// Reads a text of rows to its end, and answers a driver that has them to do. `NoMemory` may come in dealing them, too.
+/// Reads a text of rows to its end, and answers a driver that has them to do. `NoMemory` may come in dealing them or in making the machine, too.
 pub(crate) fn read_driver<R: Source>(
     alloc: Global,
     reader: &mut R,

@@ -1,6 +1,7 @@
 //! The line of a step: its text and the machine's reply or refusal.
 //!
-//! A reply is one literal with its state or request, so that it is appended in one piece.
+//! The words of a reply up to its first number are one literal, its state, request or payload with them, so that they are
+//! appended in one piece.
 ghost use Rattle.std.specs.Prelude.{◌≡◌, ◌++◌, codes, OnOk};
 ghost use Rattle.std.specs.Fmt.{decimal};
 ghost use Rattle.snoop_rules.specs.Names.{payload_name, request_name, state_name};

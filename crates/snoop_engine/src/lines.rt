@@ -3,7 +3,7 @@ ghost use Rattle.std.specs.Prelude.{◌≡◌, ◌≢◌, true, Err, OnOk, OnErr
 ghost use Rattle.std.specs.Io.KnownBytes.{Appends};
 ghost use Rattle.snoop_trace.specs.Output.{AppendsFront, BlamesWriter};
 ghost use Rattle.snoop_model.specs.Pictures.Situation.{reset};
-ghost use Rattle.snoop_engine.specs.Courses.{HoldsAtEnd};
+ghost use Rattle.snoop_engine.specs.Courses.{LeadsToEndWith};
 ghost use Rattle.snoop_engine.specs.Written.{run_text};
 
 use crate::course::Course;
@@ -20,8 +20,8 @@ pub(crate) fn write_lines<W: Sink, C: Course>(
     course: &mut C,
 ) -> Result<(), WriteFault>
     requires { let s = C.situation course.old in s ≡ reset s.protocol s.shape }
-    ensures ok { OnOk result (HoldsAtEnd (C.leads course.old) (λ steps outcomes final. Appends (W.contents writer.old) (W.contents writer.new) (run_text (C.situation course.old).shape steps outcomes final))) }
-    ensures front { OnErr result (HoldsAtEnd (C.leads course.old) (λ steps outcomes final. AppendsFront (W.contents writer.old) (W.contents writer.new) (run_text (C.situation course.old).shape steps outcomes final))) }
+    ensures ok { OnOk result (LeadsToEndWith (C.leads course.old) (λ steps outcomes final. Appends (W.contents writer.old) (W.contents writer.new) (run_text (C.situation course.old).shape steps outcomes final))) }
+    ensures front { OnErr result (LeadsToEndWith (C.leads course.old) (λ steps outcomes final. AppendsFront (W.contents writer.old) (W.contents writer.new) (run_text (C.situation course.old).shape steps outcomes final))) }
     ensures never_blamed { W.never_fails ≡ true → result ≢ Err WriteFault.Write }
     ensures blamed { BlamesWriter (W.failed writer.old) (W.failed writer.new) (result ≡ Err WriteFault.Write) }
 {

@@ -25,7 +25,7 @@ pub fn simulate_serial<R: Source, W: Sink>(
     shape: Shape,
 ) -> Result<(), SimFault>
     ensures does { SimulatesSerial protocol shape (R.remaining reader.old) result (W.contents writer.old) (W.contents writer.new) }
-    // A refused text leaves the writer as it was.
+    // After a fault of the text, or out of memory before the first step, the writer is as it was.
     ensures unwritten { (fault : TextFault) → result ≡ Err (SimFault.Text fault) → writer.new ≡ writer.old }
 
     // A reader or a writer whose contract rules failure out is never blamed.

@@ -5,7 +5,7 @@ ghost use Rattle.snoop_model.specs.Turns.Quiet.{IsQuiet};
 ghost use Rattle.snoop_model.specs.Turns.Serving.{IsUnderWay};
 ghost use Rattle.snoop_trace.specs.Grammar.{IsRowWithin};
 ghost use Rattle.snoop_engine.specs.InOrder.{TakesUpNext, row_under_way};
-ghost use Rattle.snoop_engine.specs.OneRow.{ServesOnly, nothing};
+ghost use Rattle.snoop_engine.specs.UnderWay.{ServesOnly, nothing};
 ghost use Rattle.snoop_engine.specs.Round.{IsEnabled};
 ghost use Rattle.snoop_engine.specs.Serial.{is_ask};
 

@@ -5,7 +5,7 @@ ghost use Rattle.snoop_trace.specs.Text.{BlamesReader};
 ghost use Rattle.snoop_trace.specs.declared.fault.TextFault.{TextFault};
 ghost use Rattle.snoop_trace.specs.declared.fault.TextFault.TheVariants as text_fault;
 ghost use Rattle.snoop_model.specs.Pictures.Situation.{reset};
-ghost use Rattle.snoop_engine.specs.Courses.{HoldsAtEnd};
+ghost use Rattle.snoop_engine.specs.Courses.{LeadsToEndWith};
 ghost use Rattle.snoop_engine.specs.SimulatedView.{BeginsToShow, ShowsRun, SimulatesView};
 ghost use Rattle.snoop_engine.specs.Views.{view_text};
 
@@ -170,8 +170,8 @@ fn show<W: Sink, C: Course, V: View>(
     view: &mut V,
 ) -> Result<(), WriteFault>
     requires { let s = C.situation course.old in s ≡ reset s.protocol s.shape }
-    ensures ok { let s = C.situation course.old in OnOk result (HoldsAtEnd (C.leads course.old) (λ steps _ _. ShowsRun s.protocol s.shape (view_text (V.heading view.old s.protocol s.shape) (V.shows view.old s.protocol s.shape) (V.ending view.old s.protocol s.shape)) steps (W.contents writer.old) (W.contents writer.new))) }
-    ensures front { let s = C.situation course.old in OnErr result (HoldsAtEnd (C.leads course.old) (λ steps _ _. BeginsToShow s.protocol s.shape (view_text (V.heading view.old s.protocol s.shape) (V.shows view.old s.protocol s.shape) (V.ending view.old s.protocol s.shape)) steps (W.contents writer.old) (W.contents writer.new))) }
+    ensures ok { let s = C.situation course.old in OnOk result (LeadsToEndWith (C.leads course.old) (λ steps _ _. ShowsRun s.protocol s.shape (view_text (V.heading view.old s.protocol s.shape) (V.shows view.old s.protocol s.shape) (V.ending view.old s.protocol s.shape)) steps (W.contents writer.old) (W.contents writer.new))) }
+    ensures front { let s = C.situation course.old in OnErr result (LeadsToEndWith (C.leads course.old) (λ steps _ _. BeginsToShow s.protocol s.shape (view_text (V.heading view.old s.protocol s.shape) (V.shows view.old s.protocol s.shape) (V.ending view.old s.protocol s.shape)) steps (W.contents writer.old) (W.contents writer.new))) }
     ensures never_blamed { W.never_fails ≡ true → result ≢ Err WriteFault.Write }
     ensures blamed { BlamesWriter (W.failed writer.old) (W.failed writer.new) (result ≡ Err WriteFault.Write) }
 {

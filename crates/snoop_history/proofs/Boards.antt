@@ -14,7 +14,7 @@ use Rattle.snoop_history.specs.declared.items.Did.{Did}
 use Rattle.snoop_history.specs.declared.items.Item.{Item}
 use Rattle.snoop_history.specs.declared.items.Totals.{Totals}
 use Rattle.snoop_history.specs.History.{operation_of, operations, next_number, is_store_to, last_or, flat, last_of}
-use Rattle.snoop_history.specs.Within.{core_of, block_of, responder_of, IsItemWithin, is_within, inside}
+use Rattle.snoop_history.specs.Within.{core_of, block_of, sender_of_response, IsItemWithin, is_within, inside}
 use Rattle.snoop_history.specs.Totals.{totals_of, capped, capped_totals}
 use Rattle.snoop_history.specs.Journal.{counted, tallied}
 use Rattle.snoop_history.specs.Board.{Tables, for_each_below, board_of, operation_within, noted, absorbed, place_of}
@@ -225,8 +225,8 @@ operation-lies cores blocks words (Some d) rest true e did is =
 -- an item that passes the test lies within the shape
 pub passes-within : (cores blocks words : ℕ) (entry : Item) → is_within cores blocks words entry ≡ true → IsItemWithin cores blocks words entry
 passes-within cores blocks words entry e =
-    let p = and_parts (nat_lt (core_of entry) cores && nat_lt (block_of entry) blocks && option_map_or (λ core. nat_lt core cores) (responder_of entry) true) (option_map_or (λ did. nat_lt did.core cores && nat_lt did.block blocks && nat_lt did.word words) (operation_of entry) true) e in
-    let r = and_parts (nat_lt (core_of entry) cores && nat_lt (block_of entry) blocks) (option_map_or (λ core. nat_lt core cores) (responder_of entry) true) p.0 in
+    let p = and_parts (nat_lt (core_of entry) cores && nat_lt (block_of entry) blocks && option_map_or (λ core. nat_lt core cores) (sender_of_response entry) true) (option_map_or (λ did. nat_lt did.core cores && nat_lt did.block blocks && nat_lt did.word words) (operation_of entry) true) e in
+    let r = and_parts (nat_lt (core_of entry) cores && nat_lt (block_of entry) blocks) (option_map_or (λ core. nat_lt core cores) (sender_of_response entry) true) p.0 in
     let q = and_parts (nat_lt (core_of entry) cores) (nat_lt (block_of entry) blocks) r.0 in
     record {
       core = ltb-true (core_of entry) cores q.0;
@@ -237,7 +237,7 @@ passes-within cores blocks words entry e =
 
 pub operation_within-lies : (cores blocks words : ℕ) (entry : Item) (did : Did) → operation_within cores blocks words entry ≡ Some did → (did.core < cores) × (did.block < blocks) × (did.word < words)
 operation_within-lies cores blocks words entry did is =
-    operation-lies cores blocks words (operation_of entry) (nat_lt (core_of entry) cores && nat_lt (block_of entry) blocks && option_map_or (λ core. nat_lt core cores) (responder_of entry) true) (is_within cores blocks words entry) refl did is
+    operation-lies cores blocks words (operation_of entry) (nat_lt (core_of entry) cores && nat_lt (block_of entry) blocks && option_map_or (λ core. nat_lt core cores) (sender_of_response entry) true) (is_within cores blocks words entry) refl did is
 
 -- absorbing one item gives the board of the list with it
 pub absorbed_board : (cores blocks words : ℕ) (items : List Item) (entry : Item) → absorbed (board_of cores blocks words items) entry ≡ board_of cores blocks words (items ++ entry ∷ [])
@@ -306,7 +306,7 @@ absorbed_as view new entry did is b w v c l t =
 -- an item within a shape passes the test
 pub within-passes : (cores blocks words : ℕ) (entry : Item) → IsItemWithin cores blocks words entry → is_within cores blocks words entry ≡ true
 within-passes cores blocks words entry lies =
-    rw (lt-ltb (core_of entry) cores lies.core, lt-ltb (block_of entry) blocks lies.block, sender (responder_of entry) lies.sender) (operation (operation_of entry) lies.operation)
+    rw (lt-ltb (core_of entry) cores lies.core, lt-ltb (block_of entry) blocks lies.block, sender (sender_of_response entry) lies.sender) (operation (operation_of entry) lies.operation)
   where
     sender : (from : Option ℕ) → ForSome from (λ core. core < cores) → option_map_or (λ core. nat_lt core cores) from true ≡ true
     sender None h = refl

@@ -19,22 +19,22 @@ block_of (item.Sent sent) = sent.block
 block_of (item.Came came did) = came.block
 
 -- the core that sent the item's response; None where memory did, or the item is no response
-abbrev pub responder_of : Item → Option ℕ
-responder_of (item.Did did) = None
-responder_of (item.Sent sent) = None
-responder_of (item.Came came did) = came.from
+abbrev pub sender_of_response : Item → Option ℕ
+sender_of_response (item.Did did) = None
+sender_of_response (item.Sent sent) = None
+sender_of_response (item.Came came did) = came.from
 
 -- the item's core and block are within the shape, and so are the core that sent its response, if one did, and the core, block and word of its operation, if it has one
 pub record IsItemWithin (cores blocks words : ℕ) (entry : Item) : Type 0 where
   pub core : core_of entry < cores
   pub block : block_of entry < blocks
-  pub sender : ForSome (responder_of entry) (λ core. core < cores)
+  pub sender : ForSome (sender_of_response entry) (λ core. core < cores)
   pub operation : ForSome (operation_of entry) (λ did. (did.core < cores) × (did.block < blocks) × (did.word < words))
 
 -- the same as a test
 abbrev pub is_within : ℕ → ℕ → ℕ → Item → Bool
 is_within cores blocks words entry =
-    nat_lt (core_of entry) cores && nat_lt (block_of entry) blocks && option_map_or (λ core. nat_lt core cores) (responder_of entry) true
+    nat_lt (core_of entry) cores && nat_lt (block_of entry) blocks && option_map_or (λ core. nat_lt core cores) (sender_of_response entry) true
     && option_map_or (λ did. nat_lt did.core cores && nat_lt did.block blocks && nat_lt did.word words) (operation_of entry) true
 
 -- the items of a list that lie within the shape

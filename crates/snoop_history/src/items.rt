@@ -1,7 +1,7 @@
 //! What happens in a machine, as its history has it.
 ghost use Rattle.std.specs.Prelude.{◌≡◌};
 ghost use Rattle.snoop_history.specs.History.{operation_of};
-ghost use Rattle.snoop_history.specs.Within.{core_of, block_of, responder_of, is_within};
+ghost use Rattle.snoop_history.specs.Within.{core_of, block_of, sender_of_response, is_within};
 ghost use Rattle.snoop_history.specs.Board.{operation_within};
 
 use snoop_rules::{Payload, Request};
@@ -93,7 +93,7 @@ impl Item {
 
     /// The core that sent the item's response, if one did.
     pub(crate) fn sender(self) -> Option<u32>
-        ensures { result ≡ responder_of self }
+        ensures { result ≡ sender_of_response self }
     {
         match self {
             Item::Came(came, _) => came.from,

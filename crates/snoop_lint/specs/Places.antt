@@ -6,10 +6,10 @@ use Rattle.snoop_lint.specs.declared.lines.Place.{Place}
 use Rattle.snoop_lint.specs.declared.lines.Place.TheVariants as place
 
 -- the state of the reader at a place
-abbrev pub reader_state : Place → State
-reader_state place.Between = st.StartRecord
-reader_state place.Return = st.AfterCr
-reader_state place.Field = st.StartField
-reader_state place.Inside = st.InField
-reader_state place.Quoted = st.InQuoted
-reader_state place.Quote = st.AfterQuote
+abbrev pub state_at_place : Place → State
+state_at_place place.Between = st.StartRecord
+state_at_place place.Return = st.AfterCr
+state_at_place place.Field = st.StartField
+state_at_place place.Inside = st.InField
+state_at_place place.Quoted = st.InQuoted
+state_at_place place.Quote = st.AfterQuote

@@ -4,7 +4,7 @@ ghost use Rattle.csv.specs.declared.parser.State.TheVariants as st;
 ghost use Rattle.csv.specs.Machine as csv_spec;
 ghost use Rattle.csv.specs.Reading.{default_config, strip_bom};
 ghost use Rattle.snoop_lint.specs.Lines as spec;
-ghost use Rattle.snoop_lint.specs.Places.{reader_state};
+ghost use Rattle.snoop_lint.specs.Places.{state_at_place};
 
 use snoop_trace::NoMemory;
 use std::alloc::Global;
@@ -29,7 +29,7 @@ pub(crate) enum Place {
 impl Place {
     /// The place after one byte more.
     fn after(self, byte: u8) -> Place
-        ensures { reader_state result ≡ (csv_spec.step default_config (reader_state self) byte).0 }
+        ensures { state_at_place result ≡ (csv_spec.step default_config (state_at_place self) byte).0 }
     {
         match self {
             Place::Between => at_record(byte),
@@ -46,7 +46,7 @@ impl Place {
 
     /// Whether a record begins at this byte.
     fn begins_record(self, byte: u8) -> bool
-        ensures { result ≡ spec.begins_record (reader_state self) byte }
+        ensures { result ≡ spec.begins_record (state_at_place self) byte }
     {
         let is_between = match self {
             Place::Between | Place::Return => true,
@@ -57,7 +57,7 @@ impl Place {
 }
 
 fn at_record(byte: u8) -> Place
-    ensures { reader_state result ≡ (csv_spec.start_record default_config byte).0 }
+    ensures { state_at_place result ≡ (csv_spec.start_record default_config byte).0 }
 {
     if byte == b'\r' || byte == b'\n' {
         Place::Between
@@ -67,7 +67,7 @@ fn at_record(byte: u8) -> Place
 }
 
 fn at_field(byte: u8) -> Place
-    ensures { reader_state result ≡ (csv_spec.start_field default_config byte).0 }
+    ensures { state_at_place result ≡ (csv_spec.start_field default_config byte).0 }
 {
     if byte == b'"' {
         Place::Quoted
@@ -77,7 +77,7 @@ fn at_field(byte: u8) -> Place
 }
 
 fn in_field(byte: u8) -> Place
-    ensures { reader_state result ≡ (csv_spec.in_field default_config byte).0 }
+    ensures { state_at_place result ≡ (csv_spec.in_field default_config byte).0 }
 {
     match byte {
         b',' => Place::Field,
@@ -132,7 +132,7 @@ fn lines_from(alloc: Global, text: &[u8]) -> Result<Vec<u64>, NoMemory>
 
 // Appends the line, where a record begins at this byte of it.
 fn push_begin(lines: &mut Vec<u64>, place: Place, line: u64, byte: u8) -> Result<(), NoMemory>
-    ensures { OnOk result (lines.new.items ≡ lines.old.items ++ (if spec.begins_record (reader_state place) byte then line ∷ [] else [])) }
+    ensures { OnOk result (lines.new.items ≡ lines.old.items ++ (if spec.begins_record (state_at_place place) byte then line ∷ [] else [])) }
 {
     if place.begins_record(byte) {
         lines.push(line).map_err(|_| NoMemory)

@@ -9,7 +9,7 @@ use Rattle.snoop_machine.specs.declared.holders.Holders.{Holders}
 use Rattle.snoop_model.specs.Pictures.Lines.{Line}
 use Rattle.snoop_model.specs.Pictures.Proper.{IsProper}
 use Rattle.snoop_machine.specs.Holders.{HaveFollowed}
-use Rattle.snoop_machine.specs.Cache.{Contents, no_cache, line_found, line_in, blocks_of, KeepsMapRoom}
+use Rattle.snoop_machine.specs.Cache.{Contents, no_cache, line_or_nothing, line_in, blocks_of, KeepsMapRoom}
 use Rattle.snoop_machine.specs.Lines.{Held, AreLines, KeepsMapsRoom, held, held_by_block, gone, line_at, is_among}
 use Rattle.snoop_machine.proofs.MapRows.{rows-set, blocks-at, spare-at, blocks-same, count-same, length-blocks_of, among-lookup}
 use Rattle.snoop_machine.proofs.LineMaps.{IsMap, blocks_seen, spare_seen, maps-long, gone-none, gone-one, is_I}
@@ -44,7 +44,7 @@ pub record HasWritten (caches : List Contents) (holders : List Holders) (now : H
 module _ {caches : List Contents} {holders : List Holders} {now : Held} {core block : ℕ} {line : Line} {old new : Contents} {after : List Holders}
     (wrote : HasWritten caches holders now core block line old new after) (lines : AreLines caches holders) (view : held caches holders ≡ now) where
   elsewhere : (b : ℕ) → nat_eq block b ≡ false → line_in new b ≡ line_in (slice_index_or caches core no_cache) b
-  elsewhere b ne = ap line_found (wrote.others b ne) ∙ ap (λ (cache : Contents). line_in cache b) wrote.map.read
+  elsewhere b ne = ap line_or_nothing (wrote.others b ne) ∙ ap (λ (cache : Contents). line_in cache b) wrote.map.read
 
   long : length after ≡ length holders
   long = ap (λ (l : List Holders). length l) wrote.followed.set ∙ length-set holders block wrote.followed.moved

@@ -7,7 +7,7 @@ use Rattle.snoop_rules.specs.declared.names.CacheState.{CacheState}
 use Rattle.snoop_rules.specs.declared.names.CacheState.TheVariants.{I}
 use Rattle.snoop_model.specs.Pictures.Lines.{Line}
 use Rattle.snoop_machine.specs.declared.holders.Holders.{Holders}
-use Rattle.snoop_machine.specs.Cache.{Contents, no_cache, line_in, blocks_of, held_in}
+use Rattle.snoop_machine.specs.Cache.{Contents, no_cache, line_in, blocks_of, lines_held}
 use Rattle.snoop_machine.specs.Lines.{Held, AreLines, held, MayMoveTo, is_among, is_invalid, gone, row_of, line_at}
 use Rattle.snoop_machine.proofs.MapRows.{within-rows, line-rows, line-none, row-rows, blocks-at, spare-at, among-lookup, found-lookup}
 
@@ -31,7 +31,7 @@ module _ {caches : List Contents} {holders : List Holders} (lines : AreLines cac
   pub in_rows : (core block : ℕ) → block < length now.rows → core < length (row_of now.rows block) → (block < length holders) × (core < length caches)
   in_rows core block in_blocks in_cores = within-rows (length holders) caches core block (rw (← view) at in_blocks) (rw (← view) at in_cores)
 
-  pub row_seen : (block : ℕ) → block < length holders → held_in caches block ≡ row_of now.rows block
+  pub row_seen : (block : ℕ) → block < length holders → lines_held caches block ≡ row_of now.rows block
   row_seen block within = sym (row-rows (length holders) caches block within) ∙ ap (λ (h : Held). row_of h.rows block) view
 
   pub line_seen : (core block : ℕ) → block < length holders → line_in (slice_index_or caches core no_cache) block ≡ line_at now.rows core block

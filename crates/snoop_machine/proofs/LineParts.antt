@@ -10,7 +10,7 @@ use Rattle.snoop_model.specs.Pictures.Proper.{IsProper, keeps}
 use Rattle.snoop_model.specs.Invariant.Fits.{is_owner}
 use Rattle.snoop_machine.specs.declared.holders.Holders.{Holders}
 use Rattle.snoop_machine.specs.Holders.{HaveMoved, HaveFollowed, StandsAs, no_holders}
-use Rattle.snoop_machine.specs.Cache.{Contents, no_cache, line_in, held_in}
+use Rattle.snoop_machine.specs.Cache.{Contents, no_cache, line_in, lines_held}
 use Rattle.snoop_machine.specs.Lines.{Held, AreLines}
 use Rattle.snoop_machine.proofs.LineMaps.{IsMap}
 use Rattle.snoop_machine.proofs.MapRows.{line-row, row-same, row-set, length-row, AreHolders-moved}
@@ -50,7 +50,7 @@ module _ {caches : List Contents} {holders : List Holders} (lines : AreLines cac
         ]);
         indexed = λ b lt. elim (cases_eq b block) [
           | inl e ↦ rw (e, get_or-set_same holders block moved no_holders in_blocks, row-set caches core block new line wrote)
-              (AreHolders-moved (held_in caches block) core line (slice_index_or holders block no_holders) moved (rw (length-row caches block) within)
+              (AreHolders-moved (lines_held caches block) core line (slice_index_or holders block no_holders) moved (rw (length-row caches block) within)
               (lines.indexed block in_blocks) moves)
           | inr ne ↦ rw (get_or-set_other holders block b moved no_holders ne, row-same caches core b new (elsewhere b ne))
               (lines.indexed b (rw (length-set holders block moved) at lt))
@@ -71,7 +71,7 @@ pub stands : {caches : List Contents} {holders : List Holders} (lines : AreLines
     → (before : CacheState) → before ≡ (line_in old block).state → StandsAs core before (slice_index_or holders block no_holders)
 stands {caches} lines {core} {block} its before was =
     let sets = lines.indexed block its.in_blocks in
-    let stood : (held_at (held_in caches block) core).state ≡ before = ap (λ (x : Line). x.state) (line-row caches core block)
+    let stood : (held_at (lines_held caches block) core).state ≡ before = ap (λ (x : Line). x.state) (line-row caches core block)
     ∙ sym (was ∙ ap (λ (cache : Contents). (line_in cache block).state) its.read) in
     (sets.owners core ∙ ap is_owner stood, sets.readers core ∙ ap keeps stood)
 

@@ -10,16 +10,16 @@ use Rattle.snoop_model.specs.Pictures.Lines.{Line}
 use Rattle.snoop_model.specs.Pictures.Picture.{held_at, nothing_held}
 use Rattle.snoop_machine.specs.declared.holders.Holders.{Holders}
 use Rattle.snoop_machine.specs.Holders.{AreHolders, HaveMoved}
-use Rattle.snoop_machine.specs.Cache.{Contents, no_cache, line_in, blocks_of, held_in}
+use Rattle.snoop_machine.specs.Cache.{Contents, no_cache, line_in, blocks_of, lines_held}
 use Rattle.snoop_machine.specs.Lines.{held_by_block, is_among, line_at}
 
 pub length-rows : (blocks : ℕ) (caches : List Contents) → length (held_by_block blocks caches) ≡ blocks
-length-rows blocks caches = length-map-range_with_len (held_in caches) 0 blocks
+length-rows blocks caches = length-map-range_with_len (lines_held caches) 0 blocks
 
-pub row-rows : (blocks : ℕ) (caches : List Contents) (block : ℕ) → block < blocks → slice_index_or (held_by_block blocks caches) block [] ≡ held_in caches block
-row-rows blocks caches block h = get_or-map-range_with_len (held_in caches) 0 blocks block block [] h (omega arith)
+pub row-rows : (blocks : ℕ) (caches : List Contents) (block : ℕ) → block < blocks → slice_index_or (held_by_block blocks caches) block [] ≡ lines_held caches block
+row-rows blocks caches block h = get_or-map-range_with_len (lines_held caches) 0 blocks block block [] h (omega arith)
 
-pub length-row : (caches : List Contents) (block : ℕ) → length (held_in caches block) ≡ length caches
+pub length-row : (caches : List Contents) (block : ℕ) → length (lines_held caches block) ≡ length caches
 length-row caches block = length-map caches (λ cache. line_in cache block)
 
 -- an entry of a mapped list
@@ -28,23 +28,23 @@ get_or-mapped f [] d i = refl
 get_or-mapped f (x ∷ xs) d zero = refl
 get_or-mapped f (x ∷ xs) d (suc i) = get_or-mapped f xs d i
 
-pub line-row : (caches : List Contents) (core block : ℕ) → held_at (held_in caches block) core ≡ line_in (slice_index_or caches core no_cache) block
+pub line-row : (caches : List Contents) (core block : ℕ) → held_at (lines_held caches block) core ≡ line_in (slice_index_or caches core no_cache) block
 line-row caches core block = get_or-mapped (λ cache. line_in cache block) caches no_cache core
 
 -- a map whose line of the block is as it was leaves the row as it was
 pub row-same : (caches : List Contents) (core block : ℕ) (new : Contents) → line_in new block ≡ line_in (slice_index_or caches core no_cache) block
-    → held_in (slice_set caches core new) block ≡ held_in caches block
+    → lines_held (slice_set caches core new) block ≡ lines_held caches block
 row-same caches core block new same =
     map-set (λ cache. line_in cache block) caches core new
-    ∙ (ap (λ (x : Line). slice_set (held_in caches block) core x) (same ∙ sym (line-row caches core block)) ∙ set-get_or (held_in caches block) core nothing_held)
+    ∙ (ap (λ (x : Line). slice_set (lines_held caches block) core x) (same ∙ sym (line-row caches core block)) ∙ set-get_or (lines_held caches block) core nothing_held)
 
 pub rows-same : (blocks : ℕ) (caches : List Contents) (core : ℕ) (new : Contents) → ((b : ℕ) → line_in new b ≡ line_in (slice_index_or caches core no_cache) b)
     → held_by_block blocks (slice_set caches core new) ≡ held_by_block blocks caches
 rows-same blocks caches core new same = λ i. map (λ b. row-same caches core b new (same b) i) (range_with_len 0 blocks)
 
 -- the row of a block after one line of it is written
-pub row-set : (caches : List Contents) (core block : ℕ) (new : Contents) (line : Line) → line_in new block ≡ line → held_in (slice_set caches core new) block ≡ slice_set (held_in caches block) core line
-row-set caches core block new line here = map-set (λ cache. line_in cache block) caches core new ∙ ap (λ (x : Line). slice_set (held_in caches block) core x) here
+pub row-set : (caches : List Contents) (core block : ℕ) (new : Contents) (line : Line) → line_in new block ≡ line → lines_held (slice_set caches core new) block ≡ slice_set (lines_held caches block) core line
+row-set caches core block new line here = map-set (λ cache. line_in cache block) caches core new ∙ ap (λ (x : Line). slice_set (lines_held caches block) core x) here
 
 pub rows-set : (blocks : ℕ) (caches : List Contents) (core block : ℕ) (new : Contents) (line : Line) → block < blocks
     → line_in new block ≡ line → ((b : ℕ) → nat_eq block b ≡ false → line_in new b ≡ line_in (slice_index_or caches core no_cache) b)
@@ -121,9 +121,9 @@ module _ (caches : List Contents) (empty : (core : ℕ) → (slice_index_or cach
   pub line-empty : (core block : ℕ) → line_in (slice_index_or caches core no_cache) block ≡ nothing_held
   line-empty core block = rw (empty core)
 
-  pub row-empty : (block : ℕ) → held_in caches block ≡ replicate (length caches) nothing_held
+  pub row-empty : (block : ℕ) → lines_held caches block ≡ replicate (length caches) nothing_held
   row-empty block =
-      ext_get_or nothing_held (held_in caches block) (replicate (length caches) nothing_held) (length-row caches block ∙ sym (length-replicate (length caches) nothing_held))
+      ext_get_or nothing_held (lines_held caches block) (replicate (length caches) nothing_held) (length-row caches block ∙ sym (length-replicate (length caches) nothing_held))
       (λ k h.
       let long = length-row caches block in
       rw (line-row caches k block, line-empty k block, get_or-replicate (length caches) k nothing_held nothing_held (omega arith)))

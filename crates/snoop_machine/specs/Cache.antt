@@ -32,20 +32,20 @@ abbrev pub KeepsMapRoom : Contents → Contents → Type 0
 KeepsMapRoom old new = old.spare ≤ new.spare + (length new.entries - length old.entries)
 
 -- the line that a map has, or that of a block of which the cache holds nothing
-abbrev pub line_found : Option Line → Line
-line_found found = unwrap_or found nothing_held
+abbrev pub line_or_nothing : Option Line → Line
+line_or_nothing found = unwrap_or found nothing_held
 
 -- the block's line in a map
 abbrev pub line_in : Contents → ℕ → Line
-line_in cache block = line_found (lookup (nat_eq block) cache.entries)
+line_in cache block = line_or_nothing (lookup (nat_eq block) cache.entries)
 
 -- the blocks that have a line there
 abbrev pub blocks_of : Contents → List ℕ
 blocks_of cache = keys_of cache.entries
 
 -- what each core holds of a block
-abbrev pub held_in : List Contents → ℕ → List Line
-held_in caches block = map (λ cache. line_in cache block) caches
+abbrev pub lines_held : List Contents → ℕ → List Line
+lines_held caches block = map (λ cache. line_in cache block) caches
 
 -- the words after an operation on one of them: a store writes it
 abbrev pub words_after : ℕ → Op → Data → Data
@@ -76,13 +76,13 @@ IsOfWords count (Hit access) = access.word < count
 IsOfWords count _ = ⊤
 
 -- the row of the block's line for an event leaves it as it is
-pub record IsStill (protocol : Protocol) (event : CacheEvent) (block : ℕ) (old new : Contents) : Type 0 where
+pub record StaysByRow (protocol : Protocol) (event : CacheEvent) (block : ℕ) (old new : Contents) : Type 0 where
   pub row : (action : CacheAction) × (next : CacheState) × (Cell protocol (line_in old block).state event action next × (next ≡ (line_in old block).state))
   pub same : line_in new block ≡ line_in old block
   pub places : blocks_of new ≡ blocks_of old
 
 -- the block's line takes its row for an event, which moves it from one state to another; one that moves to I is taken out
-pub record TakesRow (protocol : Protocol) (event : CacheEvent) (block : ℕ) (before after : CacheState) (old new : Contents) : Type 0 where
+pub record MovesByRow (protocol : Protocol) (event : CacheEvent) (block : ℕ) (before after : CacheState) (old new : Contents) : Type 0 where
   pub from : before ≡ (line_in old block).state
   pub differs : after ≢ before
   pub row : (action : CacheAction) × Cell protocol (line_in old block).state event action after

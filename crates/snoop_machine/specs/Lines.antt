@@ -14,7 +14,7 @@ use Rattle.snoop_model.specs.Pictures.Picture.{held_at}
 use Rattle.snoop_model.specs.Pictures.Proper.{IsProper}
 use Rattle.snoop_machine.specs.declared.holders.Holders.{Holders}
 use Rattle.snoop_machine.specs.Holders.{AreHolders, no_holders}
-use Rattle.snoop_machine.specs.Cache.{Contents, no_cache, line_in, blocks_of, held_in}
+use Rattle.snoop_machine.specs.Cache.{Contents, no_cache, line_in, blocks_of, lines_held}
 
 -- what each core holds of the block
 abbrev pub row_of : List (List Line) → ℕ → List Line
@@ -32,7 +32,7 @@ pub record Held : Type 0 where
 
 -- what each core holds, by block
 abbrev pub held_by_block : ℕ → List Contents → List (List Line)
-held_by_block blocks caches = map (held_in caches) (range_with_len 0 blocks)
+held_by_block blocks caches = map (lines_held caches) (range_with_len 0 blocks)
 
 -- the view of the lines
 abbrev pub held : List Contents → List Holders → Held
@@ -51,7 +51,7 @@ KeepsMapsRoom old new = (core : ℕ) → slice_index_or old.line_rooms core 0 �
 pub record AreLines (caches : List Contents) (holders : List Holders) : Type 0 where
   pub few : length caches < 257
   pub proper : (core block : ℕ) → IsProper (line_in (slice_index_or caches core no_cache) block)
-  pub indexed : (block : ℕ) → block < length holders → AreHolders (slice_index_or holders block no_holders) (held_in caches block)
+  pub indexed : (block : ℕ) → block < length holders → AreHolders (slice_index_or holders block no_holders) (lines_held caches block)
 
 -- whether a map with lines for these blocks has one for this block
 abbrev pub is_among : List ℕ → ℕ → Bool

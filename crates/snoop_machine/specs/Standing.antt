@@ -25,7 +25,7 @@ has_line s core block = list_any (nat_eq block) (slice_index_or s.lines core [])
 abbrev pub capacity_of : Standing → ℕ → ℕ
 capacity_of s core = length (queue_of s.situation.queues core) + slice_index s.request_rooms core
 
--- no room is lost: as many items in all, and as many requests of each core; and where a core's queue has room before and after, of the room for its lines no more goes than lines were put in
+-- no room is lost: as many items in all, and as many requests of each core; and where a core's queue has room before and after, the room for its lines shrinks by no more than the lines that were put in
 pub record KeepsRoom (old new : Standing) : Type 0 where
   pub items : length old.situation.log + old.room ≤ length new.situation.log + new.room
   pub requests : (core : ℕ) → capacity_of old core ≤ capacity_of new core

@@ -4,7 +4,7 @@ ghost use Rattle.snoop_trace.specs.Words.{Data, word_at, zero_words};
 ghost use Rattle.std.specs.Map.{lookup};
 ghost use Rattle.snoop_rules.specs.declared.names.CacheState.TheVariants.{I};
 ghost use Rattle.snoop_model.specs.Pictures.Picture.{nothing_held, kept_on};
-ghost use Rattle.snoop_machine.specs.Cache.{line_in, line_found, blocks_of, changed, filled_line, IsOfWords, KeepsMapRoom, IsStill, TakesRow};
+ghost use Rattle.snoop_machine.specs.Cache.{line_in, line_or_nothing, blocks_of, changed, filled_line, IsOfWords, KeepsMapRoom, StaysByRow, MovesByRow};
 ghost use Rattle.snoop_machine.specs.declared.cache.LineChange.TheVariants.{Hit};
 ghost use Rattle.snoop_rules.specs.declared.names.CacheState.{CacheState};
 ghost use Rattle.snoop_rules.specs.declared.names.CacheAction.{CacheAction};
@@ -187,7 +187,7 @@ fn gives_up(next: CacheState) -> bool
 
 /// The state of a line that a map has, or I where it has none.
 pub(crate) fn state_of<B: Block>(found: Option<&Entry<B>>) -> CacheState
-    ensures { result ≡ (line_found (option_copied found.entry)).state }
+    ensures { result ≡ (line_or_nothing (option_copied found.entry)).state }
 {
     match found {
         Some(entry) => entry.state(),
@@ -197,7 +197,7 @@ pub(crate) fn state_of<B: Block>(found: Option<&Entry<B>>) -> CacheState
 
 /// The operation that waits in a line that a map has.
 pub(crate) fn waiting_of<B: Block>(found: Option<&Entry<B>>) -> Option<Access>
-    ensures { result ≡ (line_found (option_copied found.entry)).waiting }
+    ensures { result ≡ (line_or_nothing (option_copied found.entry)).waiting }
 {
     match found {
         Some(entry) => entry.waiting(),
@@ -208,7 +208,7 @@ pub(crate) fn waiting_of<B: Block>(found: Option<&Entry<B>>) -> Option<Access>
 /// The words of a line that a map has, or 0 in each where none are kept.
 pub(crate) fn words_of<B: Block>(found: Option<&Entry<B>>) -> Kept<B>
     requires { B.count ≤ 64 }
-    ensures { result ≡ unwrap_or (line_found (option_copied found.entry)).kept zero_words }
+    ensures { result ≡ unwrap_or (line_or_nothing (option_copied found.entry)).kept zero_words }
 {
     match found {
         Some(entry) => entry.words(),
@@ -357,8 +357,8 @@ impl<B: Block> Cache<B> {
     ) -> Option<(CacheState, CacheState)>
         requires row { HasRow protocol (line_in self.old block).state event }
         requires absent { (action : CacheAction) → (next : CacheState) → Cell protocol I event action next → next ≡ I }
-        ensures still { IfNone result (IsStill protocol event block self.old self.new) }
-        ensures moved { IfSome result (λ states. TakesRow protocol event block states.0 states.1 self.old self.new) }
+        ensures still { IfNone result (StaysByRow protocol event block self.old self.new) }
+        ensures moved { IfSome result (λ states. MovesByRow protocol event block states.0 states.1 self.old self.new) }
         ensures others { (b : ℕ) → nat_eq block b ≡ false → lookup (nat_eq b) self.new.entries ≡ lookup (nat_eq b) self.old.entries }
         ensures room { KeepsMapRoom self.old self.new }
     {

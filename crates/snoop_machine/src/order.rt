@@ -1,4 +1,4 @@
-//! An Order: the rows that cores take for it, and the controller that sends with memory's next state.
+//! An Order: the rows that cores take for it, which controller sends, and memory's next state.
 ghost use Rattle.std.specs.Prelude.{◌≡◌, ◌≢◌, ℕ, ◌<◌, [], length, Some, IfSome, IfNone, slice_index_or, slice_set};
 ghost use Rattle.snoop_rules.specs.Waits.{waiting_request};
 ghost use Rattle.snoop_rules.specs.declared.names.MemAction.TheVariants.{Send};

@@ -9,7 +9,7 @@ ghost use Rattle.snoop_model.specs.Pictures.Proper.{IsProper, keeps};
 ghost use Rattle.snoop_model.specs.Moves.Move.{next_did};
 ghost use Rattle.snoop_machine.specs.Standing.{line_count};
 ghost use Rattle.snoop_machine.specs.Holding.{HasHeldLines};
-ghost use Rattle.snoop_machine.specs.Cache.{line_found};
+ghost use Rattle.snoop_machine.specs.Cache.{line_or_nothing};
 
 mod ask;
 mod order;
@@ -231,8 +231,8 @@ impl<B: Block> Parts<B> {
     fn line(&self, core: u32, block: u32) -> Option<&Entry<B>>
         requires core { core < self.now.situation.shape.cores }
         requires block { block < self.now.situation.shape.blocks }
-        ensures line { line_found (option_copied result) ≡ held_by (picture_of self.now.situation block) core }
-        ensures proper { IsProper (line_found (option_copied result)) }
+        ensures line { line_or_nothing (option_copied result) ≡ held_by (picture_of self.now.situation block) core }
+        ensures proper { IsProper (line_or_nothing (option_copied result)) }
     {
         self.lines.get(core, block)
     }
@@ -292,8 +292,8 @@ impl<B: Block> Parts<B> {
 /// The value of a word that a line keeps, if it keeps any.
 fn word_kept<B: Block>(found: Option<&Entry<B>>, word: u32) -> Option<u64>
     requires { word < B.count }
-    ensures value { result ≡ option_map (λ ws. word_at ws word) (line_found (option_copied found.entry)).kept }
-    ensures some { is_some result ≡ is_some (line_found (option_copied found.entry)).kept }
+    ensures value { result ≡ option_map (λ ws. word_at ws word) (line_or_nothing (option_copied found.entry)).kept }
+    ensures some { is_some result ≡ is_some (line_or_nothing (option_copied found.entry)).kept }
 {
     match found {
         Some(entry) => entry.at(word),

@@ -4,7 +4,7 @@ ghost use Rattle.snoop_rules.specs.Takers.{arrival, arrival_at_memory, takes_pay
 ghost use Rattle.snoop_model.specs.Pictures.Proper.{IsProper};
 ghost use Rattle.snoop_model.specs.Moves.LookUps.{HasRow, HasMemRow};
 ghost use Rattle.snoop_model.specs.Moves.Move.{Fills, Settles};
-ghost use Rattle.snoop_machine.specs.Cache.{line_found, filled_line};
+ghost use Rattle.snoop_machine.specs.Cache.{line_or_nothing, filled_line};
 
 use crate::cache::{Entry, state_of, waiting_of};
 use snoop_bus::Open;
@@ -29,10 +29,10 @@ pub(crate) fn fill<B: Block>(
     found: Option<&Entry<B>>,
     closing: &Open<Kept<B>>,
 ) -> Filled
-    requires proper { IsProper (line_found (option_copied found)) }
-    requires word { IfSome (line_found (option_copied found)).waiting (λ access. access.word < B.count) }
-    requires possible { IsSomeAnd (arrival closing.now.payload) (HasRow protocol (line_found (option_copied found)).state) }
-    ensures { Fills closing.now protocol (line_found (option_copied found.entry)) (filled_line result.next result.access closing.now.value) result.access result.value }
+    requires proper { IsProper (line_or_nothing (option_copied found)) }
+    requires word { IfSome (line_or_nothing (option_copied found)).waiting (λ access. access.word < B.count) }
+    requires possible { IsSomeAnd (arrival closing.now.payload) (HasRow protocol (line_or_nothing (option_copied found)).state) }
+    ensures { Fills closing.now protocol (line_or_nothing (option_copied found.entry)) (filled_line result.next result.access closing.now.value) result.access result.value }
 {
     let event = match closing.payload {
         Payload::Data => CacheEvent::Data,

@@ -1,6 +1,6 @@
 //! Storms: steps of which most race with others, and rows that share blocks.
 ghost use Rattle.std.specs.Prelude.{◌≡◌, ◌<◌, ◌*◌, ◌^◌, ℕ, All, length, IfOk};
-ghost use Rattle.snoop_trace.specs.Output.{IsStepWithin, address_of};
+ghost use Rattle.snoop_trace.specs.Output.{IsReadableStep, address_of};
 
 use snoop_trace::{NoMemory, Op, Row, Shape, Step};
 use std::alloc::Global;
@@ -29,7 +29,7 @@ fn block_of(number: u64, shape: Shape) -> u32
 
 /// The step that a number stands for; a store stores its own place in the storm.
 fn step_of(number: u64, place: u64, shape: Shape) -> Step
-    ensures { IsStepWithin shape result }
+    ensures { IsReadableStep shape result }
 {
     let core = core_of(number, shape);
     let block = block_of(number, shape);
@@ -76,7 +76,7 @@ fn row_of(number: u64, place: u64, shape: Shape) -> Row
 /// A storm of so many steps over the cores and blocks of the shape.
 pub fn storm(alloc: Global, count: u64, shape: Shape) -> Result<Vec<Step>, NoMemory>
     ensures count { IfOk result (λ steps. length steps.items ≡ count) }
-    ensures within { IfOk result (λ steps. All (IsStepWithin shape) steps.items) }
+    ensures within { IfOk result (λ steps. All (IsReadableStep shape) steps.items) }
 {
     let mut seed = 1;
     let mut steps = Vec::new(alloc);

@@ -9,7 +9,7 @@ use Rattle.std.proofs.lemmas.Option.{get_or_from_slice_get, slice_get_within}
 use Rattle.snoop_trace.specs.Extent.{Extent, IsWithinLimits}
 use Rattle.snoop_trace.specs.Grammar.{block_at, IsRowWithin}
 use Rattle.snoop_trace.proofs.WordPlaces.{word_there}
-use Rattle.snoop_trace.specs.Output.{AppendsFront, IsStepWithin, text_of}
+use Rattle.snoop_trace.specs.Output.{AppendsFront, IsReadableStep, text_of}
 use Rattle.snoop_trace.specs.Text.{steps_of}
 use Rattle.snoop_trace.specs.declared.fault.WriteFault.{WriteFault}
 use Rattle.snoop_trace.specs.declared.step.Row.{Row}
@@ -148,7 +148,7 @@ first_refused shape rows stops old new fault limits fresh each within ran first 
 -- the steps stand, and were written, or their writing broke off
 pub steps_written : (protocol : Protocol) (shape : Extent) (input : Option (List ℕ)) (rows : List Row) (steps : List Step) (wrote : Result (Unit {0}) WriteFault) (answer : Result (Unit {0}) ThreadsFault) (old new : Option (List ℕ))
     → MatchResult wrote (λ u. answer ≡ Ok u) (λ f. IsErrAnd answer (λ e. e ≡ threads.Write f)) → ReadsRows shape input (Ok rows) → Threaded protocol shape rows steps
-    → (All (IsStepWithin shape) steps → steps_of protocol shape (text_of protocol shape steps) ≡ Ok steps)
+    → (All (IsReadableStep shape) steps → steps_of protocol shape (text_of protocol shape steps) ≡ Ok steps)
     → OnOk wrote (Appends old new (text_of protocol shape steps)) → OnErr wrote (AppendsFront old new (text_of protocol shape steps)) → SimulatesThreads protocol shape input answer old new
 steps_written protocol shape input rows steps (Ok u) answer old new cases read stand again all front =
     subst (λ (x : Result (Unit {0}) ThreadsFault). SimulatesThreads protocol shape input x old new) (sym cases) (rows, (read, record { steps = steps; threaded = stand; again = again stand.readable; output = all }))

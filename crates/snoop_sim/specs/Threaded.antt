@@ -3,7 +3,7 @@
 use Rattle.std.specs.Prelude.{◌≡◌, ℕ, ◌<◌, List, All, Option, Result, Ok, Err}
 use Rattle.std.specs.Io.KnownBytes.{Appends}
 use Rattle.snoop_trace.specs.Extent.{Extent}
-use Rattle.snoop_trace.specs.Output.{AppendsFront, IsStepWithin, text_of}
+use Rattle.snoop_trace.specs.Output.{AppendsFront, IsReadableStep, text_of}
 use Rattle.snoop_trace.specs.Text.{steps_of}
 use Rattle.snoop_trace.specs.declared.step.Row.{Row}
 use Rattle.snoop_trace.specs.declared.step.Step.{Step}
@@ -23,7 +23,7 @@ pub record Threaded (protocol : Protocol) (shape : Extent) (rows : List Row) (st
   pub final : Situation
   pub taken : AllTaken protocol shape steps final
   -- each step lies within the shape, so that its text can be read again
-  pub readable : All (IsStepWithin shape) steps
+  pub readable : All (IsReadableStep shape) steps
   pub quiet : IsQuiet final
   pub answered : (core : ℕ) → core < shape.cores → AnswersRows shape (rows_of_core core rows) (answers_of final.log core)
 

@@ -13,7 +13,7 @@ use Rattle.snoop_engine.specs.Views.{block_of_step}
 use Rattle.snoop_engine.specs.Chosen.{Chosen}
 use Rattle.snoop_engine.specs.Numbered.{Numbered, led_to, numbered_from}
 use Rattle.snoop_engine.proofs.NumberedLemmas.{led_on, not_within, numbered, numbered_on}
-use Rattle.snoop_svg.specs.Drawings.{drawn, first_standing, has_row, last_standing, standing}
+use Rattle.snoop_svg.specs.Drawings.{drawn, first_above, has_row, last_above, row_above}
 use Rattle.snoop_svg.specs.Sheets.{AfterSteps}
 
 -- what is there after a frame
@@ -37,18 +37,18 @@ none_from choice number (f ∷ fs) h =
 pub none_yet : (choice : Chosen) (frames : List Frame) → 1 + length frames ≤ choice.from → drawn choice frames ≡ []
 none_yet choice frames h = none_from choice 1 frames h
 
-last_on : (above : AfterSteps) (ns : List Numbered) (n : Numbered) → last_standing above (ns ++ n ∷ []) ≡ after n.number n.frame
+last_on : (above : AfterSteps) (ns : List Numbered) (n : Numbered) → last_above above (ns ++ n ∷ []) ≡ after n.number n.frame
 last_on above [] n = refl
 last_on above (m ∷ ms) n = last_on (after m.number m.frame) ms n
 
 module _ (choice : Chosen) (protocol : Protocol) (shape : Extent) (frames : List Frame) (frame : Frame) where
   -- the frame is the last one before the first number
-  pub standing_starts : choice.from ≡ 2 + length frames → standing choice protocol shape (frames ++ frame ∷ []) ≡ after (1 + length frames) frame
+  pub standing_starts : choice.from ≡ 2 + length frames → row_above choice protocol shape (frames ++ frame ∷ []) ≡ after (1 + length frames) frame
   standing_starts h =
       let all : length (frames ++ frame ∷ []) ≤ choice.from - 1 = omega (arith, length_push frames frame) in
       let number : choice.from - 1 ≡ 1 + length frames = omega arith in
       let led = ap (led_to (reset protocol shape)) (take_all (choice.from - 1) (frames ++ frame ∷ []) all) ∙ led_on (reset protocol shape) frames frame in
-      ap (last_standing (first_standing choice protocol shape (frames ++ frame ∷ [])))
+      ap (last_above (first_above choice protocol shape (frames ++ frame ∷ [])))
       (none_yet choice (frames ++ frame ∷ []) (omega (arith, length_push frames frame)))
       ∙ (λ i. record { number = number i; situation = led i })
 
@@ -57,9 +57,9 @@ module _ (choice : Chosen) (protocol : Protocol) (shape : Extent) (frames : List
     pub drawn_grows : drawn choice (frames ++ frame ∷ []) ≡ drawn choice frames ++ numbered (1 + length frames) frame ∷ []
     drawn_grows = drawn_on choice frames frame ∙ (λ i. drawn choice frames ++ cond (on i) (numbered (1 + length frames) frame ∷ []) [])
 
-    pub standing_grows : standing choice protocol shape (frames ++ frame ∷ []) ≡ after (1 + length frames) frame
+    pub standing_grows : row_above choice protocol shape (frames ++ frame ∷ []) ≡ after (1 + length frames) frame
     standing_grows =
-        ap (last_standing (first_standing choice protocol shape (frames ++ frame ∷ []))) drawn_grows
+        ap (last_above (first_above choice protocol shape (frames ++ frame ∷ []))) drawn_grows
         ∙ last_on _ (drawn choice frames) (numbered (1 + length frames) frame)
 
   -- the frame is not drawn
@@ -69,8 +69,8 @@ module _ (choice : Chosen) (protocol : Protocol) (shape : Extent) (frames : List
         drawn_on choice frames frame ∙ (λ i. drawn choice frames ++ cond (off i) (numbered (1 + length frames) frame ∷ []) [])
         ∙ append-nil (drawn choice frames)
 
-    pub standing_stays : choice.from ≤ 1 + length frames → standing choice protocol shape (frames ++ frame ∷ []) ≡ standing choice protocol shape frames
+    pub standing_stays : choice.from ≤ 1 + length frames → row_above choice protocol shape (frames ++ frame ∷ []) ≡ row_above choice protocol shape frames
     standing_stays late =
         let short : choice.from - 1 ≤ length frames = omega arith in
         let same = take-append-le (choice.from - 1) frames (frame ∷ []) short in
-        λ i. last_standing (record { number = choice.from - 1; situation = led_to (reset protocol shape) (same i) }) (drawn_stays i)
+        λ i. last_above (record { number = choice.from - 1; situation = led_to (reset protocol shape) (same i) }) (drawn_stays i)

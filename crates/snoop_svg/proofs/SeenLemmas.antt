@@ -11,7 +11,7 @@ use Rattle.snoop_engine.specs.Views.{block_of_step}
 use Rattle.snoop_engine.specs.Chosen.{Chosen}
 use Rattle.snoop_engine.proofs.NumberedLemmas.{numbered, within_of_shown}
 use Rattle.snoop_svg.specs.declared.drawing.Drawing.{Drawing}
-use Rattle.snoop_svg.specs.Drawings.{HasSeen, StandsBelow, drawn, frame_text, has_row, rows_per_sheet, standing, turn_text}
+use Rattle.snoop_svg.specs.Drawings.{HasSeen, StandsBelow, drawn, frame_text, has_row, rows_per_sheet, row_above, turn_text}
 use Rattle.snoop_svg.specs.Sheets.{Plan, row_text, row_y}
 use Rattle.snoop_svg.proofs.DrawnLemmas.{after, drawn_grows, drawn_stays, none_yet, standing_grows, standing_starts, standing_stays}
 
@@ -24,13 +24,13 @@ module _ (first old new : Drawing) (protocol : Protocol) (shape : Extent) (frame
   -- by the plan as it was
   seen_on : new.place ≡ shown_rows old.plan (frames ++ frame ∷ [])
       → (old.plan.choice.from ≤ 2 + length frames → length (drawn old.plan.choice (frames ++ frame ∷ [])) ≤ old.plan.paper.shown
-      → StandsBelow new (standing old.plan.choice protocol shape (frames ++ frame ∷ [])))
+      → StandsBelow new (row_above old.plan.choice protocol shape (frames ++ frame ∷ [])))
       → HasSeen first protocol shape (frames ++ frame ∷ []) new
   seen_on place above = record {
     plan = plan ∙ has.plan;
     place = rw plan place;
     above = subst (λ (p : Plan). p.choice.from ≤ 1 + length (frames ++ frame ∷ []) → length (drawn p.choice (frames ++ frame ∷ [])) ≤ p.paper.shown
-        → StandsBelow new (standing p.choice protocol shape (frames ++ frame ∷ []))) (sym plan)
+        → StandsBelow new (row_above p.choice protocol shape (frames ++ frame ∷ []))) (sym plan)
         (λ late few. above (omega (arith, length_push frames frame)) few);
   }
 
@@ -49,7 +49,7 @@ module _ (first old new : Drawing) (protocol : Protocol) (shape : Extent) (frame
         ap length (drawn_grows old.plan.choice protocol shape frames frame on) ∙ length_push (drawn old.plan.choice frames) (numbered (1 + length frames) frame)
 
     -- what stands above a row that is shown
-    pub stands_above : old.place < old.plan.paper.shown → StandsBelow old (standing old.plan.choice protocol shape frames)
+    pub stands_above : old.place < old.plan.paper.shown → StandsBelow old (row_above old.plan.choice protocol shape frames)
     stands_above low =
         let within = within_of_shown old.plan.choice (block_of_step frame.before frame.step) (1 + length frames) on in
         has.above (leb-true old.plan.choice.from (1 + length frames) (and_parts _ (nat_le (1 + length frames) old.plan.choice.to) within).0)
@@ -70,8 +70,8 @@ pub text_shown : (plan : Plan) (protocol : Protocol) (shape : Extent) (frames : 
     → (1 + length frames + 1 == plan.choice.from) ≡ false
     → has_row plan.choice (numbered (1 + length frames) frame) ≡ true → place ≡ length (drawn plan.choice frames) → place < plan.paper.shown
     → frame_text plan protocol shape frames (numbered (1 + length frames) frame)
-    ≡ turn_text plan protocol shape place (standing plan.choice protocol shape frames)
-    ++ row_text plan shape (row_y (place % rows_per_sheet plan.paper.form)) (standing plan.choice protocol shape frames) (1 + length frames) frame.after
+    ≡ turn_text plan protocol shape place (row_above plan.choice protocol shape frames)
+    ++ row_text plan shape (row_y (place % rows_per_sheet plan.paper.form)) (row_above plan.choice protocol shape frames) (1 + length frames) frame.after
     (block_of_step frame.before frame.step) frame.step frame.outcome (lines_of_step frame.before frame.step frame.outcome)
 text_shown plan protocol shape frames frame place not_first on here low = rw (not_first, on, ← here, lt-ltb place plan.paper.shown low) refl
 

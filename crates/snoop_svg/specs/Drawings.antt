@@ -30,17 +30,17 @@ abbrev pub drawn : Chosen → List Frame → List Numbered
 drawn choice frames = filter (has_row choice) (numbered_from 1 frames)
 
 -- the first row: the machine before the first step that may be drawn
-abbrev pub first_standing : Chosen → Protocol → Extent → List Frame → AfterSteps
-first_standing choice protocol shape frames = record { number = choice.from - 1; situation = led_to (reset protocol shape) (take (choice.from - 1) frames) }
+abbrev pub first_above : Chosen → Protocol → Extent → List Frame → AfterSteps
+first_above choice protocol shape frames = record { number = choice.from - 1; situation = led_to (reset protocol shape) (take (choice.from - 1) frames) }
 
 -- what the last of these rows shows, or the one above them
-abbrev pub last_standing : AfterSteps → List Numbered → AfterSteps
-last_standing above [] = above
-last_standing above (n ∷ ns) = last_standing (record { number = n.number; situation = n.frame.after }) ns
+abbrev pub last_above : AfterSteps → List Numbered → AfterSteps
+last_above above [] = above
+last_above above (n ∷ ns) = last_above (record { number = n.number; situation = n.frame.after }) ns
 
 -- what the row above the next one shows
-abbrev pub standing : Chosen → Protocol → Extent → List Frame → AfterSteps
-standing choice protocol shape frames = last_standing (first_standing choice protocol shape frames) (drawn choice frames)
+abbrev pub row_above : Chosen → Protocol → Extent → List Frame → AfterSteps
+row_above choice protocol shape frames = last_above (first_above choice protocol shape frames) (drawn choice frames)
 
 -- how many rows a sheet has at most
 abbrev pub rows_per_sheet : Form → ℕ
@@ -75,7 +75,7 @@ placed_row plan protocol shape place above n =
 abbrev pub frame_text : Plan → Protocol → Extent → List Frame → Numbered → List ℕ
 frame_text plan protocol shape seen n =
     if n.number + 1 == plan.choice.from then first_row plan (record { number = n.number; situation = n.frame.after })
-    else (if has_row plan.choice n then placed_row plan protocol shape (length (drawn plan.choice seen)) (standing plan.choice protocol shape seen) n else [])
+    else (if has_row plan.choice n then placed_row plan protocol shape (length (drawn plan.choice seen)) (row_above plan.choice protocol shape seen) n else [])
 
 -- what stands before the first sheet
 abbrev pub head_text : Paper → Form → List ℕ
@@ -141,4 +141,4 @@ pub record StandsBelow (now : Drawing) (above : AfterSteps) : Type 0 where
 pub record HasSeen (first : Drawing) (protocol : Protocol) (shape : Extent) (frames : List Frame) (now : Drawing) : Type 0 where
   pub plan : now.plan ≡ first.plan
   pub place : now.place ≡ min (length (drawn now.plan.choice frames)) now.plan.paper.shown
-  pub above : now.plan.choice.from ≤ 1 + length frames → length (drawn now.plan.choice frames) ≤ now.plan.paper.shown → StandsBelow now (standing now.plan.choice protocol shape frames)
+  pub above : now.plan.choice.from ≤ 1 + length frames → length (drawn now.plan.choice frames) ≤ now.plan.paper.shown → StandsBelow now (row_above now.plan.choice protocol shape frames)

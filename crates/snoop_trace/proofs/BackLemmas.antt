@@ -23,7 +23,7 @@ use Rattle.csv.specs.Writing.{is_blank, read_back}
 use Rattle.csv.specs.Reading.{Reached, records, strip_bom}
 use Rattle.snoop_trace.specs.Grammar.{ask, row_by_letter, block_in, number, numeral, order, respond, step_in, store, without_value}
 use Rattle.snoop_trace.specs.Heading.{heading_as, heading_for, heading_in, heading_text, protocol_named, same_heading, same_protocol, version_in}
-use Rattle.snoop_trace.specs.Output.{IsStepWithin, address_of, step_text, steps_text, text_of, word_address}
+use Rattle.snoop_trace.specs.Output.{IsReadableStep, address_of, step_text, steps_text, text_of, word_address}
 use Rattle.snoop_trace.specs.Progress.{records_left}
 use Rattle.snoop_trace.specs.Protocol.{protocol_name}
 use Rattle.snoop_trace.specs.Text.{entries_from, entries_in, records_of, steps_of}
@@ -115,7 +115,7 @@ three_parts k a b = simp (append_assoc, append-nil) refl
 two_parts : (k : ℕ) (a : List ℕ) → k ∷ ((44 ∷ (a ++ [])) ++ (10 ∷ [])) ≡ ((k ∷ 44 ∷ []) ++ a) ++ (10 ∷ [])
 two_parts k a = simp append-nil refl
 
-line_row : (shape : Extent) (s : Step) → IsWithinLimits shape → IsStepWithin shape s → row_text default_writer (row_of shape s) ≡ step_text shape s ++ codes "\n"
+line_row : (shape : Extent) (s : Step) → IsWithinLimits shape → IsReadableStep shape s → row_text default_writer (row_of shape s) ≡ step_text shape s ++ codes "\n"
 unfolding fields_text is_blank
 line_row shape (Ask core block word Load) limits h =
     let one = plain core (core_small shape core limits h.0) in
@@ -165,7 +165,7 @@ word_block_back shape n block word limits h inside =
     let t : nat_lt block shape.blocks ≡ true = lt-ltb block shape.blocks h in
     rw (back, t) refl
 
-step_back : (shape : Extent) (n : ℕ) (s : Step) → IsWithinLimits shape → IsStepWithin shape s → step_in shape n (row_of shape s) ≡ Ok s
+step_back : (shape : Extent) (n : ℕ) (s : Step) → IsWithinLimits shape → IsReadableStep shape s → step_in shape n (row_of shape s) ≡ Ok s
 unfolding step_in ask row_by_letter without_value store order respond
 step_back shape n (Ask core block word Load) limits h =
     let one = number_decimal core (core_small shape core limits h.0) in
@@ -204,7 +204,7 @@ some_row shape (Ask core block word Evict) = refl
 some_row shape (Order core) = refl
 some_row shape (Respond block) = refl
 
-rows_reached : (shape : Extent) (steps : List Step) → IsWithinLimits shape → AllByRecursion (IsStepWithin shape) steps
+rows_reached : (shape : Extent) (steps : List Step) → IsWithinLimits shape → AllByRecursion (IsReadableStep shape) steps
     → Reached default_config st.StartRecord (steps_text shape steps) (map (row_of shape) steps) st.StartRecord []
 unfolding Reached
 rows_reached shape [] limits h = (refl, refl)
@@ -213,7 +213,7 @@ rows_reached shape (s ∷ steps) limits h =
     let read2 = rw (line_row shape s limits h.0, some_row shape s) at read in
     ((row_of shape s, st.StartRecord, steps_text shape steps), read2, refl, rows_reached shape steps limits h.1)
 
-steps_back : (shape : Extent) (n : ℕ) (steps : List Step) → IsWithinLimits shape → AllByRecursion (IsStepWithin shape) steps → entries_from (step_in shape) n (map (row_of shape) steps) ≡ Ok steps
+steps_back : (shape : Extent) (n : ℕ) (steps : List Step) → IsWithinLimits shape → AllByRecursion (IsReadableStep shape) steps → entries_from (step_in shape) n (map (row_of shape) steps) ≡ Ok steps
 unfolding entries_from
 steps_back shape n [] limits h = refl
 steps_back shape n (s ∷ steps) limits h = rw (step_back shape n s limits h.0, steps_back shape (n + 1) steps limits h.1) refl
@@ -351,11 +351,11 @@ heading_and_more protocol shape steps limits =
     ∙ records_second default_config (text_of protocol shape steps) (heading_row (heading_for protocol shape)) st.StartRecord (steps_text shape steps) (heading_first protocol shape steps limits)
 
 -- steps within the shape are read from their text
-pub all_read_again : (protocol : Protocol) (shape : Extent) (steps : List Step) → IsWithinLimits shape → All (IsStepWithin shape) steps
+pub all_read_again : (protocol : Protocol) (shape : Extent) (steps : List Step) → IsWithinLimits shape → All (IsReadableStep shape) steps
     → steps_of protocol shape (text_of protocol shape steps) ≡ Ok steps
 unfolding entries_in heading_as
 all_read_again protocol shape steps limits h =
-    let each = recursion_from_All (IsStepWithin shape) steps h in
+    let each = recursion_from_All (IsReadableStep shape) steps h in
     let rest = records_whole (steps_text shape steps) (map (row_of shape) steps) (rows_reached shape steps limits each) in
     rw (heading_and_more protocol shape steps limits, rest, heading_back protocol shape 1 limits, same_as_itself (heading_for protocol shape)) (steps_back shape 2 steps limits each)
 

@@ -28,12 +28,12 @@ step_text shape (Order core) = codes "O," ++ decimal core
 step_text shape (Respond block) = codes "R," ++ decimal (address_of shape block)
 
 -- a step of the shape as it is read: its core, block and word are within it, a stored value is a number, and an eviction's word is 0
-abbrev pub IsStepWithin : Extent → Step → Type 0
-IsStepWithin shape (Ask core block word Load) = (core < shape.cores) × (block < shape.blocks) × (word < shape.words)
-IsStepWithin shape (Ask core block word (Store value)) = (core < shape.cores) × (block < shape.blocks) × (word < shape.words) × (value < 2 ^ 64)
-IsStepWithin shape (Ask core block word Evict) = (core < shape.cores) × (block < shape.blocks) × (word ≡ 0)
-IsStepWithin shape (Order core) = core < shape.cores
-IsStepWithin shape (Respond block) = block < shape.blocks
+abbrev pub IsReadableStep : Extent → Step → Type 0
+IsReadableStep shape (Ask core block word Load) = (core < shape.cores) × (block < shape.blocks) × (word < shape.words)
+IsReadableStep shape (Ask core block word (Store value)) = (core < shape.cores) × (block < shape.blocks) × (word < shape.words) × (value < 2 ^ 64)
+IsReadableStep shape (Ask core block word Evict) = (core < shape.cores) × (block < shape.blocks) × (word ≡ 0)
+IsReadableStep shape (Order core) = core < shape.cores
+IsReadableStep shape (Respond block) = block < shape.blocks
 
 -- steps, one a line
 abbrev pub steps_text : Extent → List Step → List ℕ

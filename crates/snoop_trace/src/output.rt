@@ -5,7 +5,7 @@ ghost use Rattle.std.specs.Io.KnownBytes.{Appends};
 ghost use Rattle.csv.specs.Writing.{default_writer, needs_byte, row_text, text_written};
 ghost use Rattle.snoop_trace.specs.Extent.{Extent};
 ghost use Rattle.snoop_trace.specs.Heading.{heading_for, heading_text};
-ghost use Rattle.snoop_trace.specs.Output.{AppendsFront, BlamesWriter, IsStepWithin, step_text, steps_text, text_of};
+ghost use Rattle.snoop_trace.specs.Output.{AppendsFront, BlamesWriter, IsReadableStep, step_text, steps_text, text_of};
 ghost use Rattle.snoop_trace.specs.Records.{IsReady, Writes, record_writer};
 ghost use Rattle.snoop_trace.specs.Text.{steps_of};
 ghost use Rattle.snoop_trace.specs.declared.fault.TextFault.TheVariants as TextFault;
@@ -41,7 +41,7 @@ pub fn write_steps<W: Sink>(
     ensures front { OnErr result (AppendsFront (W.contents writer.old) (W.contents writer.new) (text_of protocol shape steps.now)) }
     ensures never_blamed { W.never_fails ≡ true → result ≢ Err WriteFault.Write }
     ensures blamed { BlamesWriter (W.failed writer.old) (W.failed writer.new) (result ≡ Err WriteFault.Write) }
-    ensures read { All (IsStepWithin shape) steps.now → steps_of protocol shape (text_of protocol shape steps.now) ≡ Ok steps.now }
+    ensures read { All (IsReadableStep shape) steps.now → steps_of protocol shape (text_of protocol shape steps.now) ≡ Ok steps.now }
     ensures other { (other : Protocol) (extent : Extent) → ¬ ((other ≡ protocol) × (extent ≡ shape))
         → steps_of other extent (text_of protocol shape steps.now) ≡ Err (TextFault.OtherShape 1) }
 {

@@ -19,5 +19,5 @@ turn_rule =
       pays = pays;
       owes = owes;
       closed_is_last = closed_is_last;
-      asked_once = asked_once;
+      ends_at_once = asked_once;
     }

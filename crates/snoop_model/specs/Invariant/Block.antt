@@ -26,7 +26,7 @@ abbrev pub owns : Option ℕ → ℕ → Bool
 owns None d = false
 owns (Some o) d = d == o
 
--- what holds of a block's picture, for n cores, where these are its words in flat memory: each core that may read keeps them; memory has them where the claims say so, and the message where its payload carries them
+-- what holds of a block's picture, for n cores, where these are its words in flat memory: each core that may read keeps them; memory has them where the claims say so or a core's line is clean; and the message where its payload carries them
 pub record BlockInvariant (p : Protocol) (n : ℕ) (flat : Data) (picture : Picture) : Type 0 where
   pub claims : Claims
   pub is_claims : claims_of p picture.memory.state (talk_of picture.transaction) ≡ Some claims

@@ -9,7 +9,7 @@ use Rattle.snoop_rules.specs.declared.names.Request.{Request}
 use Rattle.snoop_rules.specs.declared.names.Request.TheVariants.{GetS, GetM, PutM}
 use Rattle.snoop_model.specs.Pictures.Lines.{Line}
 
--- a kept value is there in this state: the state may read, under MESI at least
+-- the core keeps words in this state: those in which it may read, E and EI_A of MESI among them
 abbrev pub keeps : CacheState → Bool
 keeps S = true
 keeps SmAd = true

@@ -68,7 +68,7 @@ CanOrder s core block request = Waits s core block request × ((picture_of s blo
 abbrev pub StandsFirst : Situation → ℕ → ℕ → Type 0
 StandsFirst s core block = slice_get (queue_of s.queues core) 0 ≡ Some block
 
--- the block stands first in the core's queue, and the core waits on it with this request
+-- the block stands first in the core's queue, the core waits on it with this request, and it is of the shape
 pub record IsHead (s : Situation) (core : ℕ) (request : Request) (block : ℕ) : Type 0 where
   pub first : StandsFirst s core block
   pub waits : Waits s core block request

@@ -24,7 +24,7 @@ RunBy One old [] [] new = new ≡ old
 RunBy {A} One old (step ∷ steps) (outcome ∷ outcomes) new = (middle : A) × (One old step outcome middle × RunBy One middle steps outcomes new)
 RunBy One old _ _ new = ⊥
 
--- each step as one of a run
+-- from old, these steps with these outcomes lead to new, each step as `Goes` says
 abbrev pub RunFrom : Situation → List Step → List (Result Reply Refused) → Situation → Type 0
 RunFrom old steps outcomes new = RunBy Goes old steps outcomes new
 
@@ -33,7 +33,7 @@ abbrev pub GoesFirst : Situation → Step → Result Reply Refused → Situation
 GoesFirst old step (Ok answer) new = (entry : Option Item) × FirstMove old step answer new entry
 GoesFirst old step (Err cause) new = Refuses old step cause × (new ≡ old)
 
--- each step as one of the run of some steps
+-- the same, each step as `GoesFirst` says
 abbrev pub FirstRunFrom : Situation → List Step → List (Result Reply Refused) → Situation → Type 0
 FirstRunFrom old steps outcomes new = RunBy GoesFirst old steps outcomes new
 

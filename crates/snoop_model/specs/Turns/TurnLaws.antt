@@ -73,4 +73,4 @@ pub record TurnLaws : Type 0 where
   pub pays : Pays
   pub owes : Owes
   pub closed_is_last : ClosedIsLast
-  pub asked_once : EndsAtOnce
+  pub ends_at_once : EndsAtOnce

@@ -1,5 +1,5 @@
 use Rattle.std.proofs.Common.{refl, false, sym, subst}
-use Rattle.snoop_trace.specs.Output.{IsStepWithin}
+use Rattle.snoop_trace.specs.Output.{IsReadableStep}
 use Rattle.snoop_trace.specs.declared.step.Step.TheVariants.{Ask}
 use Rattle.snoop_bench.specs.Works.{works_under_way}
 use Rattle.snoop_bench.specs.Locked.{Locked}
@@ -22,7 +22,7 @@ take-requires-clause-allowed g c =
 pub take-requires-clause-within : goal.take-requires-clause-within
 take-requires-clause-within g c =
     let step = Ask c.args.core c.args.work.block c.args.work.word c.args.work.op in
-    subst (λ (l : Locked). IsStepWithin l.situation.shape step) (sym c.self.view_is) c.requires.within
+    subst (λ (l : Locked). IsReadableStep l.situation.shape step) (sym c.self.view_is) c.requires.within
 
 pub invariant_of-self-2 : goal.invariant_of-self-2
 invariant_of-self-2 g c =

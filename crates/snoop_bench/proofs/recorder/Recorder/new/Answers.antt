@@ -1,6 +1,6 @@
 use Rattle.std.proofs.Common.{rules, List, sym, subst, All}
 use Rattle.std.proofs.lemmas.List.Elements.{All-nil}
-use Rattle.snoop_trace.specs.Output.{IsStepWithin}
+use Rattle.snoop_trace.specs.Output.{IsReadableStep}
 use Rattle.snoop_trace.specs.declared.step.Step.{Step}
 use Rattle.snoop_bench.proofs.recorder.Recorder.new.Goals as goal
 
@@ -10,7 +10,7 @@ invariant_of-result c =
     record {
       recorded = record {
         run = search rules;
-        readable = subst (λ (l : List Step). All (IsStepWithin shape) l) (sym c.new-2.ensures.items) (All-nil (IsStepWithin shape));
+        readable = subst (λ (l : List Step). All (IsReadableStep shape) l) (sym c.new-2.ensures.items) (All-nil (IsReadableStep shape));
         published = search rules;
       };
       ready = search rules;

@@ -1,5 +1,5 @@
 use Rattle.std.proofs.Common.{◌∙◌, rules, sym, ap, subst}
-use Rattle.snoop_trace.specs.Output.{IsStepWithin}
+use Rattle.snoop_trace.specs.Output.{IsReadableStep}
 use Rattle.snoop_model.specs.Pictures.Situation.{Situation}
 use Rattle.snoop_versions.specs.Readings.{Publishing}
 use Rattle.snoop_bench.specs.Recording.{Recording, TakesAndPublishes}
@@ -16,7 +16,7 @@ invariant_of-self-2 g c =
     record { item = c.in-Ok-prepared.item; move = rw (adds, c.prepared.ensures.unchanged) at taken.1; steps = search rules; published = search rules } in
     let protocol = c.step.ensures.stays.0 ∙ ap (λ (x : Situation). x.protocol) c.prepared.ensures.unchanged in
     let shape = c.step.ensures.stays.1 ∙ ap (λ (x : Situation). x.shape) c.prepared.ensures.unchanged in
-    let within = subst (λ (r : Recording). IsStepWithin r.situation.shape c.args.step) (sym c.self.view_is) c.requires.within in
+    let within = subst (λ (r : Recording). IsReadableStep r.situation.shape c.args.step) (sym c.self.view_is) c.requires.within in
     record {
       recorded = recorded_on c.self.invariant.recorded took within (protocol, shape);
       ready = search rules;

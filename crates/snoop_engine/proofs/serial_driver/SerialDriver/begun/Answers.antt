@@ -1,7 +1,7 @@
 use Rattle.std.proofs.Common.{rules, ◌≡◌, ◌∷◌, sym, subst}
 use Rattle.snoop_trace.specs.declared.step.Step.TheVariants.{Ask}
 use Rattle.snoop_engine.specs.InOrder.{InOrder, TakesUpNext}
-use Rattle.snoop_engine.specs.OneRow.{ServesOnly, nothing}
+use Rattle.snoop_engine.specs.UnderWay.{ServesOnly, nothing}
 use Rattle.snoop_engine.proofs.Dealing.{block_is}
 use Rattle.snoop_engine.proofs.InOrderLemmas.{begun_enabled, begun_fit, begun_takes_up, begun_within}
 use Rattle.snoop_engine.proofs.serial_driver.SerialDriver.begun.Goals as goal

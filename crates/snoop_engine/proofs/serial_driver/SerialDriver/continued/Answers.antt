@@ -2,7 +2,7 @@ use Rattle.std.proofs.Common.{rules, ◌≡◌, Option, Some, subst}
 use Rattle.std.specs.Prelude.{IfNone, IfSome}
 use Rattle.snoop_trace.specs.declared.step.Row.{Row}
 use Rattle.snoop_engine.specs.InOrder.{InOrder, IsInOrder}
-use Rattle.snoop_engine.specs.OneRow.{ServesOnly, nothing}
+use Rattle.snoop_engine.specs.UnderWay.{ServesOnly, nothing}
 use Rattle.snoop_engine.specs.Round.{IsEnabled}
 use Rattle.snoop_engine.proofs.Dealing.{block_is}
 use Rattle.snoop_engine.proofs.InOrderLemmas.{goes_on_enabled, over_now}

@@ -8,7 +8,7 @@ use Rattle.snoop_machine.specs.declared.holders.Holders.{Holders}
 use Rattle.snoop_model.specs.Invariant.Fits.{is_owner}
 use Rattle.snoop_blocks.specs.CoreSet.{has}
 use Rattle.snoop_machine.specs.Holders.{AreHolders, is_concerned, no_holders}
-use Rattle.snoop_machine.specs.Cache.{held_in}
+use Rattle.snoop_machine.specs.Cache.{lines_held}
 use Rattle.snoop_machine.proofs.LineMaps.{in_rows, row_seen, line_seen}
 use Rattle.snoop_machine.proofs.lines.Lines.concerned.Given.{Over}
 use Rattle.snoop_machine.proofs.lines.Lines.concerned.Goals as goal
@@ -28,7 +28,7 @@ fits : (g : Over) (c : After-concerned g) → AreHolders c.get_or-holders.result
 fits g c =
     let read : c.get_or-holders.result ≡ slice_index_or c.self.inside.holders c.args.block no_holders = c.get_or-holders.ensures ∙ get_or_default c.self.inside.holders c.args.block c.empty.result no_holders (in_block g c) in
     subst (λ (row : List Line). AreHolders c.get_or-holders.result row) (row_seen c.self.invariant c.self.view_is c.args.block (in_block g c))
-    (subst (λ (h : Holders). AreHolders h (held_in c.self.inside.caches.items c.args.block)) (sym read) (c.self.invariant.indexed c.args.block (in_block g c)))
+    (subst (λ (h : Holders). AreHolders h (lines_held c.self.inside.caches.items c.args.block)) (sym read) (c.self.invariant.indexed c.args.block (in_block g c)))
 
 pub returns-clause-others : goal.returns-clause-others
 returns-clause-others g c k ne =

@@ -9,7 +9,7 @@ use Rattle.snoop_machine.specs.declared.holders.Holders.{Holders}
 use Rattle.snoop_model.specs.Moves.Move.{moves_to}
 use Rattle.snoop_model.specs.Pictures.Lines.{Line}
 use Rattle.snoop_model.specs.Pictures.Proper.{IsProper}
-use Rattle.snoop_machine.specs.Cache.{line_found, line_in, blocks_of}
+use Rattle.snoop_machine.specs.Cache.{line_or_nothing, line_in, blocks_of}
 use Rattle.snoop_machine.specs.Lines.{held, gone, line_at, TookRow}
 use Rattle.snoop_machine.proofs.ProperLines.{settled, moves_to_same}
 use Rattle.snoop_machine.proofs.LineMaps.{IsMap, is_map, in_rows, core_few, gone-same, is_I}
@@ -102,7 +102,7 @@ moved g c =
       map = its;
       proper = proper;
       here = elim (is_I next) [
-        | inl e ↦ ap line_found (c.in-Some.ensures.moved.taken e) ∙ sym (settled (moves_to next old) proper e)
+        | inl e ↦ ap line_or_nothing (c.in-Some.ensures.moved.taken e) ∙ sym (settled (moves_to next old) proper e)
         | inr ne ↦ c.in-Some.ensures.moved.here ne ∙ ap (λ (x : Line). moves_to next x) its.was
       ];
       others = c.take_row.ensures.others;

@@ -3,7 +3,7 @@ use Rattle.std.proofs.lemmas.Bool.{eq-eqb, ne_eqb}
 use Rattle.std.proofs.lemmas.Result.{on_ok_weaker}
 use Rattle.snoop_model.specs.Pictures.Situation.{Situation, reset}
 use Rattle.snoop_engine.specs.Numbered.{led_to}
-use Rattle.snoop_svg.specs.Drawings.{StandsBelow, opening, standing}
+use Rattle.snoop_svg.specs.Drawings.{StandsBelow, opening, row_above}
 use Rattle.snoop_svg.specs.Sheets.{AfterSteps, first_row}
 use Rattle.snoop_svg.proofs.TextLemmas.{joined}
 use Rattle.snoop_svg.proofs.drawing.DrawingView.begin.Goals as goal
@@ -18,7 +18,7 @@ returns-then-from-eq1-clause-begins c =
     let s = c.args.machine.now.situation in
     let same = c.start.ensures.plan.0 in
     let none : 0 ≡ c.start.new.self.plan.choice.from - 1 = omega (arith, one, ap (λ plan. plan.choice.from) same) in
-    let is_standing : at_start (reset s.protocol s.shape) ≡ standing c.start.new.self.plan.choice s.protocol s.shape [] =
+    let is_standing : at_start (reset s.protocol s.shape) ≡ row_above c.start.new.self.plan.choice s.protocol s.shape [] =
     λ i. record { number = none i; situation = led_to (reset s.protocol s.shape) (take (none i) []) } in
     on_ok_weaker c.start.result
     (λ stands. record {

@@ -5,7 +5,7 @@ use Rattle.snoop_engine.specs.Chosen.{is_shown}
 use Rattle.snoop_engine.specs.Frames.{Frame}
 use Rattle.snoop_engine.specs.Views.{frame_seen}
 use Rattle.snoop_engine.proofs.NumberedLemmas.{numbered}
-use Rattle.snoop_svg.specs.Drawings.{drawn, frame_text, has_row, rows_per_sheet, standing, turn_text}
+use Rattle.snoop_svg.specs.Drawings.{drawn, frame_text, has_row, rows_per_sheet, row_above, turn_text}
 use Rattle.snoop_svg.specs.Sheets.{Plan, row_text, row_y}
 use Rattle.snoop_svg.proofs.SeenLemmas.{seen_blank, seen_drawn, seen_start, seen_stays, stands_above, text_shown}
 use Rattle.snoop_svg.proofs.TextLemmas.{on_ok_any, on_ok_three, on_ok_two}
@@ -42,7 +42,7 @@ returns-then-has_step c first frames before has next =
       | inl low ↦
           let at : old.place ≡ length (drawn old.plan.choice frames) = omega (arith, has.place) in
           let stands = stands_above first old new s.protocol s.shape frames frame has c.push_drawn.ensures.plan on low in
-          let above = standing old.plan.choice s.protocol s.shape frames in
+          let above = row_above old.plan.choice s.protocol s.shape frames in
           let y : ℕ = row_y (old.place % rows_per_sheet old.plan.paper.form) in
           let drawn_so = seen_drawn first old new s.protocol s.shape frames frame has c.push_drawn.ensures.plan on low in
           on_ok_three c.push_drawn.result
