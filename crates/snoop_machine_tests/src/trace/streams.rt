@@ -23,7 +23,7 @@ static STEPS: [Step; 3] = [
 
 static TEXT: &[u8] = b"V,2,msi,2,4,64,1\nS,0,64,7\nO,0\nR,64\n";
 
-// Gives at most so many bytes a call, and fails once so many are given in all.
+// Gives at most so many bytes a call, and fails once, after so many in all: who asks again is given more.
 #[derive(Drop)]
 struct Failing<'a> {
     text: &'a [u8],
@@ -34,6 +34,7 @@ struct Failing<'a> {
 impl Read for Failing<'_> {
     fn read(&mut self, buf: &mut [u8]) -> io::Result<usize> {
         if self.left == 0 {
+            self.left = usize::MAX;
             return Err(io::Error::from(ErrorKind::Interrupted));
         }
         let most = buf.len().min(self.a_call).min(self.left);
