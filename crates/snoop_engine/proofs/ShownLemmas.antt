@@ -204,7 +204,7 @@ module _ (protocol : Protocol) (shape : Extent) (one other : List Frame → Situ
   same_shown : (steps : List Step) (a b : Option (List ℕ)) → ShowsRun protocol shape one steps a b → ShowsRun protocol shape other steps a b
   same_shown steps a b h = record { frames = h.frames; final = h.final; run = h.run; taken = h.taken; rows = h.rows; output = rw (same steps h.frames h.final h.run) at h.output }
 
-  same_begun : (steps : List Step) (a b : Option (List ℕ)) → BeginsToShow protocol shape one steps a b → BeginsToShow protocol shape other steps a b
+  pub same_begun : (steps : List Step) (a b : Option (List ℕ)) → BeginsToShow protocol shape one steps a b → BeginsToShow protocol shape other steps a b
   same_begun steps a b h = record { frames = h.frames; final = h.final; run = h.run; taken = h.taken; rows = h.rows; output = rw (same steps h.frames h.final h.run) at h.output }
 
   pub same_view : (input : Input) (bytes : Option (List ℕ)) (result : Result (Unit {0}) SimFault) (a b : Option (List ℕ))
