@@ -77,9 +77,10 @@ request, a load of the block may hit, and reads what was there before the store.
 the order of one core's operations on different blocks, of time, nor that a request is ever ordered
 or answered: an operation that is not lost may wait for ever. Who sends a message is part of a move;
 the target that a row names is not looked at: memory takes the message of a PutM, and another's
-where its state waits for one (`takes_payload`). That a reply has the value that the history has, and
-that a core which awaits data is the requestor of an open transaction, stands in the moves below and
-in what every machine promises of itself (`hit` of `Machine::step`, `IsSafe`), and in no clause here.
+where its state waits for one (`takes_payload`). That a reply has the value that the history has,
+and that a core which awaits data is the requestor of an open transaction, stands in the moves below
+and in what every machine promises of itself (`hit` of `Machine::step`, `IsSafe`), and in no clause
+here.
 
 That the code takes such steps and no others is what `Machine::step` and `run_steps` promise
 (docs/PROVED.md), and why all this holds is in docs/COHERENCE.md. `tools/theorem.py --write` makes
