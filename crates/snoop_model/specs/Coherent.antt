@@ -1,20 +1,21 @@
 -- Coherence: what holds after any steps that a machine at reset takes or refuses, in any order.
 -- Source: chapters 2 and 7 of "A Primer on Memory Consistency and Cache Coherence", 2nd edition; the rest is this project's profile.
-use Rattle.std.specs.Prelude.{◌≡◌, ◌<◌, ℕ, List, All, Option, Some, None, Result, IfSome, IsSome, option_map}
+use Rattle.std.specs.Prelude.{◌≡◌, ◌≢◌, ◌↔◌, ◌<◌, ℕ, List, All, Option, Some, None, Result, IfSome, IsSome, option_map}
 use Rattle.snoop_trace.specs.Extent.{Extent}
 use Rattle.snoop_trace.specs.Words.{IsWord}
 use Rattle.snoop_trace.specs.declared.step.Step.{Step}
 use Rattle.snoop_trace.specs.declared.protocol.Protocol.{Protocol}
 use Rattle.snoop_rules.specs.declared.names.Request.{Request}
+use Rattle.snoop_rules.specs.declared.names.Request.TheVariants.{PutM}
 use Rattle.snoop_rules.specs.Possible.{MayLoad, MayStore}
 use Rattle.snoop_history.specs.declared.items.Item.{Item}
 use Rattle.snoop_history.specs.History.{flat_words, operations, Legal}
 use Rattle.snoop_model.specs.declared.replies.Reply.{Reply}
 use Rattle.snoop_model.specs.declared.replies.Refused.{Refused}
 use Rattle.snoop_model.specs.Pictures.Picture.{held_by, data_under_way}
-use Rattle.snoop_model.specs.Pictures.Situation.{Situation, picture_of, state_of, CanOrder}
+use Rattle.snoop_model.specs.Pictures.Situation.{Situation, picture_of, state_of, CanOrder, HasOpen}
 use Rattle.snoop_model.specs.Pictures.OneWriter.{OneWriter}
-use Rattle.snoop_model.specs.Pictures.Proper.{missed_request, request_for}
+use Rattle.snoop_model.specs.Pictures.Proper.{missed_request, request_for, awaited_request}
 use Rattle.snoop_model.specs.Pictures.InQueue.{IsInQueue}
 use Rattle.snoop_model.specs.Moves.Move.{IsWithin, Orders, FirstMove}
 use Rattle.snoop_model.specs.Moves.Refuses.{Refuses}
@@ -41,6 +42,8 @@ pub record IsCoherent (s : Situation) : Type 0 where
   pub opened : (block : ℕ) → IfSome (picture_of s block).transaction (λ transaction. (transaction.block ≡ block) × (transaction.core < s.shape.cores) × IfSome transaction.from (λ sender. sender < s.shape.cores))
   -- an operation waits exactly where one has missed: a load or a store, as the state says
   pub waiting : (core block : ℕ) → option_map (λ access. request_for access.op) (held_by (picture_of s block) core).waiting ≡ missed_request (state_of s core block)
+  -- a core waits for data exactly where the block's open transaction is its GetS or GetM
+  pub awaited : (core block : ℕ) (request : Request) → (awaited_request (state_of s core block) ≡ Some request) ↔ (HasOpen s core block request × (request ≢ PutM))
   -- each core's queue has the blocks on which it waits to be ordered, each once
   pub queued : (core block : ℕ) → IsInQueue s core block
   -- no step is stuck at an impossible cell: each that is not refused is a move, an Order's on the first block of its core's queue

@@ -1,6 +1,6 @@
 -- What the invariant says of a situation: one writer, current copies and memory, all rows, one sender.
 use Rattle.std.proofs.Common.{◌≡◌, ◌≢◌, ℕ, true, false, not, ◌||◌, List, [], length, Option, Some, None, refl, ◌⊎◌, inl, inr, ap, sym, ◌∙◌, subst, arith}
-use Rattle.std.specs.Prelude.{◌<◌, IfSome, IsSome, IsSomeAnd, ◌≤◌}
+use Rattle.std.specs.Prelude.{◌<◌, ◌↔◌, IfSome, IsSome, IsSomeAnd, ◌≤◌}
 use Rattle.std.specs.Option.{ForSome}
 use Rattle.std.proofs.lemmas.Bool.{and_parts, cases_Bool, cases_lt, eq-eqb}
 use Rattle.std.proofs.lemmas.List.{get_or_past}
@@ -29,23 +29,25 @@ use Rattle.snoop_history.specs.Totals.{is_put_m}
 use Rattle.snoop_bus.specs.Traffic.{Open}
 use Rattle.snoop_model.specs.Pictures.Lines.{Line}
 use Rattle.snoop_model.specs.Pictures.Picture.{Picture, held_by, nothing_held, data_under_way}
-use Rattle.snoop_model.specs.Pictures.Situation.{Situation, picture_of, state_of, Waits, CanOrder, nothing_there}
+use Rattle.snoop_model.specs.Pictures.Situation.{Situation, picture_of, state_of, Waits, CanOrder, HasOpen, nothing_there}
 use Rattle.snoop_model.specs.Moves.Move.{IsWithin}
 use Rattle.snoop_model.specs.Moves.LookUps.{HasRow, HasMemRow, ConsultsCache, ConsultsMemory, FindsRows}
 use Rattle.snoop_model.specs.Pictures.OneWriter.{OneWriter}
 use Rattle.snoop_model.specs.Moves.SenderTable.{OrdersFollowSenderTable}
-use Rattle.snoop_model.specs.Invariant.Fits.{in_protocol, is_clean, is_owner, fits}
+use Rattle.snoop_model.specs.Invariant.Fits.{in_protocol, is_clean, is_owner, wait_fits, fits}
 use Rattle.snoop_model.specs.Invariant.Block.{BlockInvariant, awaited, owns, talk_of}
 use Rattle.snoop_model.specs.Invariant.Invariant.{Invariant}
+use Rattle.snoop_model.specs.Invariant.WellKept.{IsWellKept}
 use Rattle.snoop_model.proofs.Tables.Every.{given, given_at}
 use Rattle.snoop_model.proofs.Tables.AskTests.{is_idle_evict}
 use Rattle.snoop_model.proofs.Tables.RespondTests.{memory_row_for, row_for}
 use Rattle.snoop_model.proofs.OneBlock.OrderStep.{seen_other}
-use Rattle.snoop_model.proofs.OneBlock.Facts.{one_writer, fits_is_owner, clash}
+use Rattle.snoop_model.proofs.OneBlock.Facts.{one_writer, fits_waits, fits_is_owner, clash}
 use Rattle.snoop_model.proofs.OneBlock.Possible.{Answerable, Possible, order_possible, ask_possible, respond_possible}
 use Rattle.snoop_model.proofs.Tables.SenderLines.{led_line}
+use Rattle.snoop_model.proofs.Tables.WaitingRows.{awaited-get}
 use Rattle.snoop_model.proofs.Tables.StateTests.{is_hit, hit_rule, owner_reads, brings_data, resting_rule}
-use Rattle.snoop_model.specs.Pictures.Proper.{keeps}
+use Rattle.snoop_model.specs.Pictures.Proper.{keeps, awaited_request}
 
 -- a block outside the shape has nothing
 outside : (s : Situation) → Invariant s → (block : ℕ) → s.shape.blocks ≤ block → picture_of s block ≡ nothing_there
@@ -200,6 +202,29 @@ names_its_block s g block = go (picture_of s block).transaction refl
     go : (found : Option Open) → (picture_of s block).transaction ≡ found → IfSome found (λ o. (o.block ≡ block) × (o.core < s.shape.cores) × IfSome o.from (λ sender. sender < s.shape.cores))
     go None is = tt
     go (Some o) is = (g.opened block o is, (g.blocks block (opened_within s g block o is)).requestor_in o is, told o.from (sender_within s g block o is))
+
+-- the requestor of an open GetS or GetM is in a state that waits for its data
+open_awaits : (q : Request) (s : CacheState) → q ≢ request.PutM → wait_fits (Some q) s ≡ true → awaited_request s ≡ Some q
+unfolding wait_fits
+open_awaits request.GetS state.IsD get fit = refl
+open_awaits request.GetM state.ImD get fit = refl
+open_awaits request.GetM state.SmD get fit = refl
+open_awaits request.PutM _ get fit = absurd (get refl)
+open_awaits _ _ get fit = cc
+
+-- a core waits for data exactly where the block's open transaction is its GetS or GetM
+pub data_awaited : (s : Situation) → Invariant s → IsWellKept s → (core block : ℕ) (q : Request) → (awaited_request (state_of s core block) ≡ Some q) ↔ (HasOpen s core block q × (q ≢ request.PutM))
+data_awaited s g kept core block q = (
+  λ waits. (kept.awaits core block q waits, λ put. awaited-get (state_of s core block) (waits ∙ ap (λ (x : Request). Some x) put)),
+  λ open_get.
+      let o = open_get.0.0 in
+      let is = open_get.0.1 in
+      let good = g.blocks block (opened_within s g block o is.0) in
+      let there : core < s.shape.cores = rw (← is.1) (good.requestor_in o is.0) in
+      let its : awaited (picture_of s block).transaction core ≡ Some q = rw (is.0, is.1, eq-eqb core core refl, is.2) refl in
+      let fit = fits_waits s.protocol good.claims.shared (owns good.owner core) (awaited (picture_of s block).transaction core) (state_of s core block) (good.states core there) in
+      open_awaits q (state_of s core block) open_get.1 (rw its at fit),
+)
 
 -- a core that waits is within the shape, and so is its block
 pub waits_within : (s : Situation) → Invariant s → (core block : ℕ) (q : Request) → Waits s core block q → IsWithin s core block

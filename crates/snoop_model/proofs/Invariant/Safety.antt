@@ -12,16 +12,16 @@ use Rattle.snoop_model.specs.declared.replies.Refused.{Refused}
 use Rattle.snoop_model.specs.Pictures.Picture.{held_by}
 use Rattle.snoop_model.specs.Pictures.Situation.{Situation, picture_of, state_of, reset}
 use Rattle.snoop_model.specs.Pictures.Proper.{IsProper, keeps}
-use Rattle.snoop_model.specs.Pictures.InQueue.{IsInQueue}
 use Rattle.snoop_model.specs.Coherent.{IsCoherent}
 use Rattle.snoop_model.specs.Moves.Move.{MoveOn}
 use Rattle.snoop_model.specs.Runs.Run.{Goes, RunFrom}
 use Rattle.snoop_model.specs.Invariant.Invariant.{Invariant}
+use Rattle.snoop_model.specs.Invariant.WellKept.{IsWellKept}
 use Rattle.snoop_model.specs.Invariant.MachineKeeps.{AreOnSenderLines, MachineKeeps}
 use Rattle.snoop_model.specs.Runs.Safe.{IsSafe}
 use Rattle.snoop_model.proofs.Invariant.TableLines.{order_is_line, open_is_by_table}
 use Rattle.snoop_model.proofs.Invariant.OpenLines.{reset_on_lines, move_on_lines}
-use Rattle.snoop_model.proofs.Invariant.Coherence.{has_one_writer, kept_read, readers_current, data_current, memory_current, names_its_block, finds_rows, place}
+use Rattle.snoop_model.proofs.Invariant.Coherence.{has_one_writer, kept_read, readers_current, data_current, memory_current, names_its_block, data_awaited, finds_rows, place}
 use Rattle.snoop_model.proofs.Invariant.Runs.{reset_invariant, nothing_proper, refusal_same}
 use Rattle.snoop_model.proofs.Runs.GoOn.{moves_on}
 use Rattle.snoop_model.proofs.Steps.GoesNext.{order_made}
@@ -47,9 +47,9 @@ kept_is_flat s g few core block word (Some value) within inside readable =
     let kept = (g.blocks block within.1).kept core within.0 (sym (readable within.0 within.1 within.2)) in
     same_Some _ _ (inside within.0 within.1 within.2 ∙ ap (λ o. option_map (λ (ws : List ℕ). word_at ws word) o) kept) ∙ word_flat s.log block word (omega (arith, few, within.2))
 
--- the invariant, open transactions on lines of the table, and the queues make a situation coherent
-pub is_coherent : (s : Situation) → Invariant s → AreOnSenderLines s → ((core block : ℕ) → IsInQueue s core block) → IsCoherent s
-is_coherent s g on_lines queued = record {
+-- the invariant, open transactions on lines of the table, and queues and transactions as the states say make a situation coherent
+pub is_coherent : (s : Situation) → Invariant s → AreOnSenderLines s → IsWellKept s → IsCoherent s
+is_coherent s g on_lines well_kept = record {
   one_writer = has_one_writer s g;
   legal = g.legal;
   logged = g.logged;
@@ -57,18 +57,19 @@ is_coherent s g on_lines queued = record {
   carried = data_current s g;
   memory = memory_current s g;
   opened = names_its_block s g;
-  moves = moves_on s g queued;
+  moves = moves_on s g well_kept.queued;
   orders = λ core block q ready. (_, order_made s g core block q ready);
   by_table = order_is_line s g;
   on_table = open_is_by_table s g on_lines;
   kept = kept_read s g;
   waiting = λ core block. (all_proper s g core block).waiting;
-  queued = queued;
+  awaited = data_awaited s g well_kept;
+  queued = well_kept.queued;
 }
 
 pub is_safe : (s : Situation) → MachineKeeps s → IsSafe s
 is_safe s keeps = record {
-  coherent = is_coherent s keeps.inductive keeps.on_lines keeps.well_kept.queued;
+  coherent = is_coherent s keeps.inductive keeps.on_lines keeps.well_kept;
   finds_rows = finds_rows s keeps.inductive;
   kept_where_readable = λ core block. (all_proper s keeps.inductive core block).kept;
   well_kept = keeps.well_kept;

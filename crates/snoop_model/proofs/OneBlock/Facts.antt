@@ -12,7 +12,7 @@ use Rattle.snoop_bus.specs.Traffic.{Open}
 use Rattle.snoop_model.specs.Pictures.Lines.{Line}
 use Rattle.snoop_model.specs.Pictures.Picture.{Picture, held_by}
 use Rattle.snoop_model.specs.Moves.Move.{moves_to}
-use Rattle.snoop_model.specs.Invariant.Fits.{is_owner, is_clean, fits}
+use Rattle.snoop_model.specs.Invariant.Fits.{is_owner, is_sharer, is_clean, in_protocol, same, wait_fits, fits}
 use Rattle.snoop_model.specs.Invariant.Block.{BlockInvariant, talk_of, awaited, owns}
 use Rattle.snoop_model.proofs.Tables.Every.{same_is}
 use Rattle.snoop_model.proofs.Tables.RespondTests.{writes}
@@ -51,6 +51,13 @@ pub fits_is_owner : (p : Protocol) (shared ow : Bool) (w : Option Request) (s : 
 unfolding fits
 fits_is_owner p shared ow w s h =
     same_is _ _ (and_parts _ _ (and_parts _ _ h).1).0
+
+pub fits_waits : (p : Protocol) (shared ow : Bool) (w : Option Request) (s : CacheState) → fits p shared ow w s ≡ true → wait_fits w s ≡ true
+unfolding fits
+fits_waits p shared ow w s h =
+    let a = and_parts (in_protocol p s) (same (is_owner s) ow && ((not (is_sharer s) || shared) && wait_fits w s)) h in
+    let b = and_parts (same (is_owner s) ow) ((not (is_sharer s) || shared) && wait_fits w s) a.1 in
+    (and_parts (not (is_sharer s) || shared) (wait_fits w s) b.1).1
 
 pub implied : (a b : Bool) → (not a || b) ≡ true → a ≡ true → b ≡ true
 implied true b h e = h

@@ -17,9 +17,9 @@ use Rattle.snoop_model.specs.Pictures.Lines.{Line}
 use Rattle.snoop_model.specs.declared.replies.Reply.{Reply}
 use Rattle.snoop_model.specs.Pictures.Picture.{Picture, held_by, nothing_held, with_line}
 use Rattle.snoop_model.specs.Pictures.Situation.{Situation, picture_of, state_of}
-use Rattle.snoop_model.specs.Pictures.Proper.{missed_request, request_for}
+use Rattle.snoop_model.specs.Pictures.Proper.{missed_request, request_for, awaited_request}
 use Rattle.snoop_model.specs.Moves.Move.{Asks, Takes, IsWithin, queues_after}
-use Rattle.snoop_model.specs.Invariant.WellKept.{IsWellKept, awaited_request}
+use Rattle.snoop_model.specs.Invariant.WellKept.{IsWellKept}
 use Rattle.snoop_model.proofs.Lists.Facts.{one_if}
 use Rattle.snoop_model.proofs.Lists.QueueCounts.{issued_own, issued_others, issued_elsewhere}
 use Rattle.snoop_model.proofs.Lists.Writes.{set_cases}

@@ -8,6 +8,7 @@ use Rattle.snoop_trace.specs.declared.protocol.Protocol.{Protocol}
 use Rattle.snoop_rules.specs.declared.names.Request.{Request}
 use Rattle.snoop_bus.specs.Traffic.{Open}
 use Rattle.snoop_bus.specs.Queues.{queue_of}
+use Rattle.snoop_model.specs.Pictures.Proper.{awaited_request}
 use Rattle.snoop_model.specs.declared.access.Access.{Access}
 use Rattle.snoop_model.specs.Pictures.Lines.{Line}
 use Rattle.snoop_history.specs.declared.items.Item.{Item}
@@ -17,7 +18,7 @@ use Rattle.snoop_model.proofs.Lists.QueueCounts.{times}
 use Rattle.snoop_model.proofs.Queues.Changed.{waits}
 use Rattle.snoop_model.specs.Pictures.Situation.{Situation, reset}
 use Rattle.snoop_model.specs.Turns.Serving.{IsServing}
-use Rattle.snoop_model.specs.Invariant.WellKept.{IsWellKept, awaited_request}
+use Rattle.snoop_model.specs.Invariant.WellKept.{IsWellKept}
 use Rattle.snoop_model.specs.Turns.TurnLaws.{StartsWell, KeepsWell}
 use Rattle.snoop_model.proofs.Lists.Facts.{replicated}
 use Rattle.snoop_model.proofs.Invariant.Runs.{reset_line, reset_open, reset_shaped}

@@ -11,12 +11,13 @@ use Rattle.snoop_rules.specs.Waits.{waiting_request}
 use Rattle.snoop_history.specs.declared.items.Did.{Did}
 use Rattle.snoop_history.specs.declared.items.Item.{Item}
 use Rattle.snoop_bus.specs.Traffic.{Open}
+use Rattle.snoop_model.specs.Pictures.Proper.{awaited_request}
 use Rattle.snoop_model.specs.declared.access.Access.{Access}
 use Rattle.snoop_model.specs.Pictures.Lines.{Line}
 use Rattle.snoop_model.specs.Pictures.Picture.{Picture, held_at, held_by, nothing_held}
 use Rattle.snoop_model.specs.Pictures.Situation.{Situation, picture_of, state_of}
 use Rattle.snoop_model.specs.Moves.Move.{Responds, FillsRequestor, ArrivesFor}
-use Rattle.snoop_model.specs.Invariant.WellKept.{IsWellKept, awaited_request}
+use Rattle.snoop_model.specs.Invariant.WellKept.{IsWellKept}
 use Rattle.snoop_model.proofs.Lists.Facts.{one_if}
 use Rattle.snoop_model.proofs.Tables.Rows.{fill-waits}
 use Rattle.snoop_model.proofs.Tables.WaitingRows.{has_missed, awaited-filled, awaited-get}

@@ -20,8 +20,7 @@ use Rattle.snoop_rules.specs.Takers.{asked, own, other, seen_by, arrival}
 use Rattle.snoop_rules.specs.declared.names.CacheCell.{CacheCell}
 use Rattle.snoop_rules.proofs.Every.{all_protocols, all_states, all_events}
 use Rattle.snoop_rules.proofs.Rows.{each_row, each_row-at}
-use Rattle.snoop_model.specs.Invariant.WellKept.{awaited_request}
-use Rattle.snoop_model.specs.Pictures.Proper.{missed_request}
+use Rattle.snoop_model.specs.Pictures.Proper.{missed_request, awaited_request}
 use Rattle.snoop_model.proofs.Tables.Rows.{same_request, same_request-true}
 
 -- a load or a store has missed

@@ -15,9 +15,10 @@ use Rattle.snoop_rules.specs.declared.names.CacheCell.{CacheCell}
 use Rattle.snoop_rules.proofs.Every.{all_protocols, all_states, all_events}
 use Rattle.snoop_rules.proofs.Rows.{each_row, each_row-at}
 use Rattle.snoop_bus.specs.Queues.{queue_of}
+use Rattle.snoop_model.specs.Pictures.Proper.{awaited_request}
 use Rattle.snoop_model.specs.Pictures.Situation.{Situation, state_of}
 use Rattle.snoop_model.specs.Turns.Serving.{IsServing}
-use Rattle.snoop_model.specs.Invariant.WellKept.{IsWellKept, awaited_request}
+use Rattle.snoop_model.specs.Invariant.WellKept.{IsWellKept}
 use Rattle.snoop_model.proofs.Tables.WaitingRows.{has_missed}
 use Rattle.snoop_model.proofs.Queues.Waiting.{waits_queued}
 

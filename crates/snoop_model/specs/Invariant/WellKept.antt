@@ -1,28 +1,12 @@
 -- What every run keeps between the states of the lines, the queues and the open transactions.
--- Source: the states are those of "A Primer on Memory Consistency and Cache Coherence", 2nd edition, chapter 7.
-use Rattle.std.specs.Prelude.{◌≡◌, ℕ, ◌<◌, length, Option, Some, None, IsSome}
+-- Source: this project's profile.
+use Rattle.std.specs.Prelude.{◌≡◌, ℕ, ◌<◌, length, Some, IsSome}
 use Rattle.snoop_model.specs.declared.access.Access.{Access}
-use Rattle.snoop_rules.specs.declared.names.CacheState.{CacheState}
-use Rattle.snoop_rules.specs.declared.names.CacheState.TheVariants.{IsD, ImD, SmD}
 use Rattle.snoop_rules.specs.declared.names.Request.{Request}
-use Rattle.snoop_rules.specs.declared.names.Request.TheVariants.{GetS, GetM}
-use Rattle.snoop_bus.specs.Traffic.{Open}
 use Rattle.snoop_model.specs.Pictures.Picture.{held_by}
-use Rattle.snoop_model.specs.Pictures.Situation.{Situation, picture_of, state_of}
+use Rattle.snoop_model.specs.Pictures.Situation.{Situation, picture_of, state_of, HasOpen}
 use Rattle.snoop_model.specs.Pictures.InQueue.{IsInQueue}
-use Rattle.snoop_model.specs.Pictures.Proper.{missed_request}
-
--- the request whose data a core awaits in a state, once the request has been ordered
-abbrev pub awaited_request : CacheState → Option Request
-awaited_request IsD = Some GetS
-awaited_request ImD = Some GetM
-awaited_request SmD = Some GetM
-awaited_request _ = None
-
--- the block's open transaction is the core's, for this request
-abbrev pub HasOpen : Situation → ℕ → ℕ → Request → Type 0
-HasOpen s core block request =
-    (transaction : Open) × (((picture_of s block).transaction ≡ Some transaction) × (transaction.core ≡ core) × (transaction.request ≡ request))
+use Rattle.snoop_model.specs.Pictures.Proper.{missed_request, awaited_request}
 
 -- there is a picture for each block, which has a line for each core, and a queue for each core
 pub record IsShaped (s : Situation) : Type 0 where

@@ -36,6 +36,13 @@ missed_request SmAd = Some GetM
 missed_request SmD = Some GetM
 missed_request _ = None
 
+-- the request whose data a core awaits in a state, once the request has been ordered
+abbrev pub awaited_request : CacheState → Option Request
+awaited_request IsD = Some GetS
+awaited_request ImD = Some GetM
+awaited_request SmD = Some GetM
+awaited_request _ = None
+
 -- a line keeps words exactly in the states that may read, and an operation waits in it exactly in those in which one has missed, a load or a store as the state says; so a line in I holds nothing
 pub record IsProper (line : Line) : Type 0 where
   pub kept : is_some line.kept ≡ keeps line.state

@@ -10,6 +10,7 @@ use Rattle.snoop_rules.specs.Waits.{waiting_request}
 use Rattle.snoop_history.specs.declared.items.Item.{Item}
 use Rattle.snoop_model.specs.Pictures.Picture.{Picture, first_memory, nothing_held, held_by}
 use Rattle.snoop_bus.specs.Queues.{queue_of}
+use Rattle.snoop_bus.specs.Traffic.{Open}
 use Rattle.snoop_rules.specs.declared.names.MemState.TheVariants.{IorS}
 
 -- the protocol and the shape, the picture of each block, each core's queue, and the log, which is the history
@@ -63,6 +64,11 @@ Waits s core block request = waiting_request (state_of s core block) ≡ Some re
 -- the request waits, and no transaction is open on the block: it can be ordered
 abbrev pub CanOrder : Situation → ℕ → ℕ → Request → Type 0
 CanOrder s core block request = Waits s core block request × ((picture_of s block).transaction ≡ None)
+
+-- the block's open transaction is the core's, for this request
+abbrev pub HasOpen : Situation → ℕ → ℕ → Request → Type 0
+HasOpen s core block request =
+    (transaction : Open) × (((picture_of s block).transaction ≡ Some transaction) × (transaction.core ≡ core) × (transaction.request ≡ request))
 
 -- the block stands first in the core's queue
 abbrev pub StandsFirst : Situation → ℕ → ℕ → Type 0

@@ -10,6 +10,6 @@ returns c p shape steps outcomes new run =
     let keeps = run_keeps_all steps outcomes (reset p shape) new (reset_keeps p shape) run in
     record {
       stays = run_stays steps outcomes (reset p shape) new run;
-      coherent = is_coherent new keeps.inductive keeps.on_lines keeps.well_kept.queued;
+      coherent = is_coherent new keeps.inductive keeps.on_lines keeps.well_kept;
       once = run_asked_once p shape steps outcomes new run;
     }
