@@ -6,4 +6,3 @@ pub mod Coherence
 pub mod Safety
 pub mod Steps
 pub mod TableLines
-pub mod OpenLines

@@ -1,7 +1,6 @@
 -- Runs.
 pub mod Along
 pub mod GoOn
-pub mod AreOne
 pub mod AllTaken
 pub mod Shape
 pub mod Replies

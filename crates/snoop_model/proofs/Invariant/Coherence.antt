@@ -1,10 +1,10 @@
 -- What the invariant says of a situation: one writer, current copies and memory, all rows, one sender.
-use Rattle.std.proofs.Common.{◌≡◌, ◌≢◌, ℕ, true, false, not, ◌||◌, List, [], length, Option, Some, None, refl, ◌⊎◌, inl, inr, ap, sym, ◌∙◌, subst, arith}
+use Rattle.std.proofs.Common.{◌≡◌, ◌≢◌, ℕ, true, false, not, List, [], length, Option, Some, None, refl, ◌⊎◌, inl, inr, ap, sym, ◌∙◌, subst, arith}
 use Rattle.std.specs.Prelude.{◌<◌, ◌↔◌, IfSome, IsSome, IsSomeAnd, ◌≤◌}
 use Rattle.std.specs.Option.{ForSome}
-use Rattle.std.proofs.lemmas.Bool.{and_parts, cases_Bool, cases_lt, eq-eqb}
+use Rattle.std.proofs.lemmas.Bool.{and_parts, both_ways, cases_Bool, cases_lt, eq-eqb, false_from_ne_true}
 use Rattle.std.proofs.lemmas.List.{get_or_past}
-use Rattle.std.proofs.lemmas.Option.{same_Some}
+use Rattle.std.proofs.lemmas.Option.{none-some}
 use Rattle.snoop_trace.specs.declared.step.Op.{Op}
 use Rattle.snoop_trace.specs.declared.step.Op.TheVariants as op
 use Rattle.snoop_trace.specs.declared.step.Step.{Step}
@@ -21,9 +21,9 @@ use Rattle.snoop_rules.specs.declared.names.MemEvent.{MemEvent}
 use Rattle.snoop_rules.specs.declared.names.Request.{Request}
 use Rattle.snoop_rules.specs.declared.names.Request.TheVariants as request
 use Rattle.snoop_rules.specs.Possible.{MayLoad, MayStore}
-use Rattle.snoop_rules.specs.Takers.{asked, other as another, seen_by, at_memory, arrival, arrival_at_memory, carries_value}
+use Rattle.snoop_rules.specs.Takers.{asked, other as another, seen_by, arrival, arrival_at_memory, carries_value}
 use Rattle.snoop_rules.specs.Waits.{waiting_request}
-use Rattle.snoop_rules.specs.Cell.{cell_of}
+use Rattle.snoop_rules.specs.Cell.{Cell}
 use Rattle.snoop_history.specs.History.{flat_words}
 use Rattle.snoop_history.specs.Totals.{is_put_m}
 use Rattle.snoop_bus.specs.Traffic.{Open}
@@ -38,15 +38,16 @@ use Rattle.snoop_model.specs.Invariant.Fits.{in_protocol, is_clean, is_owner, wa
 use Rattle.snoop_model.specs.Invariant.Block.{BlockInvariant, awaited, owns, talk_of}
 use Rattle.snoop_model.specs.Invariant.Invariant.{Invariant}
 use Rattle.snoop_model.specs.Invariant.WellKept.{IsWellKept}
-use Rattle.snoop_model.proofs.Tables.Every.{given, given_at}
-use Rattle.snoop_model.proofs.Tables.AskTests.{is_idle_evict}
+use Rattle.snoop_model.proofs.Tables.AskTests
+use Rattle.snoop_model.proofs.Tables.AskTests.{ask_rule, is_idle_evict}
+use Rattle.snoop_model.proofs.Tables.Rows.{hit_keeps}
 use Rattle.snoop_model.proofs.Tables.RespondTests.{memory_row_for, row_for}
 use Rattle.snoop_model.proofs.OneBlock.OrderStep.{seen_other}
-use Rattle.snoop_model.proofs.OneBlock.Facts.{one_writer, fits_waits, fits_is_owner, clash}
+use Rattle.snoop_model.proofs.OneBlock.Facts.{one_writer, fits_waits, fits_is_owner}
 use Rattle.snoop_model.proofs.OneBlock.Possible.{Answerable, Possible, order_possible, ask_possible, respond_possible}
 use Rattle.snoop_model.proofs.Tables.SenderLines.{led_line}
 use Rattle.snoop_model.proofs.Tables.WaitingRows.{awaited-get}
-use Rattle.snoop_model.proofs.Tables.StateTests.{is_hit, hit_rule, owner_reads, brings_data, resting_rule}
+use Rattle.snoop_model.proofs.Tables.StateTests.{brings_data, resting_rule}
 use Rattle.snoop_model.specs.Pictures.Proper.{keeps, awaited_request}
 
 -- a block outside the shape has nothing
@@ -66,47 +67,37 @@ place s g core block = elim (cases_lt block s.shape.blocks) [
       inr (ap (λ (x : Picture). held_by x core) (outside s g block past) ∙ get_or_past [] core nothing_held (omega arith))
 ]
 
--- a core that holds nothing may neither read nor write, and waits for nothing
-not_reader : (p : Protocol) → MayLoad p state.I → ⊥
-not_reader p may = let e : action.Issue request.GetS ≡ action.Hit = ap (λ c. c.action) (same_Some _ _ may.1) in cc
+-- what holds of each line of the machine, and of a core that holds nothing, holds of every core's
+pub each_line : (s : Situation) → Invariant s → (core block : ℕ) (P : Line → Type 0) → (IsWithin s core block → P (held_by (picture_of s block) core)) → P nothing_held → P (held_by (picture_of s block) core)
+each_line s g core block P here nothing = elim (place s g core block) [ inl within ↦ here within | inr none ↦ subst P (sym none) nothing ]
 
-not_writer : (p : Protocol) → MayStore p state.I → ⊥
-not_writer p may = let e : action.Issue request.GetM ≡ action.Hit = ap (λ c. c.action) (same_Some _ _ may.1) in cc
-
-may_load_reads : (p : Protocol) (s : CacheState) → MayLoad p s → keeps s ≡ true
-may_load_reads p s may =
-    let t = and_parts (given (cell_of p s event.Load) (λ r. not (is_hit r.action) || keeps s)) (given (cell_of p s event.Store) (λ r. not (is_hit r.action) || is_owner s)) (hit_rule p s) in
-    given_at (cell_of p s event.Load) (λ r. not (is_hit r.action) || keeps s) (record { action = action.Hit; next = may.0 }) may.1 t.0
-
-may_store_owns : (p : Protocol) (s : CacheState) → MayStore p s → is_owner s ≡ true
-may_store_owns p s may =
-    let t = and_parts (given (cell_of p s event.Load) (λ r. not (is_hit r.action) || keeps s)) (given (cell_of p s event.Store) (λ r. not (is_hit r.action) || is_owner s)) (hit_rule p s) in
-    given_at (cell_of p s event.Store) (λ r. not (is_hit r.action) || is_owner s) (record { action = action.Hit; next = may.0 }) may.1 t.1
+-- a core that holds nothing may neither read nor write
+never_hits : (p : Protocol) (e : CacheEvent) (n : CacheState) → Cell p state.I e action.Hit n → ⊥
+never_hits p e n row = let kept = (hit_keeps p state.I e n row).0 in cc
 
 -- beside a writer no other core is a reader or a writer
 pub has_one_writer : (s : Situation) → Invariant s → (block : ℕ) → OneWriter s.protocol (picture_of s block)
 has_one_writer s g block core other writes apart =
     let p = s.protocol in
     let picture : Picture = picture_of s block in
-    let P : Line → Type 0 = λ x. MayLoad p x.state in
-    let Q : Line → Type 0 = λ x. MayStore p x.state in
-    elim (place s g core block) [
-      | inr nothing ↦ absurd (not_writer p (subst Q nothing writes))
-      | inl within ↦ elim (place s g other block) [
-        | inr nothing ↦ (λ h. not_reader p (subst P nothing h), λ h. not_writer p (subst Q nothing h))
-        | inl within_too ↦
-            let blind = one_writer p s.shape.cores (flat_words s.log block) picture (g.blocks block within.1) core other within.0 within_too.0 (may_store_owns p (held_by picture core).state writes) apart in
-            let t = (held_by picture other).state in
-            (λ h. clash (keeps t) (may_load_reads p t h) blind, λ h. clash (keeps t) (owner_reads t (may_store_owns p t h)) blind)
-      ]
-    ]
+    let Idle : Line → Type 0 = λ x. (¬ MayLoad p x.state) × (¬ MayStore p x.state) in
+    each_line s g core block (λ x. MayStore p x.state → Idle (held_by picture other))
+    (λ within stores. each_line s g other block Idle
+    (λ within_too.
+    let good = g.blocks block within.1 in
+    let owning = (and_parts (owns good.owner core) (not (is_clean stores.0)) (ask_rule AskTests.ask_store_owns p good.claims.shared (owns good.owner core) (awaited picture.transaction core)
+    (held_by picture core).state (op.Store 0) (record { action = action.Hit; next = stores.0 }) (good.states core within.0) stores.1)).0 in
+    let blind = one_writer p s.shape.cores (flat_words s.log block) picture good core other within_too.0 owning apart in
+    let held = (held_by picture other).state in
+    (λ h. both_ways _ blind (hit_keeps p held event.Load h.0 h.1).0, λ h. both_ways _ blind (hit_keeps p held event.Store h.0 h.1).0))
+    (λ h. never_hits p event.Load h.0 h.1, λ h. never_hits p event.Store h.0 h.1))
+    (λ stores. absurd (never_hits p event.Store stores.0 stores.1)) writes
 
 -- each reader keeps flat memory's value
 pub readers_current : (s : Situation) → Invariant s → (core block : ℕ) → MayLoad s.protocol (state_of s core block) → (held_by (picture_of s block) core).kept ≡ Some (flat_words s.log block)
-readers_current s g core block reads = elim (place s g core block) [
-  | inl within ↦ (g.blocks block within.1).kept core within.0 (may_load_reads s.protocol (held_by (picture_of s block) core).state reads)
-  | inr nothing ↦ let P : Line → Type 0 = λ x. MayLoad s.protocol x.state in absurd (not_reader s.protocol (subst P nothing reads))
-]
+readers_current s g core block = each_line s g core block (λ x. MayLoad s.protocol x.state → x.kept ≡ Some (flat_words s.log block))
+    (λ within reads. (g.blocks block within.1).kept core within.0 (hit_keeps s.protocol (state_of s core block) event.Load reads.0 reads.1).0)
+    (λ reads. absurd (never_hits s.protocol event.Load reads.0 reads.1))
 
 -- an owner may write
 owner_stores : (p : Protocol) (s : CacheState) → in_protocol p s ≡ true → is_owner s ≡ true → MayStore p s
@@ -132,15 +123,10 @@ keeper_loads _ _ known kept = cc
 -- no core keeps words that it may not read
 pub kept_read : (s : Situation) → Invariant s → (core block : ℕ) → IsSome (held_by (picture_of s block) core).kept → MayLoad s.protocol (state_of s core block)
 unfolding fits
-kept_read s g core block is = elim (place s g core block) [
-  | inl within ↦
-      let good = g.blocks block within.1 in
-      keeper_loads s.protocol (state_of s core block) (and_parts _ _ (good.states core within.0)).0 (sym (good.proper core within.0).kept ∙ is)
-  | inr nothing ↦
-      let P : Line → Type 0 = λ x. IsSome x.kept in
-      let none : false ≡ true = subst P nothing is in
-      cc
-]
+kept_read s g core block = each_line s g core block (λ x. IsSome x.kept → MayLoad s.protocol x.state)
+    (λ within is. let good = g.blocks block within.1 in
+    keeper_loads s.protocol (state_of s core block) (and_parts _ _ (good.states core within.0)).0 (sym (good.proper core within.0).kept ∙ is))
+    (λ is. cc)
 
 -- where no core may write the block, none owns it
 nobody_owns : (p : Protocol) (n : ℕ) (value : List ℕ) (picture : Picture) (g : BlockInvariant p n value picture) → ((core : ℕ) → ¬ MayStore p (held_by picture core).state) → (owner : Option ℕ) → g.owner ≡ owner → g.claims.owned ≡ false
@@ -228,19 +214,13 @@ data_awaited s g kept core block q = (
 
 -- a core that waits is within the shape, and so is its block
 pub waits_within : (s : Situation) → Invariant s → (core block : ℕ) (q : Request) → Waits s core block q → IsWithin s core block
-waits_within s g core block q waits = elim (place s g core block) [
-  | inl within ↦ within
-  | inr nothing ↦
-      let P : Line → Type 0 = λ x. waiting_request x.state ≡ Some q in
-      let h : ◌≡◌ {A = Option Request} None (Some q) = subst P nothing waits in cc
-]
+waits_within s g core block q = each_line s g core block (λ x. waiting_request x.state ≡ Some q → IsWithin s core block) (λ within waits. within) (λ waits. cc)
 
 possible_order : (s : Situation) → Invariant s → (core block : ℕ) (q : Request) → CanOrder s core block q → Possible s.protocol (picture_of s block) core q
 possible_order s g core block q ready =
     let within = waits_within s g core block q ready.0 in
     let long = g.shaped.row block within.1 in
-    let good = subst (λ (n : ℕ). BlockInvariant s.protocol n (flat_words s.log block) (picture_of s block)) (sym long) (g.blocks block within.1) in
-    order_possible s.protocol (flat_words s.log block) (picture_of s block) core q good (subst (λ (n : ℕ). core < n) (sym long) within.0) ready.0 ready.1
+    order_possible s.protocol (flat_words s.log block) (picture_of s block) core q (rw long (g.blocks block within.1)) (rw long within.0) ready.0 ready.1
 
 -- an Order of any request that waits on a free block has exactly one sender, and is a line of the table
 pub orders_follow_sender_table : (s : Situation) → Invariant s → OrdersFollowSenderTable s.protocol s
@@ -265,9 +245,8 @@ nothing_asked p (op.Store v) busy = (record { action = action.Issue request.GetM
 nothing_asked p op.Evict busy = absurd (busy (refl, refl))
 
 nothing_seen : (p : Protocol) (q : Request) → HasRow p state.I (another q)
-nothing_seen p request.GetS = (record { action = action.None; next = state.I }, refl)
-nothing_seen p request.GetM = (record { action = action.None; next = state.I }, refl)
-nothing_seen p request.PutM = (record { action = action.None; next = state.I }, refl)
+nothing_seen p request.GetS = (_, refl)
+nothing_seen p _ = (_, refl)
 
 has_row : (p : Protocol) (s : CacheState) (found : Option CacheEvent) → (r : _) × (row_for p s found ≡ Some r) → IsSomeAnd found (HasRow p s)
 has_row p s None row = let h = row.1 in cc
@@ -279,39 +258,24 @@ has_mem_row p m (Some e) row = row
 
 -- a core has a row for what it is asked
 asked_row : (s : Situation) → Invariant s → (core block word : ℕ) (asking : Op) → (¬ ((asking ≡ op.Evict) × (state_of s core block ≡ state.I))) → HasRow s.protocol (state_of s core block) (asked asking)
-asked_row s g core block word asking busy = elim (place s g core block) [
-  | inr nothing ↦
-      let P : Line → Type 0 = λ x. (¬ ((asking ≡ op.Evict) × (x.state ≡ state.I))) → HasRow s.protocol x.state (asked asking) in
-      subst P (sym nothing) (nothing_asked s.protocol asking) busy
-  | inl within ↦
-      let held = state_of s core block in
-      let not_idle : is_idle_evict held (asked asking) ≡ false = elim (cases_Bool (is_idle_evict held (asked asking))) as
-      (λ _. is_idle_evict held (asked asking) ≡ false) [
-        | inl idle ↦ absurd (busy (idle_evict held asking idle))
-        | inr e ↦ e
-      ] in
-      has_row s.protocol held (Some (asked asking)) (ask_possible s.protocol s.shape.cores (flat_words s.log block) (picture_of s block) core asking (g.blocks block within.1) within.0 not_idle)
-]
+asked_row s g core block word asking = each_line s g core block (λ x. (¬ ((asking ≡ op.Evict) × (x.state ≡ state.I))) → HasRow s.protocol x.state (asked asking))
+    (λ within busy.
+    let held = state_of s core block in
+    let not_idle = false_from_ne_true (is_idle_evict held (asked asking)) (λ idle. busy (idle_evict held asking idle)) in
+    ask_possible s.protocol s.shape.cores (flat_words s.log block) (picture_of s block) core asking (g.blocks block within.1) within.0 not_idle)
+    (nothing_asked s.protocol asking)
 
 -- and for a request that is ordered
 seen_row : (s : Situation) → Invariant s → (core block : ℕ) (q : Request) → CanOrder s core block q → (k : ℕ) → HasRow s.protocol (state_of s k block) (seen_by k core q)
-seen_row s g core block q ready k = elim (place s g k block) [
-  | inl within ↦
-      let long : length (picture_of s block).caches ≡ s.shape.cores = g.shaped.row block within.1 in
-      let row = (possible_order s g core block q ready).rows k (omega arith) in
-      has_row s.protocol (state_of s k block) (Some (seen_by k core q)) row
-  | inr nothing ↦
-      let W : ℕ → Type 0 = λ x. waiting_request (state_of s x block) ≡ Some q in
-      let V : Line → Type 0 = λ x. waiting_request x.state ≡ Some q in
-      let P : Line → Type 0 = λ x. HasRow s.protocol x.state (seen_by k core q) in
-      let apart : k ≢ core = λ same. (let clash : ◌≡◌ {A = Option Request} None (Some q) = subst V nothing (subst W (sym same) ready.0) in cc) in
-      subst P (sym nothing) (rw (seen_other k core q apart) (nothing_seen s.protocol q))
-]
+seen_row s g core block q ready k = each_line s g k block (λ x. (k ≡ core → waiting_request x.state ≡ Some q) → HasRow s.protocol x.state (seen_by k core q))
+    (λ within waits. let long : length (picture_of s block).caches ≡ s.shape.cores = g.shaped.row block within.1 in
+    (possible_order s g core block q ready).rows k (omega arith))
+    (λ waits. rw (seen_other k core q (λ same. none-some q (waits same))) (nothing_seen s.protocol q))
+    (λ same. rw same ready.0)
 
 not_put : (q : Request) → q ≢ request.PutM → is_put_m q ≡ false
-not_put request.GetS get = refl
-not_put request.GetM get = refl
 not_put request.PutM get = absurd (get refl)
+not_put _ get = refl
 
 response_possible : (s : Situation) → Invariant s → (block : ℕ) (closing : Open) → (picture_of s block).transaction ≡ Some closing → Answerable s.protocol (picture_of s block) closing
 response_possible s g block closing opened = respond_possible s.protocol s.shape.cores (flat_words s.log block) (picture_of s block) closing (g.blocks block (opened_within s g block closing opened)) opened
@@ -328,7 +292,7 @@ finds_memory : (s : Situation) → Invariant s → (step : Step) (block : ℕ) (
 finds_memory s g (Ask asker on word asking) block event looks = absurd looks
 finds_memory s g (Order requestor) block event looks =
     let x = possible_order s g requestor block looks.0 looks.1.0 in
-    rw looks.1.1 (has_mem_row s.protocol (picture_of s block).memory.state (Some (at_memory looks.0)) (x.cell_of_memory, x.memory_row))
+    rw looks.1.1 (x.cell_of_memory, x.memory_row)
 finds_memory s g (Respond on) block event looks =
     let closing = looks.0 in
     let row = (response_possible s g block closing looks.1.1).memory looks.1.2 in

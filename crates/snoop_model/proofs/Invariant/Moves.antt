@@ -1,11 +1,10 @@
 -- A move keeps the invariant of the machine.
 use Rattle.std.proofs.Common.{◌≡◌, ℕ, ◌<◌, ◌≤◌, true, false, List, [], ◌∷◌, ◌++◌, length, Option, Some, None, refl, inl, inr, ap, sym, ◌∙◌, subst}
 use Rattle.std.specs.Prelude.{option_to_list, IfSome, All}
-use Rattle.std.proofs.lemmas.Bool.Decides.{eqb_tells}
 use Rattle.std.proofs.lemmas.List.{append-nil, length-set, get_or_past, get_or-set_same, get_or-set_other}
 use Rattle.std.proofs.lemmas.List.Elements.{All-nil, All-cons, All-append, filter_map-append}
 use Rattle.std.proofs.lemmas.Bool.{cases_lt, eq-eqb, ne_eqb}
-use Rattle.std.proofs.lemmas.Option.{same_Some}
+use Rattle.std.proofs.lemmas.Option.{none-some, same_Some}
 use Rattle.snoop_trace.specs.Extent.{Extent}
 use Rattle.snoop_trace.specs.Words.{HasWord, IsWord}
 use Rattle.snoop_trace.specs.declared.step.Op.{Op}
@@ -30,6 +29,7 @@ use Rattle.snoop_model.specs.Pictures.Situation.{Situation, picture_of}
 use Rattle.snoop_model.specs.Moves.Move.{Takes, ArrivesFor, Asks, Orders, Responds, IsWithin, MoveOn, kept_waiting, queues_after, came_of}
 use Rattle.snoop_model.specs.Invariant.Block.{BlockInvariant}
 use Rattle.snoop_model.specs.Invariant.Invariant.{Invariant}
+use Rattle.snoop_model.proofs.OneBlock.Facts.{by_core}
 use Rattle.snoop_model.proofs.OneBlock.Operation.{did_in, flat_after, IsLawful}
 use Rattle.snoop_model.proofs.OneBlock.OfBlocks.{changed, in_pictures, each_picture, shaped_after}
 use Rattle.snoop_model.proofs.Lines.Answered.{by_request, arrives_length, still_waiting}
@@ -126,13 +126,9 @@ takes_item : (s : Situation) (a : CacheAction) (next : CacheState) (core block w
     → IsLawful (flat_words s.log block) (did_in entry) → IsNextOn s block entry
 takes_item s action.Hit next core block word asking old new answer entry t within there lawful =
     let has = hit_word s next s.log core block word asking old new answer entry there t in
-    let lawful_hit = subst (λ (x : Option Item). IsLawful (flat_words s.log block) (did_in x)) t.1.2 lawful in
-    subst (IsNextOn s block) (sym t.1.2)
-    (record { on = refl; follows = next_lawful s.log core block word asking t.0 true has.1 lawful_hit; logged = (within, has) })
-takes_item s (action.Issue r) next core block word asking old new answer entry t within there lawful = subst (IsNextOn s block) (sym t.2)
-    (record { on = tt; follows = tt; logged = tt })
-takes_item s action.Drop next core block word asking old new answer entry t within there lawful = subst (IsNextOn s block) (sym t.2)
-    (record { on = tt; follows = tt; logged = tt })
+    rw t.1.2 (record { on = refl; follows = next_lawful s.log core block word asking t.0 true has.1 (rw t.1.2 at lawful); logged = (within, has) })
+takes_item s (action.Issue r) next core block word asking old new answer entry t within there lawful = rw t.2 (record { on = tt; follows = tt; logged = tt })
+takes_item s action.Drop next core block word asking old new answer entry t within there lawful = rw t.2 (record { on = tt; follows = tt; logged = tt })
 takes_item s _ next core block word asking old new answer entry t within there lawful = absurd t
 
 pub ask_moves : (old : Situation) (core block word : ℕ) (asking : Op) (answer : Reply) (new : Situation) (entry : Option Item) → Invariant old → IsWithin old core block → HasWord old.shape word asking → Asks old core block word asking answer new entry → Invariant new
@@ -141,6 +137,7 @@ ask_moves old core block word asking answer new entry g within there a =
     let cores : length before.caches ≡ old.shape.cores = g.shaped.row block within.1 in
     let after : Picture = with_line before core a.held in
     let in_row : core < length before.caches = subst (λ (n : ℕ). core < n) (sym cores) within.0 in
+    let here : held_by after core ≡ a.held = get_or-set_same before.caches core a.held nothing_held in_row in
     let k = ask_keeps old core block word asking answer new entry a old.shape.cores (flat_words old.log block) (g.blocks block within.1) within.0 in_row in
     let queues = queues_after a.row.action old.queues core block in
     let whole : Keeps old block after queues entry = record {
@@ -150,12 +147,9 @@ ask_moves old core block word asking answer new entry g within there a =
       opened = λ o is_open. g.opened block o is_open;
       block_after = k.0;
       item = takes_item old a.row.action a.row.next core block word asking (held_by before core) a.held answer entry a.taken within there k.1;
-      accesses = λ c access waits.
-          elim (eqb_tells c core) as (λ _. IsWord old.shape access.word) [
-            | inl h ↦ takes_access old a.row.action a.row.next old.log core block word asking (held_by before core) a.held answer entry a.taken there (g.accesses core block) access
-                (ap (λ (x : Line). x.waiting) (sym (get_or-set_same before.caches core a.held nothing_held in_row)) ∙ subst (λ (x : ℕ). (held_by after x).waiting ≡ Some access) h.1 waits)
-            | inr h ↦ g.accesses c block access (ap (λ (x : Line). x.waiting) (sym (get_or-set_other before.caches core c a.held nothing_held h.1)) ∙ waits)
-          ];
+      accesses = by_core core (λ c. AccessWithin old.shape (held_by after c))
+          (rw here (takes_access old a.row.action a.row.next old.log core block word asking (held_by before core) a.held answer entry a.taken there (g.accesses core block)))
+          (λ c apart. let same : held_by after c ≡ held_by before c = get_or-set_other before.caches core c a.held nothing_held apart in rw same (g.accesses c block));
     } in
     subst Invariant (sym a.after) (kept old block after queues entry g whole)
 
@@ -172,7 +166,7 @@ order_moves old core block q new g within o =
       within = within.1;
       as_wide = o.taken.same_length;
       as_many_queues = length-set old.queues core _;
-      opened = λ t is_open. opened_block o.next.transaction _ t o.opened is_open;
+      opened = λ t is_open. ap (λ (x : Open). x.block) (same_Some _ _ (sym is_open ∙ o.opened));
       block_after = k;
       item = record { on = tt; follows = tt; logged = tt };
       accesses = λ c access waits.
@@ -182,22 +176,17 @@ order_moves old core block q new g within o =
           ];
     } in
     subst Invariant (sym o.after) (kept old block o.next queues entry g whole)
-  where
-    opened_block : (found : Option Open) (t u : Open) → found ≡ Some t → found ≡ Some u → u.block ≡ t.block
-    opened_block found t u e f = let same : t ≡ u = cc in ap (λ (x : Open). x.block) (sym same)
 
 -- the item of a Respond
 arrives_item : (s : Situation) (q : Request) (block : ℕ) (closing : Open) (old new : List Line) (did : Option Did)
     → ArrivesFor q closing s.protocol s.log old new did → closing.block ≡ block → IsWithin s closing.core closing.block
     → AccessWithin s.shape (held_at old closing.core) → IsLawful (flat_words s.log block) did → IsNextOn s block (Some (item.Came (came_of closing) did))
 arrives_item s q block closing old new did arrives placed within waits lawful = elim (by_request q closing s.protocol s.log old new did arrives) [
-  | inl put ↦ subst (λ (x : Option Did). IsNextOn s block (Some (item.Came (came_of closing) x))) (sym put.2) (record { on = tt; follows = tt; logged = tt })
+  | inl put ↦ rw put.2 (record { on = tt; follows = tt; logged = tt })
   | inr f ↦
       let has = waits f.asking f.fills.waited in
-      let lawful_fill = subst (λ (x : Option Did). IsLawful (flat_words s.log closing.block) x) f.logged
-      (subst (λ (b : ℕ). IsLawful (flat_words s.log b) did) (sym placed) lawful) in
-      subst (λ (x : Option Did). IsNextOn s block (Some (item.Came (came_of closing) x))) (sym f.logged)
-      (record {
+      let lawful_fill = rw (f.logged, ← placed) at lawful in
+      rw f.logged (record {
         on = placed;
         follows = next_lawful s.log closing.core closing.block f.asking.word f.asking.op f.value false has.1 lawful_fill;
         logged = (within, has);
@@ -216,7 +205,7 @@ respond_moves old block closing did new g within r =
       within = within;
       as_wide = arrives_length closing.request closing old.protocol old.log before.caches r.next.caches did r.requestor;
       as_many_queues = refl;
-      opened = λ t is_open. absurd (none_open r.next.transaction t r.closed is_open);
+      opened = λ t is_open. absurd (none-some t (sym r.closed ∙ is_open));
       block_after = k.0;
       item = arrives_item old closing.request block closing before.caches r.next.caches did r.requestor placed
           ((g.blocks block within).requestor_in closing r.opened, subst (λ (b : ℕ). b < old.shape.blocks) (sym placed) within)
@@ -226,9 +215,6 @@ respond_moves old block closing did new g within r =
           g.accesses c block access (ap (λ (x : Line). x.waiting) (sym same) ∙ waits);
     } in
     subst Invariant (sym r.after) (kept old block r.next old.queues entry g whole)
-  where
-    none_open : (found : Option Open) (t : Open) → found ≡ None → found ≡ Some t → ⊥
-    none_open found t e f = cc
 
 -- a move keeps the invariant
 pub move_keeps : (block : ℕ) (old : Situation) (step : Step) (answer : Reply) (new : Situation) (entry : Option Item) → Invariant old → MoveOn block old step answer new entry → Invariant new

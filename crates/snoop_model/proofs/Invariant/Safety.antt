@@ -1,5 +1,5 @@
 -- What every machine keeps makes it safe, and its steps keep it.
-use Rattle.std.proofs.Common.{ℕ, List, ◌<◌, ◌≤◌, arith, ap, Option, inl, inr, sym, ◌∙◌, subst, Some, None}
+use Rattle.std.proofs.Common.{ℕ, List, ◌<◌, ◌≤◌, arith, ap, Option, sym, ◌∙◌, subst, Some, None}
 use Rattle.std.specs.Prelude.{◌≡◌, option_map, Result, Ok, Err, IfSome, is_some}
 use Rattle.std.proofs.lemmas.Option.{same_Some}
 use Rattle.snoop_trace.specs.Extent.{Extent}
@@ -19,9 +19,8 @@ use Rattle.snoop_model.specs.Invariant.Invariant.{Invariant}
 use Rattle.snoop_model.specs.Invariant.WellKept.{IsWellKept}
 use Rattle.snoop_model.specs.Invariant.MachineKeeps.{AreOnSenderLines, MachineKeeps}
 use Rattle.snoop_model.specs.Runs.Safe.{IsSafe}
-use Rattle.snoop_model.proofs.Invariant.TableLines.{order_is_line, open_is_by_table}
-use Rattle.snoop_model.proofs.Invariant.OpenLines.{reset_on_lines, move_on_lines}
-use Rattle.snoop_model.proofs.Invariant.Coherence.{has_one_writer, kept_read, readers_current, data_current, memory_current, names_its_block, data_awaited, finds_rows, place}
+use Rattle.snoop_model.proofs.Invariant.TableLines.{order_is_line, open_is_by_table, reset_on_lines, move_on_lines}
+use Rattle.snoop_model.proofs.Invariant.Coherence.{has_one_writer, kept_read, readers_current, data_current, memory_current, names_its_block, data_awaited, each_line, finds_rows}
 use Rattle.snoop_model.proofs.Invariant.Runs.{reset_invariant, nothing_proper, refusal_same}
 use Rattle.snoop_model.proofs.Runs.GoOn.{moves_on}
 use Rattle.snoop_model.proofs.Steps.GoesNext.{order_made}
@@ -33,10 +32,7 @@ use Rattle.snoop_model.proofs.Runs.Along.{kept_along}
 
 -- each line keeps and awaits what its state says
 pub all_proper : (s : Situation) → Invariant s → (core block : ℕ) → IsProper (held_by (picture_of s block) core)
-all_proper s g core block = elim (place s g core block) [
-  | inl within ↦ (g.blocks block within.1).proper core within.0
-  | inr nothing ↦ subst IsProper (sym nothing) nothing_proper
-]
+all_proper s g core block = each_line s g core block IsProper (λ within. (g.blocks block within.1).proper core within.0) nothing_proper
 
 -- a word that a core keeps has its value in flat memory
 pub kept_is_flat : (s : Situation) → Invariant s → s.shape.words ≤ 64 → (core block word : ℕ) → (found : Option ℕ) → IfSome found (λ _. (core < s.shape.cores) × (block < s.shape.blocks) × (word < s.shape.words))

@@ -1,22 +1,29 @@
 -- Each Order that is taken is a line of the table of senders, and each Respond settles memory by the line of its transaction.
-use Rattle.std.proofs.Common.{◌≡◌, ℕ, Option, Some, None, refl, sym, ◌∙◌, ap, subst}
+use Rattle.std.proofs.Common.{◌≡◌, ℕ, ◌<◌, Option, Some, None, refl, inl, inr, sym, ◌∙◌, ap, subst}
 use Rattle.std.specs.Prelude.{IfSome}
 use Rattle.std.proofs.lemmas.Option.{same_Some}
+use Rattle.snoop_trace.specs.Extent.{Extent}
+use Rattle.snoop_trace.specs.declared.step.Step.{Step}
+use Rattle.snoop_trace.specs.declared.step.Step.TheVariants.{Ask, Order, Respond}
+use Rattle.snoop_trace.specs.declared.protocol.Protocol.{Protocol}
+use Rattle.snoop_history.specs.declared.items.Item.{Item}
+use Rattle.snoop_model.specs.declared.replies.Reply.{Reply}
 use Rattle.snoop_rules.specs.declared.names.MemState.{MemState}
 use Rattle.snoop_rules.specs.declared.names.Request.{Request}
-use Rattle.snoop_rules.specs.declared.names.Payload.{Payload}
 use Rattle.snoop_rules.specs.declared.names.MemCell.{MemCell}
 use Rattle.snoop_rules.specs.Takers.{arrival_at_memory, takes_payload}
 use Rattle.snoop_bus.specs.Traffic.{Open}
-use Rattle.snoop_model.specs.Pictures.Picture.{Picture}
-use Rattle.snoop_model.specs.Pictures.Situation.{Situation, picture_of}
+use Rattle.snoop_model.specs.Pictures.Picture.{Picture, with_line}
+use Rattle.snoop_model.specs.Pictures.Situation.{Situation, picture_of, with_picture, reset}
 use Rattle.snoop_model.specs.Pictures.Sends.{Sends}
-use Rattle.snoop_model.specs.Moves.Move.{Settles, Orders}
+use Rattle.snoop_model.specs.Moves.Move.{MoveOn, Orders}
 use Rattle.snoop_model.specs.Moves.SenderTable.{IsSenderLine, IsOpenByTable}
 use Rattle.snoop_model.specs.Invariant.Invariant.{Invariant}
 use Rattle.snoop_model.specs.Invariant.MachineKeeps.{AreOnSenderLines}
 use Rattle.snoop_model.proofs.Invariant.Coherence.{orders_follow_sender_table}
+use Rattle.snoop_model.proofs.Invariant.Runs.{reset_open}
 use Rattle.snoop_model.proofs.OneBlock.AfterMoves.{respond_here}
+use Rattle.snoop_model.proofs.OneBlock.OfBlocks.{in_pictures, each_picture}
 use Rattle.snoop_model.proofs.Steps.IsNext.{settled_is}
 use Rattle.snoop_model.proofs.Tables.SentBy.{sends_is}
 
@@ -31,9 +38,7 @@ order_is_line s g core block q new o =
     (sends_is p before core q o.from f.payload (subst (λ (x : Option ℕ). Sends p before core q x f.payload) from f.sent.sends))
     ∙ sends_is p before core q o.from o.payload o.sent.sends) in
     let memory : f.next ≡ o.next.memory.state = f.ordered.2 ∙ (ap (λ (row : MemCell). row.next) (same_Some _ _ (sym f.ordered.1 ∙ o.memory.1)) ∙ sym o.memory.2) in
-    subst (λ (m : MemState). IsSenderLine p before core q o.from o.payload m) memory
-    (subst (λ (x : Payload). IsSenderLine p before core q o.from x f.next) payload
-    (subst (λ (x : Option ℕ). IsSenderLine p before core q x f.payload f.next) from f.is_line))
+    rw (← from, ← payload, ← memory) f.is_line
 
 -- a Respond taken next closes the transaction and leaves memory in the last state of its line
 pub open_is_by_table : (s : Situation) → Invariant s → AreOnSenderLines s → (block : ℕ) → IfSome (picture_of s block).transaction (IsOpenByTable s block)
@@ -42,10 +47,8 @@ open_is_by_table s g lines block = go (picture_of s block).transaction refl (lin
     memory : MemState
     memory = (picture_of s block).memory.state
 
-    OnLine : Open → Type 0
-    OnLine o = (before : Picture) × IsSenderLine s.protocol before o.core o.request o.from o.payload memory
-
-    go : (found : Option Open) → (picture_of s block).transaction ≡ found → IfSome found OnLine → IfSome found (IsOpenByTable s block)
+    go : (found : Option Open) → (picture_of s block).transaction ≡ found
+        → IfSome found (λ o. (before : Picture) × IsSenderLine s.protocol before o.core o.request o.from o.payload memory) → IfSome found (IsOpenByTable s block)
     go None is line = tt
     go (Some o) is line =
         record {
@@ -55,9 +58,33 @@ open_is_by_table s g lines block = go (picture_of s block).transaction refl (lin
               let r = m.responds in
               let there : picture_of new block ≡ r.next = respond_here s block m.closing m.did new g m.within r in
               let same : m.closing ≡ o = same_Some _ _ (sym r.opened ∙ is) in
-              let settles : Settles s.protocol o.request o.payload memory r.memory.act r.next.memory.state = subst
-              (λ (x : Open). Settles s.protocol x.request x.payload memory r.memory.act r.next.memory.state) same r.memory.settled in
+              let settles = rw same at r.memory.settled in
               let settled = settled_is (takes_payload o.request memory) s.protocol (arrival_at_memory o.payload) memory in
               let done = settled r.memory.act r.next.memory.state settles ∙ sym (settled line.1.act line.1.done line.1.settled) in
               (ap (λ (x : Picture). x.transaction) there ∙ r.closed, ap (λ (x : Picture). x.memory.state) there ∙ ap (λ x. x.1) done);
         }
+
+-- each open transaction is on a line, after each step of a run
+abbrev OnLine : Protocol → Picture → Type 0
+OnLine p picture = IfSome picture.transaction (λ o. (before : Picture) × IsSenderLine p before o.core o.request o.from o.payload picture.memory.state)
+
+on_lines : (old : Situation) → Invariant old → AreOnSenderLines old → (block : ℕ) → block < old.shape.blocks → (next : Picture) → OnLine old.protocol next
+    → AreOnSenderLines (with_picture old block next)
+on_lines old g lines block within next here =
+    each_picture old block next old.queues old.log (λ b. OnLine old.protocol) (in_pictures old block g.shaped within) (λ b apart. lines b) here
+
+-- a move keeps the lines: an Ask changes neither memory nor a transaction
+pub move_on_lines : (block : ℕ) (old : Situation) (step : Step) (answer : Reply) (new : Situation) (entry : Option Item) → Invariant old → AreOnSenderLines old → MoveOn block old step answer new entry → AreOnSenderLines new
+move_on_lines block old (Ask core on word asking) answer new entry g lines m = elim m.moves [
+  | inl absent ↦ subst AreOnSenderLines (sym absent.3) lines
+  | inr a ↦ subst AreOnSenderLines (sym a.after) (on_lines old g lines block m.within.1 (with_line (picture_of old block) core a.held) (lines block))
+]
+move_on_lines block old (Order core) answer new entry g lines m =
+    let o = m.orders in
+    subst AreOnSenderLines (sym o.after) (on_lines old g lines block m.within.1 o.next
+    (rw o.opened (picture_of old block, order_is_line old g core block m.request new o)))
+move_on_lines block old (Respond on) answer new entry g lines m =
+    subst AreOnSenderLines (sym m.responds.after) (on_lines old g lines block m.within m.responds.next (rw m.responds.closed tt))
+
+pub reset_on_lines : (p : Protocol) (shape : Extent) → AreOnSenderLines (reset p shape)
+reset_on_lines p shape block = rw (reset_open p shape block) tt

@@ -1,8 +1,8 @@
 -- What a write in one place does to a list of lists, and to sums over it.
-use Rattle.std.proofs.Common.{◌≡◌, ℕ, zero, suc, ◌+◌, ◌<◌, ◌≤◌, List, [], ◌∷◌, ◌++◌, length, filter, not, Bool, false, cond, Option, Some, None, refl, sym, ◌∙◌, ap, subst, arith, inl, inr, ◌⊎◌, true}
+use Rattle.std.proofs.Common.{◌≡◌, ℕ, zero, suc, ◌+◌, ◌<◌, ◌≤◌, List, [], ◌∷◌, ◌++◌, length, filter, not, Bool, false, cond, Some, refl, sym, ◌∙◌, ap, subst, arith, inl, inr, ◌⊎◌, true}
 use Rattle.std.specs.Prelude.{slice_index_or, slice_set, slice_get, All, ◌==◌, sum_by, count_by}
 use Rattle.std.proofs.lemmas.Bool.{eq-eqb, cases_lt}
-use Rattle.std.proofs.lemmas.Option.{same_Some}
+use Rattle.std.proofs.lemmas.Option.{none-some, same_Some}
 use Rattle.std.proofs.lemmas.List.{set_past, get_or_past, length_push}
 use Rattle.std.proofs.lemmas.List.Elements.{All-head, All-push, All-filter}
 use Rattle.std.proofs.lemmas.List.Sums.{sum_by-set, sum_by-cons, length-filter, count_by-le-length}
@@ -25,29 +25,23 @@ pub first_within : {A : Type 0} (xs : List (List A)) (i : ℕ) (x : A) → slice
 first_within xs i x h = elim (cases_lt i (length xs)) [
   | inl lt ↦ lt
   | inr ge ↦
-      let e : slice_index_or xs i [] ≡ [] = get_or_past xs i [] ge in
-      let clash : ◌≡◌ {A = Option _} None (Some x) = sym (ap (λ l. slice_get l 0) e) ∙ h in
-      cc
+      absurd (none-some x (sym (ap (λ l. slice_get l 0) (get_or_past xs i [] ge)) ∙ h))
 ]
 
 -- what holds of each block of each core's line still holds after an issue and after an Order
 pub all_issued : (P : ℕ → ℕ → Type 0) (lines : List (List ℕ)) (core block : ℕ) → ((k : ℕ) → All (P k) (queue_of lines k)) → P core block → (k : ℕ) → All (P k) (queue_of (after_issue lines core block) k)
 all_issued P lines core block all here k =
-    let Q : List ℕ → Type 0 = λ l. All (P k) l in
-    let R : ℕ → Type 0 = λ j. All (P j) (queue_of lines core ++ block ∷ []) in
     elim (set_cases lines core k (queue_of lines core ++ block ∷ []) []) [
-      | inl p ↦ subst Q (sym p.1) (subst R (sym p.0) (All-push (P core) (queue_of lines core) block (all core) here))
-      | inr e ↦ subst Q (sym e) (all k)
+      | inl p ↦ rw (p.1, p.0) (All-push (P core) (queue_of lines core) block (all core) here)
+      | inr e ↦ rw e (all k)
     ]
 
 pub all_ordered : (P : ℕ → ℕ → Type 0) (lines : List (List ℕ)) (core block : ℕ) → ((k : ℕ) → All (P k) (queue_of lines k)) → (k : ℕ) → All (P k) (queue_of (after_order lines core block) k)
 all_ordered P lines core block all k =
     let left : List ℕ = filter (λ b. not (b == block)) (queue_of lines core) in
-    let Q : List ℕ → Type 0 = λ l. All (P k) l in
-    let R : ℕ → Type 0 = λ j. All (P j) left in
     elim (set_cases lines core k left []) [
-      | inl p ↦ subst Q (sym p.1) (subst R (sym p.0) (All-filter (λ b. not (b == block)) (P core) (queue_of lines core) (all core)))
-      | inr e ↦ subst Q (sym e) (all k)
+      | inl p ↦ rw (p.1, p.0) (All-filter (λ b. not (b == block)) (P core) (queue_of lines core) (all core))
+      | inr e ↦ rw e (all k)
     ]
 
 -- an issue adds one to the requests that wait, and an Order takes one away

@@ -1,8 +1,8 @@
 -- What follows from the invariant of one block.
-use Rattle.std.proofs.Common.{◌≡◌, ◌≢◌, ◌<◌, ◌&&◌, ◌||◌, ◌∙◌, ℕ, List, Bool, true, false, not, cond, eqb, Option, Some, None, refl, inl, inr, ap, sym}
+use Rattle.std.proofs.Common.{◌≡◌, ◌≢◌, ◌<◌, ◌&&◌, ◌||◌, ◌∙◌, ℕ, List, Bool, true, false, not, cond, eqb, Option, Some, None, refl, inl, inr, ap, sym, subst}
 use Rattle.std.specs.Prelude.{is_some}
 use Rattle.std.proofs.lemmas.Bool.Decides.{eqb_tells}
-use Rattle.std.proofs.lemmas.Bool.{and_parts, cases_Bool, eqb-true, ne_eqb, not-true}
+use Rattle.std.proofs.lemmas.Bool.{and_parts, both_ways, cases_Bool, cases_eq, eqb-true, ne_eqb, not-true, or_right}
 use Rattle.snoop_trace.specs.declared.protocol.Protocol.{Protocol}
 use Rattle.snoop_rules.specs.declared.names.CacheState.{CacheState}
 use Rattle.snoop_rules.specs.declared.names.Request.{Request}
@@ -15,26 +15,22 @@ use Rattle.snoop_model.specs.Moves.Move.{moves_to}
 use Rattle.snoop_model.specs.Invariant.Fits.{is_owner, is_sharer, is_clean, in_protocol, same, wait_fits, fits}
 use Rattle.snoop_model.specs.Invariant.Block.{BlockInvariant, talk_of, awaited, owns}
 use Rattle.snoop_model.proofs.Tables.Every.{same_is}
-use Rattle.snoop_model.proofs.Tables.RespondTests.{writes}
-use Rattle.snoop_model.proofs.Tables.StateTests.{alone_rule, calm_talk, carries, is_calm, kept_reader, owned_rule}
+use Rattle.snoop_model.proofs.Tables.StateTests.{alone_rule, calm_talk, carries, fits_calm, is_calm, kept_reader, owned_rule}
 use Rattle.snoop_model.specs.Pictures.Proper.{keeps}
 
-pub or_true : (b : Bool) → (b || true) ≡ true
-or_true true = refl
-or_true false = refl
+-- what holds of one core and of each other holds of each
+pub by_core : (c : ℕ) (P : ℕ → Type 0) → P c → ((d : ℕ) → d ≢ c → P d) → (d : ℕ) → P d
+by_core c P here others d = elim (cases_eq d c) [ inl e ↦ subst P (sym e) here | inr apart ↦ others d apart ]
 
 pub some_is : {A : Type 0} (o : Option A) (a b : A) → o ≡ Some a → o ≡ Some b → a ≡ b
 some_is o a b e f = cc
-
-pub some_true : {A : Type 0} (o : Option A) (a : A) → o ≡ Some a → is_some o ≡ true
-some_true o a e = rw e refl
 
 pub not_eqb_true : (d c : ℕ) → d ≢ c → not (eqb d c) ≡ true
 not_eqb_true d c apart = rw (ne_eqb d c apart) refl
 
 pub owns_owned : (owner : Option ℕ) (d : ℕ) (b : Bool) → is_some owner ≡ b → (not (owns owner d) || b) ≡ true
 owns_owned None d b e = refl
-owns_owned (Some o) d b e = rw (← e) (or_true (not (eqb d o)))
+owns_owned (Some o) d b e = rw (← e) (or_right (not (eqb d o)) true refl)
 
 -- two cores do not both own
 pub owns_apart : (owner : Option ℕ) (c d : ℕ) → d ≢ c → not (owns owner d && owns owner c) ≡ true
@@ -87,9 +83,6 @@ carried_by old new next state kept carry =
 pub came_to : (old new : Line) (next : CacheState) → new ≡ moves_to next old → carries old.state next ≡ true → Carried old new
 came_to old new next comes carry = carried_by old new next (ap (λ (x : Line). x.state) comes) (λ e. ap (λ (x : Line). x.kept) comes ∙ kept_reader next old.kept e) carry
 
-pub clash : (b : Bool) → b ≡ true → b ≡ false → ⊥
-clash b e f = cc
-
 -- while a core owns the block, memory's value and data under way are claimed of nobody
 pub record Alone (p : Protocol) (n : ℕ) (flat : List ℕ) (picture : Picture) (g : BlockInvariant p n flat picture) : Type 0 where
   pub unshared : g.claims.shared ≡ false
@@ -115,8 +108,7 @@ pub others_blind : (p : Protocol) (n : ℕ) (flat : List ℕ) (picture : Picture
 others_blind p n flat picture g is_owned d d_in not_owner =
     let a = owned_alone p n flat picture g is_owned in
     let fit : fits p false false (awaited picture.transaction d) (held_by picture d).state ≡ true = rw (a.unshared, not_owner) at (g.states d d_in) in
-    not-true (keeps (held_by picture d).state) (alone_rule p (awaited picture.transaction d) (held_by picture d).state
-    (calm_wait picture.transaction d a.calm) fit)
+    alone_rule p (held_by picture d).state (fits_calm p false false (awaited picture.transaction d) (held_by picture d).state (calm_wait picture.transaction d a.calm) fit)
 
 pub owner_is : (owner : Option ℕ) (d : ℕ) → owns owner d ≡ true → owner ≡ Some d
 owner_is None d h = cc
@@ -129,16 +121,13 @@ pub owns_one : (owner : Option ℕ) (c d : ℕ) → owns owner c ≡ true → d 
 owns_one owner c d h apart = not-true (owns owner d) (rw (owner_is owner c h) (not_eqb_true d c apart))
 
 -- one writer alone, or only readers
-pub one_writer : (p : Protocol) (n : ℕ) (flat : List ℕ) (picture : Picture) → BlockInvariant p n flat picture → (c d : ℕ) → c < n → d < n → is_owner (held_by picture c).state ≡ true → d ≢ c → keeps (held_by picture d).state ≡ false
-one_writer p n flat picture g c d c_in d_in writes apart =
-    let fit = g.states c c_in in
-    let owning : owns g.owner c ≡ true = sym (fits_is_owner p g.claims.shared (owns g.owner c) (awaited picture.transaction c) (held_by picture c).state fit) ∙ writes in
-    others_blind p n flat picture g (owner_owned p n flat picture g c owning) d d_in (owns_one g.owner c d owning apart)
+pub one_writer : (p : Protocol) (n : ℕ) (flat : List ℕ) (picture : Picture) (g : BlockInvariant p n flat picture) (c d : ℕ) → d < n → owns g.owner c ≡ true → d ≢ c → keeps (held_by picture d).state ≡ false
+one_writer p n flat picture g c d d_in owning apart = others_blind p n flat picture g (owner_owned p n flat picture g c owning) d d_in (owns_one g.owner c d owning apart)
 
 pub calm_carries : (t : Option Open) (o : Open) → calm_talk (talk_of t) ≡ true → t ≡ Some o → carries_value o.payload ≡ true → ⊥
 calm_carries t o h e carrying =
     let h2 : calm_talk (talk_of (Some o)) ≡ true = ap (λ (x : Option Open). calm_talk (talk_of x)) (sym e) ∙ h in
-    clash (carries_value o.payload) carrying (not-true (carries_value o.payload) (and_parts (is_put_m o.request) (not (carries_value o.payload)) h2).1)
+    both_ways _ (not-true _ (and_parts (is_put_m o.request) _ h2).1) carrying
 
 pub none_of : (o : Option ℕ) → is_some o ≡ false → o ≡ None
 none_of None e = refl

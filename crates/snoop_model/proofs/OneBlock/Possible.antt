@@ -1,12 +1,10 @@
 -- Each step finds its rows, and an Order exactly one sender.
-use Rattle.std.proofs.Common.{◌≡◌, ◌≢◌, ◌<◌, ◌&&◌, ◌⊎◌, ◌∙◌, ℕ, length, List, Bool, true, false, not, cond, Option, Some, None, refl, inl, inr, ap, sym, subst}
+use Rattle.std.proofs.Common.{◌≡◌, ◌≢◌, ◌<◌, ◌&&◌, ◌⊎◌, ◌∙◌, ℕ, length, List, Bool, true, false, not, cond, Option, Some, None, refl, inl, inr, ap, sym}
 use Rattle.std.specs.Prelude.{is_some}
-use Rattle.std.proofs.lemmas.Bool.Decides.{eqb_tells}
-use Rattle.std.proofs.lemmas.Bool.{and_parts, cases_Bool, cases_eq, eq-eqb, ne_eqb, not-true}
+use Rattle.std.proofs.lemmas.Bool.{and_parts, both_ways, cases_Bool, cases_eq, eq-eqb, ne_eqb, not-true}
 use Rattle.snoop_trace.specs.declared.step.Op.{Op}
 use Rattle.snoop_trace.specs.declared.protocol.Protocol.{Protocol}
 use Rattle.snoop_rules.specs.declared.names.CacheState.{CacheState}
-use Rattle.snoop_rules.specs.declared.names.CacheEvent.{CacheEvent}
 use Rattle.snoop_rules.specs.declared.names.Request.{Request}
 use Rattle.snoop_rules.specs.declared.names.Payload.{Payload}
 use Rattle.snoop_rules.specs.Waits.{waiting_request}
@@ -15,7 +13,7 @@ use Rattle.snoop_rules.specs.declared.names.CacheCell.{CacheCell}
 use Rattle.snoop_rules.specs.declared.names.MemCell.{MemCell}
 use Rattle.snoop_rules.specs.Cell.{cell_of}
 use Rattle.snoop_rules.specs.MemoryCell.{memory_cell_of}
-use Rattle.snoop_rules.specs.WhoSends.{Memory, Requestor, Other, sender_of}
+use Rattle.snoop_rules.specs.WhoSends.{sender_of}
 use Rattle.snoop_rules.proofs.Every.{all_states-at}
 use Rattle.snoop_history.specs.Totals.{is_put_m}
 use Rattle.snoop_bus.specs.Traffic.{Open}
@@ -23,11 +21,11 @@ use Rattle.snoop_model.specs.Pictures.Picture.{Picture, held_by}
 use Rattle.snoop_model.specs.Pictures.Sends.{Sends, IsOnlySender}
 use Rattle.snoop_model.proofs.Tables.SentBy.{payload_from, sends_is, sends_row, memory_sends_row}
 use Rattle.snoop_model.specs.Invariant.Fits.{claims_of, in_protocol, fits}
-use Rattle.snoop_model.specs.Invariant.Block.{BlockInvariant, talk_of, awaited, owns}
+use Rattle.snoop_model.specs.Invariant.Block.{BlockInvariant, awaited, owns}
 use Rattle.snoop_model.proofs.Tables.Every.{either-at, some_of, when_at}
 use Rattle.snoop_model.proofs.Tables.SenderTests.{follows_sender_table}
-use Rattle.snoop_model.proofs.OneBlock.Facts.{implied, clash, owner_is, none_of}
-use Rattle.snoop_model.proofs.OneBlock.OrderStep.{Looked, look, end_of, other_of, other_cell, sent_payload, seen_own, seen_other, Roles, roles}
+use Rattle.snoop_model.proofs.OneBlock.Facts.{by_core, implied, owner_is, none_of}
+use Rattle.snoop_model.proofs.OneBlock.OrderStep.{Looked, look, end_of, other_of, other_cell, sent_payload, seen_own, seen_other, memory_sends, requestor_sends, others_send, owner_puts}
 use Rattle.snoop_model.proofs.OneBlock.AskStep.{right_of}
 use Rattle.snoop_model.proofs.Tables.AskTests.{ask_row, is_idle_evict}
 use Rattle.snoop_model.proofs.Tables.OrderTests.{order_rule}
@@ -44,107 +42,81 @@ pub record Possible (p : Protocol) (before : Picture) (c : ℕ) (q : Request) : 
   pub sender : IsOnlySender p before c q from payload
   pub order_line : follows_sender_table p q before.memory.state (sender_of c (λ k. (held_by before k).state) from) payload cell_of_memory.next ≡ true
 
-possible_rows : (p : Protocol) (flat : List ℕ) (before : Picture) (c : ℕ) (q : Request) (l : Looked p flat before c q) (d : ℕ) → d < length before.caches → (r : CacheCell) × (cell_of p (held_by before d).state (seen_by d c q) ≡ Some r)
-possible_rows p flat before c q l d d_in = elim (eqb_tells d c) as (λ _. (r : CacheCell) × (cell_of p (held_by before d).state (seen_by d c q) ≡ Some r)) [
-  | inl h ↦ (l.oc, subst (λ (x : ℕ). cell_of p (held_by before x).state (seen_by x c q) ≡ Some l.oc) (sym h.1) (ap (λ (e : CacheEvent). cell_of p (held_by before c).state e) (seen_own c q) ∙ l.is_oc))
-  | inr h ↦
-      let x = other_cell p flat before c q l d d_in in
-      (x.0, ap (λ (e : CacheEvent). cell_of p (held_by before d).state e) (seen_other d c q h.1) ∙ x.1)
-]
-
--- who is meant to send
-abbrev pub meant : Request → ℕ → Option ℕ → Option ℕ
-meant q c owner = cond (is_put_m q) (Some c) owner
-
-only : (p : Protocol) (flat : List ℕ) (before : Picture) (c : ℕ) (q : Request) (l : Looked p flat before c q) → Roles p flat before c q l → (another : Option ℕ) (sent : Payload) → Sends p before c q another sent → another ≡ meant q c l.good.owner
-only p flat before c q l roles None sent sends =
-    let h = and_parts (not (is_put_m q)) (not l.good.claims.owned) (sym roles.memory ∙ ap is_some (sends_is p before c q None sent sends)) in
-    sym (rw (not-true (is_put_m q) h.0) (none_of l.good.owner (l.good.is_owned ∙ not-true l.good.claims.owned h.1)))
-only p flat before c q l roles (Some d) sent sends =
-    let does : is_some (payload_from p before c q (Some d)) ≡ true = ap is_some (sends_is p before c q (Some d) sent sends) in
-    elim (cases_eq d c) as (λ _. Some d ≡ meant q c l.good.owner) [
-      | inl e ↦ let put : is_put_m q ≡ true = sym roles.requestor ∙ (rw e at does) in rw put (ap (λ (x : ℕ). Some x) e)
-      | inr apart ↦
-          let both = and_parts (owns l.good.owner d) (not (is_put_m q)) (sym (roles.others d sends.0 apart) ∙ does) in
-          rw (not-true (is_put_m q) both.1) (sym (owner_is l.good.owner d both.0))
-    ]
-
--- the sender sends, and its line is in the table
-pub record Sent (p : Protocol) (flat : List ℕ) (before : Picture) (c : ℕ) (q : Request) (l : Looked p flat before c q) : Type 0 where
-  pub payload : Payload
-  pub sends : Sends p before c q (meant q c l.good.owner) payload
-  pub order_line : follows_sender_table p q before.memory.state (sender_of c (λ k. (held_by before k).state) (meant q c l.good.owner)) l.pl l.mc.next ≡ true
-
-sent_put : (p : Protocol) (flat : List ℕ) (before : Picture) (c : ℕ) (q : Request) (l : Looked p flat before c q) → Roles p flat before c q l → is_put_m q ≡ true → Sent p flat before c q l
-sent_put p flat before c q l roles put =
-    let x = some_of (payload_from p before c q (Some c)) (roles.requestor ∙ put) in
-    let line : follows_sender_table p q before.memory.state (Requestor (held_by before c).state) l.pl l.mc.next ≡ true = implied (is_put_m q) _
-    (end_of p flat before c q l OrderTests.order_line_of_put) put in
-    let who : meant q c l.good.owner ≡ Some c = rw put refl in
-    record {
-      payload = x.0;
-      sends = subst (λ (w : Option ℕ). Sends p before c q w x.0) (sym who) (l.requestor_in, sends_row _ _ x.1);
-      order_line = subst (λ (w : Option ℕ). follows_sender_table p q before.memory.state (sender_of c (λ k. (held_by before k).state) w) l.pl l.mc.next ≡ true) (sym who) (rw (eq-eqb c c refl) line);
-    }
-
-sent_memory : (p : Protocol) (flat : List ℕ) (before : Picture) (c : ℕ) (q : Request) (l : Looked p flat before c q) → Roles p flat before c q l → is_put_m q ≡ false → l.good.claims.owned ≡ false → Sent p flat before c q l
-sent_memory p flat before c q l roles no_put unowned =
-    let x = some_of (payload_from p before c q None) (roles.memory ∙ rw (no_put, unowned) refl) in
-    let line : follows_sender_table p q before.memory.state Memory l.pl l.mc.next ≡ true = implied (not (is_put_m q) && not l.good.claims.owned) _
-    (end_of p flat before c q l OrderTests.order_line_of_memory) (rw (no_put, unowned) refl) in
-    let who : meant q c l.good.owner ≡ None = rw no_put (none_of l.good.owner (l.good.is_owned ∙ unowned)) in
-    record {
-      payload = x.0;
-      sends = subst (λ (w : Option ℕ). Sends p before c q w x.0) (sym who) (memory_sends_row _ _ x.1);
-      order_line = subst (λ (w : Option ℕ). follows_sender_table p q before.memory.state (sender_of c (λ k. (held_by before k).state) w) l.pl l.mc.next ≡ true) (sym who) line;
-    }
-
-sent_owner : (p : Protocol) (flat : List ℕ) (before : Picture) (c : ℕ) (q : Request) (l : Looked p flat before c q) → Roles p flat before c q l → is_put_m q ≡ false → (d : ℕ) → l.good.owner ≡ Some d → Sent p flat before c q l
-sent_owner p flat before c q l roles no_put d is_d =
-    let d_in = l.good.owner_in d is_d in
-    let owning : owns l.good.owner d ≡ true = rw is_d (eq-eqb d d refl) in
-    let apart : d ≢ c = λ e. clash (is_put_m q) (roles.puts (ap (owns l.good.owner) (sym e) ∙ owning)) no_put in
-    let xc = other_cell p flat before c q l d d_in in
-    let x = some_of (payload_from p before c q (Some d)) (roles.others d d_in apart ∙ rw (owning, no_put) refl) in
-    let line : follows_sender_table p q before.memory.state (Other (held_by before d).state) l.pl l.mc.next ≡ true = implied
-    (owns l.good.owner d && not (is_put_m q)) _ (other_of p flat before c q l OrderTests.order_line_of_core d d_in apart xc.0 xc.1)
-    (rw (owning, no_put) refl) in
-    let who : meant q c l.good.owner ≡ Some d = rw no_put is_d in
-    record {
-      payload = x.0;
-      sends = subst (λ (w : Option ℕ). Sends p before c q w x.0) (sym who) (d_in, sends_row _ _ x.1);
-      order_line = subst (λ (w : Option ℕ). follows_sender_table p q before.memory.state (sender_of c (λ k. (held_by before k).state) w) l.pl l.mc.next ≡ true)
-          (sym who) (rw (ne_eqb d c apart) line);
-    }
-
 some_or_none : (o : Option ℕ) → (o ≡ None) ⊎ ((d : ℕ) × (o ≡ Some d))
 some_or_none None = inl refl
 some_or_none (Some d) = inr (d, refl)
 
-sent : (p : Protocol) (flat : List ℕ) (before : Picture) (c : ℕ) (q : Request) (l : Looked p flat before c q) → Roles p flat before c q l → Sent p flat before c q l
-sent p flat before c q l roles = elim (cases_Bool (is_put_m q)) as (λ _. Sent p flat before c q l) [
-  | inl put ↦ sent_put p flat before c q l roles put
-  | inr no_put ↦ elim (some_or_none l.good.owner) as (λ _. Sent p flat before c q l) [
-    | inl none ↦ sent_memory p flat before c q l roles no_put (sym l.good.is_owned ∙ rw none refl)
-    | inr some ↦ sent_owner p flat before c q l roles no_put some.0 some.1
+-- who is meant to send
+abbrev meant : Request → ℕ → Option ℕ → Option ℕ
+meant q c owner = cond (is_put_m q) (Some c) owner
+
+-- what an Order finds of a picture that keeps its invariant
+module _ (p : Protocol) (flat : List ℕ) (before : Picture) (c : ℕ) (q : Request) (l : Looked p flat before c q) where
+  possible_rows : (d : ℕ) → d < length before.caches → (r : CacheCell) × (cell_of p (held_by before d).state (seen_by d c q) ≡ Some r)
+  possible_rows = by_core c (λ d. d < length before.caches → (r : CacheCell) × (cell_of p (held_by before d).state (seen_by d c q) ≡ Some r))
+      (λ c_in. (l.oc, rw (seen_own c q) l.is_oc))
+      (λ d apart d_in. rw (seen_other d c q apart) (other_cell p flat before c q l d d_in))
+
+  only : (another : Option ℕ) (sent : Payload) → Sends p before c q another sent → another ≡ meant q c l.good.owner
+  only None sent sends =
+      let h = and_parts (not (is_put_m q)) (not l.good.claims.owned) (sym (memory_sends p flat before c q l) ∙ ap is_some (sends_is p before c q None sent sends)) in
+      sym (rw (not-true (is_put_m q) h.0) (none_of l.good.owner (l.good.is_owned ∙ not-true l.good.claims.owned h.1)))
+  only (Some d) sent sends =
+      let does : is_some (payload_from p before c q (Some d)) ≡ true = ap is_some (sends_is p before c q (Some d) sent sends) in
+      elim (cases_eq d c) [
+        | inl e ↦ let put : is_put_m q ≡ true = sym (requestor_sends p flat before c q l) ∙ (rw e at does) in rw put (ap (λ (x : ℕ). Some x) e)
+        | inr apart ↦
+            let both = and_parts (owns l.good.owner d) (not (is_put_m q)) (sym (others_send p flat before c q l d sends.0 apart) ∙ does) in
+            rw (not-true (is_put_m q) both.1) (sym (owner_is l.good.owner d both.0))
+      ]
+
+  -- this controller sends, and its line is in the table
+  abbrev SendsOnLine : Option ℕ → Type 0
+  SendsOnLine from =
+      (payload : Payload) × (Sends p before c q from payload × (follows_sender_table p q before.memory.state (sender_of c (λ k. (held_by before k).state) from) l.pl l.mc.next ≡ true))
+
+  sent_put : is_put_m q ≡ true → SendsOnLine (Some c)
+  sent_put put =
+      let x = some_of (payload_from p before c q (Some c)) (requestor_sends p flat before c q l ∙ put) in
+      (x.0, ((l.requestor_in, sends_row _ _ x.1), rw (eq-eqb c c refl) (implied (is_put_m q) _ (end_of p flat before c q l OrderTests.order_line_of_put) put)))
+
+  sent_memory : is_put_m q ≡ false → l.good.claims.owned ≡ false → SendsOnLine None
+  sent_memory no_put unowned =
+      let x = some_of (payload_from p before c q None) (memory_sends p flat before c q l ∙ rw (no_put, unowned) refl) in
+      (x.0, (memory_sends_row _ _ x.1, implied (not (is_put_m q) && not l.good.claims.owned) _ (end_of p flat before c q l OrderTests.order_line_of_memory) (rw (no_put, unowned) refl)))
+
+  sent_owner : is_put_m q ≡ false → (d : ℕ) → l.good.owner ≡ Some d → SendsOnLine (Some d)
+  sent_owner no_put d is_d =
+      let d_in = l.good.owner_in d is_d in
+      let owning : owns l.good.owner d ≡ true = rw is_d (eq-eqb d d refl) in
+      let apart : d ≢ c = λ e. both_ways (is_put_m q) no_put (owner_puts p flat before c q l (rw e at owning)) in
+      let xc = other_cell p flat before c q l d d_in in
+      let x = some_of (payload_from p before c q (Some d)) (others_send p flat before c q l d d_in apart ∙ rw (owning, no_put) refl) in
+      let line = implied (owns l.good.owner d && not (is_put_m q)) _ (other_of p flat before c q l OrderTests.order_line_of_core d d_in apart xc.0 xc.1) (rw (owning, no_put) refl) in
+      (x.0, ((d_in, sends_row _ _ x.1), rw (ne_eqb d c apart) line))
+
+  sent : SendsOnLine (meant q c l.good.owner)
+  sent = elim (cases_Bool (is_put_m q)) [
+    | inl put ↦ rw put (sent_put put)
+    | inr no_put ↦ elim (some_or_none l.good.owner) [
+      | inl none ↦ rw (no_put, none) (sent_memory no_put (sym l.good.is_owned ∙ rw none refl))
+      | inr some ↦ rw (no_put, some.1) (sent_owner no_put some.0 some.1)
+    ]
   ]
-]
 
 -- an Order finds all its rows and exactly one sender, and is a line of the table of Orders
 pub order_possible : (p : Protocol) (flat : List ℕ) (before : Picture) (c : ℕ) (q : Request) → BlockInvariant p (length before.caches) flat before → c < length before.caches → waiting_request (held_by before c).state ≡ Some q → before.transaction ≡ None → Possible p before c q
 order_possible p flat before c q good c_in waits calm =
     let l = look p flat before c q good c_in waits calm in
-    let r = roles p flat before c q l in
-    let s = sent p flat before c q l r in
-    let same_payload : s.payload ≡ l.pl = sent_payload p flat before c q l (meant q c l.good.owner) s.payload s.sends in
+    let s = sent p flat before c q l in
     record {
       rows = possible_rows p flat before c q l;
       cell_of_memory = l.mc;
       memory_row = l.is_mc;
       from = meant q c l.good.owner;
-      payload = s.payload;
-      sender = record { sends = s.sends; alone = only p flat before c q l r };
-      order_line = subst (λ (x : Payload). follows_sender_table p q before.memory.state (sender_of c (λ k. (held_by before k).state) (meant q c l.good.owner)) x l.mc.next ≡ true) (sym same_payload) s.order_line;
+      payload = s.0;
+      sender = record { sends = s.1.0; alone = only p flat before c q l };
+      order_line = rw (sent_payload p flat before c q l (meant q c l.good.owner) s.0 s.1.0) s.1.1;
     }
 
 fits_protocol : (p : Protocol) (shared ow : Bool) (w : Option Request) (s : CacheState) → fits p shared ow w s ≡ true → in_protocol p s ≡ true
@@ -168,15 +140,15 @@ respond_possible p n flat before o good was_open =
     let c = o.core in
     let s = (held_by before c).state in
     let ow = owns good.owner c in
-    let is_claims : claims_of p before.memory.state (Some (o.request, o.payload)) ≡ Some good.claims = ap (λ (t : Option Open). claims_of p before.memory.state (talk_of t)) (sym was_open) ∙ good.is_claims in
-    let waits : awaited before.transaction c ≡ Some o.request = ap (λ (t : Option Open). awaited t c) was_open ∙ rw (eq-eqb c c refl) refl in
-    let fit : fits p good.claims.shared ow (Some o.request) s ≡ true = ap (λ (w : Option Request). fits p good.claims.shared ow w s) (sym waits) ∙ good.states c (good.requestor_in o was_open) in
+    let is_claims : claims_of p before.memory.state (Some (o.request, o.payload)) ≡ Some good.claims = rw was_open at good.is_claims in
+    let waits : awaited before.transaction c ≡ Some o.request = rw (was_open, eq-eqb c c refl) refl in
+    let fit : fits p good.claims.shared ow (Some o.request) s ≡ true = rw waits at (good.states c (good.requestor_in o was_open)) in
     record {
       memory = λ h.
-          let t = respond_rule RespondTests.has_memory_arrival p before.memory.state o.request o.payload good.claims is_claims in
+          let t = respond_rule p before.memory.state o.request o.payload good.claims is_claims RespondTests.has_memory_arrival in
           some_of (memory_row_for p before.memory.state (arrival_at_memory o.payload)) (implied (takes_payload o.request before.memory.state) _ t h);
       requestor = λ no_put.
           let get : not (is_put_m o.request) ≡ true = rw no_put refl in
-          let test_first = when_at _ _ get (respond_rule RespondTests.has_arrival p before.memory.state o.request o.payload good.claims is_claims) in
+          let test_first = when_at _ _ get (respond_rule p before.memory.state o.request o.payload good.claims is_claims RespondTests.has_arrival) in
           some_of (row_for p s (arrival o.payload)) (when_at _ _ fit (either-at _ (all_states-at _ test_first s) ow));
     }

@@ -1,5 +1,5 @@
--- From every situation of a run each step leads on: it is a move, or refused for a cause.
-use Rattle.std.proofs.Common.{None, List, [], ◌∷◌, Option, refl, sym, subst}
+-- From every situation of a run each step leads on, in one way: it is a move, or refused for a cause.
+use Rattle.std.proofs.Common.{◌≡◌, None, List, [], ◌∷◌, Option, refl, ap, sym, ◌∙◌, subst}
 use Rattle.std.specs.Prelude.{Result, Ok, Err}
 use Rattle.snoop_trace.specs.Extent.{Extent}
 use Rattle.snoop_trace.specs.declared.step.Step.{Step}
@@ -20,6 +20,7 @@ use Rattle.snoop_model.proofs.Queues.Moves.{keeps_well, starts_well}
 use Rattle.snoop_model.proofs.Steps.Next.{next_of}
 use Rattle.snoop_model.proofs.Queues.Waiting.{AreQueued}
 use Rattle.snoop_model.proofs.Steps.GoesNext.{goes_next}
+use Rattle.snoop_model.proofs.Steps.IsNext.{goes_is}
 use Rattle.snoop_model.proofs.Runs.Along.{kept_along}
 
 -- a step that is not refused is a move, an Order's on the first block of its core's queue
@@ -58,3 +59,18 @@ runs_on (step ∷ steps) s steady =
     let goes = goes_next s steady.0 steady.1.queued step in
     let rest = runs_on steps next.1 (steady_on keeps_well s step next.0 next.1 steady goes) in
     (next.0 ∷ rest.0, (rest.1.0, (next.1, (goes, rest.1.1))))
+
+-- the run of some steps is the only one: each step comes to what is computed of it
+pub run_one : (steps : List Step) (outcomes outcomes' : List (Result Reply Refused)) (old new new' : Situation) → IsSteady old
+    → FirstRunFrom old steps outcomes new → FirstRunFrom old steps outcomes' new' → (outcomes ≡ outcomes') × (new ≡ new')
+run_one [] [] [] old new new' steady a b = (refl, a ∙ sym b)
+run_one (step ∷ steps) (outcome ∷ outcomes) (outcome' ∷ outcomes') old new new' steady a b =
+    let is = goes_is old steady.1.queued step in
+    let here = is outcome a.0 a.1.0 ∙ sym (is outcome' b.0 b.1.0) in
+    let rest : FirstRunFrom a.0 steps outcomes' new' = subst (λ (m : Situation). FirstRunFrom m steps outcomes' new') (sym (ap (λ x. x.1) here)) b.1.1 in
+    let on = run_one steps outcomes outcomes' a.0 new new' (steady_on keeps_well old step outcome a.0 steady a.1.0) a.1.1 rest in
+    (ap (λ x. x.0 ∷ outcomes) here ∙ ap (λ l. outcome' ∷ l) on.0, on.1)
+run_one [] (outcome ∷ outcomes) outcomes' old new new' steady a b = absurd a
+run_one [] [] (outcome ∷ outcomes) old new new' steady a b = absurd b
+run_one (step ∷ steps) [] outcomes' old new new' steady a b = absurd a
+run_one (step ∷ steps) (outcome ∷ outcomes) [] old new new' steady a b = absurd b

@@ -17,7 +17,6 @@ use Rattle.snoop_rules.proofs.Every.{all_protocols, all_protocols-at, all_states
 use Rattle.snoop_model.specs.Invariant.Fits.{claims_of, is_owner, is_sharer, is_clean, wait_fits, in_protocol, same, fits}
 use Rattle.snoop_model.proofs.Tables.Every.{either, either-at, when, when_at, given, given_at, all_asks, all_asks-at, all_waits, all_waits-at}
 use Rattle.snoop_model.proofs.Tables.StateTests.{is_hit, carries}
-use Rattle.snoop_model.specs.Pictures.Proper.{keeps}
 
 abbrev pub is_stall : CacheAction → Bool
 is_stall action.Stall = true
@@ -41,13 +40,11 @@ asks k = all_protocols (λ p. either (λ shared. either (λ ow. all_waits (λ w.
 pub data AskQuestion : Type 0 where
   ask_fits : AskQuestion
   ask_carries : AskQuestion
-  ask_hit_reads : AskQuestion
   ask_store_owns : AskQuestion
 
 abbrev pub ask_test : AskQuestion → AskTest
 ask_test ask_fits p shared ow w s e r = is_stall r.action || fits p shared ow w r.next
 ask_test ask_carries p shared ow w s e r = is_stall r.action || ((is_hit r.action && is_store e) || carries s r.next)
-ask_test ask_hit_reads p shared ow w s e r = not (is_hit r.action) || keeps s
 ask_test ask_store_owns p shared ow w s e r = not (is_hit r.action && is_store e) || (ow && not (is_clean r.next))
 
 ask_holds : (k : AskQuestion) → asks (ask_test k) ≡ true

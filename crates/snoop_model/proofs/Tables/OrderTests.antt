@@ -42,16 +42,6 @@ order_case k p m sr or =
 unfoldable pub orders : OrderTest → Bool
 orders k = all_protocols (λ p. all_memories (λ m. all_states (λ sr. either (λ or. order_case k p m sr or))))
 
-each_order : (k : OrderTest) → orders k ≡ true → (p : Protocol) (m : MemState) (st : Claims) (sr : CacheState) (or : Bool) (q : Request)
-    → claims_of p m None ≡ Some st → fits p st.shared or None sr ≡ true → (not or || st.owned) ≡ true → waiting_request sr ≡ Some q → k p m st sr or q ≡ true
-unfolding orders order_case
-each_order k h p m st sr or q is_claims is_fit is_owned is_waiting =
-    let h0 : order_case k p m sr or ≡ true = either-at _ (all_states-at _ (all_memories-at _ (all_protocols-at _ h p) m) sr) or in
-    let h1 = given_at _ _ st is_claims h0 in
-    let h2 = when_at _ _ is_fit h1 in
-    let h3 = when_at _ _ is_owned h2 in
-    given_at _ _ q is_waiting h3
-
 -- an Order to its end: memory's row, the requestor's, the payload and the line after it
 abbrev pub EndTest : Type 0
 EndTest = (p : Protocol) (m : MemState) (st : Claims) (sr : CacheState) (or : Bool) (q : Request) (mc : MemCell) (oc : CacheCell) (pl : Payload) (st2 : Claims) → Bool
@@ -59,17 +49,6 @@ EndTest = (p : Protocol) (m : MemState) (st : Claims) (sr : CacheState) (or : Bo
 abbrev pub end_case : EndTest → OrderTest
 end_case k p m st sr or q =
     given (memory_cell_of p m (at_memory q)) (λ mc. given (cell_of p sr (own q)) (λ oc. given (payload_of oc mc) (λ pl. given (claims_of p mc.next (Some (q, pl))) (λ st2. k p m st sr or q mc oc pl st2))))
-
-each_end : (k : EndTest) → orders (end_case k) ≡ true → (p : Protocol) (m : MemState) (st : Claims) (sr : CacheState) (or : Bool) (q : Request) (mc : MemCell)
-    (oc : CacheCell) (pl : Payload) (st2 : Claims) → claims_of p m None ≡ Some st → fits p st.shared or None sr ≡ true → (not or || st.owned) ≡ true
-    → waiting_request sr ≡ Some q → memory_cell_of p m (at_memory q) ≡ Some mc → cell_of p sr (own q) ≡ Some oc → payload_of oc mc ≡ Some pl
-    → claims_of p mc.next (Some (q, pl)) ≡ Some st2 → k p m st sr or q mc oc pl st2 ≡ true
-each_end k h p m st sr or q mc oc pl st2 is_claims is_fit is_owned is_waiting is_mc is_oc is_pl is_st2 =
-    let h0 : end_case k p m st sr or q ≡ true = each_order (end_case k) h p m st sr or q is_claims is_fit is_owned is_waiting in
-    let h1 = given_at _ _ mc is_mc h0 in
-    let h2 = given_at _ _ oc is_oc h1 in
-    let h3 = given_at _ _ pl is_pl h2 in
-    given_at _ _ st2 is_st2 h3
 
 -- another core at that Order: its state, whether it owns, and its row
 abbrev pub OtherTest : Type 0
@@ -94,10 +73,6 @@ order_holds : (k : OrderQuestion) → orders (order_test k) ≡ true
 unfolding orders order_case other_case all_protocols all_memories all_states all_requests either given when claims_of fits is_owner is_sharer is_clean wait_fits in_protocol same is_sender_line
 order_holds has_rows = refl
 order_holds owner_only_puts = refl
-
-pub order_rule : (k : OrderQuestion) (p : Protocol) (m : MemState) (st : Claims) (sr : CacheState) (or : Bool) (q : Request) → claims_of p m None ≡ Some st
-    → fits p st.shared or None sr ≡ true → (not or || st.owned) ≡ true → waiting_request sr ≡ Some q → order_test k p m st sr or q ≡ true
-order_rule k = each_order (order_test k) (order_holds k)
 
 -- what is asked of its end
 pub data EndQuestion : Type 0 where
@@ -129,12 +104,6 @@ unfolding orders order_case other_case all_protocols all_memories all_states all
 end_holds owned_after = refl
 end_holds _ = refl
 
-pub end_rule : (k : EndQuestion) → (p : Protocol) (m : MemState) (st : Claims) (sr : CacheState) (or : Bool) (q : Request) (mc : MemCell) (oc : CacheCell)
-    (pl : Payload) (st2 : Claims) → claims_of p m None ≡ Some st → fits p st.shared or None sr ≡ true → (not or || st.owned) ≡ true
-    → waiting_request sr ≡ Some q → memory_cell_of p m (at_memory q) ≡ Some mc → cell_of p sr (own q) ≡ Some oc → payload_of oc mc ≡ Some pl
-    → claims_of p mc.next (Some (q, pl)) ≡ Some st2 → end_test k p m st sr or q mc oc pl st2 ≡ true
-end_rule k = each_end (end_test k) (end_holds k)
-
 -- what is asked of another core at it
 pub data OtherQuestion : Type 0 where
   other_fits : OtherQuestion
@@ -155,16 +124,35 @@ unfolding orders order_case other_case all_protocols all_memories all_states all
 other_holds other_fits = refl
 other_holds _ = refl
 
-pub other_rule : (k : OtherQuestion) → (p : Protocol) (m : MemState) (st : Claims) (sr : CacheState) (or : Bool) (q : Request) (mc : MemCell) (oc : CacheCell)
-    (pl : Payload) (st2 : Claims) → claims_of p m None ≡ Some st → fits p st.shared or None sr ≡ true → (not or || st.owned) ≡ true
-    → waiting_request sr ≡ Some q → memory_cell_of p m (at_memory q) ≡ Some mc → cell_of p sr (own q) ≡ Some oc → payload_of oc mc ≡ Some pl
-    → claims_of p mc.next (Some (q, pl)) ≡ Some st2 → (s : CacheState) (ow : Bool) (xc : CacheCell) → fits p st.shared ow None s ≡ true → not (ow && or) ≡ true
-    → (not ow || st.owned) ≡ true → cell_of p s (other q) ≡ Some xc
-    → other_test k p m st sr or q mc oc pl st2 s ow xc ≡ true
-unfolding other_case
-other_rule k p m st sr or q mc oc pl st2 is_claims is_fit is_owned is_waiting is_mc is_oc is_pl is_st2 s ow xc other_fit apart other_owned is_xc =
-    let h = each_end (other_case (other_test k)) (other_holds k) p m st sr or q mc oc pl st2 is_claims is_fit is_owned is_waiting is_mc is_oc is_pl is_st2 in
-    given_at _ _ xc is_xc (when_at _ _ other_owned (when_at _ _ apart (when_at _ _ other_fit (either-at _ (all_states-at _ h s) ow))))
+-- what was tried holds of each Order at a quiet line
+module _ (p : Protocol) (m : MemState) (st : Claims) (sr : CacheState) (or : Bool) (q : Request) (is_claims : claims_of p m None ≡ Some st)
+    (is_fit : fits p st.shared or None sr ≡ true) (is_owned : (not or || st.owned) ≡ true) (is_waiting : waiting_request sr ≡ Some q) where
+  each_order : (k : OrderTest) → orders k ≡ true → k p m st sr or q ≡ true
+  unfolding orders order_case
+  each_order k h =
+      let all : order_case k p m sr or ≡ true = either-at _ (all_states-at _ (all_memories-at _ (all_protocols-at _ h p) m) sr) or in
+      given_at _ _ q is_waiting (when_at _ _ is_owned (when_at _ _ is_fit (given_at _ _ st is_claims all)))
+
+  pub order_rule : (k : OrderQuestion) → order_test k p m st sr or q ≡ true
+  order_rule k = each_order (order_test k) (order_holds k)
+
+  -- and of its end
+  module _ (mc : MemCell) (oc : CacheCell) (pl : Payload) (st2 : Claims) (is_mc : memory_cell_of p m (at_memory q) ≡ Some mc) (is_oc : cell_of p sr (own q) ≡ Some oc)
+      (is_pl : payload_of oc mc ≡ Some pl) (is_st2 : claims_of p mc.next (Some (q, pl)) ≡ Some st2) where
+    each_end : (k : EndTest) → orders (end_case k) ≡ true → k p m st sr or q mc oc pl st2 ≡ true
+    each_end k h =
+        let all : end_case k p m st sr or q ≡ true = each_order (end_case k) h in
+        given_at _ _ st2 is_st2 (given_at _ _ pl is_pl (given_at _ _ oc is_oc (given_at _ _ mc is_mc all)))
+
+    pub end_rule : (k : EndQuestion) → end_test k p m st sr or q mc oc pl st2 ≡ true
+    end_rule k = each_end (end_test k) (end_holds k)
+
+    pub other_rule : (k : OtherQuestion) (s : CacheState) (ow : Bool) (xc : CacheCell) → fits p st.shared ow None s ≡ true → not (ow && or) ≡ true
+        → (not ow || st.owned) ≡ true → cell_of p s (other q) ≡ Some xc → other_test k p m st sr or q mc oc pl st2 s ow xc ≡ true
+    unfolding other_case
+    other_rule k s ow xc other_fit apart other_owned is_xc =
+        let all = each_end (other_case (other_test k)) (other_holds k) in
+        given_at _ _ xc is_xc (when_at _ _ other_owned (when_at _ _ apart (when_at _ _ other_fit (either-at _ (all_states-at _ all s) ow))))
 
 abbrev pub has_other_row : Protocol → Request → CacheState → Bool → Bool → Bool
 has_other_row p q s shared ow = when (fits p shared ow None s) (λ _. is_some (cell_of p s (other q)))

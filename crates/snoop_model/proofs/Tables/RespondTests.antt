@@ -49,13 +49,6 @@ respond_case k p m q pl = given (claims_of p m (Some (q, pl))) (λ st. k p m q p
 unfoldable pub responds : RespondTest → Bool
 responds k = all_protocols (λ p. all_memories (λ m. all_requests (λ q. all_payloads (λ pl. respond_case k p m q pl))))
 
-each_respond : (k : RespondTest) → responds k ≡ true → (p : Protocol) (m : MemState) (q : Request) (pl : Payload) (st : Claims)
-    → claims_of p m (Some (q, pl)) ≡ Some st → k p m q pl st ≡ true
-unfolding responds respond_case
-each_respond k h p m q pl st is_claims =
-    let h0 : respond_case k p m q pl ≡ true = all_payloads-at _ (all_requests-at _ (all_memories-at _ (all_protocols-at _ h p) m) q) pl in
-    given_at _ _ st is_claims h0
-
 -- the requestor owns the block from then on
 abbrev pub gains : Request → Payload → Bool
 gains request.GetM pl = true
@@ -99,9 +92,10 @@ unfolding responds respond_case all_protocols all_memories all_states all_reques
 respond_holds has_line_after = refl
 respond_holds _ = refl
 
-pub respond_rule : (k : RespondQuestion) → (p : Protocol) (m : MemState) (q : Request) (pl : Payload) (st : Claims) → claims_of p m (Some (q, pl)) ≡ Some st
-    → respond_test k p m q pl st ≡ true
-respond_rule k = each_respond (respond_test k) (respond_holds k)
+-- what the requestor's row for the data does
+abbrev pub answered_so : Protocol → Request → Payload → Claims → Claims → Bool → CacheCell → Bool
+answered_so p q pl st st2 ow r =
+    not ow && (fits p st2.shared (gains q pl) None r.next && ((not (is_clean r.next) || (st.fresh && not (is_get_m q))) && same (fills_store r.action) (is_get_m q)))
 
 -- what is asked of the line after it
 pub data AfterQuestion : Type 0 where
@@ -117,9 +111,7 @@ after_test gain_alone p m q pl st m2 st2 = not (gains q pl) || not st.owned
 after_test fresh_respond p m q pl st m2 st2 = not st2.fresh ||
     (not (is_get_m q) && (st.fresh || (takes_payload q m && carries_value pl && given (memory_row_for p m (arrival_at_memory pl)) (λ r. writes r.action))))
 after_test arrival_fits p m q pl st m2 st2 =
-    when (not (is_put_m q)) (λ _. all_states (λ s. either (λ ow. when (fits p st.shared ow (Some q) s) (λ _. given (row_for p s (arrival pl)) (λ r.
-    not ow && (fits p st2.shared (gains q pl) None r.next && ((not (is_clean r.next) || (st.fresh && not (is_get_m q))) && same (fills_store r.action)
-    (is_get_m q))))))))
+    when (not (is_put_m q)) (λ _. all_states (λ s. either (λ ow. when (fits p st.shared ow (Some q) s) (λ _. given (row_for p s (arrival pl)) (λ r. answered_so p q pl st st2 ow r)))))
 after_test stays p m q pl st m2 st2 =
     all_states (λ s. either (λ ow.
     when (fits p st.shared ow None s) (λ _. when (not ow || st.owned) (λ _. fits p st2.shared ow None s && (not (is_get_m q) || not (keeps s))))))
@@ -129,7 +121,16 @@ unfolding responds respond_case all_protocols all_memories all_states all_reques
 after_holds gain_owned = refl
 after_holds _ = refl
 
-pub after_rule : (k : AfterQuestion) → (p : Protocol) (m : MemState) (q : Request) (pl : Payload) (st : Claims) (m2 : MemState) (st2 : Claims)
-    → claims_of p m (Some (q, pl)) ≡ Some st → after_respond p q m pl ≡ Some m2 → claims_of p m2 None ≡ Some st2 → after_test k p m q pl st m2 st2 ≡ true
-after_rule k p m q pl st m2 st2 is_claims is_m2 is_st2 =
-    given_at _ _ st2 is_st2 (given_at _ _ m2 is_m2 (each_respond (after_case (after_test k)) (after_holds k) p m q pl st is_claims))
+-- what was tried holds of each Respond
+module _ (p : Protocol) (m : MemState) (q : Request) (pl : Payload) (st : Claims) (is_claims : claims_of p m (Some (q, pl)) ≡ Some st) where
+  each_respond : (k : RespondTest) → responds k ≡ true → k p m q pl st ≡ true
+  unfolding responds respond_case
+  each_respond k h =
+      let all : respond_case k p m q pl ≡ true = all_payloads-at _ (all_requests-at _ (all_memories-at _ (all_protocols-at _ h p) m) q) pl in
+      given_at _ _ st is_claims all
+
+  pub respond_rule : (k : RespondQuestion) → respond_test k p m q pl st ≡ true
+  respond_rule k = each_respond (respond_test k) (respond_holds k)
+
+  pub after_rule : (m2 : MemState) (st2 : Claims) → after_respond p q m pl ≡ Some m2 → claims_of p m2 None ≡ Some st2 → (k : AfterQuestion) → after_test k p m q pl st m2 st2 ≡ true
+  after_rule m2 st2 is_m2 is_st2 k = given_at _ _ st2 is_st2 (given_at _ _ m2 is_m2 (each_respond (after_case (after_test k)) (after_holds k)))

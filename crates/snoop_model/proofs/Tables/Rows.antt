@@ -24,6 +24,8 @@ use Rattle.snoop_model.specs.Pictures.Lines.{Line}
 use Rattle.snoop_model.specs.Pictures.Picture.{kept_on}
 use Rattle.snoop_model.specs.Pictures.Proper.{keeps, request_for, missed_request, IsProper}
 use Rattle.snoop_model.specs.Moves.Move.{moves_to, kept_waiting, is_load}
+use Rattle.snoop_model.specs.Invariant.Fits.{same}
+use Rattle.snoop_model.proofs.Tables.Every.{same_is}
 
 -- requests, or none, as numbers that a test compares
 abbrev pub same_request : Option Request → Option Request → Bool
@@ -47,25 +49,15 @@ given_up ImAd = true
 given_up IiA = true
 given_up _ = false
 
-abbrev same_bool : Bool → Bool → Bool
-same_bool true b = b
-same_bool false b = not b
-
-same_bool-true : (a b : Bool) → same_bool a b ≡ true → a ≡ b
-same_bool-true true true h = refl
-same_bool-true true false h = cc
-same_bool-true false true h = cc
-same_bool-true false false h = refl
-
 -- two Booleans and two pairs of requests are the same
 abbrev same_three : Bool → Bool → Option Request → Option Request → Option Request → Option Request → Bool
-same_three x y a b c d = same_bool x y && (same_request a b && same_request c d)
+same_three x y a b c d = same x y && (same_request a b && same_request c d)
 
 same_three-true : (x y : Bool) (a b c d : Option Request) → same_three x y a b c d ≡ true → (x ≡ y) × (a ≡ b) × (c ≡ d)
 same_three-true x y a b c d h =
-    let l = and_parts (same_bool x y) (same_request a b && same_request c d) h in
+    let l = and_parts (same x y) (same_request a b && same_request c d) h in
     let r = and_parts (same_request a b) (same_request c d) l.1 in
-    (same_bool-true x y l.0, same_request-true a b r.0, same_request-true c d r.1)
+    (same_is x y l.0, same_request-true a b r.0, same_request-true c d r.1)
 
 -- the request that serves the operation
 abbrev serves : CacheEvent → Request → Bool
@@ -116,7 +108,7 @@ abbrev action_test : Protocol → CacheState → CacheEvent → CacheCell → Bo
 action_test p s e row = (not (is_asked e) || answers row.action) && does_so s e row.next row.action
 
 action_test_holds : each_row action_test ≡ true
-unfolding each_row all_protocols all_states all_events
+unfolding each_row all_protocols all_states all_events same
 action_test_holds = refl
 
 action_rule : (p : Protocol) (s : CacheState) (e : CacheEvent) (a : CacheAction) (n : CacheState) → Cell p s e a n → does_so s e n a ≡ true
@@ -233,7 +225,7 @@ order_test p s e row =
     (if is_own e then None else waiting_request s)
 
 order_test_holds : each_row order_test ≡ true
-unfolding each_row all_protocols all_states all_events
+unfolding each_row all_protocols all_states all_events same
 order_test_holds = refl
 
 -- a core sees its own request exactly where it is the requestor

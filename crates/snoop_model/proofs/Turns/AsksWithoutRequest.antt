@@ -1,8 +1,9 @@
 -- An Ask that issues no request leaves its core with no step.
-use Rattle.std.proofs.Common.{List, ◌≡◌, ◌≢◌, ℕ, inl, inr, false, ◌==◌, Option, Some, None, refl, sym, ap, ◌∙◌, subst, arith}
+use Rattle.std.proofs.Common.{List, ◌≡◌, ◌≢◌, ℕ, inl, inr, Option, Some, None, refl, sym, ap, ◌∙◌, subst}
 use Rattle.std.specs.Prelude.{Contains}
 use Rattle.std.proofs.lemmas.List.Elements.{All-contains}
-use Rattle.std.proofs.lemmas.Bool.Decides.{nat_tests}
+use Rattle.std.proofs.lemmas.Bool.{ne_eqb}
+use Rattle.std.proofs.lemmas.Option.{none-some}
 use Rattle.snoop_trace.specs.declared.step.Op.{Op}
 use Rattle.snoop_trace.specs.declared.step.Step.TheVariants.{Ask}
 use Rattle.snoop_rules.specs.declared.names.Request.{Request}
@@ -28,13 +29,7 @@ use Rattle.snoop_model.proofs.Queues.Waiting.{waits_queued}
 idle_turn : (core block : ℕ) (w : Option Request) (o : Option Open) → ((r : Request) → w ≢ Some r) → ((t : Open) → o ≡ Some t → t.core ≢ core) → step_under_way w o core block ≡ None
 idle_turn core block (Some r) o none_waits none_open = absurd (none_waits r refl)
 idle_turn core block None None none_waits none_open = refl
-idle_turn core block None (Some t) none_waits none_open = let e : (t.core == core) ≡ false = tests t.core (none_open t refl) in rw e refl
-  where
-    tests : (n : ℕ) → n ≢ core → (n == core) ≡ false
-    tests n h = grind (arith, nat_tests)
-
-none_some : (o : Option ℕ) (b : ℕ) → o ≡ None → o ≡ Some b → ⊥
-none_some o b e f = cc
+idle_turn core block None (Some t) none_waits none_open = rw (ne_eqb t.core core (none_open t refl)) refl
 
 no_issue : (act : CacheAction) (next : CacheState) (log : List Item) (queues : List (List ℕ)) (core block word : ℕ) (asking : Op) (old new : Line)
     (answer : Reply) (entry : Option Item) → Takes act next log core block word asking old new answer entry → ((request : Request) → answer ≢ Issued request)
@@ -58,6 +53,6 @@ pub asked_once : EndsAtOnce
 asked_once s t under_way core block word asking answer entry serving idle kept m other =
     let same = same_queues s t core block word asking answer entry m other in
     idle_turn core block (waiting_request (state_of t core block)) (picture_of t block).transaction
-    (λ r w. none_some (under_way core) block idle (All-contains (λ b. under_way core ≡ Some b) (queue_of s.queues core) block (serving.waits core)
+    (λ r w. none-some block (sym idle ∙ All-contains (λ b. under_way core ≡ Some b) (queue_of s.queues core) block (serving.waits core)
     (subst (λ q. Contains (queue_of q core) block) same.0 (waits_queued t kept.queued core block r w))))
-    (λ o is c. none_some (under_way o.core) block (ap under_way c ∙ idle) (serving.opened block o (sym (same.1 block) ∙ is)))
+    (λ o is c. none-some block (sym (ap under_way c ∙ idle) ∙ serving.opened block o (sym (same.1 block) ∙ is)))

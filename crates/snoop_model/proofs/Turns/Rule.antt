@@ -1,8 +1,8 @@
 -- Turns that follow the turn rule are never refused, and keep what they stand on.
-use Rattle.std.proofs.Common.{◌≡◌, ℕ, ◌<◌, Bool, true, false, Option, Some, None, refl, sym, ◌∙◌, ap, subst, arith, inl, inr, ◌⊎◌}
-use Rattle.std.specs.Prelude.{◌==◌, is_some, All, slice_index_or, slice_set, if◌then◌else◌}
+use Rattle.std.proofs.Common.{◌≡◌, ℕ, ◌<◌, true, false, Option, Some, None, refl, sym, ◌∙◌, ap, subst, arith, inl, inr, ◌⊎◌}
+use Rattle.std.specs.Prelude.{◌==◌, is_some, All, slice_index_or, slice_set}
 use Rattle.std.proofs.lemmas.Bool.{false≢true, cases_eq, eq-eqb}
-use Rattle.std.proofs.lemmas.Option.{same_Some}
+use Rattle.std.proofs.lemmas.Option.{cond_some, none-some, same_Some}
 use Rattle.std.proofs.lemmas.List.Elements.{All-contains, All-weaker, Contains-get_or}
 use Rattle.snoop_trace.specs.Words.{HasWord}
 use Rattle.snoop_trace.specs.declared.step.Op.{Op}
@@ -35,11 +35,7 @@ under_way_step : (w : Option Request) (t : Option Open) (core block : ℕ) (step
 under_way_step (Some q) None core block step h = inl (sym (same_Some _ _ h), refl, (q, refl))
 under_way_step (Some q) (Some o) core block step h = inr (sym (same_Some _ _ h), (o, refl))
 under_way_step None None core block step h = cc
-under_way_step None (Some o) core block step h = inr (own (o.core == core) h, (o, refl))
-  where
-    own : (b : Bool) → ◌≡◌ {A = Option Step} (if b then Some (Respond block) else None) (Some step) → step ≡ Respond block
-    own true e = sym (same_Some _ _ e)
-    own false e = cc
+under_way_step None (Some o) core block step h = inr (sym (cond_some (o.core == core) (Respond block) step h).1, (o, refl))
 
 pub none_left : (w : Option Request) (t : Option Open) (core block : ℕ) → step_under_way w t core block ≡ None
     → (w ≡ None) × ((o : Open) → t ≡ Some o → o.core ≡ core → ⊥)
@@ -50,20 +46,16 @@ none_left None (Some o) core block h = (
   refl,
   λ p e own.
       let its : o.core ≡ core = ap (λ (x : Open). x.core) (same_Some _ _ e) ∙ own in
-      let P : Bool → Type 0 = λ b. ◌≡◌ {A = Option Step} (if b then Some (Respond block) else None) None in
-      let clash = subst P (eq-eqb o.core core its) h in
+      let clash = rw (eq-eqb o.core core its) at h in
       cc,
 )
-
-two_blocks : (b : ℕ) → ◌≡◌ {A = Option ℕ} None (Some b) → ⊥
-two_blocks b h = cc
 
 module _ (s : Situation) (under_way : ℕ → Option ℕ) (core block word : ℕ) (asking : Op) (serving : IsServing under_way s) (kept : IsWellKept s) (has_core : core < s.shape.cores) (has_block : block < s.shape.blocks) (has_word : HasWord s.shape word asking) where
   ask_goes : under_way core ≡ None → (cause : Refused) → Refuses s (Ask core block word asking) cause → ⊥
   ask_goes idle NoCore h = absurd (omega arith)
   ask_goes idle NoBlock h = elim h.1 [ inl l ↦ absurd (omega arith) | inr none ↦ absurd (none has_word) ]
   ask_goes idle (Stalled state) h =
-      two_blocks block (sym idle ∙ busy_under_way s under_way serving kept core block (stall_busy s.protocol (state_of s core block) (asked asking) h.2.0 h.2.1))
+      none-some block (sym idle ∙ busy_under_way s under_way serving kept core block (stall_busy s.protocol (state_of s core block) (asked asking) h.2.0 h.2.1))
   ask_goes idle _ h = absurd h
 
   order_goes : under_way core ≡ Some block → (picture_of s block).transaction ≡ None → (q : Request) → Waits s core block q → (cause : Refused) → Refuses s (Order core) cause → ⊥
@@ -83,13 +75,11 @@ module _ (s : Situation) (under_way : ℕ → Option ℕ) (core block word : ℕ
 
 pub never_refused : NeverRefused
 never_refused s under_way core block word asking false step serving kept has_core has_block has_word works is cause refused =
-    let R : Step → Type 0 = λ x. Refuses s x cause in
-    ask_goes s under_way core block word asking serving kept has_core has_block has_word works cause (subst R (sym (same_Some _ _ is)) refused)
+    ask_goes s under_way core block word asking serving kept has_core has_block has_word works cause (rw (← (same_Some _ _ is)) at refused)
 never_refused s under_way core block word asking true step serving kept has_core has_block has_word works is cause refused =
-    let R : Step → Type 0 = λ x. Refuses s x cause in
     elim (under_way_step (waiting_request (state_of s core block)) (picture_of s block).transaction core block step is) [
-      | inl p ↦ order_goes s under_way core block word asking serving kept has_core has_block has_word works p.1 p.2.0 p.2.1 cause (subst R p.0 refused)
-      | inr p ↦ respond_goes s under_way core block word asking serving kept has_core has_block has_word p.1.0 p.1.1 cause (subst R p.0 refused)
+      | inl p ↦ order_goes s under_way core block word asking serving kept has_core has_block has_word works p.1 p.2.0 p.2.1 cause (rw p.0 at refused)
+      | inr p ↦ respond_goes s under_way core block word asking serving kept has_core has_block has_word p.1.0 p.1.1 cause (rw p.0 at refused)
     ]
 
 module _ (s : Situation) (before after : ℕ → Option ℕ) (serving : IsServing before s) (extends : (core block : ℕ) → before core ≡ Some block → after core ≡ Some block) where
@@ -107,42 +97,31 @@ module _ (s : Situation) (before after : ℕ → Option ℕ) (serving : IsServin
   set_opened : (place : ℕ) (next : Picture) → ((o : Open) → next.transaction ≡ Some o → after o.core ≡ Some place)
       → (block : ℕ) (o : Open) → (slice_index_or (slice_set s.pictures place next) block nothing_there).transaction ≡ Some o → after o.core ≡ Some block
   set_opened place next its block o is = elim (set_cases s.pictures place block next nothing_there) [
-    | inl p ↦
-        let P : ℕ → Type 0 = λ b. after o.core ≡ Some b in
-        subst P (sym p.0) (its o (ap (λ (x : Picture). x.transaction) (sym p.1) ∙ is))
+    | inl p ↦ rw p.0 (its o (ap (λ (x : Picture). x.transaction) (sym p.1) ∙ is))
     | inr e ↦ still_opened block o (ap (λ (x : Picture). x.transaction) (sym e) ∙ is)
   ]
 
 pub serves_on : ServesOn
-serves_on s t before after (Ask core on word asking) answer entry serving move extends its =
-    let P : Situation → Type 0 = λ x. IsServing after x in
-    elim move.1.1.moves [
-      | inl absent ↦ subst P (sym absent.3) (record { waits = still_waits s before after serving extends; opened = still_opened s before after serving extends })
-      | inr asks ↦
-          let Q : ℕ → Type 0 = λ b. after core ≡ Some b in
-          subst P (sym asks.after) (record {
-            waits = asked_waits s before after serving extends asks.row.action core move.0 (subst Q move.1.1.on_block its);
-            opened = set_opened s before after serving extends move.0 (with_line (picture_of s move.0) core asks.held) (still_opened s before after serving extends move.0);
-          })
-    ]
+serves_on s t before after (Ask core on word asking) answer entry serving move extends its = elim move.1.1.moves [
+  | inl absent ↦ rw absent.3 (record { waits = still_waits s before after serving extends; opened = still_opened s before after serving extends })
+  | inr asks ↦ rw asks.after (record {
+    waits = asked_waits s before after serving extends asks.row.action core move.0 (rw (← move.1.1.on_block) its);
+    opened = set_opened s before after serving extends move.0 (with_line (picture_of s move.0) core asks.held) (still_opened s before after serving extends move.0);
+  })
+]
 serves_on s t before after (Order core) answer entry serving move extends its =
-    let P : Situation → Type 0 = λ x. IsServing after x in
     let orders = move.1.1.orders in
     let here : after core ≡ Some move.0 = extends core move.0 (all_first (λ b. before core ≡ Some b) (queue_of s.queues core) move.0 (serving.waits core) move.1.0) in
-    subst P (sym orders.after) (record {
+    rw orders.after (record {
       waits = all_ordered (λ c b. after c ≡ Some b) s.queues core move.0 (still_waits s before after serving extends);
       opened = set_opened s before after serving extends move.0 orders.next
-          (λ o is. let same = same_Some _ _ (sym orders.opened ∙ is) in
-          let Q : ℕ → Type 0 = λ c. after c ≡ Some move.0 in
-          subst Q (ap (λ (x : Open). x.core) same) here);
+          (λ o is. rw (ap (λ (x : Open). x.core) (same_Some _ _ (sym is ∙ orders.opened))) here);
     })
 serves_on s t before after (Respond on) answer entry serving move extends its =
-    let P : Situation → Type 0 = λ x. IsServing after x in
     let responds = move.1.1.responds in
-    subst P (sym responds.after) (record {
+    rw responds.after (record {
       waits = still_waits s before after serving extends;
-      opened = set_opened s before after serving extends move.0 responds.next
-          (λ o is. let clash : ◌≡◌ {A = Option Open} None (Some o) = sym responds.closed ∙ is in cc);
+      opened = set_opened s before after serving extends move.0 responds.next (λ o is. absurd (none-some o (sym responds.closed ∙ is)));
     })
 
 pub ends : Ends
@@ -152,21 +131,18 @@ ends s before after core block word asking serving kept works none others =
       waits = λ k. elim (cases_eq k core) [
         | inl e ↦ λ i d lt.
             (let x : ℕ = slice_index_or (queue_of s.queues k) i d in
-            let own : before core ≡ Some x = (let Q : ℕ → Type 0 = λ c. before c ≡ Some x in subst Q e (serving.waits k i d lt)) in
+            let own : before core ≡ Some x = rw (← e) (serving.waits k i d lt) in
             let same : x ≡ block = same_Some _ _ (sym own ∙ works) in
             let w = queued_waits s kept.queued k x (Contains-get_or (queue_of s.queues k) i d lt) in
-            let R : ℕ → Type 0 = λ c. waiting_request (state_of s c x) ≡ Some w.0 in
-            let T : ℕ → Type 0 = λ b. waiting_request (state_of s core b) ≡ Some w.0 in
-            let clash : ◌≡◌ {A = Option Request} None (Some w.0) = sym left.0 ∙ subst T same (subst R e w.1) in
-            cc)
-        | inr ne ↦ (let Q : Option ℕ → Type 0 = λ w. All (λ b. w ≡ Some b) (queue_of s.queues k) in subst Q (sym (others k ne)) (serving.waits k))
+            let here : waiting_request (state_of s core block) ≡ Some w.0 = rw (← same, ← e) w.1 in
+            absurd (none-some w.0 (sym left.0 ∙ here)))
+        | inr ne ↦ rw (others k ne) (serving.waits k)
       ];
       opened = λ b o is. elim (cases_eq o.core core) [
         | inl e ↦
-            (let own : before core ≡ Some b = (let Q : ℕ → Type 0 = λ c. before c ≡ Some b in subst Q e (serving.opened b o is)) in
+            (let own : before core ≡ Some b = rw (← e) (serving.opened b o is) in
             let same : b ≡ block = same_Some _ _ (sym own ∙ works) in
-            let T : ℕ → Type 0 = λ x. (picture_of s x).transaction ≡ Some o in
-            absurd (left.1 o (subst T same is) e))
+            absurd (left.1 o (rw same at is) e))
         | inr ne ↦ others o.core ne ∙ serving.opened b o is
       ];
     }
@@ -177,9 +153,9 @@ none_there (Some a) h = absurd (h a refl)
 
 pub comes_to_rest : ComesToRest
 comes_to_rest s serving kept = record {
-  ordered = λ core block request waits. two_blocks block (All-contains (λ b. ◌≡◌ {A = Option ℕ} None (Some b)) (queue_of s.queues core) block
+  ordered = λ core block request waits. none-some block (All-contains (λ b. ◌≡◌ {A = Option ℕ} None (Some b)) (queue_of s.queues core) block
       (serving.waits core) (waits_queued s kept.queued core block request waits));
-  closed = λ block. none_there (picture_of s block).transaction (λ o is. two_blocks block (serving.opened block o is));
+  closed = λ block. none_there (picture_of s block).transaction (λ o is. none-some block (serving.opened block o is));
   performed = λ core block. none_there (held_by (picture_of s block) core).waiting
-      (λ o is. two_blocks block (busy_under_way s (λ _. None) serving kept core block (missed_busy _ (kept.operations core block o is))));
+      (λ o is. none-some block (busy_under_way s (λ _. None) serving kept core block (missed_busy _ (kept.operations core block o is))));
 }
