@@ -2,15 +2,8 @@
 use Rattle.std.proofs.Common.{ℕ, List, ◌<◌, ◌≤◌, arith, ap, Option, sym, ◌∙◌, subst, Some, None}
 use Rattle.std.specs.Prelude.{◌≡◌, option_map, Result, Ok, Err, IfSome, is_some}
 use Rattle.std.proofs.lemmas.Option.{same_Some}
-use Rattle.snoop_trace.specs.Extent.{Extent}
-use Rattle.snoop_trace.specs.declared.step.Step.{Step}
-use Rattle.snoop_trace.specs.declared.protocol.Protocol.{Protocol}
-use Rattle.snoop_history.specs.declared.items.Item.{Item}
+use Rattle.snoop_model.proofs.Words.{Extent, Protocol, Step, Item, Reply, Refused, held_by, Situation, picture_of, state_of, reset}
 use Rattle.snoop_history.specs.History.{flat}
-use Rattle.snoop_model.specs.declared.replies.Reply.{Reply}
-use Rattle.snoop_model.specs.declared.replies.Refused.{Refused}
-use Rattle.snoop_model.specs.Pictures.Picture.{held_by}
-use Rattle.snoop_model.specs.Pictures.Situation.{Situation, picture_of, state_of, reset}
 use Rattle.snoop_model.specs.Pictures.Proper.{IsProper, keeps}
 use Rattle.snoop_model.specs.Coherent.{IsCoherent}
 use Rattle.snoop_model.specs.Moves.Move.{MoveOn}

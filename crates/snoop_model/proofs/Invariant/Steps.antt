@@ -1,11 +1,7 @@
 -- What the machine's own steps need of the laws: from any coherent situation, one step or many.
 use Rattle.std.proofs.Common.{[], ◌∷◌, Option, refl}
 use Rattle.std.specs.Prelude.{Result, Ok, Err, IfOk}
-use Rattle.snoop_trace.specs.declared.step.Step.{Step}
-use Rattle.snoop_history.specs.declared.items.Item.{Item}
-use Rattle.snoop_model.specs.declared.replies.Reply.{Reply}
-use Rattle.snoop_model.specs.declared.replies.Refused.{Refused}
-use Rattle.snoop_model.specs.Pictures.Situation.{Situation}
+use Rattle.snoop_model.proofs.Words.{Step, Item, Reply, Refused, Situation}
 use Rattle.snoop_model.specs.Moves.Move.{FirstMove}
 use Rattle.snoop_model.specs.Runs.Once.{OnceMore}
 use Rattle.snoop_model.specs.Invariant.Invariant.{Invariant}

@@ -2,19 +2,7 @@
 use Rattle.std.proofs.Common.{◌≡◌, ℕ, ◌<◌, Option, Some, None, refl, inl, inr, sym, ◌∙◌, ap, subst}
 use Rattle.std.specs.Prelude.{IfSome}
 use Rattle.std.proofs.lemmas.Option.{same_Some}
-use Rattle.snoop_trace.specs.Extent.{Extent}
-use Rattle.snoop_trace.specs.declared.step.Step.{Step}
-use Rattle.snoop_trace.specs.declared.step.Step.TheVariants.{Ask, Order, Respond}
-use Rattle.snoop_trace.specs.declared.protocol.Protocol.{Protocol}
-use Rattle.snoop_history.specs.declared.items.Item.{Item}
-use Rattle.snoop_model.specs.declared.replies.Reply.{Reply}
-use Rattle.snoop_rules.specs.declared.names.MemState.{MemState}
-use Rattle.snoop_rules.specs.declared.names.Request.{Request}
-use Rattle.snoop_rules.specs.declared.names.MemCell.{MemCell}
-use Rattle.snoop_rules.specs.Takers.{arrival_at_memory, takes_payload}
-use Rattle.snoop_bus.specs.Traffic.{Open}
-use Rattle.snoop_model.specs.Pictures.Picture.{Picture, with_line}
-use Rattle.snoop_model.specs.Pictures.Situation.{Situation, picture_of, with_picture, reset}
+use Rattle.snoop_model.proofs.Words.{Extent, Protocol, Step, Ask, Order, Respond, MemState, MemCell, Request, arrival_at_memory, takes_payload, Item, Open, Reply, Picture, with_line, Situation, picture_of, with_picture, reset}
 use Rattle.snoop_model.specs.Pictures.Sends.{Sends}
 use Rattle.snoop_model.specs.Moves.Move.{MoveOn, Orders}
 use Rattle.snoop_model.specs.Moves.SenderTable.{IsSenderLine, IsOpenByTable}

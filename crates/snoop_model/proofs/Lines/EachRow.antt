@@ -3,14 +3,7 @@ use Rattle.std.proofs.Common.{◌≡◌, ℕ, ◌+◌, ◌<◌, ◌≤◌, List,
 use Rattle.std.specs.Prelude.{slice_set}
 use Rattle.std.proofs.lemmas.Bool.{cases_eq, cases_lt}
 use Rattle.std.proofs.lemmas.List.{length-set, get_or-set_same, get_or-set_other}
-use Rattle.snoop_trace.specs.declared.protocol.Protocol.{Protocol}
-use Rattle.snoop_rules.specs.declared.names.Request.{Request}
-use Rattle.snoop_rules.specs.declared.names.CacheAction.{CacheAction}
-use Rattle.snoop_rules.specs.declared.names.CacheState.{CacheState}
-use Rattle.snoop_rules.specs.Cell.{Cell}
-use Rattle.snoop_rules.specs.Takers.{seen_by}
-use Rattle.snoop_model.specs.Pictures.Lines.{Line}
-use Rattle.snoop_model.specs.Pictures.Picture.{held_at, nothing_held}
+use Rattle.snoop_model.proofs.Words.{Protocol, CacheState, CacheAction, Request, Cell, seen_by, Line, held_at, nothing_held}
 use Rattle.snoop_model.specs.Moves.Move.{TakesRow, moves_to}
 
 -- the cores below n have taken their rows, and the others have not

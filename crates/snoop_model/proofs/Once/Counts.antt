@@ -3,11 +3,9 @@ use Rattle.std.proofs.Common.{◌≡◌, ℕ, ◌+◌, Bool, true, false, ◌&&�
 use Rattle.std.specs.Prelude.{option_to_list, count_by, ⊤}
 use Rattle.std.proofs.lemmas.List.{append-nil}
 use Rattle.std.proofs.lemmas.List.Sums.{sum_by-append}
-use Rattle.snoop_history.specs.declared.items.Did.{Did}
-use Rattle.snoop_history.specs.declared.items.Item.{Item}
+use Rattle.snoop_model.proofs.Words.{Did, Item, Access}
 use Rattle.snoop_history.specs.History.{operation_of, answers_of}
 use Rattle.snoop_history.proofs.Pushed.{answers_of-push, of_core}
-use Rattle.snoop_model.specs.declared.access.Access.{Access}
 use Rattle.snoop_model.specs.Runs.Once.{same_access, did_access, did_it}
 use Rattle.snoop_model.proofs.Lists.Facts.{one_if}
 use Rattle.snoop_model.proofs.OneBlock.Operation.{did_in}

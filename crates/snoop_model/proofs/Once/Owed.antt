@@ -3,14 +3,9 @@ use Rattle.std.proofs.Common.{◌≡◌, ℕ, ◌+◌, ◌≤◌, ◌⊎◌, inl
 use Rattle.std.specs.Prelude.{option_to_list, count_by}
 use Rattle.std.specs.Option.{option_map_or}
 use Rattle.std.proofs.lemmas.List.Sums.{sum_by-append}
-use Rattle.snoop_trace.specs.declared.step.Step.{Step}
-use Rattle.snoop_history.specs.declared.items.Did.{Did}
-use Rattle.snoop_history.specs.declared.items.Item.{Item}
+use Rattle.snoop_model.proofs.Words.{Step, Did, Item, Access, held_by, Situation, picture_of}
 use Rattle.snoop_history.specs.History.{operation_of, answers_of, last_or}
 use Rattle.snoop_history.proofs.Pushed.{answers_of-push, of_core}
-use Rattle.snoop_model.specs.declared.access.Access.{Access}
-use Rattle.snoop_model.specs.Pictures.Picture.{held_by}
-use Rattle.snoop_model.specs.Pictures.Situation.{Situation, picture_of}
 use Rattle.snoop_model.specs.Runs.Once.{did_it, tally, waits_for, asks, same_access}
 use Rattle.snoop_model.proofs.Lists.Facts.{one_if}
 use Rattle.snoop_model.specs.Runs.Owed.{IsOwed, Owes}

@@ -2,16 +2,8 @@
 use Rattle.std.proofs.Common.{◌≡◌, ℕ, ◌<◌, List, ◌++◌, Option, Some, ap, sym, ◌∙◌, subst}
 use Rattle.std.specs.Prelude.{option_to_list}
 use Rattle.std.proofs.lemmas.List.{get_or-set_same}
-use Rattle.snoop_trace.specs.declared.step.Op.{Op}
-use Rattle.snoop_rules.specs.declared.names.Request.{Request}
-use Rattle.snoop_history.specs.declared.items.Did.{Did}
-use Rattle.snoop_history.specs.declared.items.Item.{Item}
+use Rattle.snoop_model.proofs.Words.{Op, Request, Did, Item, Open, after_order, Reply, Picture, held_by, nothing_held, with_line, Situation, picture_of}
 use Rattle.snoop_history.specs.declared.items.Item.TheVariants as item
-use Rattle.snoop_bus.specs.Queues.{after_order}
-use Rattle.snoop_bus.specs.Traffic.{Open}
-use Rattle.snoop_model.specs.declared.replies.Reply.{Reply}
-use Rattle.snoop_model.specs.Pictures.Picture.{Picture, held_by, nothing_held, with_line}
-use Rattle.snoop_model.specs.Pictures.Situation.{Situation, picture_of}
 use Rattle.snoop_model.specs.Moves.Move.{Asks, Orders, Responds, IsWithin, queues_after, came_of}
 use Rattle.snoop_model.specs.Invariant.Invariant.{Invariant}
 use Rattle.snoop_model.proofs.OneBlock.OfBlocks.{in_pictures, picture_here}

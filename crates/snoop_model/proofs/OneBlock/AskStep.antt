@@ -5,20 +5,9 @@ use Rattle.std.proofs.lemmas.List.{get_or-set_same, get_or-set_other}
 use Rattle.std.proofs.lemmas.Option.{same_Some}
 use Rattle.std.specs.Prelude.{slice_set}
 use Rattle.snoop_trace.specs.Words.{word_at}
-use Rattle.snoop_trace.specs.declared.step.Op.{Op}
+use Rattle.snoop_model.proofs.Words.{Protocol, Op, CacheState, CacheAction, Cell, asked, carries_value, Did, Item, Open, Reply, Line, Picture, held_by, nothing_held, with_line, Situation, picture_of}
 use Rattle.snoop_trace.specs.declared.step.Op.TheVariants as op
-use Rattle.snoop_trace.specs.declared.protocol.Protocol.{Protocol}
-use Rattle.snoop_rules.specs.declared.names.CacheState.{CacheState}
-use Rattle.snoop_rules.specs.declared.names.CacheAction.{CacheAction}
 use Rattle.snoop_rules.specs.declared.names.CacheAction.TheVariants as action
-use Rattle.snoop_rules.specs.Takers.{asked}
-use Rattle.snoop_rules.specs.Cell.{Cell}
-use Rattle.snoop_history.specs.declared.items.Did.{Did}
-use Rattle.snoop_history.specs.declared.items.Item.{Item}
-use Rattle.snoop_model.specs.declared.replies.Reply.{Reply}
-use Rattle.snoop_model.specs.Pictures.Lines.{Line}
-use Rattle.snoop_model.specs.Pictures.Picture.{Picture, held_by, nothing_held, with_line}
-use Rattle.snoop_model.specs.Pictures.Situation.{Situation, picture_of}
 use Rattle.snoop_model.specs.Pictures.Proper.{keeps, IsProper}
 use Rattle.snoop_model.specs.Moves.Move.{Takes, Asks}
 use Rattle.snoop_model.specs.Invariant.Fits.{is_clean, fits}
@@ -29,8 +18,6 @@ use Rattle.snoop_model.proofs.Tables.Rows.{hit_keeps, IsProper-issue, IsProper-h
 use Rattle.snoop_model.proofs.Tables.AskTests.{ask_rule, is_stall, is_store}
 use Rattle.snoop_model.proofs.Tables.StateTests.{is_hit, carries, clean_reads, kept_reader}
 use Rattle.snoop_model.proofs.Tables.AskTests
-use Rattle.snoop_bus.specs.Traffic.{Open}
-use Rattle.snoop_rules.specs.Takers.{carries_value}
 
 -- an Ask that stores nothing: the flat value stays, what the core holds carries over, and a load gives the flat value
 pub record Quietly (flat : List ℕ) (old new : Line) (next : CacheState) (did : Option Did) : Type 0 where

@@ -3,14 +3,8 @@ use Rattle.std.proofs.Common.{◌≡◌, ◌≢◌, ◌<◌, ◌&&◌, ◌||◌,
 use Rattle.std.specs.Prelude.{is_some}
 use Rattle.std.proofs.lemmas.Bool.Decides.{eqb_tells}
 use Rattle.std.proofs.lemmas.Bool.{and_parts, both_ways, cases_Bool, cases_eq, eqb-true, ne_eqb, not-true, or_right}
-use Rattle.snoop_trace.specs.declared.protocol.Protocol.{Protocol}
-use Rattle.snoop_rules.specs.declared.names.CacheState.{CacheState}
-use Rattle.snoop_rules.specs.declared.names.Request.{Request}
-use Rattle.snoop_rules.specs.Takers.{carries_value}
+use Rattle.snoop_model.proofs.Words.{Protocol, CacheState, Request, carries_value, Open, Line, Picture, held_by}
 use Rattle.snoop_history.specs.Totals.{is_put_m}
-use Rattle.snoop_bus.specs.Traffic.{Open}
-use Rattle.snoop_model.specs.Pictures.Lines.{Line}
-use Rattle.snoop_model.specs.Pictures.Picture.{Picture, held_by}
 use Rattle.snoop_model.specs.Moves.Move.{moves_to}
 use Rattle.snoop_model.specs.Invariant.Fits.{is_owner, is_sharer, is_clean, in_protocol, same, wait_fits, fits}
 use Rattle.snoop_model.specs.Invariant.Block.{BlockInvariant, talk_of, awaited, owns}

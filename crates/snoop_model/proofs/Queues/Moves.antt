@@ -1,22 +1,11 @@
 -- A machine is well kept at reset, and stays so.
 use Rattle.std.proofs.Common.{◌≡◌, ℕ, List, [], Option, Some, None, sym, ◌∙◌, ap, subst, arith, inl, inr}
 use Rattle.std.specs.Prelude.{All}
-use Rattle.snoop_trace.specs.Extent.{Extent}
-use Rattle.snoop_trace.specs.declared.step.Step.{Step}
-use Rattle.snoop_trace.specs.declared.step.Step.TheVariants.{Ask, Order, Respond}
-use Rattle.snoop_trace.specs.declared.protocol.Protocol.{Protocol}
-use Rattle.snoop_rules.specs.declared.names.Request.{Request}
-use Rattle.snoop_bus.specs.Traffic.{Open}
-use Rattle.snoop_bus.specs.Queues.{queue_of}
+use Rattle.snoop_model.proofs.Words.{Extent, Protocol, Step, Ask, Order, Respond, Request, Item, Open, queue_of, Access, Reply, Line, Situation, reset}
 use Rattle.snoop_model.specs.Pictures.Proper.{awaited_request}
-use Rattle.snoop_model.specs.declared.access.Access.{Access}
-use Rattle.snoop_model.specs.Pictures.Lines.{Line}
-use Rattle.snoop_history.specs.declared.items.Item.{Item}
-use Rattle.snoop_model.specs.declared.replies.Reply.{Reply}
 use Rattle.snoop_model.specs.Moves.Move.{MoveOn}
 use Rattle.snoop_model.proofs.Lists.QueueCounts.{times}
 use Rattle.snoop_model.proofs.Queues.Changed.{waits}
-use Rattle.snoop_model.specs.Pictures.Situation.{Situation, reset}
 use Rattle.snoop_model.specs.Turns.Serving.{IsServing}
 use Rattle.snoop_model.specs.Invariant.WellKept.{IsWellKept}
 use Rattle.snoop_model.specs.Turns.TurnLaws.{StartsWell, KeepsWell}

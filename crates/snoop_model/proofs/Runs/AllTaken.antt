@@ -1,12 +1,9 @@
 -- Runs whose steps were all taken.
 use Rattle.std.proofs.Common.{◌≡◌, List, [], ◌∷◌, ◌++◌, map, refl, ap, sym, ◌∙◌, subst}
 use Rattle.std.specs.Prelude.{Result, Ok, Err, count_by}
-use Rattle.snoop_trace.specs.declared.step.Step.{Step}
-use Rattle.snoop_model.specs.declared.replies.Reply.{Reply}
-use Rattle.snoop_model.specs.declared.replies.Refused.{Refused}
+use Rattle.snoop_model.proofs.Words.{Step, Reply, Refused, Situation, reset}
 use Rattle.snoop_model.specs.declared.replies.Refused.TheVariants.{NoMemory}
 use Rattle.std.proofs.lemmas.List.{map-append}
-use Rattle.snoop_model.specs.Pictures.Situation.{Situation, reset}
 use Rattle.snoop_model.specs.Runs.Once.{asks, taken}
 use Rattle.snoop_model.specs.Runs.Run.{Goes, GoesFirst, FirstRunFrom, RunFrom, TakenBegins, TakenGoesOn}
 use Rattle.snoop_model.specs.Runs.Tallied.{AskedAreTallied}

@@ -2,11 +2,7 @@
 use Rattle.std.proofs.Common.{◌≡◌, ◌++◌, Option, sym, ◌∙◌, ap, inl, inr}
 use Rattle.std.specs.Prelude.{option_to_list}
 use Rattle.std.proofs.lemmas.List.{append-nil}
-use Rattle.snoop_trace.specs.declared.step.Step.{Step}
-use Rattle.snoop_trace.specs.declared.step.Step.TheVariants.{Ask, Order, Respond}
-use Rattle.snoop_history.specs.declared.items.Item.{Item}
-use Rattle.snoop_model.specs.declared.replies.Reply.{Reply}
-use Rattle.snoop_model.specs.Pictures.Situation.{Situation}
+use Rattle.snoop_model.proofs.Words.{Step, Ask, Order, Respond, Item, Reply, Situation}
 use Rattle.snoop_model.specs.Moves.Move.{FirstMove}
 
 pub move-log : (old new : Situation) (step : Step) (answer : Reply) (added : Option Item) → FirstMove old step answer new added → new.log ≡ old.log ++ option_to_list added

@@ -1,18 +1,10 @@
 -- Tests of the rows of an Ask, computed over the whole tables.
 use Rattle.std.proofs.Common.{◌≡◌, ◌&&◌, ◌||◌, Bool, true, false, not, Option, Some, refl}
 use Rattle.std.specs.Prelude.{is_some}
-use Rattle.snoop_trace.specs.declared.step.Op.{Op}
-use Rattle.snoop_trace.specs.declared.protocol.Protocol.{Protocol}
-use Rattle.snoop_rules.specs.declared.names.CacheState.{CacheState}
+use Rattle.snoop_model.proofs.Words.{Protocol, Op, CacheState, CacheEvent, CacheAction, CacheCell, Request, cell_of, asked}
 use Rattle.snoop_rules.specs.declared.names.CacheState.TheVariants as state
-use Rattle.snoop_rules.specs.declared.names.CacheEvent.{CacheEvent}
 use Rattle.snoop_rules.specs.declared.names.CacheEvent.TheVariants as event
-use Rattle.snoop_rules.specs.declared.names.CacheAction.{CacheAction}
 use Rattle.snoop_rules.specs.declared.names.CacheAction.TheVariants as action
-use Rattle.snoop_rules.specs.declared.names.Request.{Request}
-use Rattle.snoop_rules.specs.Takers.{asked}
-use Rattle.snoop_rules.specs.declared.names.CacheCell.{CacheCell}
-use Rattle.snoop_rules.specs.Cell.{cell_of}
 use Rattle.snoop_rules.proofs.Every.{all_protocols, all_protocols-at, all_states, all_states-at, all_memories, all_requests, all_payloads}
 use Rattle.snoop_model.specs.Invariant.Fits.{claims_of, is_owner, is_sharer, is_clean, wait_fits, in_protocol, same, fits}
 use Rattle.snoop_model.proofs.Tables.Every.{either, either-at, when, when_at, given, given_at, all_asks, all_asks-at, all_waits, all_waits-at}

@@ -1,24 +1,11 @@
 -- Tests of the rows of a Respond, computed over the whole tables.
 use Rattle.std.proofs.Common.{◌≡◌, ◌&&◌, ◌||◌, Bool, true, false, not, Option, Some, None, refl}
 use Rattle.std.specs.Prelude.{is_some, MatchBool, IsSomeAnd}
-use Rattle.snoop_trace.specs.declared.protocol.Protocol.{Protocol}
-use Rattle.snoop_rules.specs.declared.names.CacheState.{CacheState}
-use Rattle.snoop_rules.specs.declared.names.CacheEvent.{CacheEvent}
-use Rattle.snoop_rules.specs.declared.names.CacheAction.{CacheAction}
+use Rattle.snoop_model.proofs.Words.{Protocol, CacheState, CacheEvent, CacheAction, CacheCell, MemState, MemEvent, MemAction, MemCell, Request, Payload, cell_of, MemoryCell, memory_cell_of, arrival, arrival_at_memory, takes_payload, carries_value}
 use Rattle.snoop_rules.specs.declared.names.CacheAction.TheVariants as action
-use Rattle.snoop_rules.specs.declared.names.MemState.{MemState}
-use Rattle.snoop_rules.specs.declared.names.MemEvent.{MemEvent}
-use Rattle.snoop_rules.specs.declared.names.MemAction.{MemAction}
 use Rattle.snoop_rules.specs.declared.names.MemAction.TheVariants as mem_action
-use Rattle.snoop_rules.specs.declared.names.Request.{Request}
 use Rattle.snoop_rules.specs.declared.names.Request.TheVariants as request
-use Rattle.snoop_rules.specs.declared.names.Payload.{Payload}
 use Rattle.snoop_rules.specs.declared.names.Payload.TheVariants as payload
-use Rattle.snoop_rules.specs.declared.names.CacheCell.{CacheCell}
-use Rattle.snoop_rules.specs.declared.names.MemCell.{MemCell}
-use Rattle.snoop_rules.specs.Cell.{cell_of}
-use Rattle.snoop_rules.specs.MemoryCell.{MemoryCell, memory_cell_of}
-use Rattle.snoop_rules.specs.Takers.{arrival, arrival_at_memory, takes_payload, carries_value}
 use Rattle.snoop_rules.proofs.Every.{all_protocols, all_protocols-at, all_states, all_memories, all_memories-at, all_requests, all_requests-at, all_payloads, all_payloads-at}
 use Rattle.snoop_history.specs.Totals.{is_put_m, is_get_m}
 use Rattle.snoop_model.specs.Invariant.Fits.{Claims, claims_of, is_owner, is_sharer, is_clean, wait_fits, in_protocol, same, fits}

@@ -1,18 +1,11 @@
 -- The table of senders as a test.
 use Rattle.std.proofs.Common.{◌≡◌, refl, Bool, true, false, cond, Option, Some, None}
-use Rattle.snoop_trace.specs.declared.protocol.Protocol.{Protocol}
+use Rattle.snoop_model.proofs.Words.{Protocol, MemState, MemEvent, MemCell, Request, Payload, memory_cell_of, arrival_at_memory, takes_payload}
 use Rattle.snoop_trace.specs.declared.protocol.Protocol.TheVariants as protocol
 use Rattle.snoop_rules.specs.declared.names.CacheState.TheVariants as state
-use Rattle.snoop_rules.specs.declared.names.MemState.{MemState}
 use Rattle.snoop_rules.specs.declared.names.MemState.TheVariants as mem
-use Rattle.snoop_rules.specs.declared.names.MemEvent.{MemEvent}
-use Rattle.snoop_rules.specs.declared.names.Request.{Request}
 use Rattle.snoop_rules.specs.declared.names.Request.TheVariants as request
-use Rattle.snoop_rules.specs.declared.names.Payload.{Payload}
 use Rattle.snoop_rules.specs.declared.names.Payload.TheVariants as payload
-use Rattle.snoop_rules.specs.Takers.{arrival_at_memory, takes_payload}
-use Rattle.snoop_rules.specs.declared.names.MemCell.{MemCell}
-use Rattle.snoop_rules.specs.MemoryCell.{memory_cell_of}
 use Rattle.snoop_rules.specs.WhoSends.{Sender, Memory, Requestor, Other}
 
 -- the same table as a test: memory before, the sender, its payload, memory after the Order and after the Respond

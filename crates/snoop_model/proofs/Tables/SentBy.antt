@@ -1,22 +1,9 @@
 -- What a row sends, as a test.
 use Rattle.std.proofs.Common.{◌≡◌, ℕ, Option, Some, None, ap}
 use Rattle.std.proofs.lemmas.Option.{same_Some}
-use Rattle.snoop_rules.specs.declared.names.CacheAction.{CacheAction}
+use Rattle.snoop_model.proofs.Words.{Protocol, CacheState, CacheAction, CacheCell, MemState, MemAction, MemCell, Request, Payload, Target, cell_of, memory_cell_of, seen_by, at_memory, Picture, held_by}
 use Rattle.snoop_rules.specs.declared.names.CacheAction.TheVariants as action
-use Rattle.snoop_rules.specs.declared.names.CacheCell.{CacheCell}
-use Rattle.snoop_rules.specs.declared.names.CacheState.{CacheState}
-use Rattle.snoop_rules.specs.declared.names.MemAction.{MemAction}
 use Rattle.snoop_rules.specs.declared.names.MemAction.TheVariants as mem_action
-use Rattle.snoop_rules.specs.declared.names.MemCell.{MemCell}
-use Rattle.snoop_rules.specs.declared.names.MemState.{MemState}
-use Rattle.snoop_rules.specs.declared.names.Payload.{Payload}
-use Rattle.snoop_rules.specs.declared.names.Target.{Target}
-use Rattle.snoop_rules.specs.declared.names.Request.{Request}
-use Rattle.snoop_rules.specs.Cell.{cell_of}
-use Rattle.snoop_rules.specs.MemoryCell.{memory_cell_of}
-use Rattle.snoop_rules.specs.Takers.{seen_by, at_memory}
-use Rattle.snoop_trace.specs.declared.protocol.Protocol.{Protocol}
-use Rattle.snoop_model.specs.Pictures.Picture.{Picture, held_by}
 use Rattle.snoop_model.specs.Pictures.Sends.{Sends}
 
 -- the payload of a cache's action, if it sends

@@ -1,18 +1,12 @@
 -- Tests of the states and of the table of claims, computed over all of them.
 use Rattle.std.proofs.Common.{List, ◌≡◌, ◌&&◌, ◌||◌, ℕ, Bool, true, false, not, cond, Option, Some, None, refl}
-use Rattle.snoop_trace.specs.declared.protocol.Protocol.{Protocol}
+use Rattle.snoop_model.proofs.Words.{Protocol, CacheState, CacheAction, MemState, Request, carries_value, kept_on}
 use Rattle.snoop_trace.specs.declared.protocol.Protocol.TheVariants.{Msi, Mesi}
-use Rattle.snoop_rules.specs.declared.names.CacheState.{CacheState}
 use Rattle.snoop_rules.specs.declared.names.CacheState.TheVariants as state
-use Rattle.snoop_rules.specs.declared.names.CacheAction.{CacheAction}
 use Rattle.snoop_rules.specs.declared.names.CacheAction.TheVariants as action
-use Rattle.snoop_rules.specs.declared.names.MemState.{MemState}
-use Rattle.snoop_rules.specs.declared.names.Request.{Request}
 use Rattle.snoop_rules.specs.declared.names.Request.TheVariants.{PutM}
-use Rattle.snoop_rules.specs.Takers.{carries_value}
 use Rattle.snoop_rules.proofs.Every.{all_protocols, all_protocols-at, all_memories, all_memories-at, all_requests, all_payloads}
 use Rattle.snoop_history.specs.Totals.{is_put_m}
-use Rattle.snoop_model.specs.Pictures.Picture.{kept_on}
 use Rattle.snoop_model.specs.Invariant.Fits.{Claims, Talk, claims_of, is_owner, is_sharer, is_clean, wait_fits, in_protocol, same, fits}
 use Rattle.snoop_model.proofs.Tables.Every.{given, given_at, all_talks, all_talks-at}
 use Rattle.snoop_model.specs.Pictures.Proper.{keeps}

@@ -1,13 +1,8 @@
 -- Each step is paid for by the Asks.
 use Rattle.std.proofs.Common.{◌≡◌, ℕ, ◌+◌, ◌*◌, ◌≤◌, List, length, Option, ap, arith, inl, inr, refl}
 use Rattle.std.specs.Prelude.{sum_by, count_by, is_some, slice_set}
-use Rattle.snoop_trace.specs.declared.step.Step.TheVariants.{Ask, Order, Respond}
-use Rattle.snoop_rules.specs.declared.names.CacheAction.{CacheAction}
+use Rattle.snoop_model.proofs.Words.{Ask, Order, Respond, CacheAction, Open, after_order, Picture, with_line, Situation, picture_of, nothing_there}
 use Rattle.snoop_rules.specs.declared.names.CacheAction.TheVariants as action
-use Rattle.snoop_bus.specs.Traffic.{Open}
-use Rattle.snoop_bus.specs.Queues.{after_order}
-use Rattle.snoop_model.specs.Pictures.Situation.{Situation, picture_of, nothing_there}
-use Rattle.snoop_model.specs.Pictures.Picture.{Picture, with_line}
 use Rattle.snoop_model.specs.Moves.Move.{queues_after}
 use Rattle.snoop_model.specs.Turns.Serving.{steps_owed, has_transaction}
 use Rattle.snoop_model.specs.Turns.TurnLaws.{Pays}

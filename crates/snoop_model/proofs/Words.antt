@@ -1,0 +1,31 @@
+-- The words that lemmas use most: of the tables, of pictures and situations, and of steps and what they answer.
+pub use Rattle.snoop_trace.specs.Extent.{Extent}
+pub use Rattle.snoop_trace.specs.declared.protocol.Protocol.{Protocol}
+pub use Rattle.snoop_trace.specs.declared.step.Op.{Op}
+pub use Rattle.snoop_trace.specs.declared.step.Step.{Step}
+pub use Rattle.snoop_trace.specs.declared.step.Step.TheVariants.{Ask, Order, Respond}
+pub use Rattle.snoop_rules.specs.declared.names.CacheState.{CacheState}
+pub use Rattle.snoop_rules.specs.declared.names.CacheEvent.{CacheEvent}
+pub use Rattle.snoop_rules.specs.declared.names.CacheAction.{CacheAction}
+pub use Rattle.snoop_rules.specs.declared.names.CacheCell.{CacheCell}
+pub use Rattle.snoop_rules.specs.declared.names.MemState.{MemState}
+pub use Rattle.snoop_rules.specs.declared.names.MemEvent.{MemEvent}
+pub use Rattle.snoop_rules.specs.declared.names.MemAction.{MemAction}
+pub use Rattle.snoop_rules.specs.declared.names.MemCell.{MemCell}
+pub use Rattle.snoop_rules.specs.declared.names.Request.{Request}
+pub use Rattle.snoop_rules.specs.declared.names.Payload.{Payload}
+pub use Rattle.snoop_rules.specs.declared.names.Target.{Target}
+pub use Rattle.snoop_rules.specs.Cell.{Cell, cell_of}
+pub use Rattle.snoop_rules.specs.MemoryCell.{MemoryCell, memory_cell_of}
+pub use Rattle.snoop_rules.specs.Takers.{arrival, arrival_at_memory, asked, at_memory, carries_value, other, own, seen_by, takes_payload}
+pub use Rattle.snoop_rules.specs.Waits.{waiting_request}
+pub use Rattle.snoop_history.specs.declared.items.Did.{Did}
+pub use Rattle.snoop_history.specs.declared.items.Item.{Item}
+pub use Rattle.snoop_bus.specs.Traffic.{Open}
+pub use Rattle.snoop_bus.specs.Queues.{after_order, queue_of}
+pub use Rattle.snoop_model.specs.declared.access.Access.{Access}
+pub use Rattle.snoop_model.specs.declared.replies.Reply.{Reply}
+pub use Rattle.snoop_model.specs.declared.replies.Refused.{Refused}
+pub use Rattle.snoop_model.specs.Pictures.Lines.{Line, MemLine}
+pub use Rattle.snoop_model.specs.Pictures.Picture.{Picture, data_under_way, first_memory, free_picture, held_at, held_by, kept_on, nothing_held, with_line}
+pub use Rattle.snoop_model.specs.Pictures.Situation.{CanOrder, HasOpen, Situation, StandsFirst, Waits, nothing_there, picture_of, reset, state_of, untouched, with_picture}
