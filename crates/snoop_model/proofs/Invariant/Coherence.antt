@@ -5,6 +5,7 @@ use Rattle.std.specs.Option.{ForSome}
 use Rattle.std.proofs.lemmas.Bool.{and_parts, both_ways, cases_Bool, cases_lt, eq-eqb, false_from_ne_true}
 use Rattle.std.proofs.lemmas.List.{get_or_past}
 use Rattle.std.proofs.lemmas.Option.{none-some}
+use Rattle.snoop_model.proofs.Lists.Facts.{if_some}
 use Rattle.snoop_model.proofs.Words.{Protocol, Op, Step, Ask, Order, Respond, CacheState, CacheEvent, MemState, MemEvent, Request, Cell, asked, seen_by, arrival, arrival_at_memory, carries_value, waiting_request, Open, Line, Picture, held_by, nothing_held, data_under_way, Situation, picture_of, state_of, Waits, CanOrder, HasOpen, nothing_there}
 use Rattle.snoop_trace.specs.declared.step.Op.TheVariants as op
 use Rattle.snoop_trace.specs.declared.protocol.Protocol.TheVariants.{Mesi}
@@ -126,10 +127,7 @@ nobody_owns p n value picture g idle (Some o) is =
 
 no_data : (found : Option Open) → data_under_way found ≡ None → brings_data (talk_of found) ≡ false
 no_data None none = refl
-no_data (Some o) none = elim (cases_Bool (carries_value o.payload)) as (λ _. carries_value o.payload ≡ false) [
-  | inl e ↦ let h : ◌≡◌ {A = Option (List ℕ)} (Some o.value) None = rw e at none in cc
-  | inr e ↦ e
-]
+no_data (Some o) none = false_from_ne_true (carries_value o.payload) (λ e. none-some o.value (sym (rw e at none)))
 
 data_is : (found : Option Open) (value : List ℕ) → ((o : Open) → found ≡ Some o → carries_value o.payload ≡ true → o.value ≡ value) → IfSome (data_under_way found) (λ sent. sent ≡ value)
 data_is None value carried = tt
@@ -154,9 +152,7 @@ memory_current s g block within idle none =
 opened_within : (s : Situation) → Invariant s → (block : ℕ) (o : Open) → (picture_of s block).transaction ≡ Some o → block < s.shape.blocks
 opened_within s g block o is = elim (cases_lt block s.shape.blocks) [
   | inl within ↦ within
-  | inr past ↦
-      let empty : (picture_of s block).transaction ≡ None = ap (λ (x : Picture). x.transaction) (outside s g block past) in
-      cc
+  | inr past ↦ absurd (none-some o (sym (ap (λ (x : Picture). x.transaction) (outside s g block past)) ∙ is))
 ]
 
 -- a core that sent its message is there
@@ -165,15 +161,8 @@ sender_within s g block o is = (g.blocks block (opened_within s g block o is)).s
 
 -- it is of its block, and its requestor is a core of the machine; so is its sender, where that isn't memory
 pub names_its_block : (s : Situation) → Invariant s → (block : ℕ) → IfSome (picture_of s block).transaction (λ o. (o.block ≡ block) × (o.core < s.shape.cores) × IfSome o.from (λ sender. sender < s.shape.cores))
-names_its_block s g block = go (picture_of s block).transaction refl
-  where
-    told : (from : Option ℕ) → ForSome from (λ sender. sender < s.shape.cores) → IfSome from (λ sender. sender < s.shape.cores)
-    told None h = tt
-    told (Some sender) h = h sender refl
-
-    go : (found : Option Open) → (picture_of s block).transaction ≡ found → IfSome found (λ o. (o.block ≡ block) × (o.core < s.shape.cores) × IfSome o.from (λ sender. sender < s.shape.cores))
-    go None is = tt
-    go (Some o) is = (g.opened block o is, (g.blocks block (opened_within s g block o is)).requestor_in o is, told o.from (sender_within s g block o is))
+names_its_block s g block = if_some (picture_of s block).transaction _
+    (λ o is. (g.opened block o is, (g.blocks block (opened_within s g block o is)).requestor_in o is, if_some o.from _ (sender_within s g block o is)))
 
 -- the requestor of an open GetS or GetM is in a state that waits for its data
 open_awaits : (q : Request) (s : CacheState) → q ≢ request.PutM → wait_fits (Some q) s ≡ true → awaited_request s ≡ Some q

@@ -2,6 +2,7 @@
 use Rattle.std.proofs.Common.{◌≡◌, ℕ, ◌<◌, Option, Some, None, refl, inl, inr, sym, ◌∙◌, ap, subst}
 use Rattle.std.specs.Prelude.{IfSome}
 use Rattle.std.proofs.lemmas.Option.{same_Some}
+use Rattle.snoop_model.proofs.Lists.Facts.{if_some}
 use Rattle.snoop_model.proofs.Words.{Extent, Protocol, Step, Ask, Order, Respond, MemState, MemCell, Request, arrival_at_memory, takes_payload, Item, Open, Reply, Picture, with_line, Situation, picture_of, with_picture, reset}
 use Rattle.snoop_model.specs.Pictures.Sends.{Sends}
 use Rattle.snoop_model.specs.Moves.Move.{MoveOn, Orders}
@@ -30,27 +31,21 @@ order_is_line s g core block q new o =
 
 -- a Respond taken next closes the transaction and leaves memory in the last state of its line
 pub open_is_by_table : (s : Situation) → Invariant s → AreOnSenderLines s → (block : ℕ) → IfSome (picture_of s block).transaction (IsOpenByTable s block)
-open_is_by_table s g lines block = go (picture_of s block).transaction refl (lines block)
-  where
-    memory : MemState
-    memory = (picture_of s block).memory.state
-
-    go : (found : Option Open) → (picture_of s block).transaction ≡ found
-        → IfSome found (λ o. (before : Picture) × IsSenderLine s.protocol before o.core o.request o.from o.payload memory) → IfSome found (IsOpenByTable s block)
-    go None is line = tt
-    go (Some o) is line =
-        record {
-          before = line.0;
-          on_line = line.1;
-          settled = λ answer new entry m.
-              let r = m.responds in
-              let there : picture_of new block ≡ r.next = respond_here s block m.closing m.did new g m.within r in
-              let same : m.closing ≡ o = same_Some _ _ (sym r.opened ∙ is) in
-              let settles = rw same at r.memory.settled in
-              let settled = settled_is (takes_payload o.request memory) s.protocol (arrival_at_memory o.payload) memory in
-              let done = settled r.memory.act r.next.memory.state settles ∙ sym (settled line.1.act line.1.done line.1.settled) in
-              (ap (λ (x : Picture). x.transaction) there ∙ r.closed, ap (λ (x : Picture). x.memory.state) there ∙ ap (λ x. x.1) done);
-        }
+open_is_by_table s g lines block = if_some (picture_of s block).transaction (IsOpenByTable s block) (λ o is.
+    let memory = (picture_of s block).memory.state in
+    let line = rw is at (lines block) in
+    record {
+      before = line.0;
+      on_line = line.1;
+      settled = λ answer new entry m.
+          let r = m.responds in
+          let there : picture_of new block ≡ r.next = respond_here s block m.closing m.did new g m.within r in
+          let same : m.closing ≡ o = same_Some _ _ (sym r.opened ∙ is) in
+          let settles = rw same at r.memory.settled in
+          let settled = settled_is (takes_payload o.request memory) s.protocol (arrival_at_memory o.payload) memory in
+          let done = settled r.memory.act r.next.memory.state settles ∙ sym (settled line.1.act line.1.done line.1.settled) in
+          (ap (λ (x : Picture). x.transaction) there ∙ r.closed, ap (λ (x : Picture). x.memory.state) there ∙ ap (λ x. x.1) done);
+    })
 
 -- each open transaction is on a line, after each step of a run
 abbrev OnLine : Protocol → Picture → Type 0

@@ -23,9 +23,8 @@ Taking-more protocol requestor request old new after n act next in_row taking ce
     let here : held_at after n ≡ line = ap (λ row. held_at row n) wrote ∙ get_or-set_same new n line nothing_held in_new in
     let elsewhere : (k : ℕ) → (k ≡ n → ⊥) → held_at after k ≡ held_at new k = λ k ne. ap (λ row. held_at row k) wrote ∙ get_or-set_other new n k line nothing_held ne in
     let was : held_at new n ≡ held_at old n = taking.left n (omega arith) in
-    let P : Line → Type 0 = λ x. Cell protocol x.state (seen_by n requestor request) act next in
     let at_n : TakesRow protocol (seen_by n requestor request) (held_at old n) (held_at after n) =
-    (record { action = act; next = next }, subst P was cell, here ∙ ap (moves_to next) was) in
+    (record { action = act; next = next }, rw was at cell, here ∙ ap (moves_to next) was) in
     record {
       same_length = ap length wrote ∙ (length-set new n line ∙ taking.same_length);
       taken = λ k h. elim (cases_eq k n) [
@@ -44,9 +43,7 @@ Taking-past protocol requestor request old new n m stay up taking =
       same_length = taking.same_length;
       taken = λ k h. elim (cases_lt k n) [
         | inl below ↦ taking.taken k below
-        | inr above ↦
-            let Q : Line → Type 0 = λ x. TakesRow protocol (seen_by k requestor request) (held_at old k) x in
-            subst Q (sym (taking.left k above)) (stay k above h)
+        | inr above ↦ rw (taking.left k above) (stay k above h)
       ];
       left = λ k h. taking.left k (omega arith);
     }

@@ -59,16 +59,14 @@ module _ (p : Protocol) (before : Picture) (core : ℕ) (request : Request) wher
 module _ (p : Protocol) (before : Picture) (core : ℕ) (request : Request) where
   past_all : (d n : ℕ) → ((k : ℕ) → n ≤ k → k < n + d → Cell p (held_by before k).state (seen_by k core request) action.None (held_by before k).state)
       → SilentBelow p before core request n → SilentBelow p before core request (n + d)
-  past_all zero n idle silent = let P : ℕ → Type 0 = λ j. SilentBelow p before core request j in let e : n ≡ n + 0 = omega arith in subst P e silent
+  past_all zero n idle silent = let e : n + 0 ≡ n = omega arith in rw e silent
   past_all (suc d) n idle silent =
-      let P : ℕ → Type 0 = λ j. SilentBelow p before core request j in
-      let e : n + 1 + d ≡ n + suc d = omega arith in
-      subst P e (past_all d (n + 1) (λ k up below. idle k (omega arith) (omega arith))
+      let e : n + suc d ≡ n + 1 + d = omega arith in
+      rw e (past_all d (n + 1) (λ k up below. idle k (omega arith) (omega arith))
       (Silent-more p before core request n action.None (held_by before n).state silent (idle n (omega arith) (omega arith)) (λ payload target e. cc)))
 
   pub Silent-past : (n to : ℕ) → n ≤ to → ((k : ℕ) → n ≤ k → k < to → Cell p (held_by before k).state (seen_by k core request) action.None (held_by before k).state)
       → SilentBelow p before core request n → SilentBelow p before core request to
   Silent-past n to up idle silent =
-      let e : n + (to - n) ≡ to = omega arith in
-      let P : ℕ → Type 0 = λ j. SilentBelow p before core request j in
-      subst P e (past_all (to - n) n (λ k above below. idle k above (omega arith)) silent)
+      let e : to ≡ n + (to - n) = omega arith in
+      rw e (past_all (to - n) n (λ k above below. idle k above (omega arith)) silent)

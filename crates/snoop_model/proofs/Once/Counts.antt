@@ -3,6 +3,7 @@ use Rattle.std.proofs.Common.{◌≡◌, ℕ, ◌+◌, Bool, true, false, ◌&&�
 use Rattle.std.specs.Prelude.{option_to_list, count_by, ⊤}
 use Rattle.std.proofs.lemmas.List.{append-nil}
 use Rattle.std.proofs.lemmas.List.Sums.{sum_by-append}
+use Rattle.snoop_model.proofs.Once.Owed.{answers_are}
 use Rattle.snoop_model.proofs.Words.{Did, Item, Access}
 use Rattle.snoop_history.specs.History.{operation_of, answers_of}
 use Rattle.snoop_history.proofs.Pushed.{answers_of-push, of_core}
@@ -42,12 +43,8 @@ count_of block core wanted c b (Some did) by =
 -- how often a core did it, with one item more
 pub count_logged : (block core : ℕ) (wanted : Access) (c b : ℕ) (log : List Item) (entry : Option Item) → IsBy c b (did_in entry)
     → count_by (did_it block wanted) (answers_of (log ++ option_to_list entry) core) ≡ count_by (did_it block wanted) (answers_of log core) + cond (eqb c core) (cond (eqb b block) (did_so wanted (did_in entry)) 0) 0
-count_logged block core wanted c b log None by =
-    let e : count_by (did_it block wanted) (answers_of (log ++ []) core) ≡ count_by (did_it block wanted) (answers_of log core) = ap (λ (l : List Item). count_by (did_it block wanted) (answers_of l core)) (append-nil log) in
-    let z = none_either (eqb c core) (eqb b block) 0 in
-    omega arith
-count_logged block core wanted c b log (Some entry) by =
-    let e : count_by (did_it block wanted) (answers_of (log ++ entry ∷ []) core) ≡ count_by (did_it block wanted) (answers_of log core ++ of_core core (operation_of entry)) = ap (count_by (did_it block wanted)) (answers_of-push log entry core) in
-    let f : count_by (did_it block wanted) (answers_of log core ++ of_core core (operation_of entry)) ≡ count_by (did_it block wanted) (answers_of log core) + count_by (did_it block wanted) (of_core core (operation_of entry)) = sum_by-append (λ x. cond (did_it block wanted x) 1 0) (answers_of log core) (of_core core (operation_of entry)) in
-    let h = count_of block core wanted c b (operation_of entry) by in
+count_logged block core wanted c b log entry by =
+    let e : count_by (did_it block wanted) (answers_of (log ++ option_to_list entry) core) ≡ count_by (did_it block wanted) (answers_of log core ++ of_core core (did_in entry)) = ap (count_by (did_it block wanted)) (answers_are log entry core) in
+    let f : count_by (did_it block wanted) (answers_of log core ++ of_core core (did_in entry)) ≡ count_by (did_it block wanted) (answers_of log core) + count_by (did_it block wanted) (of_core core (did_in entry)) = sum_by-append (λ x. cond (did_it block wanted x) 1 0) (answers_of log core) (of_core core (did_in entry)) in
+    let h = count_of block core wanted c b (did_in entry) by in
     omega arith

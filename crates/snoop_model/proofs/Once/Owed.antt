@@ -3,6 +3,7 @@ use Rattle.std.proofs.Common.{◌≡◌, ℕ, ◌+◌, ◌≤◌, ◌⊎◌, inl
 use Rattle.std.specs.Prelude.{option_to_list, count_by}
 use Rattle.std.specs.Option.{option_map_or}
 use Rattle.std.proofs.lemmas.List.Sums.{sum_by-append}
+use Rattle.std.proofs.lemmas.Bool.{cases_Bool}
 use Rattle.snoop_model.proofs.Words.{Step, Did, Item, Access, held_by, Situation, picture_of}
 use Rattle.snoop_history.specs.History.{operation_of, answers_of, last_or}
 use Rattle.snoop_history.proofs.Pushed.{answers_of-push, of_core}
@@ -24,11 +25,7 @@ answers_are log (Some entry) core = answers_of-push log entry core
 
 pub one_or_none : (core : ℕ) (o : Option Did) → (of_core core o ≡ []) ⊎ ((d : Did) × (of_core core o ≡ d ∷ []))
 one_or_none core None = inl refl
-one_or_none core (Some d) = go (d.core == core) refl
-  where
-    go : (b : Bool) → (d.core == core) ≡ b → (of_core core (Some d) ≡ []) ⊎ ((e : Did) × (of_core core (Some d) ≡ e ∷ []))
-    go true e = inr (d, rw e refl)
-    go false e = inl (rw e refl)
+one_or_none core (Some d) = elim (cases_Bool (d.core == core)) [ inl e ↦ inr (d, rw e refl) | inr e ↦ inl (rw e refl) ]
 
 last_push : (o : Option Did) (xs : List Did) (d : Did) → last_or o (map (λ x. Some x) (xs ++ d ∷ [])) ≡ Some d
 last_push o [] d = refl

@@ -53,9 +53,9 @@ tallied old b within next queues entry c wanted asked by balance core block =
     omega arith
 
 takes_by : (a : CacheAction) (next : CacheState) (log : List Item) (core block word : ℕ) (asking : Op) (old new : Line) (answer : Reply) (entry : Option Item) → Takes a next log core block word asking old new answer entry → IsBy core block (did_in entry)
-takes_by action.Hit next log core block word asking old new answer entry t = subst (λ (x : Option Item). IsBy core block (did_in x)) (sym t.1.2) (refl, refl)
-takes_by (action.Issue r) next log core block word asking old new answer entry t = subst (λ (x : Option Item). IsBy core block (did_in x)) (sym t.2) tt
-takes_by action.Drop next log core block word asking old new answer entry t = subst (λ (x : Option Item). IsBy core block (did_in x)) (sym t.2) tt
+takes_by action.Hit next log core block word asking old new answer entry t = rw t.1.2 (refl, refl)
+takes_by (action.Issue r) next log core block word asking old new answer entry t = rw t.2 tt
+takes_by action.Drop next log core block word asking old new answer entry t = rw t.2 tt
 takes_by _ next log core block word asking old new answer entry t = absurd t
 
 one_if_both : (x y z : Bool) → one_if (x && (y && z)) ≡ cond x (cond y (one_if z) 0) 0
@@ -144,9 +144,7 @@ move_once block old (Ask c on word asking) answer new entry g m core b wanted = 
       let x : tally new core b wanted ≡ tally old core b wanted = ap (λ (s : Situation). tally s core b wanted) idle.3 in
       let y = absent_once wanted word asking (eqb c core) (eqb on b) idle.0 in
       omega arith
-  | inr a ↦
-      let P : ℕ → Type 0 = λ k. tally new core b wanted ≡ tally old core b wanted + one_if (asks core b wanted (Ask c k word asking)) in
-      subst P (sym m.on_block) (ask_once old c block word asking answer new entry g m.within a core b wanted)
+  | inr a ↦ rw m.on_block (ask_once old c block word asking answer new entry g m.within a core b wanted)
 ]
 move_once block old (Order c) answer new entry g m core b wanted = order_once old c block m.request new g m.within m.orders core b wanted
 move_once block old (Respond on) answer new entry g m core b wanted = respond_once old block m.closing m.did new g m.within m.responds core b wanted

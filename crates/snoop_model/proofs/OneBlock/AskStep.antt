@@ -95,7 +95,7 @@ module _ (s : Situation) (core block word : ℕ) (asking : Op) (answer : Reply) 
   others d apart = get_or-set_other before.caches core d asks.held nothing_held apart
 
   took : Takes asks.row.action asks.row.next s.log core block word asking (held_by before core) (held_by after core) answer entry
-  took = subst (λ (x : Line). Takes asks.row.action asks.row.next s.log core block word asking (held_by before core) x answer entry) (sym here) asks.taken
+  took = rw here asks.taken
 
   -- a test of an Ask's row holds here
   rule : (k : AskTests.AskQuestion) → AskTests.ask_test k s.protocol g.claims.shared (owns g.owner core) (awaited before.transaction core)

@@ -3,6 +3,7 @@ use Rattle.std.proofs.Common.{◌≡◌, ◌≢◌, ◌<◌, ◌&&◌, ◌||◌,
 use Rattle.std.specs.Prelude.{is_some}
 use Rattle.std.proofs.lemmas.Bool.Decides.{eqb_tells}
 use Rattle.std.proofs.lemmas.Bool.{and_parts, both_ways, cases_Bool, cases_eq, eqb-true, ne_eqb, not-true, or_right}
+use Rattle.std.proofs.Math.Bool.{and-false}
 use Rattle.snoop_model.proofs.Words.{Protocol, CacheState, Request, carries_value, Open, Line, Picture, held_by}
 use Rattle.snoop_history.specs.Totals.{is_put_m}
 use Rattle.snoop_model.specs.Moves.Move.{moves_to}
@@ -19,23 +20,9 @@ by_core c P here others d = elim (cases_eq d c) [ inl e ↦ subst P (sym e) here
 pub some_is : {A : Type 0} (o : Option A) (a b : A) → o ≡ Some a → o ≡ Some b → a ≡ b
 some_is o a b e f = cc
 
-pub not_eqb_true : (d c : ℕ) → d ≢ c → not (eqb d c) ≡ true
-not_eqb_true d c apart = rw (ne_eqb d c apart) refl
-
 pub owns_owned : (owner : Option ℕ) (d : ℕ) (b : Bool) → is_some owner ≡ b → (not (owns owner d) || b) ≡ true
 owns_owned None d b e = refl
 owns_owned (Some o) d b e = rw (← e) (or_right (not (eqb d o)) true refl)
-
--- two cores do not both own
-pub owns_apart : (owner : Option ℕ) (c d : ℕ) → d ≢ c → not (owns owner d && owns owner c) ≡ true
-owns_apart None c d apart = refl
-owns_apart (Some o) c d apart = elim (eqb_tells d o) as (λ _. not (eqb d o && eqb c o) ≡ true) [
-  | inl h ↦ elim (eqb_tells c o) as (λ _. not (eqb d o && eqb c o) ≡ true) [
-    | inl k ↦ absurd (apart (h.1 ∙ sym k.1))
-    | inr k ↦ rw (h.0, k.0) refl
-  ]
-  | inr h ↦ rw h.0 refl
-]
 
 pub fits_is_owner : (p : Protocol) (shared ow : Bool) (w : Option Request) (s : CacheState) → fits p shared ow w s ≡ true → is_owner s ≡ ow
 unfolding fits
@@ -90,12 +77,12 @@ owned_alone p n flat picture g is_owned =
     let b = and_parts (not g.claims.fresh) (calm_talk (talk_of picture.transaction)) a.1 in
     record { unshared = not-true g.claims.shared a.0; unfresh = not-true g.claims.fresh b.0; calm = b.1 }
 
+pub put_calm : (o : Open) (d : ℕ) → is_put_m o.request ≡ true → is_calm (awaited (Some o) d) ≡ true
+put_calm o d h = elim (cases_Bool (eqb d o.core)) as (λ _. is_calm (cond (eqb d o.core) (Some o.request) None) ≡ true) [ inl e ↦ rw e h | inr e ↦ rw e refl ]
+
 pub calm_wait : (t : Option Open) (d : ℕ) → calm_talk (talk_of t) ≡ true → is_calm (awaited t d) ≡ true
 calm_wait None d h = refl
-calm_wait (Some o) d h = elim (cases_Bool (eqb d o.core)) as (λ _. is_calm (cond (eqb d o.core) (Some o.request) None) ≡ true) [
-  | inl e ↦ rw e (and_parts (is_put_m o.request) (not (carries_value o.payload)) h).0
-  | inr e ↦ rw e refl
-]
+calm_wait (Some o) d h = put_calm o d (and_parts (is_put_m o.request) (not (carries_value o.payload)) h).0
 
 -- where a core owns the block, each core that doesn't may not read it
 pub others_blind : (p : Protocol) (n : ℕ) (flat : List ℕ) (picture : Picture) (g : BlockInvariant p n flat picture) → g.claims.owned ≡ true → (d : ℕ) → d < n → owns g.owner d ≡ false → keeps (held_by picture d).state ≡ false
@@ -112,16 +99,21 @@ pub owner_owned : (p : Protocol) (n : ℕ) (flat : List ℕ) (picture : Picture)
 owner_owned p n flat picture g d h = sym g.is_owned ∙ rw (owner_is g.owner d h) refl
 
 pub owns_one : (owner : Option ℕ) (c d : ℕ) → owns owner c ≡ true → d ≢ c → owns owner d ≡ false
-owns_one owner c d h apart = not-true (owns owner d) (rw (owner_is owner c h) (not_eqb_true d c apart))
+owns_one owner c d h apart = rw (owner_is owner c h) (ne_eqb d c apart)
+
+-- two cores do not both own
+pub owns_apart : (owner : Option ℕ) (c d : ℕ) → d ≢ c → not (owns owner d && owns owner c) ≡ true
+owns_apart owner c d apart = elim (cases_Bool (owns owner c)) [
+  | inl h ↦ rw (owns_one owner c d h apart) refl
+  | inr h ↦ rw (h, and-false (owns owner d)) refl
+]
 
 -- one writer alone, or only readers
 pub one_writer : (p : Protocol) (n : ℕ) (flat : List ℕ) (picture : Picture) (g : BlockInvariant p n flat picture) (c d : ℕ) → d < n → owns g.owner c ≡ true → d ≢ c → keeps (held_by picture d).state ≡ false
 one_writer p n flat picture g c d d_in owning apart = others_blind p n flat picture g (owner_owned p n flat picture g c owning) d d_in (owns_one g.owner c d owning apart)
 
 pub calm_carries : (t : Option Open) (o : Open) → calm_talk (talk_of t) ≡ true → t ≡ Some o → carries_value o.payload ≡ true → ⊥
-calm_carries t o h e carrying =
-    let h2 : calm_talk (talk_of (Some o)) ≡ true = ap (λ (x : Option Open). calm_talk (talk_of x)) (sym e) ∙ h in
-    both_ways _ (not-true _ (and_parts (is_put_m o.request) _ h2).1) carrying
+calm_carries t o h e carrying = both_ways _ (not-true _ (and_parts (is_put_m o.request) (not (carries_value o.payload)) (rw e at h)).1) carrying
 
 pub none_of : (o : Option ℕ) → is_some o ≡ false → o ≡ None
 none_of None e = refl

@@ -19,7 +19,7 @@ use Rattle.snoop_model.specs.Invariant.Block.{BlockInvariant, awaited, owns}
 use Rattle.snoop_model.proofs.Tables.Every.{either-at, given, given_at, same_is, some_of, when_at}
 use Rattle.snoop_model.proofs.OneBlock.Operation.{flat_after, IsLawful}
 use Rattle.snoop_model.proofs.Tables.SenderTests.{after_respond, next_memory, next_of}
-use Rattle.snoop_model.proofs.OneBlock.Facts.{by_core, owns_owned, implied}
+use Rattle.snoop_model.proofs.OneBlock.Facts.{by_core, put_calm, owns_owned, implied}
 use Rattle.snoop_model.proofs.OneBlock.AskStep.{right_of}
 use Rattle.snoop_model.proofs.Tables.Rows.{IsProper-fill}
 use Rattle.snoop_model.proofs.Tables.RespondTests.{SettlesIf, after_rule, fills_store, gains, memory_row_for, respond_rule, row_for, writes}
@@ -58,9 +58,6 @@ module _ (p : Protocol) (m next : MemState) (act : MemAction) (carrying : Bool) 
       let parts = and_parts carrying (given (memory_cell_of p m event) (λ r. writes r.action)) test in
       (parts.0, given_at (memory_cell_of p m event) (λ r. writes r.action) _ settled parts.1)
   row_writes false found settled test = cc
-
-put_calm : (o : Open) (d : ℕ) → is_put_m o.request ≡ true → is_calm (awaited (Some o) d) ≡ true
-put_calm o d h = elim (cases_Bool (eqb d o.core)) as (λ _. is_calm (cond (eqb d o.core) (Some o.request) None) ≡ true) [ inl e ↦ rw e h | inr e ↦ rw e refl ]
 
 put_gains : (q : Request) (pl : Payload) (owned : Bool) → is_put_m q ≡ true → (owned || gains q pl) ≡ owned
 put_gains request.PutM pl true h = refl

@@ -2,7 +2,7 @@
 use Rattle.std.proofs.Common.{◌≡◌, ℕ, ◌<◌, true, List, length, Option, Some, None, refl, sym, ◌∙◌, ap, subst, arith, inl, inr, ◌⊎◌}
 use Rattle.std.specs.Prelude.{is_some}
 use Rattle.std.proofs.lemmas.Bool.{cases_eq, cases_lt}
-use Rattle.std.proofs.lemmas.Option.{same_Some}
+use Rattle.std.proofs.lemmas.Option.{same_Some, none-some}
 use Rattle.std.proofs.lemmas.List.{length-set, get_or-set_same, get_or-set_other, get_or_past}
 use Rattle.snoop_model.proofs.Words.{Protocol, Request, waiting_request, Did, Item, Open, Access, Line, Picture, held_at, held_by, nothing_held, Situation, picture_of, state_of}
 use Rattle.snoop_rules.specs.declared.names.Request.TheVariants.{PutM}
@@ -33,11 +33,8 @@ module _ (closing : Open) (p : Protocol) (log : List Item) (old new : List Line)
         fills.fills.is_row
         (ap (λ (x : Line). awaited_request x.state) (sym line) ∙ h))
     | inr past ↦
-        (let long = length-set old closing.core fills.line in
-        let same : length new ≡ length old = ap length fills.held ∙ long in
-        let clash : ◌≡◌ {A = Option Request} None (Some q) = ap (λ (x : Line). awaited_request x.state)
-        (sym (get_or_past new closing.core nothing_held (omega arith))) ∙ h in
-        cc)
+        (let same : length new ≡ length old = ap length fills.held ∙ length-set old closing.core fills.line in
+        none-some q (ap (λ (x : Line). awaited_request x.state) (sym (get_or_past new closing.core nothing_held (omega arith))) ∙ h))
   ]
 
   fills_other : (k : ℕ) → (k ≡ closing.core → ⊥) → held_at new k ≡ held_at old k

@@ -24,10 +24,9 @@ performed_reply core block word op.Evict before value after h = absurd h
 
 module _ (p : Protocol) (next : CacheState) (log : List Item) (core block word : ℕ) (asking : Op) (old new : Line) (answer : Reply) (entry : Option Item) where
   taken_reply : (a : CacheAction) → Cell p old.state (asked asking) a next → Takes a next log core block word asking old new answer entry → IsReplyTo (Ask core block word asking) answer
-  taken_reply action.Hit row t = subst (λ (r : Reply). IsReplyTo (Ask core block word asking) r) (sym t.1.1) (performed_reply core block word asking t.1.0.before t.0 t.1.0.after t.1.0.performed)
-  taken_reply (action.Issue q) row t = subst (λ (r : Reply). IsReplyTo (Ask core block word asking) r) (sym t.1)
-      (rw (issue_serves p old.state asking q next row) (issued_reply core block word asking))
-  taken_reply action.Drop row t = subst (λ (r : Reply). IsReplyTo (Ask core block word asking) r) (sym t.1) (rw (drop_evicts p old.state asking next row) tt)
+  taken_reply action.Hit row t = rw t.1.1 (performed_reply core block word asking t.1.0.before t.0 t.1.0.after t.1.0.performed)
+  taken_reply (action.Issue q) row t = rw (t.1, issue_serves p old.state asking q next row) (issued_reply core block word asking)
+  taken_reply action.Drop row t = rw (t.1, drop_evicts p old.state asking next row) tt
   taken_reply _ row t = absurd t
 
 absent_reply : (core block word : ℕ) (asking : Op) (answer : Reply) → asking ≡ op.Evict → answer ≡ reply.Absent → IsReplyTo (Ask core block word asking) answer
@@ -37,7 +36,7 @@ pub move_replies : (old new : Situation) (step : Step) (answer : Reply) (entry :
 move_replies old new (Ask core on word asking) answer entry m = elim m.1.1.moves [
   | inl absent ↦ absent_reply core on word asking answer absent.0 absent.2
   | inr a ↦ taken_reply old.protocol a.row.next old.log core on word asking (held_by (picture_of old m.0) core) a.held answer entry a.row.action a.is_row
-      (let P : ℕ → Type 0 = λ b. Takes a.row.action a.row.next old.log core b word asking (held_by (picture_of old m.0) core) a.held answer entry in subst P (sym m.1.1.on_block) a.taken)
+      (rw m.1.1.on_block a.taken)
 ]
 move_replies old new (Order core) answer entry m = subst (λ (r : Reply). IsReplyTo (Order core) r) (sym m.1.1.answered) tt
 move_replies old new (Respond on) answer entry m = subst (λ (r : Reply). IsReplyTo (Respond on) r) (sym m.1.1.answered) tt

@@ -18,7 +18,7 @@ use Rattle.snoop_history.specs.History.{flat_words}
 use Rattle.snoop_history.specs.Totals.{is_put_m}
 use Rattle.snoop_model.specs.declared.replies.Refused.TheVariants.{NoTransaction}
 use Rattle.snoop_model.specs.Pictures.Proper.{request_for, missed_request, IsProper}
-use Rattle.snoop_model.specs.Moves.Move.{Takes, Orders, Responds, FillsRequestor, ArrivesFor, Performs, is_load, IsWithin}
+use Rattle.snoop_model.specs.Moves.Move.{Hits, Takes, Orders, Responds, FillsRequestor, ArrivesFor, Performs, is_load, IsWithin}
 use Rattle.snoop_model.specs.Runs.Run.{GoesFirst}
 use Rattle.snoop_model.specs.Invariant.Invariant.{Invariant}
 use Rattle.snoop_model.proofs.Tables.Rows.{same_request, is_evict, asked_answers, hit_keeps}
@@ -59,20 +59,14 @@ module _ (s : Situation) (core block word : ℕ) (asking : Op) (within : IsWithi
       let line = held_by (picture_of s block) core in
       let ws = unwrap_or line.kept zero_words in
       let asks = hit_keeps s.protocol line.state (asked asking) next row in
-      taken action.Hit next row _ _ _ (
-        value_of word asking ws,
-        (
-          record {
-            before = ws;
-            after = words_after word asking ws;
-            kept = some_kept line.kept (proper.kept ∙ asks.0);
-            performed = performs asking asks.1 word ws;
-            held = refl;
-          },
-          refl,
-          refl,
-        ),
-      )
+      let hits : Hits next line _ word asking (value_of word asking ws) = record {
+        before = ws;
+        after = words_after word asking ws;
+        kept = some_kept line.kept (proper.kept ∙ asks.0);
+        performed = performs asking asks.1 word ws;
+        held = refl;
+      } in
+      taken action.Hit next row _ _ _ (value_of word asking ws, (hits, refl, refl))
   goes_by action.Stall next row proper = ((within, refl, (next, row), has), refl)
   goes_by (action.Issue r) next row proper = taken (action.Issue r) next row _ _ None (refl, refl, refl)
   goes_by action.Drop next row proper = taken action.Drop next row _ _ None (refl, refl, refl)
@@ -174,21 +168,20 @@ is_data event.DataE = true
 is_data _ = false
 
 -- data performs the operation that has missed
-abbrev fills : CacheAction → CacheState → Bool
-fills action.FillLoad s = same_request (missed_request s) (Some request.GetS)
-fills action.FillStore s = same_request (missed_request s) (Some request.GetM)
-fills _ s = false
+abbrev fills : CacheAction → Option Request → Bool
+fills action.FillLoad missed = same_request missed (Some request.GetS)
+fills action.FillStore missed = same_request missed (Some request.GetM)
+fills _ missed = false
 
 abbrev data_test : Protocol → CacheState → CacheEvent → CacheCell → Bool
-data_test p s e r = not (is_data e) || fills r.action s
+data_test p s e r = not (is_data e) || fills r.action (missed_request s)
 
 data_test_holds : each_row data_test ≡ true
 unfolding each_row all_protocols all_states all_events
 data_test_holds = refl
 
 arrives_as_data : (payload : Payload) (e : CacheEvent) → arrival payload ≡ Some e → is_data e ≡ true
-arrives_as_data payload.Data e is = cc
-arrives_as_data payload.DataE e is = cc
+arrives_as_data payload.NoData e is = cc
 arrives_as_data _ e is = cc
 
 -- the operation that waits, for which the fill is, and which it performs
@@ -198,22 +191,15 @@ record IsFill (act : CacheAction) (waiting : Option Access) : Type 0 where
   fill : act ≡ (if is_load access.op then action.FillLoad else action.FillStore)
   performed : (ws : List ℕ) → Performs access.word access.op ws (value_of access.word access.op ws) (words_after access.word access.op ws)
 
-fill_for : (load : Bool) (waiting : Option Access) → same_request (option_map (λ access. request_for access.op) waiting)
-    (Some (if load then request.GetS else request.GetM)) ≡ true → IsFill (if load then action.FillLoad else action.FillStore) waiting
-fill_for load None h = cc
-fill_for load (Some access) h = by_op load access.op refl h
+fill_is : (act : CacheAction) (waiting : Option Access) → fills act (option_map (λ access. request_for access.op) waiting) ≡ true → IsFill act waiting
+fill_is action.FillLoad None h = cc
+fill_is _ None h = cc
+fill_is act (Some access) h = by_op act access.op refl h
   where
-    by_op : (load : Bool) (o : Op) → access.op ≡ o → same_request (Some (request_for o)) (Some (if load then request.GetS else request.GetM)) ≡ true
-        → IsFill (if load then action.FillLoad else action.FillStore) (Some access)
-    by_op true op.Load is h = record { access = access; waited = refl; fill = rw is refl; performed = λ ws. rw is (refl, refl) }
-    by_op false (op.Store v) is h = record { access = access; waited = refl; fill = rw is refl; performed = λ ws. rw is (refl, refl) }
-    by_op true _ is h = cc
-    by_op false _ is h = cc
-
-fill_is : (act : CacheAction) (line : Line) → fills act line.state ≡ true → IsProper line → IsFill act line.waiting
-fill_is action.FillLoad line h proper = fill_for true line.waiting (rw (← proper.waiting) at h)
-fill_is action.FillStore line h proper = fill_for false line.waiting (rw (← proper.waiting) at h)
-fill_is _ line h proper = cc
+    by_op : (act : CacheAction) (o : Op) → access.op ≡ o → fills act (Some (request_for o)) ≡ true → IsFill act (Some access)
+    by_op action.FillLoad op.Load is h = record { access = access; waited = refl; fill = rw is refl; performed = λ ws. rw is (refl, refl) }
+    by_op action.FillStore (op.Store v) is h = record { access = access; waited = refl; fill = rw is refl; performed = λ ws. rw is (refl, refl) }
+    by_op _ _ is h = cc
 
 -- what the response brings to the caches
 module _ (p : Protocol) (log : List Item) (old : List Line) (o : Open) where
@@ -224,7 +210,7 @@ module _ (p : Protocol) (log : List Item) (old : List Line) (o : Open) where
   fills_as (Some e) arrives row is proper =
       let line = held_at old o.core in
       let fits = implied (is_data e) _ (each_row-at data_test data_test_holds p line.state e row.action row.next is) (arrives_as_data o.payload e arrives) in
-      let f = fill_is row.action line fits proper in
+      let f = fill_is row.action line.waiting (rw proper.waiting fits) in
       rw (f.waited, arrives, is) (record {
         line = _;
         asking = f.access;

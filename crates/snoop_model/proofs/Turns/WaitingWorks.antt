@@ -46,8 +46,7 @@ busy_under_way s under_way serving kept core block busy = elim (busy_cases (stat
   | inl w ↦ All-contains (λ b. under_way core ≡ Some b) (queue_of s.queues core) block (serving.waits core) (waits_queued s kept.queued core block w.0 w.1)
   | inr d ↦
       let own = kept.awaits core block d.0 d.1 in
-      let P : ℕ → Type 0 = λ c. under_way c ≡ Some block in
-      subst P own.1.1 (serving.opened block own.0 own.1.0)
+      rw (← own.1.1) (serving.opened block own.0 own.1.0)
 ]
 
 -- a core that has missed waits
