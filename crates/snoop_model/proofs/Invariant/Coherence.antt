@@ -30,7 +30,7 @@ use Rattle.snoop_model.proofs.Tables.AskTests.{ask_rule, is_idle_evict}
 use Rattle.snoop_model.proofs.Tables.Rows.{hit_keeps}
 use Rattle.snoop_model.proofs.Tables.RespondTests.{memory_row_for, row_for}
 use Rattle.snoop_model.proofs.OneBlock.OrderStep.{seen_other}
-use Rattle.snoop_model.proofs.OneBlock.Facts.{one_writer, fits_waits, fits_is_owner}
+use Rattle.snoop_model.proofs.OneBlock.Facts.{one_writer, fits_waits, fits_is_owner, each_held}
 use Rattle.snoop_model.proofs.OneBlock.Possible.{Answerable, Possible, order_possible, ask_possible, respond_possible}
 use Rattle.snoop_model.proofs.Tables.SenderLines.{led_line}
 use Rattle.snoop_model.proofs.Tables.WaitingRows.{awaited-get}
@@ -41,22 +41,12 @@ use Rattle.snoop_model.specs.Pictures.Proper.{keeps, awaited_request}
 outside : (s : Situation) → Invariant s → (block : ℕ) → s.shape.blocks ≤ block → picture_of s block ≡ nothing_there
 outside s g block past = let long = g.shaped.pictures in get_or_past s.pictures block nothing_there (omega arith)
 
--- a core and a block within the shape, or a core that holds nothing of it
-pub place : (s : Situation) → Invariant s → (core block : ℕ) → IsWithin s core block ⊎ (held_by (picture_of s block) core ≡ nothing_held)
-place s g core block = elim (cases_lt block s.shape.blocks) [
-  | inl in_blocks ↦ elim (cases_lt core s.shape.cores) [
-    | inl in_cores ↦ inl (in_cores, in_blocks)
-    | inr past ↦
-        let long : length (picture_of s block).caches ≡ s.shape.cores = g.shaped.row block in_blocks in
-        inr (get_or_past (picture_of s block).caches core nothing_held (omega arith))
-  ]
-  | inr past ↦
-      inr (ap (λ (x : Picture). held_by x core) (outside s g block past) ∙ get_or_past [] core nothing_held (omega arith))
-]
-
 -- what holds of each line of the machine, and of a core that holds nothing, holds of every core's
 pub each_line : (s : Situation) → Invariant s → (core block : ℕ) (P : Line → Type 0) → (IsWithin s core block → P (held_by (picture_of s block) core)) → P nothing_held → P (held_by (picture_of s block) core)
-each_line s g core block P here nothing = elim (place s g core block) [ inl within ↦ here within | inr none ↦ subst P (sym none) nothing ]
+each_line s g core block P here nothing = elim (cases_lt block s.shape.blocks) [
+  | inl in_blocks ↦ each_held (picture_of s block).caches core P (λ below. here (rw (← (g.shaped.row block in_blocks)) below, in_blocks)) nothing
+  | inr past ↦ subst (λ (x : Picture). P (held_by x core)) (sym (outside s g block past)) (subst P (sym (get_or_past [] core nothing_held (omega arith))) nothing)
+]
 
 -- a core that holds nothing may neither read nor write
 never_hits : (p : Protocol) (e : CacheEvent) (n : CacheState) → Cell p state.I e action.Hit n → ⊥

@@ -14,7 +14,7 @@ use Rattle.snoop_history.specs.History.{flat_words, operation_of, operations}
 use Rattle.snoop_model.specs.Moves.Move.{Takes, ArrivesFor, Asks, Orders, Responds, IsWithin, MoveOn, kept_waiting, queues_after, came_of}
 use Rattle.snoop_model.specs.Invariant.Block.{BlockInvariant}
 use Rattle.snoop_model.specs.Invariant.Invariant.{Invariant}
-use Rattle.snoop_model.proofs.OneBlock.Facts.{by_core}
+use Rattle.snoop_model.proofs.OneBlock.Facts.{by_core, each_held}
 use Rattle.snoop_model.proofs.OneBlock.Operation.{did_in, flat_after, IsLawful}
 use Rattle.snoop_model.proofs.OneBlock.OfBlocks.{changed, in_pictures, each_picture, shaped_after}
 use Rattle.snoop_model.proofs.Lines.Answered.{by_request, arrives_length, still_waiting}
@@ -154,11 +154,8 @@ order_moves old core block q new g within o =
       opened = λ t is_open. ap (λ (x : Open). x.block) (same_Some _ _ (sym is_open ∙ o.opened));
       block_after = k;
       item = record { on = tt; follows = tt; logged = tt };
-      accesses = λ c access waits.
-          elim (cases_lt c (length before.caches)) as (λ _. IsWord old.shape access.word) [
-            | inl inside ↦ g.accesses c block access (sym (ap (λ (x : Line). x.waiting) (o.taken.rows c inside).2) ∙ waits)
-            | inr past ↦ no_access old.shape nothing_held refl access (ap (λ (x : Line). x.waiting) (sym (get_or_past o.next.caches c nothing_held (subst (λ (n : ℕ). n ≤ c) (sym o.taken.same_length) past))) ∙ waits)
-          ];
+      accesses = λ c. each_held o.next.caches c (AccessWithin old.shape)
+          (λ below. rw (o.taken.rows c (rw (← o.taken.same_length) below)).2 (g.accesses c block)) (no_access old.shape nothing_held refl);
     } in
     subst Invariant (sym o.after) (kept old block o.next queues entry g whole)
 

@@ -1,10 +1,11 @@
 -- What follows from the invariant of one block.
-use Rattle.std.proofs.Common.{◌≡◌, ◌≢◌, ◌<◌, ◌&&◌, ◌||◌, ◌∙◌, ℕ, List, Bool, true, false, not, cond, eqb, Option, Some, None, refl, inl, inr, ap, sym, subst}
+use Rattle.std.proofs.Common.{◌≡◌, ◌≢◌, ◌<◌, ◌&&◌, ◌||◌, ◌∙◌, ℕ, List, Bool, true, false, not, cond, eqb, Option, Some, None, refl, inl, inr, ap, sym, subst, length}
 use Rattle.std.specs.Prelude.{is_some}
 use Rattle.std.proofs.lemmas.Bool.Decides.{eqb_tells}
-use Rattle.std.proofs.lemmas.Bool.{and_parts, both_ways, cases_Bool, cases_eq, eqb-true, ne_eqb, not-true, or_right}
+use Rattle.std.proofs.lemmas.Bool.{and_parts, both_ways, cases_Bool, cases_eq, eqb-true, ne_eqb, not-true, or_right, cases_lt}
 use Rattle.std.proofs.Math.Bool.{and-false}
-use Rattle.snoop_model.proofs.Words.{Protocol, CacheState, Request, carries_value, Open, Line, Picture, held_by}
+use Rattle.std.proofs.lemmas.List.{get_or_past}
+use Rattle.snoop_model.proofs.Words.{Protocol, CacheState, Request, carries_value, Open, Line, Picture, held_by, held_at, nothing_held}
 use Rattle.snoop_history.specs.Totals.{is_put_m}
 use Rattle.snoop_model.specs.Moves.Move.{moves_to}
 use Rattle.snoop_model.specs.Invariant.Fits.{is_owner, is_sharer, is_clean, in_protocol, same, wait_fits, fits}
@@ -16,6 +17,10 @@ use Rattle.snoop_model.specs.Pictures.Proper.{keeps}
 -- what holds of one core and of each other holds of each
 pub by_core : (c : ℕ) (P : ℕ → Type 0) → P c → ((d : ℕ) → d ≢ c → P d) → (d : ℕ) → P d
 by_core c P here others d = elim (cases_eq d c) [ inl e ↦ subst P (sym e) here | inr apart ↦ others d apart ]
+
+-- what holds of each line that there is, and of one that holds nothing, holds of any core's
+pub each_held : (lines : List Line) (k : ℕ) (P : Line → Type 0) → (k < length lines → P (held_at lines k)) → P nothing_held → P (held_at lines k)
+each_held lines k P inside nothing = elim (cases_lt k (length lines)) [ inl below ↦ inside below | inr past ↦ subst P (sym (get_or_past lines k nothing_held past)) nothing ]
 
 pub some_is : {A : Type 0} (o : Option A) (a b : A) → o ≡ Some a → o ≡ Some b → a ≡ b
 some_is o a b e f = cc

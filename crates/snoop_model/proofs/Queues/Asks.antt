@@ -1,15 +1,17 @@
 -- A machine stays well kept at an Ask.
-use Rattle.std.proofs.Common.{◌≡◌, ℕ, ◌<◌, ◌++◌, true, List, length, Option, Some, None, refl, sym, ◌∙◌, ap, subst, arith, inl, inr}
-use Rattle.std.specs.Prelude.{is_some, count_by, ◌==◌, option_map, option_to_list}
+use Rattle.std.proofs.Common.{◌≡◌, ℕ, ◌<◌, ◌++◌, true, List, length, Option, Some, None, refl, sym, ◌∙◌, ap, subst, arith, inl, inr, ◌≢◌}
+use Rattle.std.specs.Prelude.{is_some, count_by, ◌==◌, option_map, option_to_list, IsSome}
 use Rattle.std.proofs.lemmas.Bool.{cases_eq}
 use Rattle.std.proofs.lemmas.List.{length-set, get_or-set_same, get_or-set_other}
-use Rattle.snoop_model.proofs.Words.{Op, CacheState, CacheAction, Request, Cell, asked, waiting_request, Item, Access, Reply, Line, Picture, held_by, nothing_held, with_line, Situation, picture_of, state_of}
+use Rattle.snoop_bus.specs.Queues.{after_issue}
+use Rattle.snoop_model.proofs.OneBlock.Facts.{by_core}
+use Rattle.snoop_model.proofs.Words.{Op, CacheState, CacheAction, Request, Cell, asked, waiting_request, Item, Access, Reply, Line, Picture, held_by, nothing_held, with_line, Situation, picture_of, state_of, HasOpen, queue_of}
 use Rattle.snoop_rules.specs.declared.names.CacheAction.TheVariants as action
 use Rattle.snoop_model.specs.Pictures.Proper.{missed_request, request_for, awaited_request}
 use Rattle.snoop_model.specs.Moves.Move.{Asks, Takes, IsWithin, queues_after}
 use Rattle.snoop_model.specs.Invariant.WellKept.{IsWellKept}
 use Rattle.snoop_model.proofs.Lists.Facts.{one_if}
-use Rattle.snoop_model.proofs.Lists.QueueCounts.{issued_own, issued_others, issued_elsewhere}
+use Rattle.snoop_model.proofs.Lists.QueueCounts.{issued_own, issued_others, issued_elsewhere, times}
 use Rattle.snoop_model.proofs.Lists.Writes.{set_cases}
 use Rattle.snoop_model.proofs.Tables.Rows.{issue-waits, issue-missed, asked_missed, hit_facts, drop_facts}
 use Rattle.snoop_model.proofs.Tables.WaitingRows.{has_missed, awaited-asked}
@@ -24,17 +26,21 @@ module _ (s : Situation) (kept : IsWellKept s) (core block : ℕ) (within : IsWi
   abbrev after : Picture
   after = with_line before core held
 
+  in_row : core < length before.caches
+  in_row = rw (kept.shaped.row block within.1) within.0
+
+  its_line : held_by after core ≡ held
+  its_line = get_or-set_same before.caches core held nothing_held in_row
+
+  others : (k : ℕ) → k ≢ core → held_by after k ≡ held_by before k
+  others k apart = get_or-set_other before.caches core k held nothing_held apart
+
   awaited_after : IsAwaited after
   awaited_after = record {
-    awaits = λ k q h. elim (set_cases before.caches core k held nothing_held) [
-      | inl p ↦ (let had = kept.awaits core block q (awaits q
-          (ap awaited_request (sym is_next) ∙ (ap (λ (x : Line). awaited_request x.state) (sym p.1) ∙ h))) in (had.0, (had.1.0, had.1.1 ∙ sym p.0, had.1.2)))
-      | inr e ↦ kept.awaits k block q (ap (λ (x : Line). awaited_request x.state) (sym e) ∙ h)
-    ];
-    operations = λ k access h. elim (set_cases before.caches core k held nothing_held) [
-      | inl p ↦ ap (λ (x : Line). has_missed x.state) p.1 ∙ (ap has_missed is_next ∙ missed access (ap (λ (x : Line). x.waiting) (sym p.1) ∙ h))
-      | inr e ↦ ap (λ (x : Line). has_missed x.state) e ∙ kept.operations k block access (ap (λ (x : Line). x.waiting) (sym e) ∙ h)
-    ];
+    awaits = by_core core (λ k. (q : Request) → awaited_request (held_by after k).state ≡ Some q → HasOpen s k block q)
+        (rw (its_line, is_next) (λ q h. kept.awaits core block q (awaits q h))) (λ k apart. rw (others k apart) (kept.awaits k block));
+    operations = by_core core (λ k. (access : Access) → (held_by after k).waiting ≡ Some access → IsSome (missed_request (held_by after k).state))
+        (rw (its_line, is_next) missed) (λ k apart. rw (others k apart) (kept.operations k block));
   }
 
   -- the line waits as it did
@@ -43,38 +49,26 @@ module _ (s : Situation) (kept : IsWellKept s) (core block : ℕ) (within : IsWi
     within = within.1;
     as_wide = length-set before.caches core held;
     as_many = refl;
-    here = λ k. kept.queued k block ∙ sym (elim (set_cases before.caches core k held nothing_held) [
-      | inl p ↦
-          ap (λ (x : Line). waits x.state) p.1
-          ∙ (ap waits is_next ∙ (ap (λ (x : Option Request). one_if (is_some x)) same ∙ ap (λ (j : ℕ). waits (held_by before j).state) (sym p.0)))
-      | inr e ↦ ap (λ (x : Line). waits x.state) e
-    ]);
+    here = by_core core (λ k. times block (queue_of s.queues k) ≡ waits (held_by after k).state)
+        (rw (its_line, is_next, same) (kept.queued core block)) (λ k apart. rw (others k apart) (kept.queued k block));
     elsewhere = λ k b apart. refl;
     awaited = awaited_after;
   }
 
   -- the line waits with a request that has just been issued
-  kept_issue : (request : Request) → waiting_request (state_of s core block) ≡ None → waiting_request next ≡ Some request → (queues : List (List ℕ))
-      → queues ≡ queues_after (action.Issue request) s.queues core block → KeepsOn s block after queues
-  kept_issue request was is queues issued = rw issued (record {
+  kept_issue : (request : Request) → waiting_request (state_of s core block) ≡ None → waiting_request next ≡ Some request → KeepsOn s block after (queues_after (action.Issue request) s.queues core block)
+  kept_issue request was is = record {
     within = within.1;
     as_wide = length-set before.caches core held;
     as_many = length-set s.queues core _;
-    here = λ k. elim (cases_eq k core) [
-      | inl e ↦
-          (let in_queues : core < length s.queues = (let many = kept.shaped.queues in let below = within.0 in omega arith) in
-          let in_row : core < length before.caches = (let wide = kept.shaped.row block within.1 in let below = within.0 in omega arith) in
-          let none : waits (state_of s core block) ≡ 0 = ap (λ (x : Option Request). one_if (is_some x)) was in
-          let one : waits (held_by after core).state ≡ 1 = ap (λ (x : Line). waits x.state) (get_or-set_same before.caches core held nothing_held in_row) ∙
-          (ap waits is_next ∙ ap (λ (x : Option Request). one_if (is_some x)) is) in
-          rw e (issued_own s.queues core block in_queues ∙ omega (arith, kept.queued core block, none, one)))
-      | inr apart ↦
-          ap (λ queue. count_by (λ b. b == block) queue) (issued_others s.queues core block k apart)
-          ∙ (kept.queued k block ∙ ap (λ (x : Line). waits x.state) (sym (get_or-set_other before.caches core k held nothing_held apart)))
-    ];
+    here = by_core core (λ k. times block (queue_of (after_issue s.queues core block) k) ≡ waits (held_by after k).state)
+        (let in_queues : core < length s.queues = rw kept.shaped.queues within.0 in
+        let none : times block (queue_of s.queues core) ≡ 0 = rw was at (kept.queued core block) in
+        rw (its_line, is_next, is) (issued_own s.queues core block in_queues ∙ omega (arith, none)))
+        (λ k apart. rw (issued_others s.queues core block k apart, others k apart) (kept.queued k block));
     elsewhere = issued_elsewhere s.queues core block;
     awaited = awaited_after;
-  })
+  }
 
 -- the line that an Ask leaves, by its row
 module _ (s : Situation) (kept : IsWellKept s) (core block word : ℕ) (asking : Op) (within : IsWithin s core block) (held : Line) (next : CacheState)
@@ -104,7 +98,7 @@ module _ (s : Situation) (kept : IsWellKept s) (core block word : ℕ) (asking :
       (λ q. awaited-asked s.protocol line.state asking (action.Issue request) next q row)
       (λ access h. ap is_some (missed.1 ∙ sym (asked_missed word asking)) ∙ ap
       (λ (x : Option Access). is_some (option_map (λ (a : Access). request_for a.op) x)) (sym (ap (λ (x : Line). x.waiting) taken.0) ∙ h))
-      request facts.0 facts.1 (queues_after (action.Issue request) s.queues core block) refl
+      request facts.0 facts.1
   kept_taken _ row taken = absurd taken
 
 pub kept_asks : (s t : Situation) (core block word : ℕ) (asking : Op) (answer : Reply) (entry : Option Item) → IsWellKept s → IsWithin s core block → Asks s core block word asking answer t entry → IsWellKept t
