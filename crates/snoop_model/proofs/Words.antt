@@ -22,10 +22,12 @@ pub use Rattle.snoop_rules.specs.Waits.{waiting_request}
 pub use Rattle.snoop_history.specs.declared.items.Did.{Did}
 pub use Rattle.snoop_history.specs.declared.items.Item.{Item}
 pub use Rattle.snoop_bus.specs.Traffic.{Open}
-pub use Rattle.snoop_bus.specs.Queues.{after_order, queue_of}
+pub use Rattle.snoop_bus.specs.Queues.{after_issue, after_order, queue_of}
 pub use Rattle.snoop_model.specs.declared.access.Access.{Access}
 pub use Rattle.snoop_model.specs.declared.replies.Reply.{Reply}
 pub use Rattle.snoop_model.specs.declared.replies.Refused.{Refused}
 pub use Rattle.snoop_model.specs.Pictures.Lines.{Line, MemLine}
 pub use Rattle.snoop_model.specs.Pictures.Picture.{Picture, data_under_way, first_memory, free_picture, held_at, held_by, kept_on, nothing_held, with_line}
 pub use Rattle.snoop_model.specs.Pictures.Situation.{CanOrder, HasOpen, Situation, StandsFirst, Waits, nothing_there, picture_of, reset, state_of, untouched, with_picture}
+pub use Rattle.snoop_model.specs.Pictures.Proper.{IsProper, awaited_request, keeps, missed_request, request_for}
+pub use Rattle.snoop_model.specs.Moves.Move.{ArrivesAtMemory, ArrivesFor, Asks, Fills, FillsRequestor, FirstMove, Hits, IsAbsent, IsWithin, MoveOn, Orders, Performs, Responds, Takes, TakesRow, TakesRows, came_of, is_load, kept_waiting, moves_to, next_did, queues_after, written}

@@ -6,7 +6,7 @@ use Rattle.std.proofs.lemmas.Bool.{and_parts, both_ways, cases_Bool, cases_lt, e
 use Rattle.std.proofs.lemmas.List.{get_or_past}
 use Rattle.std.proofs.lemmas.Option.{none-some}
 use Rattle.snoop_model.proofs.Lists.Facts.{if_some}
-use Rattle.snoop_model.proofs.Words.{Protocol, Op, Step, Ask, Order, Respond, CacheState, CacheEvent, MemState, MemEvent, Request, Cell, asked, seen_by, arrival, arrival_at_memory, carries_value, waiting_request, Open, Line, Picture, held_by, nothing_held, data_under_way, Situation, picture_of, state_of, Waits, CanOrder, HasOpen, nothing_there}
+use Rattle.snoop_model.proofs.Words.{Protocol, Op, Step, Ask, Order, Respond, CacheState, CacheEvent, MemState, MemEvent, Request, Cell, asked, seen_by, arrival, arrival_at_memory, carries_value, waiting_request, Open, Line, Picture, held_by, nothing_held, data_under_way, Situation, picture_of, state_of, Waits, CanOrder, HasOpen, nothing_there, keeps, awaited_request, IsWithin}
 use Rattle.snoop_trace.specs.declared.step.Op.TheVariants as op
 use Rattle.snoop_trace.specs.declared.protocol.Protocol.TheVariants.{Mesi}
 use Rattle.snoop_rules.specs.declared.names.CacheState.TheVariants as state
@@ -17,7 +17,6 @@ use Rattle.snoop_rules.specs.Possible.{MayLoad, MayStore}
 use Rattle.snoop_rules.specs.Takers.{other as another}
 use Rattle.snoop_history.specs.History.{flat_words}
 use Rattle.snoop_history.specs.Totals.{is_put_m}
-use Rattle.snoop_model.specs.Moves.Move.{IsWithin}
 use Rattle.snoop_model.specs.Moves.LookUps.{HasRow, HasMemRow, ConsultsCache, ConsultsMemory, FindsRows}
 use Rattle.snoop_model.specs.Pictures.OneWriter.{OneWriter}
 use Rattle.snoop_model.specs.Moves.SenderTable.{OrdersFollowSenderTable}
@@ -35,7 +34,6 @@ use Rattle.snoop_model.proofs.OneBlock.Possible.{Answerable, Possible, order_pos
 use Rattle.snoop_model.proofs.Tables.SenderLines.{led_line}
 use Rattle.snoop_model.proofs.Tables.WaitingRows.{awaited-get}
 use Rattle.snoop_model.proofs.Tables.StateTests.{brings_data, resting_rule}
-use Rattle.snoop_model.specs.Pictures.Proper.{keeps, awaited_request}
 
 -- a block outside the shape has nothing
 outside : (s : Situation) → Invariant s → (block : ℕ) → s.shape.blocks ≤ block → picture_of s block ≡ nothing_there

@@ -5,13 +5,12 @@ use Rattle.std.proofs.lemmas.List.{append-nil, length-set, get_or_past, get_or-s
 use Rattle.std.proofs.lemmas.List.Elements.{All-nil, All-cons, All-append, filter_map-append}
 use Rattle.std.proofs.lemmas.Bool.{cases_lt, eq-eqb, ne_eqb}
 use Rattle.std.proofs.lemmas.Option.{none-some, same_Some}
-use Rattle.snoop_model.proofs.Words.{Extent, Op, Step, Ask, Order, Respond, CacheState, CacheAction, Request, Did, Item, Open, after_order, Access, Reply, Line, Picture, held_at, held_by, nothing_held, with_line, Situation, picture_of}
+use Rattle.snoop_model.proofs.Words.{Extent, Op, Step, Ask, Order, Respond, CacheState, CacheAction, Request, Did, Item, Open, after_order, Access, Reply, Line, Picture, held_at, held_by, nothing_held, with_line, Situation, picture_of, Takes, ArrivesFor, Asks, Orders, Responds, IsWithin, MoveOn, kept_waiting, queues_after, came_of}
 use Rattle.snoop_trace.specs.Words.{HasWord, IsWord}
 use Rattle.snoop_trace.specs.declared.step.Op.TheVariants as op
 use Rattle.snoop_rules.specs.declared.names.CacheAction.TheVariants as action
 use Rattle.snoop_history.specs.declared.items.Item.TheVariants as item
 use Rattle.snoop_history.specs.History.{flat_words, operation_of, operations}
-use Rattle.snoop_model.specs.Moves.Move.{Takes, ArrivesFor, Asks, Orders, Responds, IsWithin, MoveOn, kept_waiting, queues_after, came_of}
 use Rattle.snoop_model.specs.Invariant.Block.{BlockInvariant}
 use Rattle.snoop_model.specs.Invariant.Invariant.{Invariant}
 use Rattle.snoop_model.proofs.OneBlock.Facts.{by_core, each_held}

@@ -5,14 +5,12 @@ use Rattle.std.proofs.lemmas.Bool.{cases_lt}
 use Rattle.std.proofs.lemmas.List.{length-replicate, get_or-replicate, get_or_past}
 use Rattle.std.proofs.lemmas.List.Elements.{All-nil}
 use Rattle.std.specs.List.{range_with_len}
-use Rattle.snoop_model.proofs.Words.{Extent, Protocol, Step, Access, Reply, Refused, Line, Picture, first_memory, held_by, nothing_held, Situation, picture_of, reset, untouched, nothing_there}
+use Rattle.snoop_model.proofs.Words.{Extent, Protocol, Step, Access, Reply, Refused, Line, Picture, first_memory, held_by, nothing_held, Situation, picture_of, reset, untouched, nothing_there, keeps, IsProper, IsWithin}
 use Rattle.snoop_trace.specs.Words.{IsWord, zero_words}
 use Rattle.snoop_history.specs.History.{flat, flat_words}
 use Rattle.snoop_trace.specs.declared.protocol.Protocol.TheVariants as protocol
 use Rattle.snoop_rules.specs.declared.names.CacheState.TheVariants.{I}
 use Rattle.snoop_model.specs.declared.replies.Refused.TheVariants.{NoMemory}
-use Rattle.snoop_model.specs.Pictures.Proper.{keeps, IsProper}
-use Rattle.snoop_model.specs.Moves.Move.{IsWithin}
 use Rattle.snoop_model.specs.Runs.Run.{Goes}
 use Rattle.snoop_model.specs.Invariant.Fits.{claims_of, is_owner, is_sharer, is_clean, wait_fits, in_protocol, same, fits}
 use Rattle.snoop_model.specs.Invariant.Block.{BlockInvariant}

@@ -2,11 +2,9 @@
 use Rattle.std.proofs.Common.{◌≡◌, ℕ, ◌+◌, ◌&&◌, Bool, true, false, List, Option, Some, None, refl, ap, sym, ◌∙◌, arith}
 use Rattle.std.specs.Prelude.{◌==◌, option_map}
 use Rattle.std.specs.Option.{option_map_or}
-use Rattle.snoop_model.proofs.Words.{Protocol, Op, CacheState, CacheAction, Cell, asked, Did, Item, Access, Reply, Line}
+use Rattle.snoop_model.proofs.Words.{Protocol, Op, CacheState, CacheAction, Cell, asked, Did, Item, Access, Reply, Line, IsProper, request_for, Takes, Performs, kept_waiting, is_load, next_did}
 use Rattle.snoop_trace.specs.declared.step.Op.TheVariants as op
 use Rattle.snoop_rules.specs.declared.names.CacheAction.TheVariants as action
-use Rattle.snoop_model.specs.Pictures.Proper.{IsProper, request_for}
-use Rattle.snoop_model.specs.Moves.Move.{Takes, Performs, kept_waiting, is_load, next_did}
 use Rattle.snoop_model.specs.Runs.Once.{same_op, same_access, did_access}
 use Rattle.snoop_model.proofs.Lists.Facts.{one_if}
 use Rattle.snoop_model.proofs.Tables.Rows.{issue-missed, drop_evicts}

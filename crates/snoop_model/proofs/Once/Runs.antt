@@ -5,12 +5,12 @@ use Rattle.std.proofs.lemmas.Bool.{cases_lt, eq-eqb, ne_eqb}
 use Rattle.std.proofs.lemmas.Bool.Decides.{eqb_tells}
 use Rattle.std.proofs.lemmas.List.{get_or-set_same, get_or-set_other, get_or_past}
 use Rattle.std.proofs.lemmas.List.Sums.{sum_by-cons}
-use Rattle.snoop_model.proofs.Words.{Extent, Protocol, Op, Step, Ask, Order, Respond, CacheState, CacheAction, Request, Did, Item, Open, after_order, Access, Reply, Refused, Line, Picture, held_at, held_by, nothing_held, with_line, Situation, picture_of, reset}
+use Rattle.snoop_model.proofs.OneBlock.Facts.{by_core}
+use Rattle.snoop_model.proofs.Words.{Extent, Protocol, Op, Step, Ask, Order, Respond, CacheState, CacheAction, Request, Did, Item, Open, after_order, Access, Reply, Refused, Line, Picture, held_at, held_by, nothing_held, with_line, Situation, picture_of, reset, Takes, FillsRequestor, Asks, Orders, Responds, IsWithin, MoveOn, next_did, came_of, queues_after}
 use Rattle.snoop_trace.specs.declared.step.Op.TheVariants as op
 use Rattle.snoop_rules.specs.declared.names.CacheAction.TheVariants as action
 use Rattle.snoop_history.specs.declared.items.Item.TheVariants as item
 use Rattle.snoop_history.specs.History.{answers_of}
-use Rattle.snoop_model.specs.Moves.Move.{Takes, FillsRequestor, Asks, Orders, Responds, IsWithin, MoveOn, next_did, came_of, queues_after}
 use Rattle.snoop_model.specs.Runs.Run.{RunFrom}
 use Rattle.snoop_model.specs.Runs.Once.{same_access, did_it, waits_for, tally, asks, taken, OnceMore, Once}
 use Rattle.snoop_model.proofs.Lists.Facts.{one_if}
@@ -30,11 +30,8 @@ Balances old b next c wanted done asked = (core : ℕ) → waits_so wanted (held
 balances : (old : Situation) (b : ℕ) (next : Picture) (c : ℕ) (wanted : Access) (done asked : ℕ)
     → waits_so wanted (held_by next c).waiting + done ≡ waits_for old c b wanted + asked
     → ((core : ℕ) → core ≢ c → waits_so wanted (held_by next core).waiting ≡ waits_for old core b wanted) → Balances old b next c wanted done asked
-balances old b next c wanted done asked here others core = elim (eqb_tells c core) as
-    (λ _. waits_so wanted (held_by next core).waiting + cond (eqb c core) done 0 ≡ waits_for old core b wanted + cond (eqb c core) asked 0) [
-      | inl same ↦ rw same.0 (rw same.1 at here)
-      | inr apart ↦ rw apart.0 (ap (λ (n : ℕ). n + 0) (others core (λ e. apart.1 (sym e))))
-    ]
+balances old b next c wanted done asked here others = by_core c (λ core. waits_so wanted (held_by next core).waiting + cond (eqb c core) done 0 ≡ waits_for old core b wanted + cond (eqb c core) asked 0)
+    (rw (eq-eqb c c refl) here) (λ core apart. rw (ne_eqb c core (λ e. apart (sym e)), others core apart) refl)
 
 -- how often the log and what waits have it after a move
 tallied : (old : Situation) (b : ℕ) → b < length old.pictures
@@ -73,7 +70,7 @@ ask_once old c b word asking answer new entry g within a core block wanted =
     let line : held_by next c ≡ a.held = get_or-set_same before.caches c a.held nothing_held in_row in
     let once = line_once old.protocol a.row.action a.row.next old.log c b word asking (held_by before c) a.held answer entry ((g.blocks b within.1).proper c within.0) a.is_row a.taken wanted in
     let balance = balances old b next c wanted (did_so wanted (did_in entry)) asked
-    (subst (λ (x : Line). waits_so wanted x.waiting + did_so wanted (did_in entry) ≡ waits_for old c b wanted + asked) (sym line) once)
+    (rw line once)
     (λ k apart. ap (λ (x : Line). waits_so wanted x.waiting) (get_or-set_other before.caches c k a.held nothing_held apart)) in
     let by = takes_by a.row.action a.row.next old.log c b word asking (held_by before c) a.held answer entry a.taken in
     let counts = tallied old b (in_pictures old b g.shaped within.1) next

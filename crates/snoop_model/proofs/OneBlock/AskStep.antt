@@ -5,11 +5,9 @@ use Rattle.std.proofs.lemmas.List.{get_or-set_same, get_or-set_other}
 use Rattle.std.proofs.lemmas.Option.{same_Some}
 use Rattle.std.specs.Prelude.{slice_set}
 use Rattle.snoop_trace.specs.Words.{word_at}
-use Rattle.snoop_model.proofs.Words.{Protocol, Op, CacheState, CacheAction, Cell, asked, carries_value, Did, Item, Open, Reply, Line, Picture, held_by, nothing_held, with_line, Situation, picture_of}
+use Rattle.snoop_model.proofs.Words.{Protocol, Op, CacheState, CacheAction, Cell, asked, carries_value, Did, Item, Open, Reply, Line, Picture, held_by, nothing_held, with_line, Situation, picture_of, keeps, IsProper, Takes, Asks}
 use Rattle.snoop_trace.specs.declared.step.Op.TheVariants as op
 use Rattle.snoop_rules.specs.declared.names.CacheAction.TheVariants as action
-use Rattle.snoop_model.specs.Pictures.Proper.{keeps, IsProper}
-use Rattle.snoop_model.specs.Moves.Move.{Takes, Asks}
 use Rattle.snoop_model.specs.Invariant.Fits.{is_clean, fits}
 use Rattle.snoop_model.specs.Invariant.Block.{BlockInvariant, awaited, owns}
 use Rattle.snoop_model.proofs.OneBlock.Operation.{did_in, flat_after, IsLawful}

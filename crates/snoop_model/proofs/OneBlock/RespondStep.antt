@@ -5,15 +5,13 @@ use Rattle.std.proofs.lemmas.Bool.{and_parts, both_ways, cases_Bool, eq-eqb, ne_
 use Rattle.std.proofs.lemmas.Option.{same_Some}
 use Rattle.std.proofs.lemmas.List.{get_or-set_same, get_or-set_other}
 use Rattle.snoop_trace.specs.Words.{word_at}
-use Rattle.snoop_model.proofs.Words.{Protocol, Op, CacheAction, MemState, MemEvent, MemAction, Request, Payload, memory_cell_of, arrival, arrival_at_memory, takes_payload, carries_value, Did, Item, Open, Access, Line, MemLine, Picture, free_picture, held_at, held_by, nothing_held, Situation, picture_of}
+use Rattle.snoop_model.proofs.Words.{Protocol, Op, CacheAction, MemState, MemEvent, MemAction, Request, Payload, memory_cell_of, arrival, arrival_at_memory, takes_payload, carries_value, Did, Item, Open, Access, Line, MemLine, Picture, free_picture, held_at, held_by, nothing_held, Situation, picture_of, keeps, IsProper, Performs, is_load, Fills, FillsRequestor, ArrivesFor, ArrivesAtMemory, Responds, next_did, written}
 use Rattle.snoop_trace.specs.declared.step.Op.TheVariants as op
 use Rattle.snoop_rules.specs.declared.names.CacheAction.TheVariants as action
 use Rattle.snoop_rules.specs.declared.names.MemAction.TheVariants as mem_action
 use Rattle.snoop_rules.specs.declared.names.Request.TheVariants as request
 use Rattle.snoop_rules.proofs.Every.{all_states-at}
 use Rattle.snoop_history.specs.Totals.{is_put_m, is_get_m}
-use Rattle.snoop_model.specs.Moves.Move.{Performs, is_load, Fills, FillsRequestor, ArrivesFor, ArrivesAtMemory, Responds, next_did, written}
-use Rattle.snoop_model.specs.Pictures.Proper.{keeps, IsProper}
 use Rattle.snoop_model.specs.Invariant.Fits.{Claims, claims_of, is_clean, fits}
 use Rattle.snoop_model.specs.Invariant.Block.{BlockInvariant, awaited, owns}
 use Rattle.snoop_model.proofs.Tables.Every.{either-at, given, given_at, same_is, some_of, when_at}

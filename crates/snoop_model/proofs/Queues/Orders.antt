@@ -4,9 +4,7 @@ use Rattle.std.specs.Prelude.{is_some, ◌==◌, if◌then◌else◌, IsSome}
 use Rattle.std.proofs.lemmas.Bool.{cases_eq, cases_lt, eq-eqb, ne_eqb}
 use Rattle.std.proofs.lemmas.List.{length-set, get_or_past}
 use Rattle.snoop_model.proofs.OneBlock.Facts.{by_core, each_held}
-use Rattle.snoop_model.proofs.Words.{Protocol, Request, waiting_request, after_order, Access, Line, Picture, nothing_held, held_at, held_by, Situation, picture_of, Open, queue_of}
-use Rattle.snoop_model.specs.Pictures.Proper.{awaited_request, missed_request}
-use Rattle.snoop_model.specs.Moves.Move.{Orders, TakesRows, IsWithin}
+use Rattle.snoop_model.proofs.Words.{Protocol, Request, waiting_request, Open, after_order, queue_of, Access, Line, Picture, nothing_held, held_at, held_by, Situation, picture_of, awaited_request, missed_request, Orders, TakesRows, IsWithin}
 use Rattle.snoop_model.specs.Invariant.WellKept.{IsWellKept}
 use Rattle.snoop_model.proofs.Lists.Facts.{one_if}
 use Rattle.snoop_model.proofs.Lists.QueueCounts.{times, ordered_own, ordered_others, ordered_elsewhere}

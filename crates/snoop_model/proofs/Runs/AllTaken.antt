@@ -5,7 +5,7 @@ use Rattle.snoop_model.proofs.Words.{Step, Reply, Refused, Situation, reset}
 use Rattle.snoop_model.specs.declared.replies.Refused.TheVariants.{NoMemory}
 use Rattle.std.proofs.lemmas.List.{map-append}
 use Rattle.snoop_model.specs.Runs.Once.{asks, taken}
-use Rattle.snoop_model.specs.Runs.Run.{Goes, GoesFirst, FirstRunFrom, RunFrom, TakenBegins, TakenGoesOn}
+use Rattle.snoop_model.specs.Runs.Run.{Goes, GoesFirst, FirstRunFrom, RunFrom, TakenGoesOn}
 use Rattle.snoop_model.specs.Runs.Tallied.{AskedAreTallied}
 use Rattle.snoop_model.proofs.Once.Runs.{run_asked_once}
 use Rattle.snoop_model.proofs.Runs.Along.{run_more, seen_along}
@@ -13,9 +13,6 @@ use Rattle.snoop_model.proofs.Runs.Along.{run_more, seen_along}
 -- the outcomes of steps that were all taken
 abbrev all_ok : List Reply → List (Result Reply Refused)
 all_ok replies = map (λ reply. Ok reply) replies
-
-pub taken_begins : TakenBegins
-taken_begins protocol shape = ([], refl)
 
 pub taken_goes_on : TakenGoesOn
 taken_goes_on protocol shape steps step answer entry middle new taken move =

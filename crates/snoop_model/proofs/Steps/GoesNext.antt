@@ -6,7 +6,7 @@ use Rattle.std.proofs.Math.Dec.{ltb}
 use Rattle.std.proofs.lemmas.Bool.{and_cases, and_parts, both_ways, cases_Bool, cases_lt, le-ltb, lt-ltb, ltb-false, ltb-true}
 use Rattle.std.proofs.lemmas.List.FromFn.{get_or-map-range_with_len, length-map-range_with_len}
 use Rattle.snoop_trace.specs.Words.{HasWord, zero_words}
-use Rattle.snoop_model.proofs.Words.{Protocol, Op, Step, Ask, Order, Respond, CacheState, CacheEvent, CacheAction, CacheCell, MemState, MemEvent, MemCell, Request, Payload, Cell, asked, seen_by, arrival, arrival_at_memory, takes_payload, Item, Open, queue_of, Access, Reply, Line, Picture, held_at, held_by, nothing_held, Situation, picture_of, state_of, CanOrder, StandsFirst}
+use Rattle.snoop_model.proofs.Words.{Protocol, Op, Step, Ask, Order, Respond, CacheState, CacheEvent, CacheAction, CacheCell, MemState, MemEvent, MemCell, Request, Payload, Cell, asked, seen_by, arrival, arrival_at_memory, takes_payload, Item, Open, queue_of, Access, Reply, Line, Picture, held_at, held_by, nothing_held, Situation, picture_of, state_of, CanOrder, StandsFirst, request_for, missed_request, IsProper, Hits, Takes, Orders, Responds, FillsRequestor, ArrivesFor, Performs, is_load, IsWithin}
 use Rattle.snoop_trace.specs.declared.step.Op.TheVariants as op
 use Rattle.snoop_rules.specs.declared.names.CacheEvent.TheVariants as event
 use Rattle.snoop_rules.specs.declared.names.CacheAction.TheVariants as action
@@ -17,8 +17,6 @@ use Rattle.snoop_rules.proofs.Rows.{each_row, each_row-at}
 use Rattle.snoop_history.specs.History.{flat_words}
 use Rattle.snoop_history.specs.Totals.{is_put_m}
 use Rattle.snoop_model.specs.declared.replies.Refused.TheVariants.{NoTransaction}
-use Rattle.snoop_model.specs.Pictures.Proper.{request_for, missed_request, IsProper}
-use Rattle.snoop_model.specs.Moves.Move.{Hits, Takes, Orders, Responds, FillsRequestor, ArrivesFor, Performs, is_load, IsWithin}
 use Rattle.snoop_model.specs.Runs.Run.{GoesFirst}
 use Rattle.snoop_model.specs.Invariant.Invariant.{Invariant}
 use Rattle.snoop_model.proofs.Tables.Rows.{same_request, is_evict, asked_answers, hit_keeps}

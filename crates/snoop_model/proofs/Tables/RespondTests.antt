@@ -1,7 +1,7 @@
 -- Tests of the rows of a Respond, computed over the whole tables.
 use Rattle.std.proofs.Common.{◌≡◌, ◌&&◌, ◌||◌, Bool, true, false, not, Option, Some, None, refl}
 use Rattle.std.specs.Prelude.{is_some, MatchBool, IsSomeAnd}
-use Rattle.snoop_model.proofs.Words.{Protocol, CacheState, CacheEvent, CacheAction, CacheCell, MemState, MemEvent, MemAction, MemCell, Request, Payload, cell_of, MemoryCell, memory_cell_of, arrival, arrival_at_memory, takes_payload, carries_value}
+use Rattle.snoop_model.proofs.Words.{Protocol, CacheState, CacheEvent, CacheAction, CacheCell, MemState, MemEvent, MemAction, MemCell, Request, Payload, cell_of, MemoryCell, memory_cell_of, arrival, arrival_at_memory, takes_payload, carries_value, keeps}
 use Rattle.snoop_rules.specs.declared.names.CacheAction.TheVariants as action
 use Rattle.snoop_rules.specs.declared.names.MemAction.TheVariants as mem_action
 use Rattle.snoop_rules.specs.declared.names.Request.TheVariants as request
@@ -11,7 +11,6 @@ use Rattle.snoop_history.specs.Totals.{is_put_m, is_get_m}
 use Rattle.snoop_model.specs.Invariant.Fits.{Claims, claims_of, is_owner, is_sharer, is_clean, wait_fits, in_protocol, same, fits}
 use Rattle.snoop_model.proofs.Tables.Every.{either, when, given, given_at, all_asks, all_waits}
 use Rattle.snoop_model.proofs.Tables.SenderTests.{after_respond}
-use Rattle.snoop_model.specs.Pictures.Proper.{keeps}
 
 -- the row for an event, if there are both
 abbrev pub row_for : Protocol → CacheState → Option CacheEvent → Option CacheCell

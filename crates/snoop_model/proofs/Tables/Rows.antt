@@ -3,7 +3,7 @@ use Rattle.std.proofs.Common.{List, ◌≡◌, ℕ, Bool, true, false, not, ◌&
 use Rattle.std.proofs.Math.Bool.{and-true, and-false}
 use Rattle.std.proofs.lemmas.Bool.{and_parts}
 use Rattle.std.specs.Prelude.{is_some, option_map, ◌==◌, if◌then◌else◌}
-use Rattle.snoop_model.proofs.Words.{Protocol, Op, CacheState, CacheEvent, CacheAction, CacheCell, Request, Cell, asked, own, other, seen_by, waiting_request, Line, kept_on}
+use Rattle.snoop_model.proofs.Words.{Protocol, Op, CacheState, CacheEvent, CacheAction, CacheCell, Request, Cell, asked, own, other, seen_by, waiting_request, Line, kept_on, keeps, request_for, missed_request, IsProper, moves_to, kept_waiting, is_load}
 use Rattle.snoop_trace.specs.declared.step.Op.TheVariants as op
 use Rattle.snoop_rules.specs.declared.names.CacheState.TheVariants.{I, ImAd, IiA}
 use Rattle.snoop_rules.specs.declared.names.CacheEvent.TheVariants as event
@@ -11,8 +11,6 @@ use Rattle.snoop_rules.specs.declared.names.CacheAction.TheVariants as action
 use Rattle.snoop_rules.specs.declared.names.Request.TheVariants.{GetS, GetM, PutM}
 use Rattle.snoop_rules.proofs.Every.{all_protocols, all_states, all_events}
 use Rattle.snoop_rules.proofs.Rows.{each_row, each_row-at}
-use Rattle.snoop_model.specs.Pictures.Proper.{keeps, request_for, missed_request, IsProper}
-use Rattle.snoop_model.specs.Moves.Move.{moves_to, kept_waiting, is_load}
 use Rattle.snoop_model.specs.Invariant.Fits.{same}
 use Rattle.snoop_model.proofs.Tables.Every.{same_is}
 

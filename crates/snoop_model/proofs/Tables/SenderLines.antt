@@ -11,7 +11,7 @@ use Rattle.snoop_rules.specs.declared.names.Payload.TheVariants as payload
 use Rattle.snoop_rules.specs.WhoSends.{Sender, Memory, Requestor, Other, sender_of, lines_of}
 use Rattle.snoop_model.specs.Moves.SenderTable.{IsSenderLine}
 use Rattle.snoop_model.proofs.Tables.RespondTests.{SettlesIf}
-use Rattle.snoop_model.proofs.Tables.SenderTests.{is_sender_line, follows_sender_table, is_some_and, after_respond, next_memory, next_of}
+use Rattle.snoop_model.proofs.Tables.SenderTests.{is_sender_line, follows_sender_table, is_some_and, after_respond, next_memory, next_of, some_and}
 
 no_line : ◌≡◌ {A = Bool} false true → ⊥
 no_line h = cc
@@ -65,13 +65,8 @@ settles_by false p m sent done h = let same : done ≡ m = cc in (mem_action.Non
 -- what a test that is led says
 pub led_line : (p : Protocol) (before : Picture) (c : ℕ) (q : Request) (from : Option ℕ) (sent : Payload) (next : MemState)
     → follows_sender_table p q before.memory.state (sender_of c (λ k. (held_by before k).state) from) sent next ≡ true → IsSenderLine p before c q from sent next
-led_line p before c q from sent next h = go (after_respond p q next sent) refl h
-  where
-    sender : Sender
-    sender = sender_of c (λ k. (held_by before k).state) from
-
-    go : (found : Option MemState) → after_respond p q next sent ≡ found → is_some_and found (λ done. is_sender_line p q before.memory.state sender sent next done) ≡ true → IsSenderLine p before c q from sent next
-    go None is k = cc
-    go (Some done) is k =
-        let settles = settles_by (takes_payload q next) p next sent done is in
-        record { done = done; line = in_lines p q before.memory.state sender sent next done k; act = settles.0; settled = settles.1 }
+led_line p before c q from sent next h =
+    let sender = sender_of c (λ k. (held_by before k).state) from in
+    let found = some_and (after_respond p q next sent) _ h in
+    let settles = settles_by (takes_payload q next) p next sent found.0 found.1 in
+    record { done = found.0; line = in_lines p q before.memory.state sender sent next found.0 found.2; act = settles.0; settled = settles.1 }

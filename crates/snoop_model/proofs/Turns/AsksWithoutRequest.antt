@@ -4,10 +4,9 @@ use Rattle.std.specs.Prelude.{Contains}
 use Rattle.std.proofs.lemmas.List.Elements.{All-contains}
 use Rattle.std.proofs.lemmas.Bool.{ne_eqb}
 use Rattle.std.proofs.lemmas.Option.{none-some}
-use Rattle.snoop_model.proofs.Words.{Op, Ask, CacheState, CacheAction, Request, waiting_request, Item, Open, queue_of, Reply, Line, Picture, held_by, with_line, Situation, picture_of, state_of}
+use Rattle.snoop_model.proofs.Words.{Op, Ask, CacheState, CacheAction, Request, waiting_request, Item, Open, queue_of, Reply, Line, Picture, held_by, with_line, Situation, picture_of, state_of, FirstMove, Takes, queues_after}
 use Rattle.snoop_rules.specs.declared.names.CacheAction.TheVariants as action
 use Rattle.snoop_model.specs.declared.replies.Reply.TheVariants.{Issued}
-use Rattle.snoop_model.specs.Moves.Move.{FirstMove, Takes, queues_after}
 use Rattle.snoop_model.specs.Turns.Turn.{step_under_way}
 use Rattle.snoop_model.specs.Runs.Owed.{EndsAtOnce}
 use Rattle.snoop_model.proofs.OneBlock.OfBlocks.{same_everywhere}

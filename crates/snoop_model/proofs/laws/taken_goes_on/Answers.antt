@@ -1,8 +1,5 @@
-use Rattle.snoop_model.proofs.Runs.AllTaken.{taken_begins, taken_goes_on}
+use Rattle.snoop_model.proofs.Runs.AllTaken.{taken_goes_on}
 use Rattle.snoop_model.proofs.laws.taken_goes_on.Goals as goal
-
-pub returns-clause-begins : goal.returns-clause-begins
-returns-clause-begins c = taken_begins
 
 pub returns-clause-goes_on : goal.returns-clause-goes_on
 returns-clause-goes_on c = taken_goes_on
