@@ -4,4 +4,3 @@ pub mod Laws
 pub mod WaitingWorks
 pub mod Costs
 pub mod ClosedWorks
-pub mod AsksWithoutRequest

@@ -2,7 +2,6 @@
 use Rattle.std.proofs.Common.{◌≡◌, ◌≢◌, ℕ, ◌<◌, ◌+◌, Bool, true, false, ◌&&◌, cond, eqb, List, [], ◌∷◌, ◌++◌, length, Option, Some, refl, inl, inr, ap, sym, ◌∙◌, subst, arith}
 use Rattle.std.specs.Prelude.{option_to_list, count_by, Result, Ok, Err}
 use Rattle.std.proofs.lemmas.Bool.{cases_lt, eq-eqb, ne_eqb}
-use Rattle.std.proofs.lemmas.Bool.Decides.{eqb_tells}
 use Rattle.std.proofs.lemmas.List.{get_or-set_same, get_or-set_other, get_or_past}
 use Rattle.std.proofs.lemmas.List.Sums.{sum_by-cons}
 use Rattle.snoop_model.proofs.OneBlock.Facts.{by_core}
@@ -18,8 +17,7 @@ use Rattle.snoop_model.specs.Invariant.Invariant.{Invariant}
 use Rattle.snoop_model.proofs.OneBlock.Operation.{did_in}
 use Rattle.snoop_model.proofs.OneBlock.OfBlocks.{changed, each_picture, in_pictures}
 use Rattle.snoop_model.proofs.Lines.Answered.{by_request}
-use Rattle.snoop_model.proofs.Once.Counts.{did_so, IsBy, none_either, count_logged}
-use Rattle.snoop_model.proofs.Once.Asks.{waits_so, line_once, performed_so, no_evict}
+use Rattle.snoop_model.proofs.Once.Asks.{waits_so, line_once, performed_so, no_evict, did_so, IsBy, none_either, count_logged}
 use Rattle.snoop_model.proofs.Invariant.Runs.{goes_keeps, refusal_same, reset_invariant, reset_line}
 
 -- what waits on each core of a block, and what one core does there, against what waited and what it asks

@@ -102,10 +102,8 @@ abbrev pub next_owner : Request → ℕ → Option ℕ → Option ℕ
 next_owner q c owner = cond (is_put_m q) (cond (owns owner c) None owner) None
 
 is_owned_next : (put or owned : Bool) (owner : Option ℕ) → is_some owner ≡ owned → is_some (cond put (cond or None owner) None) ≡ (put && (owned && not or))
-is_owned_next true true true owner e = refl
-is_owned_next true true false owner e = refl
-is_owned_next true false true owner e = e
-is_owned_next true false false owner e = e
+is_owned_next true true owned owner e = sym (and-false owned)
+is_owned_next true false owned owner e = e ∙ sym (and-true owned)
 is_owned_next false or owned owner e = refl
 
 owns_next_self : (put : Bool) (owner : Option ℕ) (c : ℕ) → owns (cond put (cond (owns owner c) None owner) None) c ≡ false

@@ -1,5 +1,5 @@
 -- A Respond keeps the invariant, and a load that it performs gives the flat value.
-use Rattle.std.proofs.Common.{◌≡◌, ◌≢◌, ◌<◌, ◌&&◌, ◌||◌, ◌∙◌, ℕ, length, List, Bool, true, false, not, cond, eqb, Option, Some, None, refl, inl, inr, ap, sym, subst}
+use Rattle.std.proofs.Common.{◌≡◌, ◌≢◌, ◌<◌, ◌&&◌, ◌||◌, ◌∙◌, ℕ, length, List, Bool, true, false, not, cond, Option, Some, None, refl, inl, inr, ap, sym, subst}
 use Rattle.std.specs.Prelude.{is_some, if◌then◌else◌}
 use Rattle.std.proofs.lemmas.Bool.{and_parts, both_ways, cases_Bool, eq-eqb, ne_eqb, not-true, or_cases, or_right}
 use Rattle.std.proofs.lemmas.Option.{same_Some}

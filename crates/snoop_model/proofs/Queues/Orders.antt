@@ -1,15 +1,14 @@
 -- A machine stays well kept at an Order.
-use Rattle.std.proofs.Common.{◌≡◌, ℕ, ◌<◌, ◌≤◌, List, length, Option, Some, None, sym, ◌∙◌, ap, subst, arith, inl, inr, refl}
-use Rattle.std.specs.Prelude.{is_some, ◌==◌, if◌then◌else◌, IsSome}
-use Rattle.std.proofs.lemmas.Bool.{cases_eq, cases_lt, eq-eqb, ne_eqb}
+use Rattle.std.proofs.Common.{◌≡◌, ℕ, ◌<◌, List, length, Some, None, sym, ◌∙◌, ap, subst, arith, inl, inr, refl}
+use Rattle.std.specs.Prelude.{◌==◌, if◌then◌else◌, IsSome}
+use Rattle.std.proofs.lemmas.Bool.{cases_lt, eq-eqb, ne_eqb}
 use Rattle.std.proofs.lemmas.List.{length-set, get_or_past}
 use Rattle.snoop_model.proofs.OneBlock.Facts.{by_core, each_held}
 use Rattle.snoop_model.proofs.Words.{Protocol, Request, waiting_request, Open, after_order, queue_of, Access, Line, Picture, nothing_held, held_at, held_by, Situation, picture_of, awaited_request, missed_request, Orders, TakesRows, IsWithin}
 use Rattle.snoop_model.specs.Invariant.WellKept.{IsWellKept}
-use Rattle.snoop_model.proofs.Lists.Facts.{one_if}
 use Rattle.snoop_model.proofs.Lists.QueueCounts.{times, ordered_own, ordered_others, ordered_elsewhere}
 use Rattle.snoop_model.proofs.Tables.Rows.{order_facts}
-use Rattle.snoop_model.proofs.Tables.WaitingRows.{has_missed, awaited-ordered}
+use Rattle.snoop_model.proofs.Tables.WaitingRows.{awaited-ordered}
 use Rattle.snoop_model.proofs.Queues.Changed.{well_after, waits}
 
 -- who waits once each core has taken its row: the requestor no longer, each other core as before

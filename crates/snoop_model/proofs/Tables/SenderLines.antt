@@ -11,7 +11,7 @@ use Rattle.snoop_rules.specs.declared.names.Payload.TheVariants as payload
 use Rattle.snoop_rules.specs.WhoSends.{Sender, Memory, Requestor, Other, sender_of, lines_of}
 use Rattle.snoop_model.specs.Moves.SenderTable.{IsSenderLine}
 use Rattle.snoop_model.proofs.Tables.RespondTests.{SettlesIf}
-use Rattle.snoop_model.proofs.Tables.SenderTests.{is_sender_line, follows_sender_table, is_some_and, after_respond, next_memory, next_of, some_and}
+use Rattle.snoop_model.proofs.Tables.SenderTests.{is_sender_line, follows_sender_table, after_respond, next_memory, next_of, some_and}
 
 no_line : ◌≡◌ {A = Bool} false true → ⊥
 no_line h = cc

@@ -4,8 +4,7 @@ use Rattle.snoop_model.proofs.Queues.Moves.{starts_well, keeps_well}
 use Rattle.snoop_model.proofs.Turns.Costs.{pays}
 use Rattle.snoop_model.proofs.Turns.Rule.{never_refused, serves_on, ends, comes_to_rest}
 use Rattle.snoop_model.proofs.Once.Owed.{owes}
-use Rattle.snoop_model.proofs.Turns.ClosedWorks.{closed_is_last}
-use Rattle.snoop_model.proofs.Turns.AsksWithoutRequest.{asked_once}
+use Rattle.snoop_model.proofs.Turns.ClosedWorks.{closed_is_last, asked_once}
 
 pub turn_rule : TurnLaws
 turn_rule =

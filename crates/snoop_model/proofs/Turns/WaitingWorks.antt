@@ -1,5 +1,5 @@
 -- A core that waits has its work under way.
-use Rattle.std.proofs.Common.{◌≡◌, ℕ, Bool, true, false, not, ◌||◌, Option, Some, None, refl, subst, inl, inr, ◌⊎◌}
+use Rattle.std.proofs.Common.{◌≡◌, ℕ, Bool, true, false, not, ◌||◌, Option, Some, None, refl, inl, inr, ◌⊎◌}
 use Rattle.std.specs.Prelude.{is_some}
 use Rattle.std.proofs.lemmas.List.Elements.{All-contains}
 use Rattle.snoop_model.proofs.Words.{Protocol, CacheState, CacheEvent, CacheAction, CacheCell, Request, Cell, waiting_request, queue_of, Situation, state_of, awaited_request}
