@@ -119,7 +119,7 @@ no_data (Some o) none = false_from_ne_true (carries_value o.payload) (λ e. none
 
 data_is : (found : Option Open) (value : List ℕ) → ((o : Open) → found ≡ Some o → carries_value o.payload ≡ true → o.value ≡ value) → IfSome (data_under_way found) (λ sent. sent ≡ value)
 data_is None value carried = tt
-data_is (Some o) value carried = elim (cases_Bool (carries_value o.payload)) as (λ _. IfSome (data_under_way (Some o)) (λ sent. sent ≡ value)) [
+data_is (Some o) value carried = elim (cases_Bool (carries_value o.payload)) [
   | inl e ↦ rw e (carried o refl e)
   | inr e ↦ rw e tt
 ]

@@ -26,7 +26,7 @@ stored_at value block word did =
 
 -- the words after one operation, one by one
 set_at : (ws : List ℕ) (w v k : ℕ) → k < length ws → word_at (slice_set ws w v) k ≡ cond (eqb w k) v (word_at ws k)
-set_at ws w v k inside = elim (eqb_tells w k) as (λ _. word_at (slice_set ws w v) k ≡ cond (eqb w k) v (word_at ws k)) [
+set_at ws w v k inside = elim (eqb_tells w k) [
   | inl h ↦ rw h.0 (subst (λ (x : ℕ). word_at (slice_set ws x v) k ≡ v) (sym h.1) (get_or-set_same ws k v 0 inside))
   | inr h ↦ rw h.0 (get_or-set_other ws w k v 0 (λ e. h.1 (sym e)))
 ]
@@ -82,13 +82,13 @@ pushed_at : (log : List Item) (entry : Item) (k : ℕ) (x : Item) → slice_get 
 pushed_at [] entry zero x h = inr (cc, refl)
 pushed_at [] entry (suc k) x h = cc
 pushed_at (y ∷ log) entry zero x h = inl (h, refl)
-pushed_at (y ∷ log) entry (suc k) x h = elim (pushed_at log entry k x h) as (λ _. ((slice_get log k ≡ Some x) × (y ∷ take k (log ++ entry ∷ []) ≡ y ∷ take k log)) ⊎ ((entry ≡ x) × (y ∷ take k (log ++ entry ∷ []) ≡ y ∷ log))) [
+pushed_at (y ∷ log) entry (suc k) x h = elim (pushed_at log entry k x h) [
   | inl p ↦ inl (p.0, ap (λ (l : List Item). y ∷ l) p.1)
   | inr p ↦ inr (p.0, ap (λ (l : List Item). y ∷ l) p.1)
 ]
 
 legal_push : (log : List Item) (entry : Item) → Legal log → Follows log entry → Legal (log ++ entry ∷ [])
-legal_push log entry legal follows k x h = elim (pushed_at log entry k x h) as (λ _. Follows (take k (log ++ entry ∷ [])) x) [
+legal_push log entry legal follows k x h = elim (pushed_at log entry k x h) [
   | inl p ↦ subst (λ (l : List Item). Follows l x) (sym p.1) (legal k x p.0)
   | inr p ↦ subst (λ (l : List Item). Follows l x) (sym p.1) (subst (λ (y : Item). Follows log y) p.0 follows)
 ]

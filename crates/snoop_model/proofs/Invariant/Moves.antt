@@ -5,7 +5,7 @@ use Rattle.std.proofs.lemmas.List.{append-nil, length-set, get_or-set_same, get_
 use Rattle.std.proofs.lemmas.List.Elements.{All-nil, All-cons, All-append, filter_map-append}
 use Rattle.std.proofs.lemmas.Bool.{eq-eqb, ne_eqb}
 use Rattle.std.proofs.lemmas.Option.{none-some, same_Some}
-use Rattle.snoop_model.proofs.Words.{Extent, Op, Step, Ask, Order, Respond, CacheState, CacheAction, Request, Did, Item, Open, after_order, Access, Reply, Line, Picture, held_at, held_by, nothing_held, with_line, Situation, picture_of, Takes, ArrivesFor, Asks, Orders, Responds, IsWithin, MoveOn, kept_waiting, queues_after, came_of}
+use Rattle.snoop_model.proofs.Words.{Extent, Op, Step, Ask, Order, Respond, CacheState, CacheAction, Request, Did, Item, Open, after_order, Access, Reply, Line, Picture, held_at, held_by, nothing_held, with_line, Situation, picture_of, Takes, ArrivesFor, Asks, Orders, Responds, IsWithin, MoveOn, kept_waiting, queues_after, came_of, Performs}
 use Rattle.snoop_trace.specs.Words.{HasWord, IsWord}
 use Rattle.snoop_trace.specs.declared.step.Op.TheVariants as op
 use Rattle.snoop_rules.specs.declared.names.CacheAction.TheVariants as action
@@ -80,40 +80,32 @@ as_many_after _ queues core block = refl
 abbrev AccessWithin : Extent → Line → Type 0
 AccessWithin shape line = (access : Access) → line.waiting ≡ Some access → IsWord shape access.word
 
--- so it is in a line whose waiting operation is that of another, or of no line
-same_access : (shape : Extent) (old new : Line) → new.waiting ≡ old.waiting → AccessWithin shape old → AccessWithin shape new
-same_access shape old new same within access waits = within access (sym same ∙ waits)
-
-no_access : (shape : Extent) (new : Line) → new.waiting ≡ None → AccessWithin shape new
-no_access shape new none access waits = let e : ◌≡◌ {A = Option Access} None (Some access) = sym none ∙ waits in cc
-
 issued_access : (s : Situation) (word : ℕ) (asking : Op) (access : Access) → HasWord s.shape word asking → kept_waiting word asking ≡ Some access → IsWord s.shape access.word
 issued_access s word op.Load access within e = subst (λ (a : Access). IsWord s.shape a.word) (same_Some _ _ e) within
 issued_access s word (op.Store v) access within e = subst (λ (a : Access). IsWord s.shape a.word) (same_Some _ _ e) within
 issued_access s word op.Evict access within e = cc
 
-takes_access : (s : Situation) (a : CacheAction) (next : CacheState) (log : List Item) (core block word : ℕ) (asking : Op) (old new : Line) (answer : Reply) (entry : Option Item) → Takes a next log core block word asking old new answer entry → HasWord s.shape word asking → AccessWithin s.shape old → AccessWithin s.shape new
-takes_access s action.Hit next log core block word asking old new answer entry t within was = same_access s.shape old new (ap (λ (x : Line). x.waiting) t.1.0.held) was
-takes_access s (action.Issue r) next log core block word asking old new answer entry t within was = λ access waits. issued_access s word asking access within (sym (ap (λ (x : Line). x.waiting) t.0) ∙ waits)
-takes_access s action.Drop next log core block word asking old new answer entry t within was = same_access s.shape old new (ap (λ (x : Line). x.waiting) t.0) was
-takes_access s _ next log core block word asking old new answer entry t within was = absurd t
-
 -- a hit is of a load or a store, whose word there is
-hit_word : (s : Situation) (next : CacheState) (log : List Item) (core block word : ℕ) (asking : Op) (old new : Line) (answer : Reply) (entry : Option Item) → HasWord s.shape word asking → Takes action.Hit next log core block word asking old new answer entry → IsWord s.shape word
-hit_word s next log core block word op.Load old new answer entry within t = within
-hit_word s next log core block word (op.Store v) old new answer entry within t = within
-hit_word s next log core block word op.Evict old new answer entry within t = absurd t.1.0.performed
+hit_word : (shape : Extent) (word : ℕ) (asking : Op) (before : List ℕ) (value : ℕ) (after : List ℕ) → HasWord shape word asking → Performs word asking before value after → IsWord shape word
+hit_word shape word op.Load before value after there h = there
+hit_word shape word (op.Store v) before value after there h = there
+hit_word shape word op.Evict before value after there h = absurd h
 
--- the item of an Ask
-takes_item : (s : Situation) (a : CacheAction) (next : CacheState) (core block word : ℕ) (asking : Op) (old new : Line) (answer : Reply) (entry : Option Item)
-    → Takes a next s.log core block word asking old new answer entry → IsWithin s core block → HasWord s.shape word asking
-    → IsLawful (flat_words s.log block) (did_in entry) → IsNextOn s block entry
-takes_item s action.Hit next core block word asking old new answer entry t within there lawful =
-    let has = hit_word s next s.log core block word asking old new answer entry there t in
-    rw t.1.2 (record { on = refl; follows = next_lawful s.log core block word asking t.0 true has.1 (rw t.1.2 at lawful); logged = (within, has) })
-takes_item s (action.Issue r) next core block word asking old new answer entry t within there lawful = rw t.2 (record { on = tt; follows = tt; logged = tt })
-takes_item s action.Drop next core block word asking old new answer entry t within there lawful = rw t.2 (record { on = tt; follows = tt; logged = tt })
-takes_item s _ next core block word asking old new answer entry t within there lawful = absurd t
+-- what waits after an Ask, and its item
+module _ (s : Situation) (core block word : ℕ) (asking : Op) (next : CacheState) (old new : Line) (answer : Reply) (entry : Option Item) (there : HasWord s.shape word asking) where
+  takes_access : (a : CacheAction) → Takes a next s.log core block word asking old new answer entry → AccessWithin s.shape old → AccessWithin s.shape new
+  takes_access action.Hit t was = rw t.1.0.held was
+  takes_access (action.Issue r) t was = rw t.0 (λ access. issued_access s word asking access there)
+  takes_access action.Drop t was = rw t.0 was
+  takes_access _ t was = absurd t
+
+  takes_item : (a : CacheAction) → Takes a next s.log core block word asking old new answer entry → IsWithin s core block → IsLawful (flat_words s.log block) (did_in entry) → IsNextOn s block entry
+  takes_item action.Hit t within lawful =
+      let has = hit_word s.shape word asking t.1.0.before t.0 t.1.0.after there t.1.0.performed in
+      rw t.1.2 (record { on = refl; follows = next_lawful s.log core block word asking t.0 true has.1 (rw t.1.2 at lawful); logged = (within, has) })
+  takes_item (action.Issue r) t within lawful = rw t.2 (record { on = tt; follows = tt; logged = tt })
+  takes_item action.Drop t within lawful = rw t.2 (record { on = tt; follows = tt; logged = tt })
+  takes_item _ t within lawful = absurd t
 
 pub ask_moves : (old : Situation) (core block word : ℕ) (asking : Op) (answer : Reply) (new : Situation) (entry : Option Item) → Invariant old → IsWithin old core block → HasWord old.shape word asking → Asks old core block word asking answer new entry → Invariant new
 ask_moves old core block word asking answer new entry g within there a =
@@ -130,9 +122,9 @@ ask_moves old core block word asking answer new entry g within there a =
       as_many_queues = as_many_after a.row.action old.queues core block;
       opened = λ o is_open. g.opened block o is_open;
       block_after = k.0;
-      item = takes_item old a.row.action a.row.next core block word asking (held_by before core) a.held answer entry a.taken within there k.1;
+      item = takes_item old core block word asking a.row.next (held_by before core) a.held answer entry there a.row.action a.taken within k.1;
       accesses = by_core core (λ c. AccessWithin old.shape (held_by after c))
-          (rw here (takes_access old a.row.action a.row.next old.log core block word asking (held_by before core) a.held answer entry a.taken there (g.accesses core block)))
+          (rw here (takes_access old core block word asking a.row.next (held_by before core) a.held answer entry there a.row.action a.taken (g.accesses core block)))
           (λ c apart. let same : held_by after c ≡ held_by before c = get_or-set_other before.caches core c a.held nothing_held apart in rw same (g.accesses c block));
     } in
     subst Invariant (sym a.after) (kept old block after queues entry g whole)
@@ -154,7 +146,7 @@ order_moves old core block q new g within o =
       block_after = k;
       item = record { on = tt; follows = tt; logged = tt };
       accesses = λ c. each_held o.next.caches c (AccessWithin old.shape)
-          (λ below. rw (o.taken.rows c (rw (← o.taken.same_length) below)).2 (g.accesses c block)) (no_access old.shape nothing_held refl);
+          (λ below. rw (o.taken.rows c (rw (← o.taken.same_length) below)).2 (g.accesses c block)) (λ access waits. cc);
     } in
     subst Invariant (sym o.after) (kept old block o.next queues entry g whole)
 
@@ -199,7 +191,7 @@ respond_moves old block closing did new g within r =
 
 -- a move keeps the invariant
 pub move_keeps : (block : ℕ) (old : Situation) (step : Step) (answer : Reply) (new : Situation) (entry : Option Item) → Invariant old → MoveOn block old step answer new entry → Invariant new
-move_keeps block old (Ask core on word asking) answer new entry g m = elim m.moves as (λ _. Invariant new) [
+move_keeps block old (Ask core on word asking) answer new entry g m = elim m.moves [
   | inl idle ↦ subst Invariant (sym idle.3) g
   | inr a ↦ ask_moves old core block word asking answer new entry g m.within m.has_word a
 ]

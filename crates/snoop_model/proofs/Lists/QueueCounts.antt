@@ -21,7 +21,7 @@ times_push block x queue = sum_by_push (λ b. cond (eqb b block) 1 0) queue x
 -- a block that is counted stands in the queue
 pub counted_in : (block : ℕ) (queue : List ℕ) → 1 ≤ times block queue → Contains queue block
 counted_in block [] some = absurd (omega arith)
-counted_in block (x ∷ queue) some = elim (eqb_tells x block) as (λ _. Contains (x ∷ queue) block) [
+counted_in block (x ∷ queue) some = elim (eqb_tells x block) [
   | inl same ↦ (0, omega arith, same.1)
   | inr other ↦
       let none : one_if (eqb x block) ≡ 0 = rw other.0 refl in
@@ -51,14 +51,13 @@ times_gone taken (x ∷ queue) = by_test (eqb x taken) refl (times_gone taken qu
 
 times_left : (block taken : ℕ) (queue : List ℕ) → block ≢ taken → times block (filter (λ b. not (eqb b taken)) queue) ≡ times block queue
 times_left block taken [] apart = refl
-times_left block taken (x ∷ queue) apart = elim (eqb_tells x taken) as
-    (λ _. times block (filter (λ b. not (eqb b taken)) (x ∷ queue)) ≡ times block (x ∷ queue)) [
-      | inl same ↦
-          let none : one_if (eqb x block) ≡ 0 = rw (same.1, ne_eqb taken block (λ e. apart (sym e))) refl in
-          rw same.0 (omega (arith, times_left block taken queue apart, times_cons block x queue))
-      | inr other ↦ rw other.0 (omega
-          (arith, times_left block taken queue apart, times_cons block x queue, times_cons block x (filter (λ b. not (eqb b taken)) queue)))
-    ]
+times_left block taken (x ∷ queue) apart = elim (eqb_tells x taken) [
+  | inl same ↦
+      let none : one_if (eqb x block) ≡ 0 = rw (same.1, ne_eqb taken block (λ e. apart (sym e))) refl in
+      rw same.0 (omega (arith, times_left block taken queue apart, times_cons block x queue))
+  | inr other ↦ rw other.0 (omega
+      (arith, times_left block taken queue apart, times_cons block x queue, times_cons block x (filter (λ b. not (eqb b taken)) queue)))
+]
 
 -- an issue adds its block to its core's queue once
 module _ (queues : List (List ℕ)) (core block : ℕ) where

@@ -134,7 +134,7 @@ absent_once wanted word asking x y e = one_if_both x y (same_access wanted (reco
 
 -- a move
 pub move_once : (block : ℕ) (old : Situation) (step : Step) (answer : Reply) (new : Situation) (entry : Option Item) → Invariant old → MoveOn block old step answer new entry → (core b : ℕ) (wanted : Access) → tally new core b wanted ≡ tally old core b wanted + one_if (asks core b wanted step)
-move_once block old (Ask c on word asking) answer new entry g m core b wanted = elim m.moves as (λ _. tally new core b wanted ≡ tally old core b wanted + one_if (asks core b wanted (Ask c on word asking))) [
+move_once block old (Ask c on word asking) answer new entry g m core b wanted = elim m.moves [
   | inl idle ↦
       let x : tally new core b wanted ≡ tally old core b wanted = ap (λ (s : Situation). tally s core b wanted) idle.3 in
       let y = absent_once wanted word asking (eqb c core) (eqb on b) idle.0 in

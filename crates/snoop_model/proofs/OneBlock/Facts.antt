@@ -80,7 +80,7 @@ owned_alone p n flat picture g is_owned =
     record { unshared = not-true g.claims.shared a.0; unfresh = not-true g.claims.fresh b.0; calm = b.1 }
 
 pub put_calm : (o : Open) (d : ℕ) → is_put_m o.request ≡ true → is_calm (awaited (Some o) d) ≡ true
-put_calm o d h = elim (cases_Bool (eqb d o.core)) as (λ _. is_calm (cond (eqb d o.core) (Some o.request) None) ≡ true) [ inl e ↦ rw e h | inr e ↦ rw e refl ]
+put_calm o d h = elim (cases_Bool (eqb d o.core)) [ inl e ↦ rw e h | inr e ↦ rw e refl ]
 
 pub calm_wait : (t : Option Open) (d : ℕ) → calm_talk (talk_of t) ≡ true → is_calm (awaited t d) ≡ true
 calm_wait None d h = refl

@@ -73,8 +73,7 @@ module _ (s : Situation) (core block word : ℕ) (asking : Op) (within : IsWithi
   goes_within : Invariant s → (let n = next_asked s core block word asking in GoesFirst s (Ask core block word asking) n.0 n.1)
   goes_within g =
       let line = held_by (picture_of s block) core in
-      elim (cases_Bool (is_idle_evict line.state (asked asking))) as
-      (λ _. let n = next_asked s core block word asking in GoesFirst s (Ask core block word asking) n.0 n.1) [
+      elim (cases_Bool (is_idle_evict line.state (asked asking))) [
         | inl idle ↦
             let is = idle_evict line.state asking idle in
             rw (is.1, is.0) (None, (block, (tt, record { on_block = refl; within = within; moves = inl (refl, is.1, refl, refl, refl); has_word = tt })))
@@ -90,9 +89,9 @@ GoesNext s step = GoesFirst s step (next_of s step).0 (next_of s step).1
 
 module _ (s : Situation) (g : Invariant s) where
   ask_goes : (core block word : ℕ) (asking : Op) → GoesNext s (Ask core block word asking)
-  ask_goes core block word asking = elim (cases_lt core s.shape.cores) as (λ _. GoesNext s (Ask core block word asking)) [
+  ask_goes core block word asking = elim (cases_lt core s.shape.cores) [
     | inr past ↦ rw (le-ltb core s.shape.cores past) (past, refl)
-    | inl in_cores ↦ elim (cases_Bool (ltb block s.shape.blocks && has_word s.shape word asking)) as (λ _. GoesNext s (Ask core block word asking)) [
+    | inl in_cores ↦ elim (cases_Bool (ltb block s.shape.blocks && has_word s.shape word asking)) [
       | inl there ↦
           let parts = and_parts _ _ there in
           rw (lt-ltb core s.shape.cores in_cores, there) (goes_within s core block word asking (in_cores, ltb-true block s.shape.blocks parts.0)
@@ -135,7 +134,7 @@ module _ (s : Situation) (g : Invariant s) where
       }
 
   order_goes : AreQueued s → (core : ℕ) → GoesNext s (Order core)
-  order_goes queued core = elim (cases_lt core s.shape.cores) as (λ _. GoesNext s (Order core)) [
+  order_goes queued core = elim (cases_lt core s.shape.cores) [
     | inr past ↦ rw (le-ltb core s.shape.cores past) (past, refl)
     | inl in_cores ↦ rw (lt-ltb core s.shape.cores in_cores) (first in_cores (slice_get (queue_of s.queues core) 0) refl)
   ]
@@ -262,7 +261,7 @@ module _ (s : Situation) (g : Invariant s) where
       (Some _, (block, (tt, record { closing = o; did = _; on_block = refl; within = within; answered = refl; logged = refl; responds = responds })))
 
   respond_goes : (block : ℕ) → GoesNext s (Respond block)
-  respond_goes block = elim (cases_lt block s.shape.blocks) as (λ _. GoesNext s (Respond block)) [
+  respond_goes block = elim (cases_lt block s.shape.blocks) [
     | inr past ↦ rw (le-ltb block s.shape.blocks past) (past, refl)
     | inl within ↦ rw (lt-ltb block s.shape.blocks within) (closes block within (picture_of s block).transaction refl)
   ]
