@@ -16,12 +16,11 @@ use Rattle.snoop_model.specs.Pictures.Situation.{picture_of}
 use Rattle.snoop_machine.specs.Standing.{Standing, KeepsRoom}
 use Rattle.snoop_model.specs.Moves.Move.{ArrivesFor, RespondMove, came_of, written}
 use Rattle.snoop_machine.specs.Following.{LosesLines}
-use Rattle.snoop_machine.specs.Lines.{Held, KeepsMapsRoom, LinesGo, gone, row_of, line_at}
+use Rattle.snoop_machine.specs.Lines.{Held, KeepsMapsRoom, LinesGo, row_of}
 use Rattle.snoop_machine.specs.PartsView.{Fields, standing, no_memory, IsSound, IsWhole}
 use Rattle.snoop_machine.specs.Plan.{IsClosing}
-use Rattle.snoop_machine.proofs.Following.{follows-rows, follows-set}
-use Rattle.snoop_machine.proofs.PlacedLines.{placed}
-use Rattle.snoop_machine.proofs.QueueViews.{IsSound-close}
+use Rattle.snoop_machine.proofs.Following.{follows-rows}
+use Rattle.snoop_machine.proofs.Soundness.{IsSound-close}
 use Rattle.snoop_machine.proofs.Room.{keeps_room}
 use Rattle.snoop_machine.proofs.PictureViews.{seen, picture-written, sized_on}
 
@@ -64,7 +63,7 @@ module _ {m : Fields} {now : Standing} {came : Came} {memory : MemCell} {closing
   pub whole_after : (lines : Held) (did : Option Did) → IsSound m.shape lines.rows m.bus → length lines.lines ≡ length m.lines.lines
       → IsWhole closes.count (closed lines did)
   whole_after lines did sound many = record {
-    sound = IsSound-close m.shape lines.rows m.bus came.block (rw (← closes.view) at closes.within) sound;
+    sound = IsSound-close sound came.block (rw (← closes.view) at closes.within);
     sized = sized_on m (closed lines did) closes.whole.sized refl many (length-set m.memory came.block settled) (refl, refl, refl);
   }
 
@@ -112,20 +111,9 @@ module _ {m : Fields} {now : Standing} {came : Came} {memory : MemCell} {closing
       })
 
   -- of the lines as many go as cores move to I
-  pub loses_rows : (lines : Held) (row : List Line) (did : Option Did) → lines.rows ≡ slice_set m.lines.rows came.block row → row ≡ row_of lines.rows came.block
+  pub loses : (lines : Held) (row : List Line) (did : Option Did) → lines.rows ≡ slice_set m.lines.rows came.block row → row ≡ row_of lines.rows came.block
       → LinesGo came.block m.lines lines
       → (k : ℕ) → LosesLines now (standing (closed lines did)) k
-  loses_rows lines row did rows here go =
+  loses lines row did rows here go =
       follows-rows closes.whole closes.view (standing (closed lines did)) came.block (next row) lines closes.within
       (pictures_after lines row did rows) refl here go
-
-  -- the same where one line has moved
-  pub loses_set : (lines : Held) (did : Option Did) (core : ℕ) (line : Line) → core < now.situation.shape.cores
-      → lines.rows ≡ placed m.lines.rows core came.block line
-      → length (slice_index_or lines.lines core []) + gone (line_at m.lines.rows core came.block).state line.state ≡ length (slice_index_or m.lines.lines core [])
-      → ((k : ℕ) → k ≢ core → slice_index_or lines.lines k [] ≡ slice_index_or m.lines.lines k [])
-      → (k : ℕ) → LosesLines now (standing (closed lines did)) k
-  loses_set lines did core line in_cores rows fewer others =
-      let row = slice_set (row_of m.lines.rows came.block) core line in
-      follows-set closes.whole closes.view (standing (closed lines did)) came.block (next row) lines closes.within
-      (pictures_after lines row did rows) refl core line in_cores refl rows fewer others

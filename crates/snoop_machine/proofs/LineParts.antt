@@ -12,6 +12,7 @@ use Rattle.snoop_machine.specs.declared.holders.Holders.{Holders}
 use Rattle.snoop_machine.specs.Holders.{HaveMoved, HaveFollowed, StandsAs, no_holders}
 use Rattle.snoop_machine.specs.Cache.{Contents, no_cache, line_in, lines_held}
 use Rattle.snoop_machine.specs.Lines.{Held, AreLines}
+use Rattle.snoop_machine.proofs.EachPlace.{each_place}
 use Rattle.snoop_machine.proofs.LineMaps.{IsMap}
 use Rattle.snoop_machine.proofs.MapRows.{line-row, row-same, row-set, length-row, AreHolders-moved}
 
@@ -21,10 +22,7 @@ module _ {caches : List Contents} {holders : List Holders} (lines : AreLines cac
 
   -- each line is proper, if those of the new map are
   proper_after : ((b : ℕ) → IsProper (line_in new b)) → (k b : ℕ) → IsProper (line_in (slice_index_or (slice_set caches core new) k no_cache) b)
-  proper_after proper k b = elim (cases_eq k core) [
-    | inl e ↦ rw (e, get_or-set_same caches core new no_cache within) (proper b)
-    | inr ne ↦ rw (get_or-set_other caches core k new no_cache ne) (lines.proper k b)
-  ]
+  proper_after proper = each_place (λ k cache. (b : ℕ) → IsProper (line_in cache b)) caches core new no_cache within proper (λ k ne. lines.proper k)
 
   -- the new map has the lines that the old one had
   pub AreLines-alike : ((b : ℕ) → line_in new b ≡ line_in (slice_index_or caches core no_cache) b) → AreLines (slice_set caches core new) holders

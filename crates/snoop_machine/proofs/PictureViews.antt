@@ -11,9 +11,8 @@ use Rattle.snoop_model.specs.Pictures.Lines.{Line, MemLine}
 use Rattle.snoop_model.specs.Pictures.Picture.{Picture, held_by, with_line}
 use Rattle.snoop_model.specs.Pictures.Situation.{Situation, picture_of, state_of, nothing_there}
 use Rattle.snoop_machine.specs.Standing.{Standing}
-use Rattle.snoop_machine.specs.Lines.{line_at, row_of}
+use Rattle.snoop_machine.specs.Lines.{line_at, row_of, placed}
 use Rattle.snoop_machine.specs.PartsView.{Fields, standing, pictures_of, no_memory, IsSized, IsWhole}
-use Rattle.snoop_machine.proofs.PlacedLines.{placed}
 
 pictures-get : (rows : List (List Line)) (memories : List MemLine) (transactions : List (Option Open)) (block : ℕ) → length memories ≡ length rows → length transactions ≡ length rows
     → slice_index_or (pictures_of rows memories transactions) block nothing_there ≡ record { caches = row_of rows block; memory = slice_index_or memories block no_memory; transaction = slice_index_or transactions block None }

@@ -1,6 +1,6 @@
 -- What is seen of a machine's parts, and what holds between them.
 -- Source: this project's profile.
-use Rattle.std.specs.Prelude.{◌≡◌, ◌≢◌, ◌<◌, ◌≤◌, ℕ, zero, suc, length, List, [], ◌∷◌, map, Contains, Option, Some, slice_index_or}
+use Rattle.std.specs.Prelude.{◌≡◌, ◌<◌, ◌≤◌, ◌==◌, ℕ, zero, suc, length, List, [], ◌∷◌, map, filter, Option, Some, option_to_list, slice_index_or}
 use Rattle.snoop_trace.specs.Extent.{Extent}
 use Rattle.snoop_trace.specs.declared.protocol.Protocol.{Protocol}
 use Rattle.snoop_rules.specs.declared.names.Request.{Request}
@@ -68,9 +68,13 @@ standing m =
       lines = m.lines.lines;
     }
 
--- no block stands twice
-abbrev pub IsEachOnce : List (Request × ℕ) → Type 0
-IsEachOnce requests = (j k : ℕ) (d : Request × ℕ) → j < k → k < length requests → (slice_index_or requests j d).1 ≢ (slice_index_or requests k d).1
+-- the requests of a queue that are for the block
+abbrev pub requests_for : ℕ → List (Request × ℕ) → List Request
+requests_for block requests = map (λ r. r.0) (filter (λ r. r.1 == block) requests)
+
+-- of the requests in a queue that for the block is the one for which the line waits, if it waits, and no other
+abbrev pub WaitsAs : ℕ → Waiting → Line → Type 0
+WaitsAs block queue line = requests_for block queue.requests ≡ option_to_list (waiting_request line.state)
 
 -- lines, queues and open transactions fit together
 pub record IsSound (shape : Extent) (caches : List (List Line)) (bus : Traffic) : Type 0 where
@@ -80,9 +84,7 @@ pub record IsSound (shape : Extent) (caches : List (List Line)) (bus : Traffic) 
   pub transactions : length bus.transactions ≡ shape.blocks
   pub proper : (core block : ℕ) → IsProper (line_at caches core block)
   pub opened : (block : ℕ) (transaction : Open) → transaction_on bus block ≡ Some transaction → (transaction.block ≡ block) × (transaction.core < shape.cores)
-  pub queued : (core block : ℕ) (request : Request) → Contains (waiting_of bus core).requests (request, block) → waiting_request (line_at caches core block).state ≡ Some request
-  pub waits : (core block : ℕ) (request : Request) → waiting_request (line_at caches core block).state ≡ Some request → Contains (waiting_of bus core).requests (request, block)
-  pub once : (core : ℕ) → IsEachOnce (waiting_of bus core).requests
+  pub waits : (core block : ℕ) → WaitsAs block (waiting_of bus core) (line_at caches core block)
 
 -- what is kept beside the lines and the bus is as large as the shape says, and a block holds so many words
 pub record IsSized (count : ℕ) (m : Fields) : Type 0 where
