@@ -1,8 +1,6 @@
 //! An Order: the rows that cores take for it, which controller sends, and memory's next state.
 ghost use Rattle.std.specs.Prelude.{◌≡◌, ◌≢◌, ℕ, ◌<◌, [], length, Some, IfSome, IfNone, slice_index_or, slice_set};
 ghost use Rattle.snoop_rules.specs.Waits.{waiting_request};
-ghost use Rattle.snoop_rules.specs.declared.names.MemAction.TheVariants.{Send};
-ghost use Rattle.snoop_rules.specs.declared.names.Payload.{Payload};
 ghost use Rattle.snoop_rules.specs.Takers.{at_memory, seen_by};
 ghost use Rattle.snoop_model.specs.Pictures.Picture.{free_picture, held_at};
 ghost use Rattle.snoop_model.specs.Pictures.Sends.{IsOnlySender};
@@ -15,7 +13,7 @@ ghost use Rattle.snoop_machine.specs.PartsView.{no_memory};
 use crate::lines::Lines;
 use crate::memory::Memory;
 use snoop_rules::{
-    CacheAction, MemAction, MemCell, MemState, Payload, Protocol, Request, cache_cell,
+    CacheAction, MemAction, MemState, Payload, Protocol, Request, cache_cell,
     event_at_memory, event_seen, mem_cell,
 };
 use snoop_trace::Block;
@@ -56,17 +54,6 @@ pub(crate) struct Sending {
     pub(crate) memory: MemState,
 }
 
-/// The payload that memory sends, if it sends.
-fn sent_by_memory(cell: MemCell) -> Option<Payload>
-    ensures some { IfSome result (λ payload. cell.action ≡ Send payload) }
-    ensures none { IfNone result ((payload : Payload) → cell.action ≢ Send payload) }
-{
-    match cell.action {
-        MemAction::Send(payload) => Some(payload),
-        MemAction::None | MemAction::Write => None,
-    }
-}
-
 impl<B: Block> Lines<B> {
     /// The one controller that sends for a request on the block, and memory's next state.
     pub(crate) fn sender(
@@ -87,7 +74,7 @@ impl<B: Block> Lines<B> {
         let Some(row) = mem_cell(protocol, memory.state(block), event_at_memory(request)) else {
             unreachable!();
         };
-        if let Some(payload) = sent_by_memory(row) {
+        if let MemAction::Send(payload) = row.action {
             return Sending {
                 from: None,
                 payload,

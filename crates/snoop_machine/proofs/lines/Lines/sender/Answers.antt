@@ -26,11 +26,10 @@ sends : (g : Over) (c : In-Some g) (from : Option ℕ) (payload : Payload)
     → IsOnlySender c.args.protocol (free_picture (row_of c.args.self.now.rows c.args.block) (slice_index_or c.args.memory.now c.args.block no_memory)) c.args.requestor c.args.request from payload
 sends g c from payload sent = record { sends = sent; alone = λ other message h. c.requires.line.sent.alone other message h ∙ sym (c.requires.line.sent.alone from payload sent) }
 
-pub returns-in-Some-sent_by_memory-clause-sender : goal.returns-in-Some-sent_by_memory-clause-sender
-returns-in-Some-sent_by_memory-clause-sender g c =
-    let d = (goal.at.returns-in-Some-sent_by_memory-clause-sender g c).In-Some in
-    let held = slice_index_or c.args.memory.now c.args.block no_memory in
-    sends g d None c.in-Some-sent_by_memory.payload (c.in-Some.row.next, rw c.in-Some-sent_by_memory.ensures.some at (memory_row g d))
+pub returns-in-Send-clause-sender : goal.returns-in-Send-clause-sender
+returns-in-Send-clause-sender g c =
+    sends g (goal.at.returns-in-Send-clause-sender g c).In-Some None c.in-Send.payload
+    (c.in-Some.row.next, rw c.in-Send.is at (memory_row g (goal.at.returns-in-Send-clause-sender g c).In-Some))
 
 requestor_within : (g : Over) (c : In-Some-next g) → c.args.requestor < length (row_of c.args.self.now.rows c.args.block)
 requestor_within g c = waits_within (row_of c.args.self.now.rows c.args.block) c.args.requestor c.args.request c.requires.waits
@@ -60,13 +59,11 @@ unreachable-requires-in_default-cache_cell g c =
     let clash = sym none ∙ there in
     cc
 
-pub returns-in-Send-clause-sender : goal.returns-in-Send-clause-sender
-returns-in-Send-clause-sender g c =
-    let d = (goal.at.returns-in-Send-clause-sender g c).In-Some-cache_cell in
-    let before = free_picture (row_of c.args.self.now.rows c.args.block) (slice_index_or c.args.memory.now c.args.block no_memory) in
-    let core = c.in-Some-next.core in
-    sends g (goal.at.returns-in-Send-clause-sender g c).In-Some (Some core) c.in-Send.payload
-    (within_row g (goal.at.returns-in-Send-clause-sender g c).In-Some-next, sends_row _ _ (ap sent_by (rw c.in-Send.is at (row g d))))
+pub returns-in-Send-action-clause-sender : goal.returns-in-Send-action-clause-sender
+returns-in-Send-action-clause-sender g c =
+    let at = goal.at.returns-in-Send-action-clause-sender g c in
+    sends g at.In-Some (Some c.in-Some-next.core) c.in-Send-action.payload
+    (within_row g at.In-Some-next, sends_row _ _ (ap sent_by (rw c.in-Send-action.is at (row g at.In-Some-cache_cell))))
 
 pub loop-core-init : goal.loop-core-init
 loop-core-init g c =
@@ -74,7 +71,7 @@ loop-core-init g c =
     let held = slice_index_or c.args.memory.now c.args.block no_memory in
     let before = free_picture (row_of c.args.self.now.rows c.args.block) held in (
       Silent-none c.args.protocol before c.args.requestor c.args.request c.in-Some.row.action c.in-Some.row.next
-          (memory_row g d) c.in_default-sent_by_memory.ensures.none,
+          (memory_row g d) c.in_default-action.not-Send,
       omega arith,
     )
 
