@@ -1,6 +1,6 @@
 -- A transaction closes: memory takes its message, and the lines are those that took it.
 use Rattle.std.proofs.Common.{◌≡◌, ◌≢◌, ◌<◌, ℕ, ◌+◌, ◌-◌, List, ◌++◌, ◌∷◌, [], length, Option, Some, None, refl, sym, ◌∙◌, ap, arith}
-use Rattle.std.specs.Prelude.{option_map, slice_index_or, slice_set}
+use Rattle.std.specs.Prelude.{option_map, slice_set}
 use Rattle.std.proofs.lemmas.Option.{same_Some}
 use Rattle.std.proofs.lemmas.List.{length-set, length-append}
 use Rattle.snoop_rules.specs.declared.names.MemCell.{MemCell}
@@ -17,7 +17,8 @@ use Rattle.snoop_machine.specs.Standing.{Standing, KeepsRoom}
 use Rattle.snoop_model.specs.Moves.Move.{ArrivesFor, RespondMove, came_of, written}
 use Rattle.snoop_machine.specs.Following.{LosesLines}
 use Rattle.snoop_machine.specs.Lines.{Held, KeepsMapsRoom, LinesGo, row_of}
-use Rattle.snoop_machine.specs.PartsView.{Fields, standing, no_memory, IsSound, IsWhole}
+use Rattle.snoop_machine.specs.PartsView.{Fields, standing, IsSound, IsWhole}
+use Rattle.snoop_machine.specs.Memory.{memory_at}
 use Rattle.snoop_machine.specs.Plan.{IsClosing}
 use Rattle.snoop_machine.proofs.Following.{follows-rows}
 use Rattle.snoop_machine.proofs.Soundness.{IsSound-close}
@@ -48,13 +49,13 @@ module _ {m : Fields} {now : Standing} {came : Came} {memory : MemCell} {closing
 
   -- memory's line of the block then
   abbrev pub settled : MemLine
-  settled = record { state = memory.next; value = written memory.action closing.value (slice_index_or m.memory came.block no_memory).value }
+  settled = record { state = memory.next; value = written memory.action closing.value (memory_at m.memory came.block).value }
 
   -- the parts then, with these lines, where this was performed
   abbrev pub closed : Held → Option Did → Fields
   closed lines did = record m {
     lines = lines;
-    memory = slice_set m.memory came.block settled;
+    memory = record { states = slice_set m.memory.states came.block settled.state; words = slice_set m.memory.words came.block settled.value };
     bus = record m.bus { transactions = slice_set m.bus.transactions came.block None };
     log = record m.log { items = m.log.items ++ item.Came came did ∷ []; room = m.log.room - 1 };
   }
@@ -64,7 +65,7 @@ module _ {m : Fields} {now : Standing} {came : Came} {memory : MemCell} {closing
       → IsWhole closes.count (closed lines did)
   whole_after lines did sound many = record {
     sound = IsSound-close sound came.block (rw (← closes.view) at closes.within);
-    sized = sized_on m (closed lines did) closes.whole.sized refl many (length-set m.memory came.block settled) (refl, refl, refl);
+    sized = sized_on m (closed lines did) closes.whole.sized refl many (length-set m.memory.states came.block settled.state, length-set m.memory.words came.block settled.value) (refl, refl, refl);
   }
 
   -- no room is lost
@@ -80,7 +81,7 @@ module _ {m : Fields} {now : Standing} {came : Came} {memory : MemCell} {closing
 
   pub pictures_after : (lines : Held) (row : List Line) (did : Option Did) → lines.rows ≡ slice_set m.lines.rows came.block row
       → (standing (closed lines did)).situation.pictures ≡ slice_set (standing m).situation.pictures came.block (next row)
-  pictures_after lines row did rows = picture-written m came.block (next row) lines.rows _ _ rows refl refl
+  pictures_after lines row did rows = picture-written closes.whole refl came.block (next row) lines.rows _ _ _ rows refl refl refl
 
   -- it is the move of a Respond
   pub responded : (lines : Held) (row : List Line) (did : Option Did) → lines.rows ≡ slice_set m.lines.rows came.block row

@@ -1,7 +1,6 @@
 pub mod EachPlace
 pub mod Queues
 pub mod Soundness
-pub mod MemoryTables
 pub mod PictureViews
 pub mod Responses
 pub mod Closing

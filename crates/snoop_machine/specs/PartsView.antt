@@ -2,15 +2,17 @@
 -- Source: this project's profile.
 use Rattle.std.specs.Prelude.{◌≡◌, ◌<◌, ◌≤◌, ◌==◌, ℕ, zero, suc, length, List, [], ◌∷◌, map, filter, Option, Some, option_to_list, slice_index_or}
 use Rattle.snoop_trace.specs.Extent.{Extent}
+use Rattle.snoop_trace.specs.Words.{Data}
 use Rattle.snoop_trace.specs.declared.protocol.Protocol.{Protocol}
+use Rattle.snoop_rules.specs.declared.names.MemState.{MemState}
 use Rattle.snoop_rules.specs.declared.names.Request.{Request}
 use Rattle.snoop_rules.specs.Waits.{waiting_request}
 use Rattle.snoop_bus.specs.Traffic.{Open, Traffic, Waiting, waiting_of, transaction_on}
 use Rattle.snoop_history.specs.Journal.{Journal}
-use Rattle.snoop_model.specs.Pictures.Lines.{Line, MemLine}
+use Rattle.snoop_model.specs.Pictures.Lines.{Line}
 use Rattle.snoop_model.specs.Pictures.Picture.{Picture}
-use Rattle.snoop_model.specs.Pictures.Situation.{nothing_there}
 use Rattle.snoop_model.specs.Pictures.Proper.{IsProper}
+use Rattle.snoop_machine.specs.Memory.{MemTables}
 use Rattle.snoop_machine.specs.Standing.{Standing}
 use Rattle.snoop_machine.specs.Lines.{Held, line_at}
 
@@ -19,27 +21,23 @@ pub record Fields : Type 0 where
   pub protocol : Protocol
   pub shape : Extent
   pub lines : Held
-  pub memory : List MemLine
+  pub memory : MemTables
   pub bus : Traffic
   pub log : Journal
 
 -- these parts
-abbrev pub fields : Protocol → Extent → Held → List MemLine → Traffic → Journal → Fields
+abbrev pub fields : Protocol → Extent → Held → MemTables → Traffic → Journal → Fields
 fields protocol shape lines memory bus log = record { protocol = protocol; shape = shape; lines = lines; memory = memory; bus = bus; log = log }
 
 -- the queues that the bus shows
 abbrev pub queues_of : List Waiting → List (List ℕ)
 queues_of queues = map (λ queue. map (λ r. r.1) queue.requests) queues
 
--- what stands for memory's line of a block that there isn't
-abbrev pub no_memory : MemLine
-no_memory = nothing_there.memory
-
--- the picture of each block: its lines, memory's line and its open transaction
-abbrev pub pictures_of : List (List Line) → List MemLine → List (Option Open) → List Picture
-pictures_of (row ∷ rows) (memory ∷ memories) (transaction ∷ transactions) =
-    record { caches = row; memory = memory; transaction = transaction } ∷ pictures_of rows memories transactions
-pictures_of _ _ _ = []
+-- the picture of each block: its lines, memory's state and words, and its open transaction
+abbrev pub pictures_of : List (List Line) → List MemState → List Data → List (Option Open) → List Picture
+pictures_of (row ∷ rows) (state ∷ states) (value ∷ values) (transaction ∷ transactions) =
+    record { caches = row; memory = record { state = state; value = value }; transaction = transaction } ∷ pictures_of rows states values transactions
+pictures_of _ _ _ _ = []
 
 -- for how many more lines a map has room, as callers see it: none where its core's queue has no room, since there a request that is refused may have let the map grow
 abbrev pub shown_line_room : ℕ → ℕ → ℕ
@@ -58,7 +56,7 @@ standing m =
       situation = record {
         protocol = m.protocol;
         shape = m.shape;
-        pictures = pictures_of m.lines.rows m.memory m.bus.transactions;
+        pictures = pictures_of m.lines.rows m.memory.states m.memory.words m.bus.transactions;
         queues = queues_of m.bus.queues;
         log = m.log.items;
       };
@@ -90,7 +88,8 @@ pub record IsSound (shape : Extent) (caches : List (List Line)) (bus : Traffic) 
 pub record IsSized (count : ℕ) (m : Fields) : Type 0 where
   pub few : m.shape.cores < 257
   pub lines : length m.lines.lines ≡ m.shape.cores
-  pub memory : length m.memory ≡ m.shape.blocks
+  pub states : length m.memory.states ≡ m.shape.blocks
+  pub values : length m.memory.words ≡ m.shape.blocks
   pub cores : m.log.cores ≡ m.shape.cores
   pub blocks : m.log.blocks ≡ m.shape.blocks
   pub words : m.log.words ≡ m.shape.words

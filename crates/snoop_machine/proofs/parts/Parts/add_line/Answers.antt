@@ -27,7 +27,7 @@ invariant_of-self-2 g c =
       sized = sized_on _ _ c.self.invariant.sized refl
           (ap (λ (lines : List (List ℕ)). length lines) c.put_ahead.ensures.lines
           ∙ (length-set after.lines core _ ∙ ap (λ (lines : List (List ℕ)). length lines) c.reserve.ensures.lines))
-          refl (refl, refl, refl);
+          (refl, refl) (refl, refl, refl);
     }
 
 pub returns-in_err-reserve-clause-full : goal.returns-in_err-reserve-clause-full

@@ -32,9 +32,9 @@ queue g c =
     record { requests = before.requests ++ (c.args.request, c.args.block) ∷ []; room = before.room - 1 }
 
 -- the picture that the block has now
-wrote : (g : Over) (c : After-issue g) → pictures_of c.change.new.self.rows c.self.inside.memory c.issue.new.self.transactions
+wrote : (g : Over) (c : After-issue g) → pictures_of c.change.new.self.rows c.self.inside.memory.states c.self.inside.memory.words c.issue.new.self.transactions
     ≡ slice_set (standing (parts g c)).situation.pictures c.args.block (with_line (picture_in (parts g c) c.args.block) c.args.core (line g c))
-wrote g c = rw c.issue.ensures.transactions (line-written (parts g c) c.args.block c.change.new.self.rows c.args.core (line g c) c.change.ensures.rows)
+wrote g c = rw c.issue.ensures.transactions (line-written c.self.invariant refl c.args.block c.change.new.self.rows c.args.core (line g c) c.change.ensures.rows)
 
 pub change-requires-clause-proper : goal.change-requires-clause-proper
 change-requires-clause-proper g c = rw (line_seen c.self.invariant c.self.view_is c.args.core c.args.block) at c.requires.proper
@@ -48,7 +48,7 @@ invariant_of-self g c =
           (core_in c.self.invariant c.self.view_is c.args.core c.requires.core) (block_in c.self.invariant c.self.view_is c.args.block c.requires.block)
           (rw here at c.requires.proper) c.issue.new.self c.args.request (queue g d).room c.issue.ensures.queue c.issue.ensures.transactions
           (rw here at c.requires.idle) c.requires.waits);
-      sized = sized_on _ _ c.self.invariant.sized refl c.change.ensures.many refl (refl, refl, refl);
+      sized = sized_on _ _ c.self.invariant.sized refl c.change.ensures.many (refl, refl) (refl, refl, refl);
     }
 
 pub returns : goal.returns

@@ -37,7 +37,7 @@ invariant_of-self g c =
       sound = rw c.change.ensures.rows (IsSound-line c.self.invariant.sound c.args.core c.args.block (line g (goal.at.invariant_of-self g c).After-change)
           (core_in c.self.invariant c.self.view_is c.args.core c.requires.core) (block_in c.self.invariant c.self.view_is c.args.block c.requires.block)
           (rw here at c.requires.proper) (rw here at c.requires.same));
-      sized = sized_on _ _ c.self.invariant.sized refl c.change.ensures.many refl (refl, refl, refl);
+      sized = sized_on _ _ c.self.invariant.sized refl c.change.ensures.many (refl, refl) (refl, refl, refl);
     }
 
 pub returns : goal.returns
@@ -45,7 +45,7 @@ returns g c =
     let d = (goal.at.returns g c).After-change in
     let m = parts g d in
     let next = with_line (picture_in m c.args.block) c.args.core (line g d) in
-    let wrote = line-written m c.args.block c.change.new.self.rows c.args.core (line g d) c.change.ensures.rows in
+    let wrote = line-written c.self.invariant refl c.args.block c.change.new.self.rows c.args.core (line g d) c.change.ensures.rows in
     record {
       written = rw (← c.self.view_is, seen c.self.invariant refl c.args.block, wrote);
       room = keeps_room m (record m { lines = c.change.new.self }) c.args.self.now c.self.view_is (omega arith) (λ core. omega arith) c.change.ensures.room;

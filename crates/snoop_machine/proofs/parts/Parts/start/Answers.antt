@@ -1,7 +1,7 @@
 use Rattle.std.proofs.Common.{◌≡◌, ℕ, List, ◌<◌, ◌-◌, ◌++◌, ◌∷◌, [], length, drop, Option, Some, ◌∙◌, refl, sym, ap, arith}
 use Rattle.std.specs.Prelude.{slice_set, slice_index_or}
 use Rattle.std.specs.Option.{ForSome}
-use Rattle.std.proofs.lemmas.List.{length-set, length-append, length-drop}
+use Rattle.std.proofs.lemmas.List.{length-set, length-append, length-drop, set-get_or}
 use Rattle.snoop_trace.specs.declared.protocol.Protocol.{Protocol}
 use Rattle.snoop_rules.specs.declared.names.Payload.{Payload}
 use Rattle.snoop_rules.specs.declared.names.Request.{Request}
@@ -13,7 +13,9 @@ use Rattle.snoop_model.specs.Pictures.Sends.{Sends}
 use Rattle.snoop_model.specs.Pictures.Situation.{picture_of}
 use Rattle.snoop_machine.specs.Standing.{Standing}
 use Rattle.snoop_machine.specs.Lines.{row_of}
-use Rattle.snoop_machine.specs.PartsView.{Fields, fields, standing, pictures_of, no_memory}
+use Rattle.snoop_machine.specs.PartsView.{Fields, fields, standing, pictures_of}
+use Rattle.snoop_machine.specs.Memory.{MemTables, memory_at}
+use Rattle.snoop_trace.specs.Words.{zero_words}
 use Rattle.snoop_machine.proofs.Following.{follows-rows}
 use Rattle.snoop_machine.proofs.PictureViews.{seen, line_seen, picture-written, core_in, block_in, sized_on}
 use Rattle.snoop_machine.proofs.Queues.{head_from_line, head_alone, queues_of-order}
@@ -80,14 +82,16 @@ opened g c = record {
 
 -- memory's line now, and the block's picture
 abbrev memory_now : (g : Over) (c : After-start g) → MemLine
-memory_now g c = record { state = c.args.memory; value = (slice_index_or c.self.inside.memory c.args.block no_memory).value }
+memory_now g c = record { state = c.args.memory; value = (memory_at c.self.inside.memory c.args.block).value }
 
 abbrev next : (g : Over) (c : After-start g) → Picture
 next g c = record { caches = row_of c.take_rows.new.self.rows c.args.block; memory = memory_now g c; transaction = Some (opened g c) }
 
 wrote : (g : Over) (c : After-start g)
-    → pictures_of c.take_rows.new.self.rows c.move_to.new.self c.start.new.self.transactions ≡ slice_set (standing (parts g c)).situation.pictures c.args.block (next g c)
-wrote g c = picture-written (parts g c) c.args.block (next g c) _ _ _ c.take_rows.ensures.others c.move_to.ensures (starts g c).transactions
+    → pictures_of c.take_rows.new.self.rows c.move_to.new.self.states c.move_to.new.self.words c.start.new.self.transactions ≡ slice_set (standing (parts g c)).situation.pictures c.args.block (next g c)
+wrote g c =
+    picture-written c.self.invariant refl c.args.block (next g c) _ _ _ _ c.take_rows.ensures.others (ap (λ (m : MemTables). m.states) c.move_to.ensures)
+    (ap (λ (m : MemTables). m.words) c.move_to.ensures ∙ sym (set-get_or c.self.inside.memory.words c.args.block zero_words)) (starts g c).transactions
 
 pub invariant_of-self : goal.invariant_of-self
 invariant_of-self g c =
@@ -97,7 +101,7 @@ invariant_of-self g c =
           (block_in c.self.invariant c.self.view_is c.args.block c.requires.head.within)
           (head g (goal.at.invariant_of-self g c).After-words_sent-words) (starts g d) c.take_rows.ensures.taken);
       sized = rw c.push.ensures (sized_on (parts g d) _ c.self.invariant.sized refl c.take_rows.ensures.many
-          (ap (λ (l : List MemLine). length l) c.move_to.ensures ∙ length-set c.self.inside.memory c.args.block (memory_now g d)) (refl, refl, refl));
+          (rw c.move_to.ensures (length-set c.self.inside.memory.states c.args.block c.args.memory, refl)) (refl, refl, refl));
     }
 
 pub returns : goal.returns
