@@ -1,6 +1,6 @@
 -- How many lines each core's map has after a step: one fewer where the core moves to I.
-use Rattle.std.proofs.Common.{◌≡◌, ◌≢◌, ℕ, ◌+◌, ◌<◌, length, sym, ◌∙◌, arith, inl, inr, refl}
-use Rattle.std.specs.Prelude.{slice_set}
+use Rattle.std.proofs.Common.{◌≡◌, ◌≢◌, ℕ, ◌+◌, ◌<◌, List, length, sym, ◌∙◌, ap, arith, inl, inr, refl}
+use Rattle.std.specs.Prelude.{slice_index_or, slice_set}
 use Rattle.std.proofs.lemmas.List.{get_or-set_same}
 use Rattle.snoop_rules.specs.declared.names.CacheState.TheVariants.{I}
 use Rattle.snoop_model.specs.Pictures.Lines.{Line}
@@ -23,13 +23,15 @@ module _ (old new : Standing) (block : ℕ) (next : Picture) (within : block < l
       let all = lines k in
       let was = state_of old.situation k block in
       let is = (held_by next k).state in
+      let here : state_of new.situation k block ≡ is =
+      ap (λ (l : List Picture). (held_by (slice_index_or l block nothing_there) k).state) wrote ∙ ap (λ (x : Picture). (held_by x k).state) (get_or-set_same old.situation.pictures block next nothing_there within) in
       let fewer : (b : ℕ) → state_of old.situation k b ≢ I → state_of new.situation k b ≡ I → line_count new k + 1 ≡ line_count old k =
       rw wrote (each_place (λ b its. state_of old.situation k b ≢ I → (held_by its k).state ≡ I → line_count new k + 1 ≡ line_count old k)
       old.situation.pictures block next nothing_there within (λ left e. (let one = gone-one was is left e in omega arith)) (λ b ne left e. absurd (left e))) in
       record {
         lowered = λ moved. fewer moved.0 moved.1.0 moved.1.1;
         same = λ still. elim (gone-cases was is) [
-          | inl went ↦ absurd (still (block, (went.0, rw (wrote, get_or-set_same old.situation.pictures block next nothing_there within) went.1)))
+          | inl went ↦ absurd (still (block, (went.0, here ∙ went.1)))
           | inr none ↦ omega arith
         ];
       }

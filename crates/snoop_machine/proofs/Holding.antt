@@ -1,12 +1,11 @@
 -- How many lines each core's map has after a step, or after the room for it was made.
-use Rattle.std.proofs.Common.{◌≡◌, ◌≢◌, ℕ, ◌+◌, ◌<◌, length, sym, ◌∙◌, ap, subst, arith, inl, inr, ◌⊎◌, Option}
+use Rattle.std.proofs.Common.{◌≡◌, ℕ, ◌+◌, ◌<◌, length, sym, ◌∙◌, ap, arith, inl, inr, ◌⊎◌, Option}
 use Rattle.std.proofs.lemmas.Bool.{cases_eq}
 use Rattle.std.proofs.lemmas.List.{get_or-set_other}
 use Rattle.std.specs.Prelude.{slice_index}
 use Rattle.snoop_bus.specs.Queues.{queue_of}
 use Rattle.snoop_trace.specs.declared.step.Step.{Step}
 use Rattle.snoop_trace.specs.declared.step.Step.TheVariants as step
-use Rattle.snoop_rules.specs.declared.names.CacheState.TheVariants.{I}
 use Rattle.snoop_rules.specs.declared.names.CacheAction.TheVariants as action
 use Rattle.snoop_history.specs.declared.items.Item.{Item}
 use Rattle.snoop_model.specs.declared.replies.Reply.{Reply}
@@ -28,7 +27,9 @@ stays_out before new (step.Ask asker block word asking) core answer entry m leav
   | inl absent ↦ moved.1.0 (rw absent.3 at moved.1.1)
   | inr asks ↦ elim (cases_eq moved.0 m.0) [
     | inl e ↦ moved.1.0 (rw (e, ← m.1.1.on_block, ← leaves.0) leaves.3)
-    | inr ne ↦ moved.1.0 (rw (asks.after, get_or-set_other before.situation.pictures m.0 moved.0 _ nothing_there ne) at moved.1.1)
+    | inr ne ↦
+        let other = get_or-set_other before.situation.pictures m.0 moved.0 (with_line (picture_of before.situation m.0) asker asks.held) nothing_there ne in
+        moved.1.0 (ap (λ (x : Picture). (held_by x core).state) (sym other) ∙ rw asks.after at moved.1.1)
   ]
 ]
 stays_out before new _ core answer entry m leaves moved = leaves

@@ -1,5 +1,5 @@
 -- A planned step is refused for no cause, adds the plan's item, and needs the plan's room.
-use Rattle.std.proofs.Common.{◌≡◌, ◌≢◌, ℕ, ◌<◌, List, Option, Some, None, true, refl, sym, ◌∙◌, ap, arith, ◌⊎◌, inl, inr}
+use Rattle.std.proofs.Common.{◌≡◌, ◌≢◌, ℕ, ◌<◌, List, Option, Some, None, false, refl, sym, ◌∙◌, ap, arith, ◌⊎◌, inl, inr}
 use Rattle.std.proofs.lemmas.Option.{same_Some}
 use Rattle.std.specs.Prelude.{option_map}
 use Rattle.std.specs.Option.{option_map_or}
@@ -52,7 +52,7 @@ row_found p line word asking _ t = t
 
 never_stalls : (way : Asked) (next : CacheState) → row_of way ≡ Some (record { action = action.Stall; next = next }) → ⊥
 never_stalls Absent next e = cc
-never_stalls _ next e = cc
+never_stalls _ next e = (let same = ap (λ (row : CacheCell). row.action) (same_Some _ _ e) in cc)
 
 -- an Ask that is refused on its line
 pub refuses-ask : (s : Situation) (core block word : ℕ) (asking : Op) (cause : Refused) → core < s.shape.cores → block < s.shape.blocks → HasWord s.shape word asking
@@ -108,7 +108,7 @@ module _ (s : Situation) (core block word : ℕ) (asking : Op) (answer : Reply) 
   taken-adds Absent t row e held taken = cc
   taken-adds (Hit next value) t row e held taken =
       let h = rw (sym (same_Some _ _ e)) at taken in
-      let words = same_Some _ _ (sym h.1.0.kept ∙ t.1.kept) in
+      let words : h.1.0.before ≡ t.1.before = same_Some _ _ (sym h.1.0.kept ∙ t.1.kept) in
       rw (← (performs-one word asking t.1.before h.0 value h.1.0.after t.1.after (rw words at h.1.0.performed) t.1.performed)) h.1.2
   taken-adds (Issue request next) t row e held taken = (rw (sym (same_Some _ _ e)) at taken).2
   taken-adds (Drop next) t row e held taken = (rw (sym (same_Some _ _ e)) at taken).2
@@ -135,7 +135,7 @@ fills-adds closing p log old new did line asking value f t =
 -- a Respond is of the transaction whose response this is
 its_response : {s : Situation} {came : Came} {block : ℕ} {answer : Reply} {new : Situation} {added : Option Item} → option_map came_of (picture_of s came.block).transaction ≡ Some came
     → (m : RespondMove block s came.block answer new added) → came_of m.closing ≡ came
-its_response opened m = same_Some _ _ (sym (ap (option_map came_of) m.responds.opened) ∙ rw m.on_block at opened)
+its_response opened m = same_Some _ _ (sym (ap (option_map came_of) (rw (← m.on_block) at m.responds.opened)) ∙ opened)
 
 -- a planned step adds the plan's item, whatever move it is
 pub plan-adds : (s : Situation) (x : Plan) → IsPlan s x → (answer : Reply) (new : Situation) (added : Option Item) → FirstMove s (planned_step x) answer new added → added ≡ entry_of s.log x

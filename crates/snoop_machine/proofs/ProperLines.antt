@@ -1,5 +1,5 @@
 -- What is so of a proper line.
-use Rattle.std.proofs.Common.{◌≡◌, ℕ, Option, None, Some, false, refl, sym, ◌∙◌, ap}
+use Rattle.std.proofs.Common.{◌≡◌, Option, None, Some, false, refl, sym, ◌∙◌, ap}
 use Rattle.std.specs.Prelude.{is_some, option_map}
 use Rattle.snoop_trace.specs.declared.words.Words.{Words}
 use Rattle.snoop_trace.specs.declared.protocol.Protocol.{Protocol}

@@ -7,7 +7,6 @@ use Rattle.snoop_trace.specs.declared.step.Step.{Step}
 use Rattle.snoop_model.specs.declared.replies.Reply.{Reply}
 use Rattle.snoop_model.specs.declared.replies.Refused.{Refused}
 use Rattle.snoop_model.specs.declared.replies.Refused.TheVariants.{NoMemory}
-use Rattle.snoop_model.specs.Pictures.Situation.{Situation}
 use Rattle.snoop_machine.specs.Standing.{Standing}
 use Rattle.snoop_model.specs.Runs.Run.{Goes, RunFrom, RunBy}
 use Rattle.snoop_model.specs.Invariant.Invariant.{Invariant}

@@ -1,5 +1,5 @@
 //! An Order: the rows that cores take for it, which controller sends, and memory's next state.
-ghost use Rattle.std.specs.Prelude.{◌≡◌, ◌≢◌, ℕ, ◌<◌, [], length, Some, IfSome, IfNone, slice_index_or, slice_set};
+ghost use Rattle.std.specs.Prelude.{◌≡◌, ℕ, ◌<◌, [], length, Some, slice_index_or, slice_set};
 ghost use Rattle.snoop_rules.specs.Waits.{waiting_request};
 ghost use Rattle.snoop_rules.specs.Takers.{at_memory, seen_by};
 ghost use Rattle.snoop_model.specs.Pictures.Picture.{free_picture, held_at};

@@ -1,5 +1,4 @@
 use Rattle.std.proofs.Common.{ℕ, ◌<◌, length, arith, sym, ap, ◌∙◌, Option, Some, None}
-use Rattle.std.specs.Prelude.{slice_index_or}
 use Rattle.snoop_rules.specs.declared.names.Payload.{Payload}
 use Rattle.snoop_rules.specs.Cell.{Cell}
 use Rattle.snoop_rules.specs.MemoryCell.{MemoryCell}
@@ -86,7 +85,7 @@ loop-core-preserved g c =
     (c.in-Some-next.ensures.some.3 k above below))
     c.loop-core.invariant.0 in (
       Silent-more c.args.protocol before c.args.requestor c.args.request core c.in-Some-cache_cell.cell.action c.in-Some-cache_cell.cell.next
-          silent (row g d) c.in_default-action.not-Send,
+          silent (row g d) c.in_default-action-2.not-Send,
       omega arith,
     )
 

@@ -4,7 +4,7 @@ use Rattle.snoop_rules.specs.Cell.{Cell}
 use Rattle.snoop_machine.specs.declared.holders.Holders.{Holders}
 use Rattle.snoop_model.specs.Moves.Move.{moves_to}
 use Rattle.snoop_model.specs.Pictures.Lines.{Line}
-use Rattle.snoop_machine.specs.Cache.{line_or_nothing, line_in}
+use Rattle.snoop_machine.specs.Cache.{line_or_nothing}
 use Rattle.snoop_machine.specs.Lines.{line_at}
 use Rattle.snoop_machine.proofs.ProperLines.{settled, moves_to_same}
 use Rattle.snoop_machine.proofs.LineMaps.{IsMap, is_map, in_rows, core_few, gone-same, is_I}
@@ -81,7 +81,7 @@ moved g c =
         | inr ne ↦ did.here ne ∙ ap (λ (x : Line). moves_to next x) its.was
       ];
       others = c.take_row.ensures.others;
-      goes = goes_from (elim (is_I next) [ inl e ↦ inl (λ o. did.differs (e ∙ sym (before ∙ o))) | inr ne ↦ inr ne ]) did.taken did.fewer did.places;
+      goes = goes_from _ _ c.args.block c.index_mut-cache.result.now c.take_row.new.self (elim (is_I next) [ inl e ↦ inl (λ o. did.differs (e ∙ sym (before ∙ o))) | inr ne ↦ inr ne ]) did.taken did.fewer did.places;
       followed = c.follow.ensures;
       room = c.take_row.ensures.room;
     }

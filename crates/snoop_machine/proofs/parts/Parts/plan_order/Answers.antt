@@ -1,5 +1,5 @@
 use Rattle.std.proofs.Common.{◌≡◌, Option, Some, None, refl, sym, ap, ◌∙◌, false}
-use Rattle.std.specs.Prelude.{ℕ, is_some, option_copied, slice_index_or}
+use Rattle.std.specs.Prelude.{ℕ, is_some, option_copied}
 use Rattle.snoop_trace.specs.declared.step.Step.TheVariants.{Order}
 use Rattle.snoop_rules.specs.Takers.{seen_by}
 use Rattle.std.specs.Borrow.{Bor}

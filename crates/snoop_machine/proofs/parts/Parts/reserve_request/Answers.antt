@@ -1,4 +1,4 @@
-use Rattle.std.proofs.Common.{◌≡◌, ◌<◌, ap, length, arith, refl}
+use Rattle.std.proofs.Common.{◌<◌, ap, length, arith, refl}
 use Rattle.snoop_bus.specs.Traffic.{Waiting, waiting_of}
 use Rattle.snoop_machine.proofs.Room.{held_in-set, keeps_room, KeepsMapsRoom-same}
 use Rattle.snoop_machine.proofs.Queues.{queues_of-room}

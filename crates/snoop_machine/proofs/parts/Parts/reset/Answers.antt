@@ -1,8 +1,7 @@
 use Rattle.snoop_model.specs.Pictures.Picture.{first_memory, nothing_held}
 use Rattle.snoop_machine.specs.Memory.{MemTables}
-use Rattle.snoop_rules.specs.declared.names.MemState.{MemState}
 use Rattle.snoop_model.specs.Pictures.Situation.{reset}
-use Rattle.std.proofs.Common.{rules, ◌≡◌, ℕ, List, [], length, replicate, refl, ap, ◌∙◌, Option, None}
+use Rattle.std.proofs.Common.{rules, ◌≡◌, ℕ, List, [], length, replicate, refl, ap, ◌∙◌, None}
 use Rattle.snoop_trace.specs.Words.{zero_words}
 use Rattle.snoop_history.specs.Journal.{Journal}
 use Rattle.std.specs.Prelude.{slice_index_or}
@@ -12,7 +11,6 @@ use Rattle.snoop_machine.proofs.AtReset.{IsSound-reset, queues_of-reset}
 use Rattle.snoop_machine.proofs.parts.Parts.reset.Goals as goal
 use Rattle.snoop_machine.proofs.PictureViews.{pictures_of-replicate, same_situation}
 use Rattle.snoop_machine.specs.PartsView.{pictures_of}
-use Rattle.snoop_bus.specs.Traffic.{Open}
 
 pub invariant_of-result : goal.invariant_of-result
 invariant_of-result g c =

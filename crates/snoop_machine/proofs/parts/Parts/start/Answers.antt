@@ -1,5 +1,5 @@
 use Rattle.std.proofs.Common.{◌≡◌, ℕ, List, ◌<◌, ◌-◌, ◌++◌, ◌∷◌, [], length, drop, Option, Some, ◌∙◌, refl, sym, ap, arith}
-use Rattle.std.specs.Prelude.{slice_set, slice_index_or}
+use Rattle.std.specs.Prelude.{slice_set}
 use Rattle.std.specs.Option.{ForSome}
 use Rattle.std.proofs.lemmas.List.{length-set, length-append, length-drop, set-get_or}
 use Rattle.snoop_trace.specs.declared.protocol.Protocol.{Protocol}
