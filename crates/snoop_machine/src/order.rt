@@ -13,8 +13,8 @@ ghost use Rattle.snoop_machine.specs.Memory.{memory_at};
 use crate::lines::Lines;
 use crate::memory::Memory;
 use snoop_rules::{
-    CacheAction, MemAction, MemState, Payload, Protocol, Request, cache_cell,
-    event_at_memory, event_seen, mem_cell,
+    CacheAction, MemAction, MemState, Payload, Protocol, Request, cache_cell, event_at_memory,
+    event_seen, mem_cell,
 };
 use snoop_trace::Block;
 
