@@ -1,6 +1,5 @@
 use Rattle.std.proofs.Common.{◌≡◌, ◌<◌, List, length, arith, sym, ap, ◌∙◌}
 use Rattle.std.specs.Prelude.{slice_set}
-use Rattle.std.proofs.lemmas.Grind.{common_steps}
 use Rattle.std.proofs.lemmas.List.{set-set, length-set}
 use Rattle.snoop_model.specs.Pictures.Lines.{Line}
 use Rattle.snoop_model.specs.Pictures.Proper.{IsProper}
@@ -115,6 +114,3 @@ loop-core-smaller g c =
     let within = within_row g d in
     let up = c.in-Some.ensures.some.0 in
     omega arith
-
-pub loop-core-init : goal.loop-core-init
-loop-core-init g c = grind (arith, common_steps)

@@ -1,6 +1,5 @@
 use Rattle.std.proofs.Common.{◌≡◌, ◌<◌, ◌≤◌, [], ◌∙◌, ℕ, List, ap, length, arith, refl}
 use Rattle.std.specs.Prelude.{slice_index_or}
-use Rattle.std.proofs.lemmas.Grind.{common_steps}
 use Rattle.std.proofs.lemmas.Result.{err_from_is_err_and}
 use Rattle.std.proofs.lemmas.List.{length-set}
 use Rattle.snoop_bus.specs.Traffic.{Waiting, waiting_of}
@@ -58,12 +57,6 @@ returns-in_err-reserve-2-clause-room g c =
     let queues : (core : ℕ) → held_in m.bus.queues core ≤ held_in c.reserve-2.new.self.queues core =
     λ core. (rw c.in_err-reserve-2.ensures.refused (omega arith)) in
     keeps_room m new c.args.self.now c.self.view_is (omega arith) queues c.reserve.ensures.room
-
-pub returns-clause-ok : goal.returns-clause-ok
-returns-clause-ok g c = grind (arith, common_steps)
-
-pub returns-clause-more : goal.returns-clause-more
-returns-clause-more g c = grind (arith, common_steps)
 
 pub returns-clause-unchanged : goal.returns-clause-unchanged
 returns-clause-unchanged g c =
