@@ -1,5 +1,5 @@
 -- A transaction closes: memory takes its message, and the lines are those that took it.
-use Rattle.std.proofs.Common.{◌≡◌, ◌≢◌, ◌<◌, ℕ, ◌+◌, ◌-◌, List, ◌++◌, ◌∷◌, [], length, Option, Some, None, refl, sym, ◌∙◌, ap, arith}
+use Rattle.std.proofs.Common.{◌≡◌, ◌<◌, ℕ, ◌+◌, ◌-◌, List, ◌++◌, ◌∷◌, [], length, Option, Some, None, refl, sym, ◌∙◌, ap, arith}
 use Rattle.std.specs.Prelude.{option_map, slice_set}
 use Rattle.std.proofs.lemmas.Option.{same_Some}
 use Rattle.std.proofs.lemmas.List.{length-set, length-append}
@@ -33,10 +33,6 @@ pub record Closes (m : Fields) (now : Standing) (came : Came) (memory : MemCell)
   pub within : came.block < now.situation.shape.blocks
   pub found : IsClosing now.situation came memory
   pub is_open : transaction_on m.bus came.block ≡ Some closing
-
--- it is not missing
-pub not_missing : (transaction : Option Open) (came : Came) → option_map came_of transaction ≡ Some came → transaction ≢ None
-not_missing transaction came found none = cc
 
 module _ {m : Fields} {now : Standing} {came : Came} {memory : MemCell} {closing : Open} (closes : Closes m now came memory closing) where
   -- callers see it open

@@ -1,7 +1,7 @@
 -- The lines of maps as rows, and what one write does to them.
 use Rattle.std.proofs.Common.{◌≡◌, ℕ, zero, suc, ◌<◌, false, List, [], ◌∷◌, ◌++◌, length, replicate, Option, None, Some, is_some, refl, sym, ◌∙◌, ap, inl, inr, arith}
 use Rattle.std.specs.Prelude.{slice_index_or, slice_set, map, nat_eq, unwrap_or}
-use Rattle.std.specs.Map.{lookup, keys_of}
+use Rattle.std.specs.Map.{lookup}
 use Rattle.std.specs.List.{range_with_len}
 use Rattle.std.proofs.Math.ListN.{get_or-map}
 use Rattle.std.proofs.Math.Seq.{map-set_same}
@@ -95,24 +95,20 @@ empty-push (first ∷ caches) cache empty own zero = empty zero
 empty-push (first ∷ caches) cache empty own (suc core) = empty-push caches cache (λ k. empty (suc k)) own core
 
 -- maps without entries hold nothing anywhere
-module _ (caches : List Contents) (empty : (core : ℕ) → (slice_index_or caches core no_cache).entries ≡ []) where
-  pub line-empty : (core block : ℕ) → line_in (slice_index_or caches core no_cache) block ≡ nothing_held
-  line-empty core block = rw (empty core)
+pub line-empty : (caches : List Contents) → ((core : ℕ) → (slice_index_or caches core no_cache).entries ≡ []) → (core block : ℕ) → line_in (slice_index_or caches core no_cache) block ≡ nothing_held
+line-empty caches empty core block = rw (empty core)
 
-  pub row-empty : (block : ℕ) → lines_held caches block ≡ replicate (length caches) nothing_held
-  row-empty block =
-      ext_get_or nothing_held (lines_held caches block) (replicate (length caches) nothing_held) (length-row caches block ∙ sym (length-replicate (length caches) nothing_held))
-      (λ k h.
-      let long = length-row caches block in
-      rw (line-row caches k block, line-empty k block, get_or-replicate (length caches) k nothing_held nothing_held (omega arith)))
+pub row-empty : (caches : List Contents) → ((core : ℕ) → (slice_index_or caches core no_cache).entries ≡ []) → (block : ℕ) → lines_held caches block ≡ replicate (length caches) nothing_held
+row-empty [] empty block = refl
+row-empty (cache ∷ caches) empty block = rw (empty 0, row-empty caches (λ core. empty (suc core)) block) refl
 
-  pub rows-empty : (blocks : ℕ) → held_by_block blocks caches ≡ replicate blocks (replicate (length caches) nothing_held)
-  rows-empty blocks =
-      ext_get_or [] (held_by_block blocks caches) (replicate blocks (replicate (length caches) nothing_held)) (length-rows blocks caches ∙ sym (length-replicate blocks (replicate (length caches) nothing_held)))
-      (λ b h.
-      let long : length (held_by_block blocks caches) ≡ blocks = length-rows blocks caches in
-      let within : b < blocks = omega arith in
-      rw (row-rows blocks caches b within, row-empty b, get_or-replicate blocks b (replicate (length caches) nothing_held) [] within))
+pub rows-empty : (caches : List Contents) → ((core : ℕ) → (slice_index_or caches core no_cache).entries ≡ []) → (blocks : ℕ)
+    → held_by_block blocks caches ≡ replicate blocks (replicate (length caches) nothing_held)
+rows-empty caches empty blocks =
+    ext_get_or [] (held_by_block blocks caches) (replicate blocks (replicate (length caches) nothing_held)) (length-rows blocks caches ∙ sym (length-replicate blocks _))
+    (λ b h.
+    let within = rw (length-rows blocks caches) at h in
+    rw (row-rows blocks caches b within, row-empty caches empty b, get_or-replicate blocks b (replicate (length caches) nothing_held) [] within) refl)
 
 -- the blocks that a core's map has a line for
 pub blocks-at : (caches : List Contents) (core : ℕ) → slice_index_or (map blocks_of caches) core [] ≡ blocks_of (slice_index_or caches core no_cache)
@@ -142,4 +138,4 @@ line-same new old same block = ap (λ (entries : List (ℕ × Line)). unwrap_or 
 
 pub blocks-empty : (caches : List Contents) → ((core : ℕ) → (slice_index_or caches core no_cache).entries ≡ []) → map blocks_of caches ≡ replicate (length caches) []
 blocks-empty [] empty = refl
-blocks-empty (cache ∷ caches) empty = λ i. keys_of (empty 0 i) ∷ blocks-empty caches (λ core. empty (suc core)) i
+blocks-empty (cache ∷ caches) empty = rw (empty 0, blocks-empty caches (λ core. empty (suc core))) refl

@@ -6,13 +6,10 @@ use Rattle.snoop_trace.specs.Extent.{Extent}
 use Rattle.snoop_trace.specs.Words.{Data, zero_words}
 use Rattle.snoop_rules.specs.declared.names.MemState.{MemState}
 use Rattle.snoop_rules.specs.declared.names.MemState.TheVariants.{IorS}
-use Rattle.snoop_trace.specs.declared.protocol.Protocol.{Protocol}
 use Rattle.snoop_bus.specs.Traffic.{Open}
-use Rattle.snoop_history.specs.declared.items.Item.{Item}
-use Rattle.snoop_history.specs.Journal.{Journal}
 use Rattle.snoop_model.specs.Pictures.Lines.{Line}
 use Rattle.snoop_model.specs.Pictures.Picture.{Picture, held_by, with_line}
-use Rattle.snoop_model.specs.Pictures.Situation.{Situation, picture_of, state_of, nothing_there}
+use Rattle.snoop_model.specs.Pictures.Situation.{picture_of, state_of, nothing_there}
 use Rattle.snoop_machine.specs.Standing.{Standing}
 use Rattle.snoop_machine.specs.Lines.{line_at, row_of, placed}
 use Rattle.snoop_machine.specs.PartsView.{Fields, standing, pictures_of, IsSized, IsWhole}
@@ -115,16 +112,3 @@ sized_on m n sized shape lines memory log = record {
   held = ap (λ (e : Extent). e.words) shape ∙ sized.held;
   few_words = sized.few_words;
 }
-
--- an item in the log leaves what it counts
-pub logged_on : (old new : Journal) (items : List Item) (room : ℕ) → new ≡ record old { items = items; room = room } → (new.cores ≡ old.cores) × (new.blocks ≡ old.blocks) × (new.words ≡ old.words)
-logged_on old new items room e = (ap (λ (j : Journal). j.cores) e, ap (λ (j : Journal). j.blocks) e, ap (λ (j : Journal). j.words) e)
-
--- two situations with equal parts
-pub same_situation : (s t : Situation) → s.protocol ≡ t.protocol → s.shape ≡ t.shape → s.pictures ≡ t.pictures → s.queues ≡ t.queues → s.log ≡ t.log → s ≡ t
-same_situation s t p e c l g =
-    ap (λ (x : Protocol). let r : Situation = record s { protocol = x } in r) p
-    ∙ (ap (λ (x : Extent). let r : Situation = record s { protocol = t.protocol; shape = x } in r) e
-    ∙ (ap (λ (x : List Picture). let r : Situation = record t { queues = s.queues; log = s.log; pictures = x } in r) c
-    ∙ (ap (λ (x : List (List ℕ)). let r : Situation = record t { queues = x; log = s.log } in r) l
-    ∙ ap (λ (x : List Item). let r : Situation = record t { log = x } in r) g)))

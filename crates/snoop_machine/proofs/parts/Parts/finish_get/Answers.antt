@@ -2,13 +2,12 @@ use Rattle.std.proofs.Common.{◌≡◌, ◌≢◌, ◌<◌, false, length, Some
 use Rattle.std.specs.Prelude.{slice_set}
 use Rattle.snoop_rules.specs.declared.names.Request.TheVariants.{PutM}
 use Rattle.snoop_model.specs.Pictures.Lines.{Line}
-use Rattle.snoop_model.specs.Pictures.Picture.{Picture}
 use Rattle.snoop_model.specs.Moves.Move.{Fills, next_did}
 use Rattle.snoop_machine.specs.Standing.{Standing}
 use Rattle.snoop_machine.specs.Cache.{filled_line}
 use Rattle.snoop_machine.specs.Lines.{row_of, line_at}
 use Rattle.snoop_machine.specs.PartsView.{fields}
-use Rattle.snoop_machine.proofs.Closing.{Closes, not_missing, opened, header, whole_after, room_after, responded, loses}
+use Rattle.snoop_machine.proofs.Closing.{Closes, opened, header, whole_after, room_after, responded, loses}
 use Rattle.snoop_machine.proofs.LinesGoing.{LinesGo-none, LinesGo-more, row_after}
 use Rattle.snoop_machine.proofs.Soundness.{IsSound-line}
 use Rattle.snoop_machine.proofs.PictureViews.{seen, line_seen, core_in, block_in}
@@ -43,8 +42,8 @@ fills g c = rw (opened (closes g c), line_seen c.self.invariant c.self.view_is c
 
 pub unreachable-requires : goal.unreachable-requires
 unreachable-requires g c =
-    not_missing _ c.args.came c.requires.closing.opened
-    (ap (λ (x : Picture). x.transaction) (seen c.self.invariant c.self.view_is c.args.came.block) ∙ (sym c.finish.ensures.closed ∙ c.in_default.is))
+    let clash = rw (seen c.self.invariant c.self.view_is c.args.came.block, ← c.finish.ensures.closed, c.in_default.is) at c.requires.closing.opened in
+    cc
 
 pub fill-requires-clause-core : goal.fill-requires-clause-core
 fill-requires-clause-core g c =

@@ -1,7 +1,6 @@
 use Rattle.snoop_model.specs.Pictures.Picture.{first_memory, nothing_held}
 use Rattle.snoop_machine.specs.Memory.{MemTables}
-use Rattle.snoop_model.specs.Pictures.Situation.{reset}
-use Rattle.std.proofs.Common.{rules, ◌≡◌, ℕ, List, [], length, replicate, refl, ap, ◌∙◌, None}
+use Rattle.std.proofs.Common.{rules, ℕ, List, [], length, replicate, refl, ap, ◌∙◌, None}
 use Rattle.snoop_trace.specs.Words.{zero_words}
 use Rattle.snoop_history.specs.Journal.{Journal}
 use Rattle.std.specs.Prelude.{slice_index_or}
@@ -9,8 +8,7 @@ use Rattle.std.proofs.lemmas.List.{length-replicate}
 use Rattle.snoop_model.proofs.Lists.Facts.{replicated}
 use Rattle.snoop_machine.proofs.AtReset.{IsSound-reset, queues_of-reset}
 use Rattle.snoop_machine.proofs.parts.Parts.reset.Goals as goal
-use Rattle.snoop_machine.proofs.PictureViews.{pictures_of-replicate, same_situation}
-use Rattle.snoop_machine.specs.PartsView.{pictures_of}
+use Rattle.snoop_machine.proofs.PictureViews.{pictures_of-replicate}
 
 pub invariant_of-result : goal.invariant_of-result
 invariant_of-result g c =
@@ -32,12 +30,17 @@ invariant_of-result g c =
 pub returns-clause-situation : goal.returns-clause-situation
 returns-clause-situation g c =
     let shape = c.args.shape in
-    let blank : pictures_of c.in_ok-lines.lines.rows c.in_ok-memory.memory.states c.in_ok-memory.memory.words c.in_ok-bus.bus.transactions ≡ (reset c.args.protocol shape).pictures =
-    rw (c.in_ok-lines.ensures.rows, c.in_ok-memory.ensures, c.in_ok-bus.ensures.transactions, c.blocks-2.ensures.value, c.first_state.ensures)
-    (pictures_of-replicate shape.blocks (replicate shape.cores nothing_held) (first_memory c.args.protocol) zero_words None) in
-    same_situation _ (reset c.args.protocol c.args.shape) refl refl blank
-    (queues_of-reset c.in_ok-bus.bus.queues c.in_ok-bus.ensures.queues.1 ∙ ap (λ (n : ℕ). let l : List (List ℕ) = replicate n [] in l) c.in_ok-bus.ensures.queues.0)
-    (ap (λ (j : Journal). j.items) c.in_ok-log.ensures)
+    rw (
+      c.in_ok-lines.ensures.rows,
+      c.in_ok-memory.ensures,
+      c.in_ok-bus.ensures.transactions,
+      c.blocks-2.ensures.value,
+      c.first_state.ensures,
+      pictures_of-replicate shape.blocks (replicate shape.cores nothing_held) (first_memory c.args.protocol) zero_words None,
+      queues_of-reset c.in_ok-bus.bus.queues c.in_ok-bus.ensures.queues.1,
+      c.in_ok-bus.ensures.queues.0,
+      c.in_ok-log.ensures,
+    ) refl
 
 pub returns-clause-empty : goal.returns-clause-empty
 returns-clause-empty g c core =
