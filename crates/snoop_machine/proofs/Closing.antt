@@ -61,7 +61,8 @@ module _ {m : Fields} {now : Standing} {came : Came} {memory : MemCell} {closing
       → IsWhole closes.count (closed lines did)
   whole_after lines did sound many = record {
     sound = IsSound-close sound came.block (rw (← closes.view) at closes.within);
-    sized = sized_on m (closed lines did) closes.whole.sized refl many (length-set m.memory.states came.block settled.state, length-set m.memory.words came.block settled.value) (refl, refl, refl);
+    sized = sized_on m (closed lines did) closes.whole.sized refl many
+        (length-set m.memory.states came.block settled.state, length-set m.memory.words came.block settled.value) (refl, refl, refl);
   }
 
   -- no room is lost

@@ -46,7 +46,8 @@ module _ {count : ℕ} {m : Fields} (whole : IsWhole count m) {old : Standing} (
       (λ j. rw (lines, state_seen whole refl j block, row) (go j)) k)
 
   -- one line has moved
-  pub follows-set : {core : ℕ} {line : Line} → WritesLine core block line m.lines held → core < old.situation.shape.cores → next.caches ≡ slice_set (row_of m.lines.rows block) core line
+  pub follows-set : {core : ℕ} {line : Line} → WritesLine core block line m.lines held → core < old.situation.shape.cores
+      → next.caches ≡ slice_set (row_of m.lines.rows block) core line
       → (k : ℕ) → LosesLines old new k
   follows-set {core} moved in_cores row =
       let in_blocks = block_in whole view block within in

@@ -57,8 +57,10 @@ HoldsOn-room old new taking x core h unchanged adds =
     }
 
 -- the room was made, and the step was taken
-module _ (old middle new : Standing) (taking : Step) (x : Plan) (answer : Reply) (entry : Option Item) (h : IsPlanFor old.situation taking x) (unchanged : middle.situation ≡ old.situation)
-    (adds : (core : ℕ) → AddsLines x old middle core) (loses : (core : ℕ) → LosesLines middle new core) (move : FirstMove old.situation taking answer new.situation entry) where
+module _ (old middle new : Standing) (taking : Step) (x : Plan) (answer : Reply) (entry : Option Item) (h : IsPlanFor old.situation taking x)
+    (unchanged : middle.situation ≡ old.situation)
+    (adds : (core : ℕ) → AddsLines x old middle core) (loses : (core : ℕ) → LosesLines middle new core)
+    (move : FirstMove old.situation taking answer new.situation entry) where
   still_in : (core : ℕ) → ¬ MovesToI old.situation new.situation core → line_count new core ≡ line_count middle core
   still_in core still = (loses core).same (λ moved. still (moved.0, (rw unchanged at moved.1.0, moved.1.1)))
 

@@ -33,10 +33,12 @@ spares_kept {caches} lines_are view core new after within kept k =
 -- what goes of a map with the line of a block that moves from one state to another: nothing, or that line
 abbrev pub GoesFrom : CacheState → CacheState → ℕ → Contents → Contents → Type 0
 GoesFrom before after block old new =
-    ((gone before after ≡ 0) × (blocks_of new ≡ blocks_of old)) ⊎ ((gone before after ≡ 1) × (lookup (nat_eq block) new.entries ≡ None) × (length new.entries + 1 ≡ length old.entries))
+    ((gone before after ≡ 0) × (blocks_of new ≡ blocks_of old))
+    ⊎ ((gone before after ≡ 1) × (lookup (nat_eq block) new.entries ≡ None) × (length new.entries + 1 ≡ length old.entries))
 
 -- a line that leaves its state, or does not come to I
-pub goes_from : (before after : CacheState) (block : ℕ) (old new : Contents) → (before ≢ I) ⊎ (after ≢ I) → (after ≡ I → lookup (nat_eq block) new.entries ≡ None)
+pub goes_from : (before after : CacheState) (block : ℕ) (old new : Contents) → (before ≢ I) ⊎ (after ≢ I)
+    → (after ≡ I → lookup (nat_eq block) new.entries ≡ None)
     → (after ≡ I → length new.entries + 1 ≡ length old.entries) → (after ≢ I → blocks_of new ≡ blocks_of old) → GoesFrom before after block old new
 goes_from before after block old new place taken fewer stays = elim (is_I after) [
   | inl e ↦ inr (gone-one before after (elim place [ inl left ↦ left | inr ne ↦ absurd (ne e) ]) e, taken e, fewer e)

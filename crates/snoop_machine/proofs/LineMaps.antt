@@ -46,7 +46,8 @@ module _ {caches : List Contents} {holders : List Holders} (lines : AreLines cac
   spare_seen core = sym (spare-at caches core) ∙ ap (λ (h : Held). slice_index_or h.line_rooms core 0) view
 
   pub among_seen : (core block : ℕ) → is_some (lookup (nat_eq block) (slice_index_or caches core no_cache).entries) ≡ is_among (slice_index_or now.lines core []) block
-  among_seen core block = is_some-lookup (nat_eq block) (slice_index_or caches core no_cache).entries ∙ ap (λ (blocks : List ℕ). is_among blocks block) (blocks_seen core)
+  among_seen core block =
+      is_some-lookup (nat_eq block) (slice_index_or caches core no_cache).entries ∙ ap (λ (blocks : List ℕ). is_among blocks block) (blocks_seen core)
 
   pub is_map : (core block : ℕ) → block < length now.rows → core < length (row_of now.rows block) → (map : Contents) → map ≡ get_or caches core map
       → IsMap caches holders now core block map

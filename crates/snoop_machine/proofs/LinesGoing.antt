@@ -22,7 +22,8 @@ module _ {core block : ℕ} {line : Line} {old new : Held} (wrote : WritesLine c
   module _ (first : Held) (so_far : LinesGo block first old) where
     pub LinesGo-more : core < length (row_of old.rows block) → line_at old.rows core block ≡ line_at first.rows core block → LinesGo block first new
     LinesGo-more in_row unmoved k =
-        rw row_after (each_place (λ k its. length (slice_index_or new.lines k []) + gone (line_at first.rows k block).state its.state ≡ length (slice_index_or first.lines k []))
+        rw row_after (each_place (λ k its. length (slice_index_or new.lines k []) + gone (line_at first.rows k block).state its.state
+        ≡ length (slice_index_or first.lines k []))
         (row_of old.rows block) core line nothing_held in_row
         (let before = rw unmoved at (so_far core) in
         let none = gone-same (line_at first.rows core block).state in

@@ -56,7 +56,8 @@ rows-set blocks caches core block new line inside here others =
     ext_get_or [] (held_by_block blocks after) (slice_set rows block row) (long ∙ sym (length-set rows block row ∙ long_rows))
     (λ b h. each_place (λ b its. b < blocks → slice_index_or (held_by_block blocks after) b [] ≡ its) rows block row [] (omega arith)
     (λ lt. rw (row-rows blocks after block lt, row-rows blocks caches block lt) (row-set caches core block new line here))
-    (λ b ne lt. rw (row-rows blocks after b lt, row-rows blocks caches b lt) (row-same caches core b new (others b (ne_eqb block b (λ e. ne (sym e)))))) b (omega arith))
+    (λ b ne lt. rw (row-rows blocks after b lt, row-rows blocks caches b lt)
+    (row-same caches core b new (others b (ne_eqb block b (λ e. ne (sym e)))))) b (omega arith))
 
 -- a place within the rows is within the maps
 pub within-rows : (blocks : ℕ) (caches : List Contents) (core block : ℕ) → block < length (held_by_block blocks caches) → core < length (slice_index_or (held_by_block blocks caches) block [])
@@ -82,8 +83,10 @@ line-none blocks caches core block none = elim (cases_lt block blocks) [
 -- the holders of a block are those of its row, once one of its lines has moved
 pub AreHolders-moved : (row : List Line) (core : ℕ) (line : Line) (old new : Holders) → core < length row → AreHolders old row → HaveMoved core line.state old new → AreHolders new (slice_set row core line)
 AreHolders-moved row core line old new within fits moved = record {
-  owners = each_place (λ k its. has new.owners k ≡ is_owner its.state) row core line nothing_held within moved.owner (λ k ne. moved.other_owners k ne ∙ fits.owners k);
-  readers = each_place (λ k its. has new.readers k ≡ keeps its.state) row core line nothing_held within moved.reader (λ k ne. moved.other_readers k ne ∙ fits.readers k);
+  owners = each_place (λ k its. has new.owners k ≡ is_owner its.state) row core line nothing_held within moved.owner
+      (λ k ne. moved.other_owners k ne ∙ fits.owners k);
+  readers = each_place (λ k its. has new.readers k ≡ keeps its.state) row core line nothing_held within moved.reader
+      (λ k ne. moved.other_readers k ne ∙ fits.readers k);
 }
 
 -- one more map without entries
@@ -95,17 +98,20 @@ empty-push (first ∷ caches) cache empty own zero = empty zero
 empty-push (first ∷ caches) cache empty own (suc core) = empty-push caches cache (λ k. empty (suc k)) own core
 
 -- maps without entries hold nothing anywhere
-pub line-empty : (caches : List Contents) → ((core : ℕ) → (slice_index_or caches core no_cache).entries ≡ []) → (core block : ℕ) → line_in (slice_index_or caches core no_cache) block ≡ nothing_held
+pub line-empty : (caches : List Contents) → ((core : ℕ) → (slice_index_or caches core no_cache).entries ≡ []) → (core block : ℕ)
+    → line_in (slice_index_or caches core no_cache) block ≡ nothing_held
 line-empty caches empty core block = rw (empty core)
 
-pub row-empty : (caches : List Contents) → ((core : ℕ) → (slice_index_or caches core no_cache).entries ≡ []) → (block : ℕ) → lines_held caches block ≡ replicate (length caches) nothing_held
+pub row-empty : (caches : List Contents) → ((core : ℕ) → (slice_index_or caches core no_cache).entries ≡ []) → (block : ℕ)
+    → lines_held caches block ≡ replicate (length caches) nothing_held
 row-empty [] empty block = refl
 row-empty (cache ∷ caches) empty block = rw (empty 0, row-empty caches (λ core. empty (suc core)) block) refl
 
 pub rows-empty : (caches : List Contents) → ((core : ℕ) → (slice_index_or caches core no_cache).entries ≡ []) → (blocks : ℕ)
     → held_by_block blocks caches ≡ replicate blocks (replicate (length caches) nothing_held)
 rows-empty caches empty blocks =
-    ext_get_or [] (held_by_block blocks caches) (replicate blocks (replicate (length caches) nothing_held)) (length-rows blocks caches ∙ sym (length-replicate blocks _))
+    ext_get_or [] (held_by_block blocks caches) (replicate blocks (replicate (length caches) nothing_held))
+    (length-rows blocks caches ∙ sym (length-replicate blocks _))
     (λ b h.
     let within = rw (length-rows blocks caches) at h in
     rw (row-rows blocks caches b within, row-empty caches empty b, get_or-replicate blocks b (replicate (length caches) nothing_held) [] within) refl)

@@ -25,18 +25,21 @@ pictures-get (r ∷ rs) (s ∷ ss) (v ∷ vs) (t ∷ ts) (suc block) d e f = pic
 pictures-get _ _ _ _ block d e f = absurd (omega arith)
 
 pictures-length : (rows : List (List Line)) (states : List MemState) (values : List Data) (transactions : List (Option Open))
-    → length states ≡ length rows → length values ≡ length rows → length transactions ≡ length rows → length (pictures_of rows states values transactions) ≡ length rows
+    → length states ≡ length rows → length values ≡ length rows → length transactions ≡ length rows
+    → length (pictures_of rows states values transactions) ≡ length rows
 pictures-length [] [] [] [] d e f = refl
 pictures-length (r ∷ rs) (s ∷ ss) (v ∷ vs) (t ∷ ts) d e f = let same = pictures-length rs ss vs ts (omega arith) (omega arith) (omega arith) in omega arith
 pictures-length _ _ _ _ d e f = absurd (omega arith)
 
 pictures-set : (rows : List (List Line)) (states : List MemState) (values : List Data) (transactions : List (Option Open)) (block : ℕ) (next : Picture)
     → length states ≡ length rows → length values ≡ length rows → length transactions ≡ length rows
-    → pictures_of (slice_set rows block next.caches) (slice_set states block next.memory.state) (slice_set values block next.memory.value) (slice_set transactions block next.transaction)
+    → pictures_of (slice_set rows block next.caches) (slice_set states block next.memory.state) (slice_set values block next.memory.value)
+    (slice_set transactions block next.transaction)
     ≡ slice_set (pictures_of rows states values transactions) block next
 pictures-set [] [] [] [] block next d e f = refl
 pictures-set (r ∷ rs) (s ∷ ss) (v ∷ vs) (t ∷ ts) zero next d e f = refl
-pictures-set (r ∷ rs) (s ∷ ss) (v ∷ vs) (t ∷ ts) (suc block) next d e f = rw (pictures-set rs ss vs ts block next (omega arith) (omega arith) (omega arith)) refl
+pictures-set (r ∷ rs) (s ∷ ss) (v ∷ vs) (t ∷ ts) (suc block) next d e f =
+    rw (pictures-set rs ss vs ts block next (omega arith) (omega arith) (omega arith)) refl
 pictures-set _ _ _ _ block next d e f = absurd (omega arith)
 
 pub pictures_of-replicate : (n : ℕ) (row : List Line) (state : MemState) (value : Data) (transaction : Option Open)
@@ -84,7 +87,8 @@ module _ {count : ℕ} {m : Fields} (whole : IsWhole count m) {now : Standing} (
 
   -- all that is shown of a block is written
   pub picture-written : (block : ℕ) (next : Picture) (rows : List (List Line)) (states : List MemState) (values : List Data) (transactions : List (Option Open))
-      → rows ≡ slice_set m.lines.rows block next.caches → states ≡ slice_set m.memory.states block next.memory.state → values ≡ slice_set m.memory.words block next.memory.value
+      → rows ≡ slice_set m.lines.rows block next.caches → states ≡ slice_set m.memory.states block next.memory.state
+      → values ≡ slice_set m.memory.words block next.memory.value
       → transactions ≡ slice_set m.bus.transactions block next.transaction
       → pictures_of rows states values transactions ≡ slice_set (standing m).situation.pictures block next
   picture-written block next rows states values transactions d e f h =
@@ -92,9 +96,11 @@ module _ {count : ℕ} {m : Fields} (whole : IsWhole count m) {now : Standing} (
 
   -- one line is written
   pub line-written : (block : ℕ) (rows : List (List Line)) (core : ℕ) (line : Line) → rows ≡ placed m.lines.rows core block line
-      → pictures_of rows m.memory.states m.memory.words m.bus.transactions ≡ slice_set (standing m).situation.pictures block (with_line (picture_in m block) core line)
+      → pictures_of rows m.memory.states m.memory.words m.bus.transactions
+      ≡ slice_set (standing m).situation.pictures block (with_line (picture_in m block) core line)
   line-written block rows core line wrote =
-      picture-written block (with_line (picture_in m block) core line) rows _ _ _ wrote (sym (set-get_or m.memory.states block IorS)) (sym (set-get_or m.memory.words block zero_words))
+      picture-written block (with_line (picture_in m block) core line) rows _ _ _ wrote (sym (set-get_or m.memory.states block IorS))
+      (sym (set-get_or m.memory.words block zero_words))
       (sym (set-get_or m.bus.transactions block None))
 
 -- the parts are as large as they were

@@ -16,7 +16,7 @@ use Rattle.snoop_rules.specs.declared.names.Request.{Request}
 use Rattle.snoop_rules.specs.declared.names.Request.TheVariants.{PutM}
 use Rattle.snoop_rules.specs.Cell.{cell_of}
 use Rattle.snoop_rules.specs.declared.names.CacheCell.{CacheCell}
-use Rattle.snoop_rules.specs.Takers.{asked}
+use Rattle.snoop_rules.specs.Takers.{asked as event_asked}
 use Rattle.snoop_history.specs.declared.items.Did.{Did}
 use Rattle.snoop_history.specs.declared.items.Item.{Item}
 use Rattle.snoop_bus.specs.Traffic.{Open}
@@ -45,12 +45,13 @@ row_of (Hit next value) = Some (record { action = action.Hit; next = next })
 row_of (Issue request next) = Some (record { action = action.Issue request; next = next })
 row_of (Drop next) = Some (record { action = action.Drop; next = next })
 
-row_found : (p : Protocol) (line : Line) (word : ℕ) (asking : Op) (way : Asked) → TakesAsk p line word asking way → cell_of p line.state (asked asking) ≡ row_of way
+row_found : (p : Protocol) (line : Line) (word : ℕ) (asking : Op) (asked : Asked) → TakesAsk p line word asking asked
+    → cell_of p line.state (event_asked asking) ≡ row_of asked
 row_found p line word asking Absent t = rw (t.1, t.0) refl
 row_found p line word asking (Hit next value) t = t.0
 row_found p line word asking _ t = t
 
-never_stalls : (way : Asked) (next : CacheState) → row_of way ≡ Some (record { action = action.Stall; next = next }) → ⊥
+never_stalls : (asked : Asked) (next : CacheState) → row_of asked ≡ Some (record { action = action.Stall; next = next }) → ⊥
 never_stalls Absent next e = cc
 never_stalls _ next e = (let same = ap (λ (row : CacheCell). row.action) (same_Some _ _ e) in cc)
 
@@ -79,12 +80,12 @@ respond-allowed s came in_blocks opened NoTransaction h = (let clash = rw h.1 at
 respond-allowed s came in_blocks opened _ h = h
 
 pub plan-allowed : (s : Situation) (x : Plan) → IsPlan s x → (cause : Refused) → ¬ Refuses s (planned_step x) cause
-plan-allowed s (plan.Ask core block word asking way) h = go
+plan-allowed s (plan.Ask core block word asking asked) h = go
   where
     go : (cause : Refused) → ¬ Refuses s (step.Ask core block word asking) cause
     go NoCore g = let within = h.0.0 in absurd (omega arith)
     go NoBlock g = let within = h.0.1 in elim g.1 [ inl past ↦ absurd (omega arith) | inr none ↦ none h.3 ]
-    go (Stalled state) g = never_stalls way g.2.0 (sym (row_found s.protocol (held_by (picture_of s block) core) word asking way h.1) ∙ g.2.1)
+    go (Stalled state) g = never_stalls asked g.2.0 (sym (row_found s.protocol (held_by (picture_of s block) core) word asking asked h.1) ∙ g.2.1)
     go _ g = g
 plan-allowed s (plan.Order core request block from payload memory) h = order-allowed s core block request h.0 h.1.head h.1.free
 plan-allowed s (plan.Writeback came memory) h = respond-allowed s came h.0 h.1.opened
@@ -98,13 +99,13 @@ performs-one word (op.Store stored) words v w m n p q = p.0 ∙ sym q.0
 
 -- an Ask adds the item that was found
 module _ (s : Situation) (core block word : ℕ) (asking : Op) (answer : Reply) (added : Option Item) where
-  none-added : (way : Asked) → row_of way ≡ None → entry_of_ask s.log core block word asking way ≡ None
+  none-added : (asked : Asked) → row_of asked ≡ None → entry_of_ask s.log core block word asking asked ≡ None
   none-added Absent e = refl
   none-added _ e = cc
 
-  taken-adds : (way : Asked) → TakesAsk s.protocol (held_by (picture_of s block) core) word asking way → (row : CacheCell) → row_of way ≡ Some row
+  taken-adds : (asked : Asked) → TakesAsk s.protocol (held_by (picture_of s block) core) word asking asked → (row : CacheCell) → row_of asked ≡ Some row
       → (held : Line) → Takes row.action row.next s.log core block word asking (held_by (picture_of s block) core) held answer added
-      → added ≡ entry_of_ask s.log core block word asking way
+      → added ≡ entry_of_ask s.log core block word asking asked
   taken-adds Absent t row e held taken = cc
   taken-adds (Hit next value) t row e held taken =
       let h = rw (sym (same_Some _ _ e)) at taken in
@@ -113,11 +114,12 @@ module _ (s : Situation) (core block word : ℕ) (asking : Op) (answer : Reply) 
   taken-adds (Issue request next) t row e held taken = (rw (sym (same_Some _ _ e)) at taken).2
   taken-adds (Drop next) t row e held taken = (rw (sym (same_Some _ _ e)) at taken).2
 
-  ask-adds : (new : Situation) (way : Asked) → TakesAsk s.protocol (held_by (picture_of s block) core) word asking way
-      → IsAbsent s core block asking answer new added ⊎ Asks s core block word asking answer new added → added ≡ entry_of_ask s.log core block word asking way
-  ask-adds new way t (inl absent) = absent.4 ∙ sym (none-added way (sym (row_found s.protocol (held_by (picture_of s block) core) word asking way t) ∙ rw (absent.1, absent.0) refl))
-  ask-adds new way t (inr asks) =
-      taken-adds way t asks.row (sym (row_found s.protocol (held_by (picture_of s block) core) word asking way t) ∙ asks.is_row) asks.held asks.taken
+  ask-adds : (new : Situation) (asked : Asked) → TakesAsk s.protocol (held_by (picture_of s block) core) word asking asked
+      → IsAbsent s core block asking answer new added ⊎ Asks s core block word asking answer new added → added ≡ entry_of_ask s.log core block word asking asked
+  ask-adds new asked t (inl absent) =
+      absent.4 ∙ sym (none-added asked (sym (row_found s.protocol (held_by (picture_of s block) core) word asking asked t) ∙ rw (absent.1, absent.0) refl))
+  ask-adds new asked t (inr asks) =
+      taken-adds asked t asks.row (sym (row_found s.protocol (held_by (picture_of s block) core) word asking asked t) ∙ asks.is_row) asks.held asks.taken
 
 fills_of : (q : Request) (closing : Open) (p : Protocol) (log : List Item) (old new : List Line) (did : Option Did) → q ≢ PutM → ArrivesFor q closing p log old new did → FillsRequestor closing p log old new did
 fills_of PutM closing p log old new did get fills = absurd (get refl)
@@ -133,14 +135,15 @@ fills-adds closing p log old new did line asking value f t =
     rw (← same, ← its) f.logged
 
 -- a Respond is of the transaction whose response this is
-its_response : {s : Situation} {came : Came} {block : ℕ} {answer : Reply} {new : Situation} {added : Option Item} → option_map came_of (picture_of s came.block).transaction ≡ Some came
+its_response : {s : Situation} {came : Came} {block : ℕ} {answer : Reply} {new : Situation} {added : Option Item}
+    → option_map came_of (picture_of s came.block).transaction ≡ Some came
     → (m : RespondMove block s came.block answer new added) → came_of m.closing ≡ came
 its_response opened m = same_Some _ _ (sym (ap (option_map came_of) (rw (← m.on_block) at m.responds.opened)) ∙ opened)
 
 -- a planned step adds the plan's item, whatever move it is
 pub plan-adds : (s : Situation) (x : Plan) → IsPlan s x → (answer : Reply) (new : Situation) (added : Option Item) → FirstMove s (planned_step x) answer new added → added ≡ entry_of s.log x
-plan-adds s (plan.Ask core block word asking way) h answer new added m =
-    ask-adds s core block word asking answer added new way h.1 (rw (← m.1.1.on_block) at m.1.1.moves)
+plan-adds s (plan.Ask core block word asking asked) h answer new added m =
+    ask-adds s core block word asking answer added new asked h.1 (rw (← m.1.1.on_block) at m.1.1.moves)
 plan-adds s (plan.Order core request block from payload memory) h answer new added m =
     let same : m.0 ≡ block = same_Some _ _ (sym m.1.0 ∙ h.1.head.first) in
     let its : m.1.1.request ≡ request = same_Some _ _ (sym (rw same at m.1.1.orders.ready.0) ∙ h.1.head.waits) in
@@ -159,17 +162,18 @@ plan-adds s (plan.Fill came memory filled) h answer new added m =
     rw (← its, ← did) m.1.1.logged
 
 -- for how many more of an Ask there is room, by its row
-room_is : (before : Standing) (core block : ℕ) (way : Asked) → room_for_ask before core block way ≡ option_map_or (λ row. room_to row.action before core block) (row_of way) 1
+room_is : (before : Standing) (core block : ℕ) (asked : Asked)
+    → room_for_ask before core block asked ≡ option_map_or (λ row. room_to row.action before core block) (row_of asked) 1
 room_is before core block Absent = refl
 room_is before core block _ = refl
 
 -- where the plan has room the step has it
 plan-room : (before : Standing) (x : Plan) → IsPlan before.situation x → 0 < room_for before x → ¬ IsFull before (planned_step x)
-plan-room before (plan.Ask core block word asking way) h some full =
+plan-room before (plan.Ask core block word asking asked) h some full =
     let s = before.situation in
-    let row = sym (row_found s.protocol (held_by (picture_of s block) core) word asking way h.1) ∙ full.1.1.0 in
-    let room : room_for_ask before core block way ≡ room_to full.0 before core block =
-    room_is before core block way ∙ ap (λ (o : Option CacheCell). option_map_or (λ row. room_to row.action before core block) o 1) row in
+    let row = sym (row_found s.protocol (held_by (picture_of s block) core) word asking asked h.1) ∙ full.1.1.0 in
+    let room : room_for_ask before core block asked ≡ room_to full.0 before core block =
+    room_is before core block asked ∙ ap (λ (o : Option CacheCell). option_map_or (λ row. room_to row.action before core block) o 1) row in
     let none = full.1.1.1 in
     absurd (omega arith)
 plan-room before _ h some full = absurd (omega arith)
@@ -185,7 +189,7 @@ plan-full before _ h none = none
 pub IsFull-plan : (before : Standing) (taking : Step) (x : Plan) → IsPlanFor before.situation taking x → room_for before x ≡ 0 → IsFull before taking
 IsFull-plan before taking x h none = rw h.0 at (plan-full before x h.1 none)
 
-ask-room : (before : Standing) (core block : ℕ) (way : Asked) → HasRoomToAsk before core block way → 0 < room_for_ask before core block way
+ask-room : (before : Standing) (core block : ℕ) (asked : Asked) → HasRoomToAsk before core block asked → 0 < room_for_ask before core block asked
 ask-room before core block Absent h = omega arith
 ask-room before core block (Hit next value) h = h
 ask-room before core block (Issue request next) h = rw (h.0) h.1
@@ -193,7 +197,7 @@ ask-room before core block (Drop next) h = omega arith
 
 -- where the room for a plan was made there is room for one such step at least
 some-room : (before : Standing) (x : Plan) → HasRoom before x → 0 < room_for before x
-some-room before (plan.Ask core block word asking way) h = ask-room before core block way h
+some-room before (plan.Ask core block word asking asked) h = ask-room before core block asked h
 some-room before _ h = h
 
 -- a planned step is refused as out of memory alone

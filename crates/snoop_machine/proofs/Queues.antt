@@ -40,15 +40,18 @@ pub issued_own : (rs : List (Request × ℕ)) (q : Request) (block : ℕ) → re
 issued_own rs q block none = rw (filter-append, map-append, none, eq-eqb block block refl) refl
 
 -- and none for another
-pub issued_other : (rs : List (Request × ℕ)) (q : Request) (block other : ℕ) → other ≢ block → requests_for other (rs ++ (q, block) ∷ []) ≡ requests_for other rs
+pub issued_other : (rs : List (Request × ℕ)) (q : Request) (block other : ℕ) → other ≢ block
+    → requests_for other (rs ++ (q, block) ∷ []) ≡ requests_for other rs
 issued_other rs q block other ne = rw (filter-append, map-append, ne_eqb block other (λ e. ne (sym e)), append-nil) refl
 
 -- the oldest request leads those for its block, and is none of those for another
-pub head_own : (rs : List (Request × ℕ)) (q : Request) (block : ℕ) → slice_get rs 0 ≡ Some (q, block) → requests_for block rs ≡ q ∷ requests_for block (drop 1 rs)
+pub head_own : (rs : List (Request × ℕ)) (q : Request) (block : ℕ) → slice_get rs 0 ≡ Some (q, block)
+    → requests_for block rs ≡ q ∷ requests_for block (drop 1 rs)
 head_own [] q block first = cc
 head_own (r ∷ rs) q block first = rw (same_Some _ _ first, eq-eqb block block refl) refl
 
-pub head_other : (rs : List (Request × ℕ)) (q : Request) (block other : ℕ) → slice_get rs 0 ≡ Some (q, block) → other ≢ block → requests_for other (drop 1 rs) ≡ requests_for other rs
+pub head_other : (rs : List (Request × ℕ)) (q : Request) (block other : ℕ) → slice_get rs 0 ≡ Some (q, block) → other ≢ block
+    → requests_for other (drop 1 rs) ≡ requests_for other rs
 head_other [] q block other first ne = cc
 head_other (r ∷ rs) q block other first ne = rw (same_Some _ _ first, ne_eqb block other (λ e. ne (sym e))) refl
 
@@ -66,14 +69,16 @@ blocks_without block (r ∷ rs) none = elim (cases_eq r.1 block) [
 ]
 
 -- the oldest request was the only one for its block
-blocks_of-rest : (rs : List (Request × ℕ)) (q : Request) (block : ℕ) → slice_get rs 0 ≡ Some (q, block) → requests_for block (drop 1 rs) ≡ [] → blocks_of (drop 1 rs) ≡ filter (λ x. not (x == block)) (blocks_of rs)
+blocks_of-rest : (rs : List (Request × ℕ)) (q : Request) (block : ℕ) → slice_get rs 0 ≡ Some (q, block) → requests_for block (drop 1 rs) ≡ []
+    → blocks_of (drop 1 rs) ≡ filter (λ x. not (x == block)) (blocks_of rs)
 blocks_of-rest [] q block first none = cc
 blocks_of-rest (r ∷ rs) q block first none = rw (same_Some _ _ first, eq-eqb block block refl) (sym (blocks_without block rs none))
 
 pub queues_of-order : (queues : List Waiting) (core block room : ℕ) (request : Request)
     → slice_get (slice_index_or queues core no_queue).requests 0 ≡ Some (request, block)
     → requests_for block (drop 1 (slice_index_or queues core no_queue).requests) ≡ []
-    → queues_of (slice_set queues core (record { requests = drop 1 (slice_index_or queues core no_queue).requests; room = room })) ≡ after_order (queues_of queues) core block
+    → queues_of (slice_set queues core (record { requests = drop 1 (slice_index_or queues core no_queue).requests; room = room }))
+    ≡ after_order (queues_of queues) core block
 queues_of-order queues core block room request first none =
     queues_of-set queues core _ ∙ rw (queue_of-queues_of queues core, blocks_of-rest _ request block first none) refl
 

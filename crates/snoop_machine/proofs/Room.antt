@@ -30,7 +30,8 @@ capacity_held queues core =
 
 -- another queue for one core, of no less capacity
 pub held_in-set : (queues : List Waiting) (core : ℕ) (queue : Waiting) → core < length queues → held_in queues core ≤ length queue.requests + queue.room → (k : ℕ) → held_in queues k ≤ held_in (slice_set queues core queue) k
-held_in-set queues core queue within more = each_place (λ k its. held_in queues k ≤ length its.requests + its.room) queues core queue no_queue within more (λ k ne. omega arith)
+held_in-set queues core queue within more =
+    each_place (λ k its. held_in queues k ≤ length its.requests + its.room) queues core queue no_queue within more (λ k ne. omega arith)
 
 shown-full : (room spare : ℕ) → room ≡ 0 → shown_line_room room spare ≡ 0
 shown-full zero spare full = refl

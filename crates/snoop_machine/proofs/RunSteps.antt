@@ -28,7 +28,8 @@ counted : (outcomes : List (Result Reply Refused)) (outcome : Result Reply Refus
 counted outcomes outcome = sum_by-append (λ x. cond (is_ok x) 1 0) outcomes (outcome ∷ [])
 
 -- one step more of a list
-pub goes_on : (old middle new : Standing) (steps : List Step) (i : ℕ) (d : Step) (taken : ℕ) (result : Result Reply Refused) → i < length steps → Going old (take i steps) taken middle
+pub goes_on : (old middle new : Standing) (steps : List Step) (i : ℕ) (d : Step) (taken : ℕ) (result : Result Reply Refused) → i < length steps
+    → Going old (take i steps) taken middle
     → Answers middle (get_or steps i d) result new → (count : ℕ) → count ≡ taken + count_by is_ok (result ∷ []) → Going old (take (i + 1) steps) count new
 goes_on old middle new steps i d taken result within so_far goes count more =
     let keeps = step_keeps middle new (get_or steps i d) result so_far.keeps goes in

@@ -35,7 +35,8 @@ module _ {shape : Extent} {caches : List (List Line)} {bus : Traffic} (sound : I
     queues = sound.queues;
     transactions = length-set bus.transactions block None ∙ sound.transactions;
     proper = sound.proper;
-    opened = each_place (λ b found. IsOpened shape b found) bus.transactions block None None (rw sound.transactions in_blocks) (λ t e. cc) (λ b ne. sound.opened b);
+    opened = each_place (λ b found. IsOpened shape b found) bus.transactions block None None (rw sound.transactions in_blocks) (λ t e. cc)
+        (λ b ne. sound.opened b);
     waits = sound.waits;
   }
 
@@ -66,8 +67,10 @@ module _ {shape : Extent} {caches : List (List Line)} {bus : Traffic} (sound : I
     }
 
   -- the row of one block is written
-  module _ (now : Traffic) (block : ℕ) (row : List Line) (in_blocks : block < shape.blocks) (wide : length row ≡ shape.cores) (proper : (k : ℕ) → IsProper (held_at row k)) where
-    each_row : (P : ℕ → List Line → Type 0) → P block row → ((b : ℕ) → b ≢ block → P b (row_of caches b)) → (b : ℕ) → P b (row_of (slice_set caches block row) b)
+  module _ (now : Traffic) (block : ℕ) (row : List Line) (in_blocks : block < shape.blocks) (wide : length row ≡ shape.cores)
+      (proper : (k : ℕ) → IsProper (held_at row k)) where
+    each_row : (P : ℕ → List Line → Type 0) → P block row → ((b : ℕ) → b ≢ block → P b (row_of caches b)) → (b : ℕ)
+        → P b (row_of (slice_set caches block row) b)
     each_row P here others = each_place P caches block row [] (rw sound.rows in_blocks) here others
 
     IsSound-row : length now.queues ≡ shape.cores → length now.transactions ≡ shape.blocks → ((b : ℕ) → IsOpened shape b (transaction_on now b))
@@ -86,10 +89,12 @@ module _ {shape : Extent} {caches : List (List Line)} {bus : Traffic} (sound : I
 
   -- a line is written
   module _ (core block : ℕ) (line : Line) (in_cores : core < shape.cores) (in_blocks : block < shape.blocks) (proper : IsProper line) where
-    each_line : (P : ℕ → Line → Type 0) → P core line → ((k : ℕ) → k ≢ core → P k (line_at caches k block)) → (k : ℕ) → P k (held_at (slice_set (row_of caches block) core line) k)
+    each_line : (P : ℕ → Line → Type 0) → P core line → ((k : ℕ) → k ≢ core → P k (line_at caches k block)) → (k : ℕ)
+        → P k (held_at (slice_set (row_of caches block) core line) k)
     each_line P here others = each_place P (row_of caches block) core line nothing_held (rw (sound.row block in_blocks) in_cores) here others
 
-    IsSound-placed : (now : Traffic) → length now.queues ≡ shape.cores → length now.transactions ≡ shape.blocks → ((b : ℕ) → IsOpened shape b (transaction_on now b))
+    IsSound-placed : (now : Traffic) → length now.queues ≡ shape.cores → length now.transactions ≡ shape.blocks
+        → ((b : ℕ) → IsOpened shape b (transaction_on now b))
         → WaitsAs block (waiting_of now core) line
         → ((k : ℕ) → k ≢ core → requests_for block (waiting_of now k).requests ≡ requests_for block (waiting_of bus k).requests)
         → ((k b : ℕ) → b ≢ block → requests_for b (waiting_of now k).requests ≡ requests_for b (waiting_of bus k).requests)
@@ -104,12 +109,14 @@ module _ {shape : Extent} {caches : List (List Line)} {bus : Traffic} (sound : I
     IsSound-line same = IsSound-placed bus sound.queues sound.transactions sound.opened (rw same (sound.waits core block)) (λ k ne. refl) (λ k b ne. refl)
 
     -- for which the core issues a request: it did not wait on the block
-    pub IsSound-issue : (now : Traffic) (request : Request) (room : ℕ) → now.queues ≡ slice_set bus.queues core (record { requests = (waiting_of bus core).requests ++ (request, block) ∷ []; room = room })
+    pub IsSound-issue : (now : Traffic) (request : Request) (room : ℕ)
+        → now.queues ≡ slice_set bus.queues core (record { requests = (waiting_of bus core).requests ++ (request, block) ∷ []; room = room })
         → now.transactions ≡ bus.transactions → waiting_request (line_at caches core block).state ≡ None → waiting_request line.state ≡ Some request
         → IsSound shape (placed caches core block line) now
     IsSound-issue now request room wrote transactions idle waits =
         let queue : Waiting = record { requests = (waiting_of bus core).requests ++ (request, block) ∷ []; room = room } in
-        IsSound-placed now (as_many now core queue in_cores wrote) (ap (λ (found : List (Option Open)). length found) transactions ∙ sound.transactions) (rw transactions sound.opened)
+        IsSound-placed now (as_many now core queue in_cores wrote)
+        (ap (λ (found : List (Option Open)). length found) transactions ∙ sound.transactions) (rw transactions sound.opened)
         (rw (own_queue now core queue in_cores wrote, waits) (issued_own (waiting_of bus core).requests request block (rw idle at (sound.waits core block))))
         (λ k ne. rw (other_queue now core queue in_cores wrote k ne) refl)
         (λ k b ne. each_queue now core queue in_cores wrote (λ k its. requests_for b its.requests ≡ requests_for b (waiting_of bus k).requests)
@@ -127,12 +134,15 @@ module _ {shape : Extent} {caches : List (List Line)} {bus : Traffic} (sound : I
       let each = each_queue now core queue in_cores starts.queues in
       let proper : (k : ℕ) → IsProper (held_at row k) = λ k. elim (cases_lt k (length old)) [
         | inl lt ↦ (let t = takes.rows k lt in rw t.2 (IsProper-order p (held_at old k) k core request t.0.action t.0.next (sound.proper k block) t.1))
-        | inr ge ↦ (let same = takes.same_length in rw (get_or_past row k nothing_held (omega arith) ∙ sym (get_or_past old k nothing_held ge)) (sound.proper k block))
+        | inr ge ↦ (let same = takes.same_length in rw (get_or_past row k nothing_held (omega arith) ∙ sym (get_or_past old k nothing_held ge))
+            (sound.proper k block))
       ] in
       IsSound-row now block row in_blocks (takes.same_length ∙ wide) proper (as_many now core queue in_cores starts.queues)
       (ap (λ (found : List (Option Open)). length found) starts.transactions ∙ (length-set bus.transactions block (Some opened) ∙ sound.transactions))
       (rw starts.transactions (each_place (λ b found. IsOpened shape b found) bus.transactions block (Some opened) None (rw sound.transactions in_blocks)
       (λ t e. rw (← (same_Some _ _ e)) (refl, in_cores)) (λ b ne. sound.opened b)))
-      (each (λ k its. WaitsAs block its (held_at row k)) ((head_alone sound core request block head).1 ∙ ap option_to_list (sym (own_waits p core request old row takes (omega arith))))
+      (each (λ k its. WaitsAs block its (held_at row k))
+      ((head_alone sound core request block head).1 ∙ ap option_to_list (sym (own_waits p core request old row takes (omega arith))))
       (λ k ne. sound.waits k block ∙ ap option_to_list (sym (others_wait p core request old row takes k ne))))
-      (λ k b ne. each (λ k its. requests_for b its.requests ≡ requests_for b (waiting_of bus k).requests) (head_other (waiting_of bus core).requests request block b head ne) (λ k apart. refl) k)
+      (λ k b ne. each (λ k its. requests_for b its.requests ≡ requests_for b (waiting_of bus k).requests)
+      (head_other (waiting_of bus core).requests request block b head ne) (λ k apart. refl) k)

@@ -35,10 +35,12 @@ step_stays old new step (Err cause) a = same_alike old.situation new.situation (
 pub steps_stay : (steps : List Step) (outcomes : List (Result Reply Refused)) (old new : Standing) → RunBy AnswersSafely old steps outcomes new → IsAlike old.situation new.situation
 steps_stay steps outcomes old new =
     let P : Standing → Type 0 = λ s. IsAlike old.situation s.situation in
-    kept_along AnswersSafely P (λ s step outcome t far goes. alike_on old.situation s.situation t.situation far (step_stays s t step outcome goes.0)) steps outcomes old new (refl, refl)
+    kept_along AnswersSafely P (λ s step outcome t far goes. alike_on old.situation s.situation t.situation far
+    (step_stays s t step outcome goes.0)) steps outcomes old new (refl, refl)
 
 -- a step keeps what every machine keeps
-pub step_keeps : (old new : Standing) (step : Step) (outcome : Result Reply Refused) → MachineKeeps old.situation → Answers old step outcome new → MachineKeeps new.situation
+pub step_keeps : (old new : Standing) (step : Step) (outcome : Result Reply Refused) → MachineKeeps old.situation → Answers old step outcome new
+    → MachineKeeps new.situation
 step_keeps old new step (Ok answer) keeps a = move_keeps_all a.0.1.0 old.situation new.situation step answer a.0.0 keeps a.0.1.1.1
 step_keeps old new step (Err cause) keeps a = rw a.2 keeps
 

@@ -53,7 +53,8 @@ wrote g c =
       proper = c.requires.proper;
       here = did.here ∙ ap (λ (x : Line). changed c.args.next c.args.change x) its.was;
       others = did.others;
-      goes = goes_from _ _ c.args.block c.index_mut-cache.result.now c.change-before.new.self (elim c.requires.place [ inl held ↦ inl held | inr new ↦ inr new.1 ]) did.taken did.fewer did.stays;
+      goes = goes_from _ _ c.args.block c.index_mut-cache.result.now c.change-before.new.self
+          (elim c.requires.place [ inl held ↦ inl held | inr new ↦ inr new.1 ]) did.taken did.fewer did.stays;
       followed = c.follow.ensures;
       room = did.room;
     }

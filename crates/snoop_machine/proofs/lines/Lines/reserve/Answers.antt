@@ -38,7 +38,8 @@ returns-clause-rows g c =
 pub returns-clause-lines : goal.returns-clause-lines
 returns-clause-lines g c =
     let d = (goal.at.returns-clause-lines g c).After-reserve in
-    map-set_same blocks_of c.self.inside.caches.items c.args.core c.reserve.new.self no_cache (λ i. keys_of (same g d i)) ∙ ap (λ (h : Held). h.lines) c.self.view_is
+    map-set_same blocks_of c.self.inside.caches.items c.args.core c.reserve.new.self no_cache (λ i. keys_of (same g d i))
+    ∙ ap (λ (h : Held). h.lines) c.self.view_is
 
 -- the room that callers see of each map after it
 abbrev line_rooms : (g : Over) (c : After-reserve g) → List ℕ

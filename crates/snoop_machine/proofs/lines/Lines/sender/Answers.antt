@@ -15,14 +15,17 @@ use Rattle.snoop_machine.specs.Lines.{row_of}
 use Rattle.snoop_machine.specs.Memory.{memory_at}
 
 -- memory's row
-memory_row : (g : Over) (c : In-Some g) → MemoryCell c.args.protocol (memory_at c.args.memory.now c.args.block).state (at_memory c.args.request) c.in-Some.row.action c.in-Some.row.next
+memory_row : (g : Over) (c : In-Some g) → MemoryCell c.args.protocol (memory_at c.args.memory.now c.args.block).state
+    (at_memory c.args.request) c.in-Some.row.action c.in-Some.row.next
 memory_row g c =
     rw (c.event_at_memory.ensures, c.state.ensures) at c.in-Some.ensures.row
 
 -- who sends is the only one that does
 sends : (g : Over) (c : In-Some g) (from : Option ℕ) (payload : Payload)
-    → Sends c.args.protocol (free_picture (row_of c.args.self.now.rows c.args.block) (memory_at c.args.memory.now c.args.block)) c.args.requestor c.args.request from payload
-    → IsOnlySender c.args.protocol (free_picture (row_of c.args.self.now.rows c.args.block) (memory_at c.args.memory.now c.args.block)) c.args.requestor c.args.request from payload
+    → Sends c.args.protocol
+    (free_picture (row_of c.args.self.now.rows c.args.block) (memory_at c.args.memory.now c.args.block)) c.args.requestor c.args.request from payload
+    → IsOnlySender c.args.protocol
+    (free_picture (row_of c.args.self.now.rows c.args.block) (memory_at c.args.memory.now c.args.block)) c.args.requestor c.args.request from payload
 sends g c from payload sent = record { sends = sent; alone = λ other message h. c.requires.line.sent.alone other message h ∙ sym (c.requires.line.sent.alone from payload sent) }
 
 pub returns-in-Send-clause-sender : goal.returns-in-Send-clause-sender

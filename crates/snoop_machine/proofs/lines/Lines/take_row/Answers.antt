@@ -81,7 +81,8 @@ moved g c =
         | inr ne ↦ did.here ne ∙ ap (λ (x : Line). moves_to next x) its.was
       ];
       others = c.take_row.ensures.others;
-      goes = goes_from _ _ c.args.block c.index_mut-cache.result.now c.take_row.new.self (elim (is_I next) [ inl e ↦ inl (λ o. did.differs (e ∙ sym (before ∙ o))) | inr ne ↦ inr ne ]) did.taken did.fewer did.places;
+      goes = goes_from _ _ c.args.block c.index_mut-cache.result.now c.take_row.new.self
+          (elim (is_I next) [ inl e ↦ inl (λ o. did.differs (e ∙ sym (before ∙ o))) | inr ne ↦ inr ne ]) did.taken did.fewer did.places;
       followed = c.follow.ensures;
       room = c.take_row.ensures.room;
     }

@@ -88,9 +88,11 @@ loop-core-preserved g c =
     let in_rows = in_blocks g d in
     let found = rw c.event_seen.ensures at took.row in
     let after = row_after wrote in_rows in (
-      Taking-more c.args.protocol c.args.requestor c.args.request old (row_of now.rows block) (row_of new.rows block) c.in-Some.core took.action took.next within (so_far g d) found after,
+      Taking-more c.args.protocol c.args.requestor c.args.request old (row_of now.rows block)
+          (row_of new.rows block) c.in-Some.core took.action took.next within (so_far g d) found after,
       omega arith,
-      wrote.rows ∙ (ap (λ (rows : List (List Line)). slice_set rows block (slice_set (row_of now.rows block) c.in-Some.core (moves_to took.next (line_at now.rows c.in-Some.core block)))) before.2
+      wrote.rows ∙ (ap (λ (rows : List (List Line)). slice_set rows block
+          (slice_set (row_of now.rows block) c.in-Some.core (moves_to took.next (line_at now.rows c.in-Some.core block)))) before.2
           ∙ (set-set first.rows block (row_of now.rows block) _ ∙ ap (λ (r : List Line). slice_set first.rows block r) (sym after))),
       wrote.many ∙ before.3,
       LinesGo-more wrote in_rows first before.4 (in_row g d) (first_line g d),

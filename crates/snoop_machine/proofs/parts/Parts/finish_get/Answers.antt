@@ -89,7 +89,8 @@ returns g c =
     let lines = c.self.inside.lines in
     let in_block = block_in c.self.invariant c.self.view_is c.args.came.block c.requires.block in
     let in_rows : c.args.came.block < length lines.rows = rw c.self.invariant.sound.rows in_block in
-    let in_row : closing.core < length row = rw (c.self.invariant.sound.row c.args.came.block in_block) (core_in c.self.invariant c.self.view_is closing.core (in_cores g d)) in
+    let in_row : closing.core < length row = rw (c.self.invariant.sound.row c.args.came.block in_block)
+    (core_in c.self.invariant c.self.view_is closing.core (in_cores g d)) in
     rw (c.settle.ensures, c.finish.ensures.after, c.push.ensures, ← c.next_did-did.ensures) (record {
       responded = responded (closes g d) filled (slice_set row closing.core (line g d)) (Some did) c.fill.ensures.rows
           (rw performed (Arrives-get closing c.self.inside.protocol c.self.inside.log.items row (line g d) access c.args.filled.value get (fills g d)));

@@ -34,7 +34,8 @@ queue g c =
 -- the picture that the block has now
 wrote : (g : Over) (c : After-issue g) → pictures_of c.change.new.self.rows c.self.inside.memory.states c.self.inside.memory.words c.issue.new.self.transactions
     ≡ slice_set (standing (parts g c)).situation.pictures c.args.block (with_line (picture_in (parts g c) c.args.block) c.args.core (line g c))
-wrote g c = rw c.issue.ensures.transactions (line-written c.self.invariant refl c.args.block c.change.new.self.rows c.args.core (line g c) c.change.ensures.rows)
+wrote g c =
+    rw c.issue.ensures.transactions (line-written c.self.invariant refl c.args.block c.change.new.self.rows c.args.core (line g c) c.change.ensures.rows)
 
 pub change-requires-clause-proper : goal.change-requires-clause-proper
 change-requires-clause-proper g c = rw (line_seen c.self.invariant c.self.view_is c.args.core c.args.block) at c.requires.proper

@@ -9,7 +9,8 @@ use Rattle.snoop_machine.proofs.PictureViews.{core_in, sized_on}
 
 pub invariant_of-self : goal.invariant_of-self
 invariant_of-self g c = record {
-  sound = IsSound-room c.self.invariant.sound c.reserve.new.self c.args.core _ (core_in c.self.invariant c.self.view_is c.args.core c.requires) c.reserve.ensures.queue refl c.reserve.ensures.transactions;
+  sound = IsSound-room c.self.invariant.sound c.reserve.new.self c.args.core _
+      (core_in c.self.invariant c.self.view_is c.args.core c.requires) c.reserve.ensures.queue refl c.reserve.ensures.transactions;
   sized = sized_on _ _ c.self.invariant.sized refl refl (refl, refl) (refl, refl, refl);
 }
 

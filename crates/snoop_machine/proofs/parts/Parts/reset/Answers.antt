@@ -16,7 +16,8 @@ invariant_of-result g c =
       sized = record {
         few = search rules;
         lines = ap (λ (l : List (List ℕ)). length l) c.in_ok-lines.ensures.lines ∙ length-replicate c.args.shape.cores [];
-        states = ap (λ (m : MemTables). length m.states) c.in_ok-memory.ensures ∙ (length-replicate c.blocks-2.result c.first_state.result ∙ c.blocks-2.ensures.value);
+        states = ap (λ (m : MemTables). length m.states) c.in_ok-memory.ensures
+            ∙ (length-replicate c.blocks-2.result c.first_state.result ∙ c.blocks-2.ensures.value);
         values = ap (λ (m : MemTables). length m.words) c.in_ok-memory.ensures ∙ (length-replicate c.blocks-2.result zero_words ∙ c.blocks-2.ensures.value);
         cores = ap (λ (j : Journal). j.cores) c.in_ok-log.ensures;
         blocks = ap (λ (j : Journal). j.blocks) c.in_ok-log.ensures;

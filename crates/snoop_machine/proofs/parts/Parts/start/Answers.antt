@@ -88,7 +88,8 @@ abbrev next : (g : Over) (c : After-start g) → Picture
 next g c = record { caches = row_of c.take_rows.new.self.rows c.args.block; memory = memory_now g c; transaction = Some (opened g c) }
 
 wrote : (g : Over) (c : After-start g)
-    → pictures_of c.take_rows.new.self.rows c.move_to.new.self.states c.move_to.new.self.words c.start.new.self.transactions ≡ slice_set (standing (parts g c)).situation.pictures c.args.block (next g c)
+    → pictures_of c.take_rows.new.self.rows c.move_to.new.self.states c.move_to.new.self.words c.start.new.self.transactions
+    ≡ slice_set (standing (parts g c)).situation.pictures c.args.block (next g c)
 wrote g c =
     picture-written c.self.invariant refl c.args.block (next g c) _ _ _ _ c.take_rows.ensures.others (ap (λ (m : MemTables). m.states) c.move_to.ensures)
     (ap (λ (m : MemTables). m.words) c.move_to.ensures ∙ sym (set-get_or c.self.inside.memory.words c.args.block zero_words)) (starts g c).transactions
@@ -113,7 +114,8 @@ returns g c =
     let before = waiting_of m.bus core in
     let here = seen c.self.invariant refl block in
     let its = head g (goal.at.returns g c).After-words_sent-words in
-    let left = queues_of-order m.bus.queues core block (queue g d).room c.args.request its (head_alone c.self.invariant.sound core c.args.request block its).1 in
+    let left = queues_of-order m.bus.queues core block (queue g d).room c.args.request its
+    (head_alone c.self.invariant.sound core c.args.request block its).1 in
     let in_cores = core_in c.self.invariant c.self.view_is core c.requires.core in
     let in_queues : core < length m.bus.queues = omega (arith, c.self.invariant.sound.queues) in
     let fewer = length-drop 1 before.requests in
