@@ -76,7 +76,7 @@ module _ {m : Fields} {now : Standing} {came : Came} {memory : MemCell} {closing
   abbrev pub next : List Line → Picture
   next row = record { caches = row; memory = settled; transaction = None }
 
-  pub pictures_after : (lines : Held) (row : List Line) (did : Option Did) → lines.rows ≡ slice_set m.lines.rows came.block row
+  pictures_after : (lines : Held) (row : List Line) (did : Option Did) → lines.rows ≡ slice_set m.lines.rows came.block row
       → (standing (closed lines did)).situation.pictures ≡ slice_set (standing m).situation.pictures came.block (next row)
   pictures_after lines row did rows = picture-written closes.whole refl came.block (next row) lines.rows _ _ _ rows refl refl refl
 

@@ -19,7 +19,7 @@ use Rattle.snoop_machine.specs.Cache.{Contents, no_cache, line_in, blocks_of, li
 use Rattle.snoop_machine.specs.Lines.{held_by_block, line_at, placed}
 use Rattle.snoop_machine.proofs.EachPlace.{each_place}
 
-pub length-rows : (blocks : ℕ) (caches : List Contents) → length (held_by_block blocks caches) ≡ blocks
+length-rows : (blocks : ℕ) (caches : List Contents) → length (held_by_block blocks caches) ≡ blocks
 length-rows blocks caches = length-map-range_with_len (lines_held caches) 0 blocks
 
 pub row-rows : (blocks : ℕ) (caches : List Contents) (block : ℕ) → block < blocks → slice_index_or (held_by_block blocks caches) block [] ≡ lines_held caches block
@@ -125,10 +125,6 @@ spare-at caches core = get_or-map (λ (cache : Contents). cache.spare) caches co
 
 pub length-blocks_of : (cache : Contents) → length (blocks_of cache) ≡ length cache.entries
 length-blocks_of cache = length-map cache.entries (λ (e : ℕ × Line). e.0)
-
--- as many lines as blocks that have one
-pub count-same : (new old : Contents) → blocks_of new ≡ blocks_of old → length new.entries ≡ length old.entries
-count-same new old same = sym (length-blocks_of new) ∙ (ap (λ (blocks : List ℕ). length blocks) same ∙ length-blocks_of old)
 
 -- a line that holds something is found
 pub found-lookup : (entries : List (ℕ × Line)) (block : ℕ) → is_some (lookup (nat_eq block) entries) ≡ false → unwrap_or (lookup (nat_eq block) entries) nothing_held ≡ nothing_held

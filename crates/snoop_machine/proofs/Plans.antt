@@ -141,7 +141,7 @@ its_response : {s : Situation} {came : Came} {block : ℕ} {answer : Reply} {new
 its_response opened m = same_Some _ _ (sym (ap (option_map came_of) (rw (← m.on_block) at m.responds.opened)) ∙ opened)
 
 -- a planned step adds the plan's item, whatever move it is
-pub plan-adds : (s : Situation) (x : Plan) → IsPlan s x → (answer : Reply) (new : Situation) (added : Option Item) → FirstMove s (planned_step x) answer new added → added ≡ entry_of s.log x
+plan-adds : (s : Situation) (x : Plan) → IsPlan s x → (answer : Reply) (new : Situation) (added : Option Item) → FirstMove s (planned_step x) answer new added → added ≡ entry_of s.log x
 plan-adds s (plan.Ask core block word asking asked) h answer new added m =
     ask-adds s core block word asking answer added new asked h.1 (rw (← m.1.1.on_block) at m.1.1.moves)
 plan-adds s (plan.Order core request block from payload memory) h answer new added m =

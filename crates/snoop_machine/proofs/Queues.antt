@@ -45,7 +45,7 @@ pub issued_other : (rs : List (Request × ℕ)) (q : Request) (block other : ℕ
 issued_other rs q block other ne = rw (filter-append, map-append, ne_eqb block other (λ e. ne (sym e)), append-nil) refl
 
 -- the oldest request is the first of those for its block, and none of those for another
-pub head_own : (rs : List (Request × ℕ)) (q : Request) (block : ℕ) → slice_get rs 0 ≡ Some (q, block)
+head_own : (rs : List (Request × ℕ)) (q : Request) (block : ℕ) → slice_get rs 0 ≡ Some (q, block)
     → requests_for block rs ≡ q ∷ requests_for block (drop 1 rs)
 head_own [] q block first = cc
 head_own (r ∷ rs) q block first = rw (same_Some _ _ first, eq-eqb block block refl) refl

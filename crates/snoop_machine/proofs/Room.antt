@@ -21,7 +21,7 @@ rooms_at : (queues : List Waiting) (core : ℕ) → slice_index (map (λ (q : Wa
 rooms_at queues core = get_or-map (λ (q : Waiting). q.room) queues core no_queue
 
 -- it is the capacity that callers see
-pub capacity_held : (queues : List Waiting) (core : ℕ) → length (queue_of (queues_of queues) core) + slice_index (map (λ (q : Waiting). q.room) queues) core ≡ held_in queues core
+capacity_held : (queues : List Waiting) (core : ℕ) → length (queue_of (queues_of queues) core) + slice_index (map (λ (q : Waiting). q.room) queues) core ≡ held_in queues core
 capacity_held queues core =
     let shown = ap (λ (l : List ℕ). length l) (queue_of-queues_of queues core) in
     let long = length-map (slice_index_or queues core no_queue).requests (λ (r : Request × ℕ). r.1) in
