@@ -1,14 +1,11 @@
 -- The parts of a machine fit together at reset.
 use Rattle.std.proofs.Common.{◌≡◌, ℕ, List, [], ◌∷◌, length, replicate, Option, Some, None, refl, sym, ◌∙◌, ap, arith, inl, inr}
-use Rattle.std.specs.Prelude.{slice_index_or, All, Contains}
+use Rattle.std.specs.Prelude.{slice_index_or, All}
 use Rattle.std.proofs.lemmas.Bool.{cases_lt}
 use Rattle.std.proofs.lemmas.List.{length-replicate, get_or-replicate, get_or_past}
 use Rattle.std.proofs.lemmas.List.Elements.{All-head, All-tail}
 use Rattle.snoop_trace.specs.Extent.{Extent}
-use Rattle.snoop_rules.specs.declared.names.Request.{Request}
-use Rattle.snoop_rules.specs.Waits.{waiting_request}
-use Rattle.snoop_bus.specs.Traffic.{Open}
-use Rattle.snoop_bus.specs.Traffic.{Traffic, Waiting, no_queue, waiting_of, transaction_on}
+use Rattle.snoop_bus.specs.Traffic.{Open, Traffic, Waiting, no_queue, waiting_of, transaction_on}
 use Rattle.snoop_model.specs.Pictures.Lines.{Line}
 use Rattle.snoop_model.specs.Pictures.Picture.{held_at, nothing_held}
 use Rattle.snoop_machine.specs.PartsView.{queues_of, IsSound}
@@ -22,9 +19,6 @@ queues_of-reset (q ∷ qs) none =
     rw first (ap (λ (l : List (List ℕ)). [] ∷ l) (queues_of-reset qs (All-tail (λ (q : Waiting). q.requests ≡ []) q qs none)))
 
 module _ (shape : Extent) (bus : Traffic) (long : length bus.queues ≡ shape.cores) (idle : All (λ q. q.requests ≡ []) bus.queues) (closed : bus.transactions ≡ replicate shape.blocks None) where
-  caches : List (List Line)
-  caches = replicate shape.blocks (replicate shape.cores nothing_held)
-
   line_is : (k b : ℕ) → line_at (replicate shape.blocks (replicate shape.cores nothing_held)) k b ≡ nothing_held
   line_is k b = elim (cases_lt b shape.blocks) [
     | inl lt ↦ ap (λ (r : List Line). held_at r k) (get_or-replicate shape.blocks b (replicate shape.cores nothing_held) [] lt) ∙ replicated shape.cores k nothing_held
@@ -42,9 +36,6 @@ module _ (shape : Extent) (bus : Traffic) (long : length bus.queues ≡ shape.co
   transaction_is : (b : ℕ) → transaction_on bus b ≡ None
   transaction_is b = ap (λ (l : List (Option Open)). slice_index_or l b None) closed ∙ replicated shape.blocks b None
 
-  empty : (r : Request × ℕ) → Contains [] r → ⊥
-  empty r h = let l = h.1 in absurd (omega arith)
-
   pub IsSound-reset : IsSound shape (replicate shape.blocks (replicate shape.cores nothing_held)) bus
   IsSound-reset = record {
     rows = length-replicate shape.blocks (replicate shape.cores nothing_held);
@@ -53,7 +44,5 @@ module _ (shape : Extent) (bus : Traffic) (long : length bus.queues ≡ shape.co
     transactions = ap length closed ∙ length-replicate shape.blocks None;
     proper = λ k b. (rw (line_is k b) (record { kept = refl; waiting = refl }));
     opened = λ b t h. (let clash : ◌≡◌ {A = Option Open} None (Some t) = sym (transaction_is b) ∙ h in cc);
-    queued = λ k b q h. (absurd (empty (q, b) (rw (queue_is k) at h)));
-    waits = λ k b q h. (let clash : ◌≡◌ {A = Option Request} None (Some q) = sym (ap (λ (x : Line). waiting_request x.state) (line_is k b)) ∙ h in cc);
-    once = λ k. (rw (queue_is k) (λ i j d before within. absurd (omega arith)));
+    waits = λ k b. rw (queue_is k, line_is k b) refl;
   }

@@ -1,6 +1,6 @@
 -- A transaction closes: memory takes its message, and the lines are those that took it.
-use Rattle.std.proofs.Common.{◌≡◌, ◌≢◌, ◌<◌, ℕ, ◌+◌, ◌-◌, List, ◌++◌, ◌∷◌, [], length, Option, Some, None, refl, sym, ◌∙◌, ap, arith}
-use Rattle.std.specs.Prelude.{option_map, slice_index_or, slice_set}
+use Rattle.std.proofs.Common.{◌≡◌, ◌<◌, ℕ, ◌-◌, List, ◌++◌, ◌∷◌, [], length, Option, Some, None, refl, sym, ◌∙◌, ap, arith}
+use Rattle.std.specs.Prelude.{option_map, slice_set}
 use Rattle.std.proofs.lemmas.Option.{same_Some}
 use Rattle.std.proofs.lemmas.List.{length-set, length-append}
 use Rattle.snoop_rules.specs.declared.names.MemCell.{MemCell}
@@ -16,12 +16,12 @@ use Rattle.snoop_model.specs.Pictures.Situation.{picture_of}
 use Rattle.snoop_machine.specs.Standing.{Standing, KeepsRoom}
 use Rattle.snoop_model.specs.Moves.Move.{ArrivesFor, RespondMove, came_of, written}
 use Rattle.snoop_machine.specs.Following.{LosesLines}
-use Rattle.snoop_machine.specs.Lines.{Held, KeepsMapsRoom, LinesGo, gone, row_of, line_at}
-use Rattle.snoop_machine.specs.PartsView.{Fields, standing, no_memory, IsSound, IsWhole}
+use Rattle.snoop_machine.specs.Lines.{Held, KeepsMapsRoom, LinesGo, row_of}
+use Rattle.snoop_machine.specs.PartsView.{Fields, standing, IsSound, IsWhole}
+use Rattle.snoop_machine.specs.Memory.{memory_at}
 use Rattle.snoop_machine.specs.Plan.{IsClosing}
-use Rattle.snoop_machine.proofs.Following.{follows-rows, follows-set}
-use Rattle.snoop_machine.proofs.PlacedLines.{placed}
-use Rattle.snoop_machine.proofs.QueueViews.{IsSound-close}
+use Rattle.snoop_machine.proofs.Following.{follows-rows}
+use Rattle.snoop_machine.proofs.Soundness.{IsSound-close}
 use Rattle.snoop_machine.proofs.Room.{keeps_room}
 use Rattle.snoop_machine.proofs.PictureViews.{seen, picture-written, sized_on}
 
@@ -34,10 +34,6 @@ pub record Closes (m : Fields) (now : Standing) (came : Came) (memory : MemCell)
   pub found : IsClosing now.situation came memory
   pub is_open : transaction_on m.bus came.block ≡ Some closing
 
--- it is not missing
-pub not_missing : (transaction : Option Open) (came : Came) → option_map came_of transaction ≡ Some came → transaction ≢ None
-not_missing transaction came found none = cc
-
 module _ {m : Fields} {now : Standing} {came : Came} {memory : MemCell} {closing : Open} (closes : Closes m now came memory closing) where
   -- callers see it open
   pub opened : (picture_of now.situation came.block).transaction ≡ Some closing
@@ -49,13 +45,13 @@ module _ {m : Fields} {now : Standing} {came : Came} {memory : MemCell} {closing
 
   -- memory's line of the block then
   abbrev pub settled : MemLine
-  settled = record { state = memory.next; value = written memory.action closing.value (slice_index_or m.memory came.block no_memory).value }
+  settled = record { state = memory.next; value = written memory.action closing.value (memory_at m.memory came.block).value }
 
   -- the parts then, with these lines, where this was performed
   abbrev pub closed : Held → Option Did → Fields
   closed lines did = record m {
     lines = lines;
-    memory = slice_set m.memory came.block settled;
+    memory = record { states = slice_set m.memory.states came.block settled.state; words = slice_set m.memory.words came.block settled.value };
     bus = record m.bus { transactions = slice_set m.bus.transactions came.block None };
     log = record m.log { items = m.log.items ++ item.Came came did ∷ []; room = m.log.room - 1 };
   }
@@ -64,8 +60,9 @@ module _ {m : Fields} {now : Standing} {came : Came} {memory : MemCell} {closing
   pub whole_after : (lines : Held) (did : Option Did) → IsSound m.shape lines.rows m.bus → length lines.lines ≡ length m.lines.lines
       → IsWhole closes.count (closed lines did)
   whole_after lines did sound many = record {
-    sound = IsSound-close m.shape lines.rows m.bus came.block (rw (← closes.view) at closes.within) sound;
-    sized = sized_on m (closed lines did) closes.whole.sized refl many (length-set m.memory came.block settled) (refl, refl, refl);
+    sound = IsSound-close sound came.block (rw (← closes.view) at closes.within);
+    sized = sized_on m (closed lines did) closes.whole.sized refl many
+        (length-set m.memory.states came.block settled.state, length-set m.memory.words came.block settled.value) (refl, refl, refl);
   }
 
   -- no room is lost
@@ -79,9 +76,9 @@ module _ {m : Fields} {now : Standing} {came : Came} {memory : MemCell} {closing
   abbrev pub next : List Line → Picture
   next row = record { caches = row; memory = settled; transaction = None }
 
-  pub pictures_after : (lines : Held) (row : List Line) (did : Option Did) → lines.rows ≡ slice_set m.lines.rows came.block row
+  pictures_after : (lines : Held) (row : List Line) (did : Option Did) → lines.rows ≡ slice_set m.lines.rows came.block row
       → (standing (closed lines did)).situation.pictures ≡ slice_set (standing m).situation.pictures came.block (next row)
-  pictures_after lines row did rows = picture-written m came.block (next row) lines.rows _ _ rows refl refl
+  pictures_after lines row did rows = picture-written closes.whole refl came.block (next row) lines.rows _ _ _ rows refl refl refl
 
   -- it is the move of a Respond
   pub responded : (lines : Held) (row : List Line) (did : Option Did) → lines.rows ≡ slice_set m.lines.rows came.block row
@@ -112,20 +109,9 @@ module _ {m : Fields} {now : Standing} {came : Came} {memory : MemCell} {closing
       })
 
   -- of the lines as many go as cores move to I
-  pub loses_rows : (lines : Held) (row : List Line) (did : Option Did) → lines.rows ≡ slice_set m.lines.rows came.block row → row ≡ row_of lines.rows came.block
+  pub loses : (lines : Held) (row : List Line) (did : Option Did) → lines.rows ≡ slice_set m.lines.rows came.block row → row ≡ row_of lines.rows came.block
       → LinesGo came.block m.lines lines
       → (k : ℕ) → LosesLines now (standing (closed lines did)) k
-  loses_rows lines row did rows here go =
+  loses lines row did rows here go =
       follows-rows closes.whole closes.view (standing (closed lines did)) came.block (next row) lines closes.within
       (pictures_after lines row did rows) refl here go
-
-  -- the same where one line has moved
-  pub loses_set : (lines : Held) (did : Option Did) (core : ℕ) (line : Line) → core < now.situation.shape.cores
-      → lines.rows ≡ placed m.lines.rows core came.block line
-      → length (slice_index_or lines.lines core []) + gone (line_at m.lines.rows core came.block).state line.state ≡ length (slice_index_or m.lines.lines core [])
-      → ((k : ℕ) → k ≢ core → slice_index_or lines.lines k [] ≡ slice_index_or m.lines.lines k [])
-      → (k : ℕ) → LosesLines now (standing (closed lines did)) k
-  loses_set lines did core line in_cores rows fewer others =
-      let row = slice_set (row_of m.lines.rows came.block) core line in
-      follows-set closes.whole closes.view (standing (closed lines did)) came.block (next row) lines closes.within
-      (pictures_after lines row did rows) refl core line in_cores refl rows fewer others

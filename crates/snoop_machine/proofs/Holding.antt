@@ -1,12 +1,11 @@
 -- How many lines each core's map has after a step, or after the room for it was made.
-use Rattle.std.proofs.Common.{◌≡◌, ◌≢◌, ℕ, ◌+◌, ◌<◌, length, sym, ◌∙◌, ap, subst, arith, inl, inr, ◌⊎◌, Option}
+use Rattle.std.proofs.Common.{◌≡◌, ℕ, ◌+◌, ◌<◌, length, sym, ◌∙◌, ap, arith, inl, inr, ◌⊎◌, Option}
 use Rattle.std.proofs.lemmas.Bool.{cases_eq}
 use Rattle.std.proofs.lemmas.List.{get_or-set_other}
 use Rattle.std.specs.Prelude.{slice_index}
 use Rattle.snoop_bus.specs.Queues.{queue_of}
 use Rattle.snoop_trace.specs.declared.step.Step.{Step}
 use Rattle.snoop_trace.specs.declared.step.Step.TheVariants as step
-use Rattle.snoop_rules.specs.declared.names.CacheState.TheVariants.{I}
 use Rattle.snoop_rules.specs.declared.names.CacheAction.TheVariants as action
 use Rattle.snoop_history.specs.declared.items.Item.{Item}
 use Rattle.snoop_model.specs.declared.replies.Reply.{Reply}
@@ -24,17 +23,13 @@ use Rattle.snoop_machine.specs.Following.{LosesLines, AddsLines}
 
 -- a core that leaves I on a block moves to I on none
 stays_out : (before : Standing) (new : Situation) (taking : Step) (core : ℕ) (answer : Reply) (entry : Option Item) → FirstMove before.situation taking answer new entry → NeedsLine before taking core → ¬ MovesToI before.situation new core
-stays_out before new (step.Ask asker block word asking) core answer entry m leaves moved = let old = before.situation in elim m.1.1.moves [
-  | inl absent ↦ moved.1.0 (subst (λ (s : Situation). state_of s core moved.0 ≡ I) absent.3 moved.1.1)
+stays_out before new (step.Ask asker block word asking) core answer entry m leaves moved = elim m.1.1.moves [
+  | inl absent ↦ moved.1.0 (rw absent.3 at moved.1.1)
   | inr asks ↦ elim (cases_eq moved.0 m.0) [
-    | inl e ↦
-        let there : state_of old core moved.0 ≡ I =
-        subst (λ (b : ℕ). state_of old core b ≡ I) (m.1.1.on_block ∙ sym e) (subst (λ (k : ℕ). state_of old k block ≡ I) leaves.0 leaves.3) in
-        moved.1.0 there
+    | inl e ↦ moved.1.0 (rw (e, ← m.1.1.on_block, ← leaves.0) leaves.3)
     | inr ne ↦
-        let other : picture_of new moved.0 ≡ picture_of old moved.0 =
-        ap (λ (s : Situation). picture_of s moved.0) asks.after ∙ get_or-set_other old.pictures m.0 moved.0 (with_line (picture_of old m.0) asker asks.held) nothing_there ne in
-        moved.1.0 (ap (λ (x : Picture). (held_by x core).state) (sym other) ∙ moved.1.1)
+        let other = get_or-set_other before.situation.pictures m.0 moved.0 (with_line (picture_of before.situation m.0) asker asks.held) nothing_there ne in
+        moved.1.0 (ap (λ (x : Picture). (held_by x core).state) (sym other) ∙ rw asks.after at moved.1.1)
   ]
 ]
 stays_out before new _ core answer entry m leaves moved = leaves
@@ -49,8 +44,7 @@ adds_plan old new (plan.Ask asker block word asking _) core h same = inl same
 adds_plan old new _ core h same = inl same
 
 adds_step : (old new : Standing) (taking : Step) (x : Plan) (core : ℕ) → IsPlanFor old.situation taking x → AddsLines x old new core → (line_count new core ≡ line_count old core) ⊎ (NeedsLine old taking core × (line_count new core ≡ line_count old core + 1))
-adds_step old new taking x core h adds =
-    rw h.0 at (adds_plan old new x core h.1 adds)
+adds_step old new taking x core h adds = rw h.0 at (adds_plan old new x core h.1 adds)
 
 -- the room for the step was made, and nothing else
 pub HoldsOn-room : (old new : Standing) (taking : Step) (x : Plan) (core : ℕ) → IsPlanFor old.situation taking x → new.situation ≡ old.situation → AddsLines x old new core → HoldsOn old new taking core
@@ -58,48 +52,49 @@ HoldsOn-room old new taking x core h unchanged adds =
     let all = adds_step old new taking x core h adds in
     record {
       raised = λ leaves. elim all [ inl same ↦ (omega arith, omega arith) | inr more ↦ let one = more.1 in (omega arith, omega arith) ];
-      lowered = λ moved. absurd (moved.1.0 (subst (λ (s : Situation). state_of s core moved.0 ≡ I) unchanged moved.1.1));
+      lowered = λ moved. absurd (moved.1.0 (rw unchanged at moved.1.1));
       same = λ stays still. elim all [ inl same ↦ same | inr more ↦ absurd (stays more.0) ];
     }
 
 -- the room was made, and the step was taken
-pub HoldsOn-taken : (old middle new : Standing) (taking : Step) (x : Plan) (core : ℕ) (answer : Reply) (entry : Option Item) → IsPlanFor old.situation taking x → middle.situation ≡ old.situation → AddsLines x old middle core
-    → LosesLines middle new core → FirstMove old.situation taking answer new.situation entry → HoldsOn old new taking core
-HoldsOn-taken old middle new taking x core answer entry h unchanged adds loses move =
-    let all = adds_step old middle taking x core h adds in
-    let still_in : ¬ MovesToI old.situation new.situation core → line_count new core ≡ line_count middle core = λ still.
-    loses.same (λ moved. still (moved.0, (subst (λ (s : Situation). state_of s core moved.0 ≢ I) unchanged moved.1.0, moved.1.1))) in
-    record {
-      raised = λ leaves.
-          let same = still_in (stays_out old new.situation taking core answer entry move leaves) in
-          elim all [ inl none ↦ (omega arith, omega arith) | inr more ↦ let one = more.1 in (omega arith, omega arith) ];
-      lowered = λ moved.
-          let fewer = loses.lowered (moved.0, (subst (λ (s : Situation). state_of s core moved.0 ≢ I) (sym unchanged) moved.1.0, moved.1.1)) in
-          elim all [ inl none ↦ omega arith | inr more ↦ absurd (stays_out old new.situation taking core answer entry move more.0 moved) ];
-      same = λ stays still.
-          let same = still_in still in
-          elim all [ inl none ↦ omega arith | inr more ↦ absurd (stays more.0) ];
-    }
+module _ (old middle new : Standing) (taking : Step) (x : Plan) (answer : Reply) (entry : Option Item) (h : IsPlanFor old.situation taking x)
+    (unchanged : middle.situation ≡ old.situation)
+    (adds : (core : ℕ) → AddsLines x old middle core) (loses : (core : ℕ) → LosesLines middle new core)
+    (move : FirstMove old.situation taking answer new.situation entry) where
+  still_in : (core : ℕ) → ¬ MovesToI old.situation new.situation core → line_count new core ≡ line_count middle core
+  still_in core still = (loses core).same (λ moved. still (moved.0, (rw unchanged at moved.1.0, moved.1.1)))
 
--- and of the room as much is there as before, but for what was put in
-pub KeepsRoom-taken : (old middle new : Standing) (taking : Step) (x : Plan) (answer : Reply) (entry : Option Item) → IsPlanFor old.situation taking x → middle.situation ≡ old.situation → ((core : ℕ) → AddsLines x old middle core)
-    → ((core : ℕ) → LosesLines middle new core) → FirstMove old.situation taking answer new.situation entry → KeepsRoom old middle → KeepsRoom middle new → KeepsRoom old new
-KeepsRoom-taken old middle new taking x answer entry h unchanged adds loses move made taken =
-    record {
-      items = (let first = made.items in let then = taken.items in omega arith);
-      requests = λ core. (let first = made.requests core in let then = taken.requests core in omega arith);
-      lines = λ core had has.
-          let waits = ap (λ (s : Situation). length (queue_of s.queues core)) unchanged in
-          let capacity = made.requests core in
-          let some : 0 < slice_index middle.request_rooms core = omega arith in
-          let first = made.lines core had some in
-          let then = taken.lines core some has in
-          elim (adds_step old middle taking x core h (adds core)) [
-            | inl none ↦ omega arith
-            | inr more ↦
-                let one = more.1 in
-                let still = stays_out old new.situation taking core answer entry move more.0 in
-                let same = (loses core).same (λ moved. still (moved.0, (subst (λ (s : Situation). state_of s core moved.0 ≢ I) unchanged moved.1.0, moved.1.1))) in
-                omega arith
-          ];
-    }
+  pub HoldsOn-taken : (core : ℕ) → HoldsOn old new taking core
+  HoldsOn-taken core =
+      let all = adds_step old middle taking x core h (adds core) in
+      record {
+        raised = λ leaves.
+            let same = still_in core (stays_out old new.situation taking core answer entry move leaves) in
+            elim all [ inl none ↦ (omega arith, omega arith) | inr more ↦ let one = more.1 in (omega arith, omega arith) ];
+        lowered = λ moved.
+            let fewer = (loses core).lowered (moved.0, (rw (← unchanged) at moved.1.0, moved.1.1)) in
+            elim all [ inl none ↦ omega arith | inr more ↦ absurd (stays_out old new.situation taking core answer entry move more.0 moved) ];
+        same = λ stays still.
+            let same = still_in core still in
+            elim all [ inl none ↦ omega arith | inr more ↦ absurd (stays more.0) ];
+      }
+
+  -- and of the room as much is there as before, but for what was put in
+  pub KeepsRoom-taken : KeepsRoom old middle → KeepsRoom middle new → KeepsRoom old new
+  KeepsRoom-taken made taken = record {
+    items = (let first = made.items in let then = taken.items in omega arith);
+    requests = λ core. (let first = made.requests core in let then = taken.requests core in omega arith);
+    lines = λ core had has.
+        let waits = ap (λ (s : Situation). length (queue_of s.queues core)) unchanged in
+        let capacity = made.requests core in
+        let some : 0 < slice_index middle.request_rooms core = omega arith in
+        let first = made.lines core had some in
+        let then = taken.lines core some has in
+        elim (adds_step old middle taking x core h (adds core)) [
+          | inl none ↦ omega arith
+          | inr more ↦
+              let one = more.1 in
+              let same = still_in core (stays_out old new.situation taking core answer entry move more.0) in
+              omega arith
+        ];
+  }

@@ -1,10 +1,7 @@
-pub mod PlacedLines
-pub mod MemoryTables
+pub mod EachPlace
+pub mod Queues
+pub mod Soundness
 pub mod PictureViews
-pub mod LineWrites
-pub mod QueueViews
-pub mod AfterOrders
-pub mod QueueHeads
 pub mod Responses
 pub mod Closing
 pub mod AtReset

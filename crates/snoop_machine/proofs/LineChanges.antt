@@ -1,17 +1,19 @@
 -- One map was given another line of one block, and the holders have followed.
-use Rattle.std.proofs.Common.{◌≡◌, ◌≢◌, ℕ, ◌+◌, ◌<◌, Bool, false, Option, None, List, [], length, sym, ◌∙◌, ap, arith, inl, inr, ◌⊎◌}
+use Rattle.std.proofs.Common.{◌≡◌, ◌≢◌, ℕ, ◌+◌, ◌<◌, false, Option, None, List, [], length, sym, ◌∙◌, ap, arith, inl, inr, ◌⊎◌}
 use Rattle.std.specs.Prelude.{slice_index_or, slice_set, nat_eq, map, is_some}
 use Rattle.std.specs.Map.{lookup}
-use Rattle.std.proofs.lemmas.Bool.{cases_eq}
-use Rattle.std.proofs.lemmas.List.{length-map, length-set, get_or-set_same, get_or-set_other}
+use Rattle.std.proofs.lemmas.List.{length-set, map-set, set-get_or, get_or-set_same, get_or-set_other}
+use Rattle.std.proofs.lemmas.Map.Made.{is_some-lookup}
+use Rattle.snoop_rules.specs.declared.names.CacheState.{CacheState}
 use Rattle.snoop_rules.specs.declared.names.CacheState.TheVariants.{I}
 use Rattle.snoop_machine.specs.declared.holders.Holders.{Holders}
 use Rattle.snoop_model.specs.Pictures.Lines.{Line}
 use Rattle.snoop_model.specs.Pictures.Proper.{IsProper}
 use Rattle.snoop_machine.specs.Holders.{HaveFollowed}
 use Rattle.snoop_machine.specs.Cache.{Contents, no_cache, line_or_nothing, line_in, blocks_of, KeepsMapRoom}
-use Rattle.snoop_machine.specs.Lines.{Held, AreLines, KeepsMapsRoom, held, held_by_block, gone, line_at, is_among}
-use Rattle.snoop_machine.proofs.MapRows.{rows-set, blocks-at, spare-at, blocks-same, count-same, length-blocks_of, among-lookup}
+use Rattle.snoop_machine.specs.Lines.{Held, AreLines, KeepsMapsRoom, WritesLine, held, held_by_block, gone, line_at, placed}
+use Rattle.snoop_machine.proofs.EachPlace.{each_place}
+use Rattle.snoop_machine.proofs.MapRows.{rows-set, blocks-at, spare-at, length-blocks_of}
 use Rattle.snoop_machine.proofs.LineMaps.{IsMap, blocks_seen, spare_seen, maps-long, gone-none, gone-one, is_I}
 use Rattle.snoop_machine.proofs.LineParts.{AreLines-followed}
 
@@ -25,11 +27,23 @@ spares_kept {caches} lines_are view core new after within kept k =
     let had_room = spare_seen lines_are view k in
     let lines = ap (λ (blocks : List ℕ). length blocks) (blocks-at maps k) ∙ length-blocks_of (slice_index_or maps k no_cache) in
     let had_lines = sym (length-blocks_of (slice_index_or caches k no_cache)) ∙ ap (λ (blocks : List ℕ). length blocks) (blocks_seen lines_are view k) in
-    let each : KeepsMapRoom (slice_index_or caches k no_cache) (slice_index_or maps k no_cache) = elim (cases_eq k core) [
-      | inl e ↦ rw (e, get_or-set_same caches core new no_cache within) kept
-      | inr ne ↦ rw (get_or-set_other caches core k new no_cache ne) (omega arith)
-    ] in
+    let each = each_place (λ k cache. KeepsMapRoom (slice_index_or caches k no_cache) cache) caches core new no_cache within kept (λ k ne. omega arith) k in
     omega (arith, each, room, had_room, lines, had_lines)
+
+-- what goes of a map with the line of a block that moves from one state to another: nothing, or that line
+abbrev pub GoesFrom : CacheState → CacheState → ℕ → Contents → Contents → Type 0
+GoesFrom before after block old new =
+    ((gone before after ≡ 0) × (blocks_of new ≡ blocks_of old))
+    ⊎ ((gone before after ≡ 1) × (lookup (nat_eq block) new.entries ≡ None) × (length new.entries + 1 ≡ length old.entries))
+
+-- a line that leaves its state, or does not come to I
+pub goes_from : (before after : CacheState) (block : ℕ) (old new : Contents) → (before ≢ I) ⊎ (after ≢ I)
+    → (after ≡ I → lookup (nat_eq block) new.entries ≡ None)
+    → (after ≡ I → length new.entries + 1 ≡ length old.entries) → (after ≢ I → blocks_of new ≡ blocks_of old) → GoesFrom before after block old new
+goes_from before after block old new place taken fewer stays = elim (is_I after) [
+  | inl e ↦ inr (gone-one before after (elim place [ inl left ↦ left | inr ne ↦ absurd (ne e) ]) e, taken e, fewer e)
+  | inr ne ↦ inl (gone-none before after ne, stays ne)
+]
 
 -- the core's map `old` was given this line of the block, and is `new` now
 pub record HasWritten (caches : List Contents) (holders : List Holders) (now : Held) (core block : ℕ) (line : Line) (old new : Contents)
@@ -38,6 +52,7 @@ pub record HasWritten (caches : List Contents) (holders : List Holders) (now : H
   pub proper : IsProper line
   pub here : line_in new block ≡ line
   pub others : (b : ℕ) → nat_eq block b ≡ false → lookup (nat_eq b) new.entries ≡ lookup (nat_eq b) old.entries
+  pub goes : GoesFrom (line_at now.rows core block).state line.state block old new
   pub followed : HaveFollowed core block line.state holders after
   pub room : KeepsMapRoom old new
 
@@ -46,67 +61,48 @@ module _ {caches : List Contents} {holders : List Holders} {now : Held} {core bl
   elsewhere : (b : ℕ) → nat_eq block b ≡ false → line_in new b ≡ line_in (slice_index_or caches core no_cache) b
   elsewhere b ne = ap line_or_nothing (wrote.others b ne) ∙ ap (λ (cache : Contents). line_in cache b) wrote.map.read
 
-  long : length after ≡ length holders
-  long = ap (λ (l : List Holders). length l) wrote.followed.set ∙ length-set holders block wrote.followed.moved
-
   pub lines_after : AreLines (slice_set caches core new) after
   lines_after =
       AreLines-followed lines core new wrote.map.in_cores block line after wrote.map.in_blocks wrote.proper wrote.here elsewhere wrote.followed
 
-  pub rows_wrote : held_by_block (length after) (slice_set caches core new) ≡ slice_set now.rows block (slice_set (slice_index_or now.rows block []) core line)
+  rows_wrote : held_by_block (length after) (slice_set caches core new) ≡ placed now.rows core block line
   rows_wrote =
-      ap (λ (n : ℕ). held_by_block n (slice_set caches core new)) long
+      ap (λ (l : List Holders). held_by_block (length l) (slice_set caches core new)) wrote.followed.set
+      ∙ (ap (λ (n : ℕ). held_by_block n (slice_set caches core new)) (length-set holders block wrote.followed.moved)
       ∙ (rows-set (length holders) caches core block new line wrote.map.in_blocks wrote.here elsewhere
-      ∙ ap (λ (h : Held). slice_set h.rows block (slice_set (slice_index_or h.rows block []) core line)) view)
+      ∙ ap (λ (h : Held). placed h.rows core block line) view))
 
-  pub many_kept : length (map blocks_of (slice_set caches core new)) ≡ length now.lines
-  many_kept = length-map (slice_set caches core new) blocks_of ∙ (length-set caches core new ∙ sym (maps-long lines view))
+  -- the blocks that the maps have lines for now
+  lines_set : map blocks_of (slice_set caches core new) ≡ slice_set now.lines core (blocks_of new)
+  lines_set = map-set blocks_of caches core new ∙ ap (λ (h : Held). slice_set h.lines core (blocks_of new)) view
 
-  pub others_kept : (k : ℕ) → k ≢ core → slice_index_or (map blocks_of (slice_set caches core new)) k [] ≡ slice_index_or now.lines k []
-  others_kept k ne = blocks-at (slice_set caches core new) k ∙ (ap blocks_of (get_or-set_other caches core k new no_cache ne) ∙ blocks_seen lines view k)
-
-  -- the room for lines is kept
-  pub room_kept : KeepsMapsRoom now (held (slice_set caches core new) after)
-  room_kept = spares_kept lines view core new after wrote.map.in_cores (rw wrote.map.read at wrote.room)
-
-  -- the same blocks have lines
-  pub lines_stay : blocks_of new ≡ blocks_of old → map blocks_of (slice_set caches core new) ≡ now.lines
-  lines_stay same = blocks-same caches core new (same ∙ ap blocks_of wrote.map.read) ∙ ap (λ (h : Held). h.lines) view
-
-  -- the blocks that the core's map has lines for now
+  -- those that the core's has, now and before
   blocks_now : slice_index_or (map blocks_of (slice_set caches core new)) core [] ≡ blocks_of new
-  blocks_now = blocks-at (slice_set caches core new) core ∙ ap blocks_of (get_or-set_same caches core new no_cache wrote.map.in_cores)
+  blocks_now = rw lines_set (get_or-set_same now.lines core (blocks_of new) [] (rw (maps-long lines view) wrote.map.in_cores))
 
-  -- the block has no line where none is found
-  pub line_gone : lookup (nat_eq block) new.entries ≡ None → is_among (slice_index_or (map blocks_of (slice_set caches core new)) core []) block ≡ false
-  line_gone none = ap (λ (blocks : List ℕ). is_among blocks block) blocks_now ∙ (among-lookup new.entries block ∙ ap (λ (o : Option Line). is_some o) none)
+  blocks_were : slice_index_or now.lines core [] ≡ blocks_of old
+  blocks_were = sym (ap blocks_of wrote.map.read ∙ blocks_seen lines view core)
 
-  -- another block has a line where it had one
-  pub lines_elsewhere : (b : ℕ) → nat_eq block b ≡ false → is_among (slice_index_or (map blocks_of (slice_set caches core new)) core []) b ≡ is_among (slice_index_or now.lines core []) b
-  lines_elsewhere b ne =
-      let A : List ℕ → Bool = λ blocks. is_among blocks b in
-      ap A blocks_now
-      ∙ (among-lookup new.entries b ∙ (ap (λ (o : Option Line). is_some o) (wrote.others b ne)
-      ∙ (sym (among-lookup old.entries b) ∙ (ap (λ (cache : Contents). A (blocks_of cache)) wrote.map.read ∙ ap A (blocks_seen lines view core)))))
-
-  -- one line fewer where it moves to I
-  pub lines_gone : ((line_at now.rows core block).state ≢ I) ⊎ (line.state ≢ I) → (line.state ≡ I → length new.entries + 1 ≡ length old.entries) → (line.state ≢ I → blocks_of new ≡ blocks_of old)
-      → length (slice_index_or (map blocks_of (slice_set caches core new)) core []) + gone (line_at now.rows core block).state line.state ≡ length (slice_index_or now.lines core [])
-  lines_gone place taken stays =
-      let state = (line_at now.rows core block).state in
-      let counted : length (slice_index_or (map blocks_of (slice_set caches core new)) core []) ≡ length new.entries =
-      ap (λ (blocks : List ℕ). length blocks) blocks_now ∙ length-blocks_of new in
-      let had : length (slice_index_or now.lines core []) ≡ length old.entries =
-      ap (λ (blocks : List ℕ). length blocks) (sym (blocks_seen lines view core))
-      ∙ (length-blocks_of (slice_index_or caches core no_cache) ∙ ap (λ (cache : Contents). length cache.entries) (sym wrote.map.read)) in
-      elim (is_I line.state) [
-        | inl e ↦
-            let left : state ≢ I = elim place [ inl left ↦ left | inr ne ↦ absurd (ne e) ] in
-            let one = gone-one state line.state left e in
-            let fewer = taken e in
-            omega arith
-        | inr ne ↦
-            let none = gone-none state line.state ne in
-            let same = count-same new old (stays ne) in
-            omega arith
-      ]
+  pub writes : WritesLine core block line now (held (slice_set caches core new) after)
+  writes =
+      let before = (line_at now.rows core block).state in
+      record {
+        rows = rows_wrote;
+        stays = λ ne. elim wrote.goes [
+          | inl still ↦ rw (lines_set, still.1, ← blocks_were) (set-get_or now.lines core [])
+          | inr went ↦ (let one = went.0 in let none = gone-none before line.state ne in absurd (omega arith))
+        ];
+        taken = λ left e. elim wrote.goes [
+          | inl still ↦ (let none = still.0 in let one = gone-one before line.state left e in absurd (omega arith))
+          | inr went ↦ rw blocks_now (sym (is_some-lookup (nat_eq block) new.entries) ∙ ap (λ (o : Option Line). is_some o) went.1)
+        ];
+        elsewhere = λ b ne. rw (blocks_now, blocks_were) (sym (is_some-lookup (nat_eq b) new.entries)
+            ∙ (ap (λ (o : Option Line). is_some o) (wrote.others b ne) ∙ is_some-lookup (nat_eq b) old.entries));
+        many = rw lines_set (length-set now.lines core (blocks_of new));
+        lines = rw (blocks_now, blocks_were) (elim wrote.goes [
+          | inl still ↦ (let none = still.0 in let same = ap (λ (blocks : List ℕ). length blocks) still.1 in omega arith)
+          | inr went ↦ (let one = went.0 in let fewer = went.2 in let count = length-blocks_of new in let had = length-blocks_of old in omega arith)
+        ]);
+        others = λ k ne. rw lines_set (get_or-set_other now.lines core k (blocks_of new) [] ne);
+        room = spares_kept lines view core new after wrote.map.in_cores (rw wrote.map.read at wrote.room);
+      }

@@ -1,15 +1,17 @@
 -- The lines that callers see, in the maps.
-use Rattle.std.proofs.Common.{◌≡◌, ◌≢◌, ℕ, ◌<◌, Bool, true, false, List, [], length, is_some, refl, sym, ◌∙◌, ap, inl, inr, ◌⊎◌, arith, get_or}
-use Rattle.std.specs.Prelude.{slice_index_or, map, nat_eq, if◌then◌else◌}
+use Rattle.std.proofs.Common.{◌≡◌, ◌≢◌, ℕ, ◌<◌, true, false, List, [], length, is_some, refl, sym, ◌∙◌, ap, inl, inr, ◌⊎◌, arith, get_or}
+use Rattle.std.specs.Prelude.{slice_index_or, map, nat_eq}
 use Rattle.std.specs.Map.{lookup}
+use Rattle.std.proofs.lemmas.Bool.{true_from_ne_false}
 use Rattle.std.proofs.lemmas.List.{length-map, get_or_read}
+use Rattle.std.proofs.lemmas.Map.Made.{is_some-lookup}
 use Rattle.snoop_rules.specs.declared.names.CacheState.{CacheState}
 use Rattle.snoop_rules.specs.declared.names.CacheState.TheVariants.{I}
 use Rattle.snoop_model.specs.Pictures.Lines.{Line}
 use Rattle.snoop_machine.specs.declared.holders.Holders.{Holders}
 use Rattle.snoop_machine.specs.Cache.{Contents, no_cache, line_in, blocks_of, lines_held}
 use Rattle.snoop_machine.specs.Lines.{Held, AreLines, held, MayMoveTo, is_among, is_invalid, gone, row_of, line_at}
-use Rattle.snoop_machine.proofs.MapRows.{within-rows, line-rows, line-none, row-rows, blocks-at, spare-at, among-lookup, found-lookup}
+use Rattle.snoop_machine.proofs.MapRows.{within-rows, line-rows, line-none, row-rows, blocks-at, spare-at, found-lookup}
 
 -- a core's map and its line of a block, where callers see both
 pub record IsMap (caches : List Contents) (holders : List Holders) (now : Held) (core block : ℕ) (map : Contents) : Type 0 where
@@ -44,7 +46,8 @@ module _ {caches : List Contents} {holders : List Holders} (lines : AreLines cac
   spare_seen core = sym (spare-at caches core) ∙ ap (λ (h : Held). slice_index_or h.line_rooms core 0) view
 
   pub among_seen : (core block : ℕ) → is_some (lookup (nat_eq block) (slice_index_or caches core no_cache).entries) ≡ is_among (slice_index_or now.lines core []) block
-  among_seen core block = sym (among-lookup (slice_index_or caches core no_cache).entries block) ∙ ap (λ (blocks : List ℕ). is_among blocks block) (blocks_seen core)
+  among_seen core block =
+      is_some-lookup (nat_eq block) (slice_index_or caches core no_cache).entries ∙ ap (λ (blocks : List ℕ). is_among blocks block) (blocks_seen core)
 
   pub is_map : (core block : ℕ) → block < length now.rows → core < length (row_of now.rows block) → (map : Contents) → map ≡ get_or caches core map
       → IsMap caches holders now core block map
@@ -70,38 +73,36 @@ module _ {caches : List Contents} {holders : List Holders} (lines : AreLines cac
 
   -- where the core holds the block the map has a line
   pub held_placed : (core block : ℕ) → (line_at now.rows core block).state ≢ I → is_some (lookup (nat_eq block) (slice_index_or caches core no_cache).entries) ≡ true
-  held_placed core block held = go (is_some (lookup (nat_eq block) (slice_index_or caches core no_cache).entries)) (none_held core block)
-    where
-      go : (b : Bool) → (b ≡ false → (line_at now.rows core block).state ≡ I) → b ≡ true
-      go true h = refl
-      go false h = absurd (held (h refl))
+  held_placed core block held = true_from_ne_false _ (λ none. held (none_held core block none))
 
   -- a line that may be written has a place
   pub mover_placed : (core block : ℕ) (next : CacheState) → MayMoveTo now core block next → is_some (lookup (nat_eq block) (slice_index_or caches core no_cache).entries) ≡ true
   mover_placed core block next (inl held) = held_placed core block held
   mover_placed core block next (inr new) = among_seen core block ∙ new.0
 
--- how many lines go
-pub is_invalid-I : (s : CacheState) → s ≢ I → is_invalid s ≡ false
-is_invalid-I I ne = absurd (ne refl)
-is_invalid-I _ ne = refl
-
--- none, to a state that is not I
-pub gone-none : (old new : CacheState) → new ≢ I → gone old new ≡ 0
-gone-none old new ne = rw (is_invalid-I new ne) refl
-
--- one, from another state to I
-pub gone-one : (old new : CacheState) → old ≢ I → new ≡ I → gone old new ≡ 1
-gone-one old new ne e = rw (e, is_invalid-I old ne) refl
-
--- none, where the line stays
-pub gone-same : (s : CacheState) → gone s s ≡ 0
-gone-same s = go (is_invalid s)
-  where
-    go : (b : Bool) → ◌≡◌ {A = ℕ} (if b then (if b then 0 else 1) else 0) 0
-    go true = refl
-    go false = refl
-
 pub is_I : (s : CacheState) → (s ≡ I) ⊎ (s ≢ I)
 is_I I = inl refl
 is_I _ = inr (λ e. cc)
+
+is_invalid-I : (s : CacheState) → s ≢ I → is_invalid s ≡ false
+is_invalid-I I ne = absurd (ne refl)
+is_invalid-I _ ne = refl
+
+-- no line goes to a state that is not I
+pub gone-none : (old new : CacheState) → new ≢ I → gone old new ≡ 0
+gone-none old new ne = rw (is_invalid-I new ne) refl
+
+-- nor where the line stays
+pub gone-same : (s : CacheState) → gone s s ≡ 0
+gone-same s = elim (is_I s) [ inl e ↦ rw e refl | inr ne ↦ gone-none s s ne ]
+
+-- one goes from another state to I
+pub gone-one : (old new : CacheState) → old ≢ I → new ≡ I → gone old new ≡ 1
+gone-one old new ne e = rw (e, is_invalid-I old ne) refl
+
+-- one goes, or none
+pub gone-cases : (old new : CacheState) → ((old ≢ I) × (new ≡ I) × (gone old new ≡ 1)) ⊎ (gone old new ≡ 0)
+gone-cases old new = elim (is_I new) [
+  | inr ne ↦ inr (gone-none old new ne)
+  | inl e ↦ elim (is_I old) [ inl was ↦ inr (rw (was, e) refl) | inr ne ↦ inl (ne, e, gone-one old new ne e) ]
+]

@@ -2,16 +2,17 @@
 use Rattle.std.proofs.Common.{◌≡◌, ℕ, ◌<◌, false, List, length, refl, sym, ◌∙◌, ap, inl, inr}
 use Rattle.std.specs.Prelude.{slice_index_or, slice_set, nat_eq}
 use Rattle.std.proofs.lemmas.Bool.{cases_eq, ne_eqb}
-use Rattle.std.proofs.lemmas.List.{length-set, set-get_or, get_or-set_same, get_or-set_other}
+use Rattle.std.proofs.lemmas.List.{length-set, set-get_or}
 use Rattle.snoop_rules.specs.declared.names.CacheState.{CacheState}
 use Rattle.snoop_model.specs.Pictures.Lines.{Line}
 use Rattle.snoop_model.specs.Pictures.Picture.{held_at}
 use Rattle.snoop_model.specs.Pictures.Proper.{IsProper, keeps}
 use Rattle.snoop_model.specs.Invariant.Fits.{is_owner}
 use Rattle.snoop_machine.specs.declared.holders.Holders.{Holders}
-use Rattle.snoop_machine.specs.Holders.{HaveMoved, HaveFollowed, StandsAs, no_holders}
+use Rattle.snoop_machine.specs.Holders.{AreHolders, HaveFollowed, StandsAs, no_holders}
 use Rattle.snoop_machine.specs.Cache.{Contents, no_cache, line_in, lines_held}
 use Rattle.snoop_machine.specs.Lines.{Held, AreLines}
+use Rattle.snoop_machine.proofs.EachPlace.{each_place}
 use Rattle.snoop_machine.proofs.LineMaps.{IsMap}
 use Rattle.snoop_machine.proofs.MapRows.{line-row, row-same, row-set, length-row, AreHolders-moved}
 
@@ -21,10 +22,7 @@ module _ {caches : List Contents} {holders : List Holders} (lines : AreLines cac
 
   -- each line is proper, if those of the new map are
   proper_after : ((b : ℕ) → IsProper (line_in new b)) → (k b : ℕ) → IsProper (line_in (slice_index_or (slice_set caches core new) k no_cache) b)
-  proper_after proper k b = elim (cases_eq k core) [
-    | inl e ↦ rw (e, get_or-set_same caches core new no_cache within) (proper b)
-    | inr ne ↦ rw (get_or-set_other caches core k new no_cache ne) (lines.proper k b)
-  ]
+  proper_after proper = each_place (λ k cache. (b : ℕ) → IsProper (line_in cache b)) caches core new no_cache within proper (λ k ne. lines.proper k)
 
   -- the new map has the lines that the old one had
   pub AreLines-alike : ((b : ℕ) → line_in new b ≡ line_in (slice_index_or caches core no_cache) b) → AreLines (slice_set caches core new) holders
@@ -35,35 +33,27 @@ module _ {caches : List Contents} {holders : List Holders} (lines : AreLines cac
         indexed = λ b lt. rw (row-same caches core b new (same b)) (lines.indexed b lt);
       }
 
-  -- the new map has another line of one block, and the core has moved to its state
-  pub AreLines-set : (block : ℕ) (line : Line) (moved : Holders) → block < length holders → IsProper line → line_in new block ≡ line
-      → ((b : ℕ) → nat_eq block b ≡ false → line_in new b ≡ line_in (slice_index_or caches core no_cache) b)
-      → HaveMoved core line.state (slice_index_or holders block no_holders) moved
-      → AreLines (slice_set caches core new) (slice_set holders block moved)
-  AreLines-set block line moved in_blocks proper wrote others moves =
-      let elsewhere : (b : ℕ) → (b ≡ block → ⊥) → line_in new b ≡ line_in (slice_index_or caches core no_cache) b = λ b ne. others b (ne_eqb block b (λ e. ne (sym e))) in
-      record {
-        few = few_after;
-        proper = proper_after (λ b. elim (cases_eq b block) [
-          | inl e ↦ rw (e, wrote) proper
-          | inr ne ↦ rw (elsewhere b ne) (lines.proper core b)
-        ]);
-        indexed = λ b lt. elim (cases_eq b block) [
-          | inl e ↦ rw (e, get_or-set_same holders block moved no_holders in_blocks, row-set caches core block new line wrote)
-              (AreHolders-moved (lines_held caches block) core line (slice_index_or holders block no_holders) moved (rw (length-row caches block) within)
-              (lines.indexed block in_blocks) moves)
-          | inr ne ↦ rw (get_or-set_other holders block b moved no_holders ne, row-same caches core b new (elsewhere b ne))
-              (lines.indexed b (rw (length-set holders block moved) at lt))
-        ];
-      }
-
   -- the new map has another line of one block, and the holders have followed
   pub AreLines-followed : (block : ℕ) (line : Line) (after : List Holders) → block < length holders → IsProper line → line_in new block ≡ line
       → ((b : ℕ) → nat_eq block b ≡ false → line_in new b ≡ line_in (slice_index_or caches core no_cache) b)
       → HaveFollowed core block line.state holders after
       → AreLines (slice_set caches core new) after
   AreLines-followed block line after in_blocks proper wrote others followed =
-      rw followed.set (AreLines-set block line followed.moved in_blocks proper wrote others followed.follows)
+      let moved = followed.moved in
+      let elsewhere : (b : ℕ) → (b ≡ block → ⊥) → line_in new b ≡ line_in (slice_index_or caches core no_cache) b = λ b ne. others b (ne_eqb block b (λ e. ne (sym e))) in
+      rw followed.set (record {
+        few = few_after;
+        proper = proper_after (λ b. elim (cases_eq b block) [
+          | inl e ↦ rw (e, wrote) proper
+          | inr ne ↦ rw (elsewhere b ne) (lines.proper core b)
+        ]);
+        indexed = each_place (λ b its. b < length (slice_set holders block moved) → AreHolders its (lines_held (slice_set caches core new) b))
+            holders block moved no_holders in_blocks
+            (λ lt. rw (row-set caches core block new line wrote)
+            (AreHolders-moved (lines_held caches block) core line (slice_index_or holders block no_holders) moved
+            (rw (length-row caches block) within) (lines.indexed block in_blocks) followed.follows))
+            (λ b ne lt. rw (row-same caches core b new (elsewhere b ne)) (lines.indexed b (rw (length-set holders block moved) at lt)));
+      })
 
 -- the holders of a block have each core as its line says
 pub stands : {caches : List Contents} {holders : List Holders} (lines : AreLines caches holders) {now : Held} {core block : ℕ} {old : Contents}

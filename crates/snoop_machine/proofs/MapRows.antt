@@ -1,19 +1,25 @@
 -- The lines of maps as rows, and what one write does to them.
-use Rattle.std.proofs.Common.{◌≡◌, ℕ, zero, suc, ◌<◌, Bool, true, false, ◌||◌, cond, List, [], ◌∷◌, ◌++◌, length, replicate, Option, None, Some, is_some, refl, sym, ◌∙◌, ap, inl, inr, arith}
+use Rattle.std.proofs.Common.{◌≡◌, ℕ, zero, suc, ◌<◌, false, List, [], ◌∷◌, ◌++◌, length, replicate, Option, None, Some, is_some, refl, sym, ◌∙◌, ap, inl, inr, arith}
 use Rattle.std.specs.Prelude.{slice_index_or, slice_set, map, nat_eq, unwrap_or}
-use Rattle.std.specs.Map.{lookup, keys_of}
+use Rattle.std.specs.Map.{lookup}
 use Rattle.std.specs.List.{range_with_len}
-use Rattle.std.proofs.lemmas.Bool.{cases_eq, cases_lt, ne_eqb}
-use Rattle.std.proofs.lemmas.List.{ext_get_or, map-set, length-map, length-set, set-get_or, get_or_past, get_or-replicate, length-replicate, get_or-set_same, get_or-set_other}
+use Rattle.std.proofs.Math.ListN.{get_or-map}
+use Rattle.std.proofs.Math.Seq.{map-set_same}
+use Rattle.std.proofs.lemmas.Bool.{cases_lt, ne_eqb}
+use Rattle.std.proofs.lemmas.List.{ext_get_or, map-set, length-map, length-set, get_or_past, get_or-replicate, length-replicate}
 use Rattle.std.proofs.lemmas.List.FromFn.{length-map-range_with_len, get_or-map-range_with_len}
 use Rattle.snoop_model.specs.Pictures.Lines.{Line}
 use Rattle.snoop_model.specs.Pictures.Picture.{held_at, nothing_held}
+use Rattle.snoop_model.specs.Pictures.Proper.{keeps}
+use Rattle.snoop_model.specs.Invariant.Fits.{is_owner}
+use Rattle.snoop_blocks.specs.CoreSet.{has}
 use Rattle.snoop_machine.specs.declared.holders.Holders.{Holders}
 use Rattle.snoop_machine.specs.Holders.{AreHolders, HaveMoved}
 use Rattle.snoop_machine.specs.Cache.{Contents, no_cache, line_in, blocks_of, lines_held}
-use Rattle.snoop_machine.specs.Lines.{held_by_block, is_among, line_at}
+use Rattle.snoop_machine.specs.Lines.{held_by_block, line_at, placed}
+use Rattle.snoop_machine.proofs.EachPlace.{each_place}
 
-pub length-rows : (blocks : ℕ) (caches : List Contents) → length (held_by_block blocks caches) ≡ blocks
+length-rows : (blocks : ℕ) (caches : List Contents) → length (held_by_block blocks caches) ≡ blocks
 length-rows blocks caches = length-map-range_with_len (lines_held caches) 0 blocks
 
 pub row-rows : (blocks : ℕ) (caches : List Contents) (block : ℕ) → block < blocks → slice_index_or (held_by_block blocks caches) block [] ≡ lines_held caches block
@@ -22,21 +28,13 @@ row-rows blocks caches block h = get_or-map-range_with_len (lines_held caches) 0
 pub length-row : (caches : List Contents) (block : ℕ) → length (lines_held caches block) ≡ length caches
 length-row caches block = length-map caches (λ cache. line_in cache block)
 
--- an entry of a mapped list
-pub get_or-mapped : {X Y : Type 0} (f : X → Y) (xs : List X) (d : X) (i : ℕ) → slice_index_or (map f xs) i (f d) ≡ f (slice_index_or xs i d)
-get_or-mapped f [] d i = refl
-get_or-mapped f (x ∷ xs) d zero = refl
-get_or-mapped f (x ∷ xs) d (suc i) = get_or-mapped f xs d i
-
 pub line-row : (caches : List Contents) (core block : ℕ) → held_at (lines_held caches block) core ≡ line_in (slice_index_or caches core no_cache) block
-line-row caches core block = get_or-mapped (λ cache. line_in cache block) caches no_cache core
+line-row caches core block = get_or-map (λ (cache : Contents). line_in cache block) caches core no_cache
 
 -- a map whose line of the block is as it was leaves the row as it was
 pub row-same : (caches : List Contents) (core block : ℕ) (new : Contents) → line_in new block ≡ line_in (slice_index_or caches core no_cache) block
     → lines_held (slice_set caches core new) block ≡ lines_held caches block
-row-same caches core block new same =
-    map-set (λ cache. line_in cache block) caches core new
-    ∙ (ap (λ (x : Line). slice_set (lines_held caches block) core x) (same ∙ sym (line-row caches core block)) ∙ set-get_or (lines_held caches block) core nothing_held)
+row-same caches core block new same = map-set_same (λ (cache : Contents). line_in cache block) caches core new no_cache same
 
 pub rows-same : (blocks : ℕ) (caches : List Contents) (core : ℕ) (new : Contents) → ((b : ℕ) → line_in new b ≡ line_in (slice_index_or caches core no_cache) b)
     → held_by_block blocks (slice_set caches core new) ≡ held_by_block blocks caches
@@ -48,31 +46,18 @@ row-set caches core block new line here = map-set (λ cache. line_in cache block
 
 pub rows-set : (blocks : ℕ) (caches : List Contents) (core block : ℕ) (new : Contents) (line : Line) → block < blocks
     → line_in new block ≡ line → ((b : ℕ) → nat_eq block b ≡ false → line_in new b ≡ line_in (slice_index_or caches core no_cache) b)
-    → held_by_block blocks (slice_set caches core new) ≡ slice_set (held_by_block blocks caches) block (slice_set (slice_index_or (held_by_block blocks caches) block []) core line)
+    → held_by_block blocks (slice_set caches core new) ≡ placed (held_by_block blocks caches) core block line
 rows-set blocks caches core block new line inside here others =
     let rows = held_by_block blocks caches in
+    let after = slice_set caches core new in
     let row = slice_set (slice_index_or rows block []) core line in
-    let long : length (held_by_block blocks (slice_set caches core new)) ≡ blocks = length-rows blocks (slice_set caches core new) in
     let long_rows : length rows ≡ blocks = length-rows blocks caches in
-    ext_get_or [] (held_by_block blocks (slice_set caches core new)) (slice_set rows block row) (long ∙ sym (length-set rows block row ∙ long_rows))
-    (λ b h.
-    let within : b < blocks = omega arith in
-    elim (cases_eq b block) [
-      | inl e ↦ rw (
-        e,
-        row-rows blocks (slice_set caches core new) block inside,
-        row-set caches core block new line here,
-        get_or-set_same rows block row [] (omega arith),
-        row-rows blocks caches block inside,
-      )
-      | inr ne ↦
-          rw (
-            row-rows blocks (slice_set caches core new) b within,
-            row-same caches core b new (others b (ne_eqb block b (λ e. ne (sym e)))),
-            get_or-set_other rows block b row [] ne,
-            row-rows blocks caches b within,
-          )
-    ])
+    let long : length (held_by_block blocks after) ≡ blocks = length-rows blocks after in
+    ext_get_or [] (held_by_block blocks after) (slice_set rows block row) (long ∙ sym (length-set rows block row ∙ long_rows))
+    (λ b h. each_place (λ b its. b < blocks → slice_index_or (held_by_block blocks after) b [] ≡ its) rows block row [] (omega arith)
+    (λ lt. rw (row-rows blocks after block lt, row-rows blocks caches block lt) (row-set caches core block new line here))
+    (λ b ne lt. rw (row-rows blocks after b lt, row-rows blocks caches b lt)
+    (row-same caches core b new (others b (ne_eqb block b (λ e. ne (sym e)))))) b (omega arith))
 
 -- a place within the rows is within the maps
 pub within-rows : (blocks : ℕ) (caches : List Contents) (core block : ℕ) → block < length (held_by_block blocks caches) → core < length (slice_index_or (held_by_block blocks caches) block [])
@@ -98,14 +83,10 @@ line-none blocks caches core block none = elim (cases_lt block blocks) [
 -- the holders of a block are those of its row, once one of its lines has moved
 pub AreHolders-moved : (row : List Line) (core : ℕ) (line : Line) (old new : Holders) → core < length row → AreHolders old row → HaveMoved core line.state old new → AreHolders new (slice_set row core line)
 AreHolders-moved row core line old new within fits moved = record {
-  owners = λ k. elim (cases_eq k core) [
-    | inl e ↦ rw (e, get_or-set_same row core line nothing_held within) moved.owner
-    | inr ne ↦ rw (moved.other_owners k ne, get_or-set_other row core k line nothing_held ne) (fits.owners k)
-  ];
-  readers = λ k. elim (cases_eq k core) [
-    | inl e ↦ rw (e, get_or-set_same row core line nothing_held within) moved.reader
-    | inr ne ↦ rw (moved.other_readers k ne, get_or-set_other row core k line nothing_held ne) (fits.readers k)
-  ];
+  owners = each_place (λ k its. has new.owners k ≡ is_owner its.state) row core line nothing_held within moved.owner
+      (λ k ne. moved.other_owners k ne ∙ fits.owners k);
+  readers = each_place (λ k its. has new.readers k ≡ keeps its.state) row core line nothing_held within moved.reader
+      (λ k ne. moved.other_readers k ne ∙ fits.readers k);
 }
 
 -- one more map without entries
@@ -117,47 +98,33 @@ empty-push (first ∷ caches) cache empty own zero = empty zero
 empty-push (first ∷ caches) cache empty own (suc core) = empty-push caches cache (λ k. empty (suc k)) own core
 
 -- maps without entries hold nothing anywhere
-module _ (caches : List Contents) (empty : (core : ℕ) → (slice_index_or caches core no_cache).entries ≡ []) where
-  pub line-empty : (core block : ℕ) → line_in (slice_index_or caches core no_cache) block ≡ nothing_held
-  line-empty core block = rw (empty core)
+pub line-empty : (caches : List Contents) → ((core : ℕ) → (slice_index_or caches core no_cache).entries ≡ []) → (core block : ℕ)
+    → line_in (slice_index_or caches core no_cache) block ≡ nothing_held
+line-empty caches empty core block = rw (empty core)
 
-  pub row-empty : (block : ℕ) → lines_held caches block ≡ replicate (length caches) nothing_held
-  row-empty block =
-      ext_get_or nothing_held (lines_held caches block) (replicate (length caches) nothing_held) (length-row caches block ∙ sym (length-replicate (length caches) nothing_held))
-      (λ k h.
-      let long = length-row caches block in
-      rw (line-row caches k block, line-empty k block, get_or-replicate (length caches) k nothing_held nothing_held (omega arith)))
+pub row-empty : (caches : List Contents) → ((core : ℕ) → (slice_index_or caches core no_cache).entries ≡ []) → (block : ℕ)
+    → lines_held caches block ≡ replicate (length caches) nothing_held
+row-empty [] empty block = refl
+row-empty (cache ∷ caches) empty block = rw (empty 0, row-empty caches (λ core. empty (suc core)) block) refl
 
-  pub rows-empty : (blocks : ℕ) → held_by_block blocks caches ≡ replicate blocks (replicate (length caches) nothing_held)
-  rows-empty blocks =
-      ext_get_or [] (held_by_block blocks caches) (replicate blocks (replicate (length caches) nothing_held)) (length-rows blocks caches ∙ sym (length-replicate blocks (replicate (length caches) nothing_held)))
-      (λ b h.
-      let long : length (held_by_block blocks caches) ≡ blocks = length-rows blocks caches in
-      let within : b < blocks = omega arith in
-      rw (row-rows blocks caches b within, row-empty b, get_or-replicate blocks b (replicate (length caches) nothing_held) [] within))
+pub rows-empty : (caches : List Contents) → ((core : ℕ) → (slice_index_or caches core no_cache).entries ≡ []) → (blocks : ℕ)
+    → held_by_block blocks caches ≡ replicate blocks (replicate (length caches) nothing_held)
+rows-empty caches empty blocks =
+    ext_get_or [] (held_by_block blocks caches) (replicate blocks (replicate (length caches) nothing_held))
+    (length-rows blocks caches ∙ sym (length-replicate blocks _))
+    (λ b h.
+    let within = rw (length-rows blocks caches) at h in
+    rw (row-rows blocks caches b within, row-empty caches empty b, get_or-replicate blocks b (replicate (length caches) nothing_held) [] within) refl)
 
 -- the blocks that a core's map has a line for
 pub blocks-at : (caches : List Contents) (core : ℕ) → slice_index_or (map blocks_of caches) core [] ≡ blocks_of (slice_index_or caches core no_cache)
-blocks-at caches core = get_or-mapped blocks_of caches no_cache core
+blocks-at caches core = get_or-map blocks_of caches core no_cache
 
 pub spare-at : (caches : List Contents) (core : ℕ) → slice_index_or (map (λ (cache : Contents). cache.spare) caches) core 0 ≡ (slice_index_or caches core no_cache).spare
-spare-at caches core = get_or-mapped (λ cache. cache.spare) caches no_cache core
+spare-at caches core = get_or-map (λ (cache : Contents). cache.spare) caches core no_cache
 
 pub length-blocks_of : (cache : Contents) → length (blocks_of cache) ≡ length cache.entries
 length-blocks_of cache = length-map cache.entries (λ (e : ℕ × Line). e.0)
-
--- as many lines as blocks that have one
-pub count-same : (new old : Contents) → blocks_of new ≡ blocks_of old → length new.entries ≡ length old.entries
-count-same new old same = sym (length-blocks_of new) ∙ (ap (λ (blocks : List ℕ). length blocks) same ∙ length-blocks_of old)
-
--- a block is among those with a line where the look-up finds one
-pub among-lookup : (entries : List (ℕ × Line)) (block : ℕ) → is_among (keys_of entries) block ≡ is_some (lookup (nat_eq block) entries)
-among-lookup [] block = refl
-among-lookup (e ∷ entries) block = go (nat_eq block e.0) (among-lookup entries block)
-  where
-    go : (b : Bool) → is_among (keys_of entries) block ≡ is_some (lookup (nat_eq block) entries) → (b || is_among (keys_of entries) block) ≡ is_some (cond b (Some e.1) (lookup (nat_eq block) entries))
-    go true same = refl
-    go false same = same
 
 -- a line that holds something is found
 pub found-lookup : (entries : List (ℕ × Line)) (block : ℕ) → is_some (lookup (nat_eq block) entries) ≡ false → unwrap_or (lookup (nat_eq block) entries) nothing_held ≡ nothing_held
@@ -171,12 +138,6 @@ found-lookup entries block none = go (lookup (nat_eq block) entries) none
 pub line-same : (new old : Contents) → new.entries ≡ old.entries → (block : ℕ) → line_in new block ≡ line_in old block
 line-same new old same block = ap (λ (entries : List (ℕ × Line)). unwrap_or (lookup (nat_eq block) entries) nothing_held) same
 
-pub blocks-same : (caches : List Contents) (core : ℕ) (new : Contents) → blocks_of new ≡ blocks_of (slice_index_or caches core no_cache) → map blocks_of (slice_set caches core new) ≡ map blocks_of caches
-blocks-same caches core new same =
-    map-set blocks_of caches core new
-    ∙ (ap (λ (blocks : List ℕ). slice_set (map blocks_of caches) core blocks) (same ∙ sym (blocks-at caches core))
-    ∙ set-get_or (map blocks_of caches) core [])
-
 pub blocks-empty : (caches : List Contents) → ((core : ℕ) → (slice_index_or caches core no_cache).entries ≡ []) → map blocks_of caches ≡ replicate (length caches) []
 blocks-empty [] empty = refl
-blocks-empty (cache ∷ caches) empty = λ i. keys_of (empty 0 i) ∷ blocks-empty caches (λ core. empty (suc core)) i
+blocks-empty (cache ∷ caches) empty = rw (empty 0, blocks-empty caches (λ core. empty (suc core))) refl

@@ -1,5 +1,5 @@
 -- What is so of a proper line.
-use Rattle.std.proofs.Common.{◌≡◌, ℕ, Option, None, Some, false, refl, sym, ◌∙◌, ap}
+use Rattle.std.proofs.Common.{◌≡◌, Option, None, Some, false, refl, sym, ◌∙◌, ap}
 use Rattle.std.specs.Prelude.{is_some, option_map}
 use Rattle.snoop_trace.specs.declared.words.Words.{Words}
 use Rattle.snoop_trace.specs.declared.protocol.Protocol.{Protocol}
@@ -16,7 +16,7 @@ use Rattle.snoop_model.specs.Pictures.Lines.{Line}
 use Rattle.snoop_model.specs.Pictures.Picture.{kept_on, nothing_held}
 use Rattle.snoop_model.specs.Pictures.Proper.{IsProper, keeps, request_for, missed_request}
 use Rattle.snoop_model.specs.Moves.Move.{moves_to}
-use Rattle.snoop_machine.specs.Cache.{changed, kept_after, words_after}
+use Rattle.snoop_machine.specs.Cache.{changed, words_after}
 use Rattle.snoop_machine.specs.declared.cache.LineChange.TheVariants.{Hit}
 
 nothing_kept : (kept : Option Words) → is_some kept ≡ false → kept ≡ None
@@ -59,9 +59,9 @@ load_stays p s n row = sym (ap (λ (o : Option CacheCell). next_at_hit o s) row)
     go _ _ = refl
 
 -- and the line
-pub loaded_same : (word : ℕ) (line : Line) → changed line.state (Hit (record { word = word; op = op.Load })) line ≡ line
-loaded_same word line = let kept : kept_after line.state (Hit (record { word = word; op = op.Load })) line.kept ≡ line.kept = go line.kept in rw kept refl
+pub loaded_same : (access : Access) (next : CacheState) (line : Line) → access.op ≡ op.Load → next ≡ line.state → changed next (Hit access) line ≡ line
+loaded_same access next line load still = rw (load, still, go line.kept) refl
   where
-    go : (kept : Option Words) → option_map (words_after word op.Load) kept ≡ kept
+    go : (kept : Option Words) → option_map (words_after access.word op.Load) kept ≡ kept
     go None = refl
     go (Some words) = refl

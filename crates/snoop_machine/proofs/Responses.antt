@@ -43,7 +43,3 @@ module _ {closing : Open} {p : Protocol} {old new : Line} {asking : Access} {val
   -- it held an operation that waits, so it was not in I
   pub held-filled : IsProper old → old.state ≢ I
   held-filled proper e = let waits = proper.waiting in let waited = its.waited in cc
-
-  -- it holds words, so it is not in I
-  pub lands-filled : new.state ≢ I
-  lands-filled e = let keeps = IsProper-filled.kept in let held = its.held in cc

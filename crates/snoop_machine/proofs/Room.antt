@@ -1,8 +1,8 @@
 -- The room that a machine has goes on from step to step.
-use Rattle.std.proofs.Common.{◌≡◌, ◌<◌, ◌≤◌, ◌+◌, ℕ, zero, suc, List, [], ◌∷◌, length, map, inl, inr, refl, sym, ap, arith, ◌∙◌}
-use Rattle.std.specs.Prelude.{min, slice_index, slice_index_or, slice_set}
-use Rattle.std.proofs.lemmas.Bool.{cases_eq}
-use Rattle.std.proofs.lemmas.List.{length-map, get_or-set_same, get_or-set_other}
+use Rattle.std.proofs.Common.{◌≡◌, ◌<◌, ◌≤◌, ◌+◌, ℕ, zero, suc, List, [], ◌∷◌, length, map, refl, sym, ap, arith, ◌∙◌}
+use Rattle.std.specs.Prelude.{slice_index, slice_index_or, slice_set}
+use Rattle.std.proofs.Math.ListN.{get_or-map}
+use Rattle.std.proofs.lemmas.List.{length-map}
 use Rattle.snoop_rules.specs.declared.names.Request.{Request}
 use Rattle.snoop_bus.specs.Traffic.{Waiting, no_queue}
 use Rattle.snoop_bus.specs.Queues.{queue_of}
@@ -10,24 +10,18 @@ use Rattle.snoop_machine.specs.Standing.{Standing, KeepsRoom}
 use Rattle.snoop_machine.specs.Prepared.{places}
 use Rattle.snoop_machine.specs.Lines.{Held, KeepsMapsRoom}
 use Rattle.snoop_machine.specs.PartsView.{Fields, queues_of, shown_line_room, shown_line_rooms, standing}
-use Rattle.snoop_machine.proofs.MapRows.{get_or-mapped}
-use Rattle.snoop_machine.proofs.QueueViews.{queue_of-queues_of}
+use Rattle.snoop_machine.proofs.EachPlace.{each_place}
+use Rattle.snoop_machine.proofs.Queues.{queue_of-queues_of}
 
 -- how many requests of the core find room in all
 abbrev pub held_in : List Waiting → ℕ → ℕ
 held_in queues core = length (slice_index_or queues core no_queue).requests + (slice_index_or queues core no_queue).room
 
-min-none : (a b : ℕ) → a ≡ 0 → min a b ≡ 0
-min-none a b none = omega arith
-
-none-min : (a b : ℕ) → b ≡ 0 → min a b ≡ 0
-none-min a b none = omega arith
-
 rooms_at : (queues : List Waiting) (core : ℕ) → slice_index (map (λ (q : Waiting). q.room) queues) core ≡ (slice_index_or queues core no_queue).room
-rooms_at queues core = get_or-mapped (λ (q : Waiting). q.room) queues no_queue core
+rooms_at queues core = get_or-map (λ (q : Waiting). q.room) queues core no_queue
 
 -- it is the capacity that callers see
-pub capacity_held : (queues : List Waiting) (core : ℕ) → length (queue_of (queues_of queues) core) + slice_index (map (λ (q : Waiting). q.room) queues) core ≡ held_in queues core
+capacity_held : (queues : List Waiting) (core : ℕ) → length (queue_of (queues_of queues) core) + slice_index (map (λ (q : Waiting). q.room) queues) core ≡ held_in queues core
 capacity_held queues core =
     let shown = ap (λ (l : List ℕ). length l) (queue_of-queues_of queues core) in
     let long = length-map (slice_index_or queues core no_queue).requests (λ (r : Request × ℕ). r.1) in
@@ -36,10 +30,8 @@ capacity_held queues core =
 
 -- another queue for one core, of no less capacity
 pub held_in-set : (queues : List Waiting) (core : ℕ) (queue : Waiting) → core < length queues → held_in queues core ≤ length queue.requests + queue.room → (k : ℕ) → held_in queues k ≤ held_in (slice_set queues core queue) k
-held_in-set queues core queue within more k = elim (cases_eq k core) [
-  | inl e ↦ rw (e, get_or-set_same queues core queue no_queue within) more
-  | inr ne ↦ rw (get_or-set_other queues core k queue no_queue ne) (omega arith)
-]
+held_in-set queues core queue within more =
+    each_place (λ k its. held_in queues k ≤ length its.requests + its.room) queues core queue no_queue within more (λ k ne. omega arith)
 
 shown-full : (room spare : ℕ) → room ≡ 0 → shown_line_room room spare ≡ 0
 shown-full zero spare full = refl
@@ -71,16 +63,15 @@ shown-same (q ∷ qs) [] core spare full = refl
 shown-same (q ∷ qs) (s ∷ ss) zero spare full = ap (λ (n : ℕ). n ∷ shown_line_rooms qs ss) (shown-full q.room spare full ∙ sym (shown-full q.room s full))
 shown-same (q ∷ qs) (s ∷ ss) (suc core) spare full = ap (λ (l : List ℕ). shown_line_room q.room s ∷ l) (shown-same qs ss core spare full)
 
--- there is no place where the queue has no room
+-- there is no place where the queue has no room, nor where the map has none
 pub places-queue : (m : Fields) (core : ℕ) → (slice_index_or m.bus.queues core no_queue).room ≡ 0 → places (standing m) core ≡ 0
-places-queue m core full = min-none (slice_index (standing m).request_rooms core) (slice_index (standing m).line_rooms core) (rooms_at m.bus.queues core ∙ full)
+places-queue m core full = let shown = rooms_at m.bus.queues core in omega arith
 
--- nor where the map has none
 pub places-map : (m : Fields) (core : ℕ) → slice_index_or m.lines.line_rooms core 0 ≡ 0 → places (standing m) core ≡ 0
 places-map m core full =
     let least = shown-least (slice_index_or m.bus.queues core no_queue).room (slice_index_or m.lines.line_rooms core 0) in
-    let none = shown_at m.bus.queues m.lines.line_rooms core in
-    none-min (slice_index (standing m).request_rooms core) (slice_index (standing m).line_rooms core) (omega arith)
+    let shown = shown_at m.bus.queues m.lines.line_rooms core in
+    omega arith
 
 -- as long as neither the log's capacity nor a queue's falls, and the maps keep their room for lines, no room is lost
 pub keeps_room : (old new : Fields) (view : Standing) → standing old ≡ view → length old.log.items + old.log.room ≤ length new.log.items + new.log.room → ((core : ℕ) → held_in old.bus.queues core ≤ held_in new.bus.queues core)

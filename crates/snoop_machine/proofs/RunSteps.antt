@@ -1,19 +1,13 @@
 -- One step more of the steps that a machine takes.
-use Rattle.std.proofs.Common.{◌≡◌, ◌<◌, take, length, get_or, ℕ, ◌+◌, List, [], ◌∷◌, ◌++◌, Option, refl, ap, subst, arith, cond}
-use Rattle.std.specs.Prelude.{Result, Ok, Err, IfOk, IfErr, is_ok, count_by}
+use Rattle.std.proofs.Common.{◌≡◌, ◌<◌, take, length, get_or, ℕ, ◌+◌, List, [], ◌∷◌, ◌++◌, ap, arith, cond}
+use Rattle.std.specs.Prelude.{Result, Ok, Err, is_ok, count_by}
 use Rattle.std.proofs.lemmas.List.Sums.{sum_by-append}
 use Rattle.std.proofs.lemmas.List.{take_more}
 use Rattle.snoop_trace.specs.declared.step.Step.{Step}
-use Rattle.snoop_history.specs.declared.items.Item.{Item}
 use Rattle.snoop_model.specs.declared.replies.Reply.{Reply}
 use Rattle.snoop_model.specs.declared.replies.Refused.{Refused}
 use Rattle.snoop_model.specs.declared.replies.Refused.TheVariants.{NoMemory}
-use Rattle.snoop_model.specs.Pictures.Situation.{Situation}
-use Rattle.snoop_machine.specs.Standing.{Standing, KeepsRoom}
-use Rattle.snoop_machine.specs.Prepared.{IsFull}
-use Rattle.snoop_machine.specs.Holding.{HoldsOn}
-use Rattle.snoop_model.specs.Moves.Move.{FirstMove}
-use Rattle.snoop_model.specs.Moves.Refuses.{RefusedFor}
+use Rattle.snoop_machine.specs.Standing.{Standing}
 use Rattle.snoop_model.specs.Runs.Run.{Goes, RunFrom, RunBy}
 use Rattle.snoop_model.specs.Invariant.Invariant.{Invariant}
 use Rattle.snoop_model.specs.Invariant.MachineKeeps.{MachineKeeps}
@@ -22,12 +16,6 @@ use Rattle.snoop_machine.proofs.StepKeeps.{step_keeps}
 use Rattle.snoop_model.proofs.Once.Runs.{run_once}
 use Rattle.snoop_model.proofs.Runs.Along.{run_more, seen_along}
 use Rattle.snoop_machine.specs.Runs.{Answers, AnswersSafely, HasRun}
-
--- what a machine's step answers
-pub answers : (old new : Standing) (step : Step) (result : Result Reply Refused) → IfOk result (λ reply. (entry : Option Item) × FirstMove old.situation step reply new.situation entry)
-    → IfErr result (λ cause. RefusedFor old.situation step cause × (new ≡ old)) → (result ≡ Err NoMemory → IsFull old step) → KeepsRoom old new → ((core : ℕ) → HoldsOn old new step core) → Answers old step result new
-answers old new step (Ok reply) taken refused full room lines = (taken, room, lines)
-answers old new step (Err cause) taken refused full room lines = (refused.0, λ e. full (ap (λ (x : Refused). Err x) e), refused.1)
 
 -- the steps so far
 pub record Going (old : Standing) (steps : List Step) (taken : ℕ) (new : Standing) : Type 0 where
@@ -39,13 +27,20 @@ pub record Going (old : Standing) (steps : List Step) (taken : ℕ) (new : Stand
 counted : (outcomes : List (Result Reply Refused)) (outcome : Result Reply Refused) → count_by is_ok (outcomes ++ outcome ∷ []) ≡ count_by is_ok outcomes + count_by is_ok (outcome ∷ [])
 counted outcomes outcome = sum_by-append (λ x. cond (is_ok x) 1 0) outcomes (outcome ∷ [])
 
--- one step more
-pub Going-more : (old middle new : Standing) (steps : List Step) (taken count : ℕ) (step : Step) (result : Result Reply Refused) → Going old steps taken middle
-    → Answers middle step result new → MachineKeeps new.situation → count ≡ taken + count_by is_ok (result ∷ []) → Going old (steps ++ step ∷ []) count new
-Going-more old middle new steps taken count step result g goes keeps more =
-    let all = counted g.outcomes result in
-    let was = g.many in
-    record { outcomes = g.outcomes ++ result ∷ []; run = run_more AnswersSafely steps g.outcomes old middle new step result g.run (goes, is_safe new.situation keeps); many = omega arith; keeps = keeps }
+-- one step more of a list
+pub goes_on : (old middle new : Standing) (steps : List Step) (i : ℕ) (d : Step) (taken : ℕ) (result : Result Reply Refused) → i < length steps
+    → Going old (take i steps) taken middle
+    → Answers middle (get_or steps i d) result new → (count : ℕ) → count ≡ taken + count_by is_ok (result ∷ []) → Going old (take (i + 1) steps) count new
+goes_on old middle new steps i d taken result within so_far goes count more =
+    let keeps = step_keeps middle new (get_or steps i d) result so_far.keeps goes in
+    let all = counted so_far.outcomes result in
+    let was = so_far.many in
+    rw (take_more steps i d within) (record {
+      outcomes = so_far.outcomes ++ result ∷ [];
+      run = run_more AnswersSafely (take i steps) so_far.outcomes old middle new (get_or steps i d) result so_far.run (goes, is_safe new.situation keeps);
+      many = omega arith;
+      keeps = keeps;
+    })
 
 goes_so : (old : Standing) (step : Step) (outcome : Result Reply Refused) (new : Standing) → AnswersSafely old step outcome new → Goes old.situation step outcome new.situation
 goes_so old step (Ok answer) new a = (a.0.0.0, (a.0.0.1.0, a.0.0.1.1.1))
@@ -58,16 +53,3 @@ runs_on_run = seen_along AnswersSafely Goes (λ s. s.situation) goes_so
 
 pub has_run : (old new : Standing) (steps : List Step) (taken : ℕ) → Invariant old.situation → Going old steps taken new → HasRun old steps taken new
 has_run old new steps taken g r = record { outcomes = r.outcomes; run = r.run; many = r.many; once = run_once steps r.outcomes old.situation new.situation g (runs_on_run steps r.outcomes old new r.run) }
-
--- one step more of a list
-module _ (old middle new : Standing) (steps : List Step) (i : ℕ) (d : Step) (taken : ℕ) (result : Result Reply Refused) (within : i < length steps) (so_far : Going old (take i steps) taken middle)
-    (moved : IfOk result (λ reply. (entry : Option Item) × FirstMove middle.situation (get_or steps i d) reply new.situation entry))
-    (refused : IfErr result (λ cause. RefusedFor middle.situation (get_or steps i d) cause × (new ≡ middle))) (full : result ≡ Err NoMemory → IsFull middle (get_or steps i d)) (room : KeepsRoom middle new) (lines : (core : ℕ) → HoldsOn middle new (get_or steps i d) core) where
-  goes : Answers middle (get_or steps i d) result new
-  goes = answers middle new (get_or steps i d) result moved refused full room lines
-
-  keeps : MachineKeeps new.situation
-  keeps = step_keeps middle new (get_or steps i d) result so_far.keeps moved refused
-
-  pub goes_on : (count : ℕ) → count ≡ taken + count_by is_ok (result ∷ []) → Going old (take (i + 1) steps) count new
-  goes_on count more = rw (take_more steps i d within) (Going-more old middle new (take i steps) taken count (get_or steps i d) result so_far goes keeps more)

@@ -1,11 +1,16 @@
 -- What memory holds of each block.
 -- Source: this project's profile.
-use Rattle.std.specs.Prelude.{List, [], ◌∷◌}
-use Rattle.snoop_trace.specs.Words.{Data}
+use Rattle.std.specs.Prelude.{ℕ, List, slice_index_or}
+use Rattle.snoop_trace.specs.Words.{Data, zero_words}
 use Rattle.snoop_rules.specs.declared.names.MemState.{MemState}
+use Rattle.snoop_rules.specs.declared.names.MemState.TheVariants.{IorS}
 use Rattle.snoop_model.specs.Pictures.Lines.{MemLine}
 
--- its lines, of its states and its words
-abbrev pub mem_lines : List MemState → List Data → List MemLine
-mem_lines (state ∷ states) (value ∷ values) = record { state = state; value = value } ∷ mem_lines states values
-mem_lines _ _ = []
+-- its state and its words, by block
+pub record MemTables : Type 0 where
+  pub states : List MemState
+  pub words : List Data
+
+-- its line of a block
+abbrev pub memory_at : MemTables → ℕ → MemLine
+memory_at memory block = record { state = slice_index_or memory.states block IorS; value = slice_index_or memory.words block zero_words }

@@ -1,16 +1,18 @@
 -- What is seen of a machine's parts, and what holds between them.
 -- Source: this project's profile.
-use Rattle.std.specs.Prelude.{◌≡◌, ◌≢◌, ◌<◌, ◌≤◌, ℕ, zero, suc, length, List, [], ◌∷◌, map, Contains, Option, Some, slice_index_or}
+use Rattle.std.specs.Prelude.{◌≡◌, ◌<◌, ◌≤◌, ◌==◌, ℕ, zero, suc, length, List, [], ◌∷◌, map, filter, Option, Some, option_to_list, slice_index_or}
 use Rattle.snoop_trace.specs.Extent.{Extent}
+use Rattle.snoop_trace.specs.Words.{Data}
 use Rattle.snoop_trace.specs.declared.protocol.Protocol.{Protocol}
+use Rattle.snoop_rules.specs.declared.names.MemState.{MemState}
 use Rattle.snoop_rules.specs.declared.names.Request.{Request}
 use Rattle.snoop_rules.specs.Waits.{waiting_request}
 use Rattle.snoop_bus.specs.Traffic.{Open, Traffic, Waiting, waiting_of, transaction_on}
 use Rattle.snoop_history.specs.Journal.{Journal}
-use Rattle.snoop_model.specs.Pictures.Lines.{Line, MemLine}
+use Rattle.snoop_model.specs.Pictures.Lines.{Line}
 use Rattle.snoop_model.specs.Pictures.Picture.{Picture}
-use Rattle.snoop_model.specs.Pictures.Situation.{nothing_there}
 use Rattle.snoop_model.specs.Pictures.Proper.{IsProper}
+use Rattle.snoop_machine.specs.Memory.{MemTables}
 use Rattle.snoop_machine.specs.Standing.{Standing}
 use Rattle.snoop_machine.specs.Lines.{Held, line_at}
 
@@ -19,27 +21,23 @@ pub record Fields : Type 0 where
   pub protocol : Protocol
   pub shape : Extent
   pub lines : Held
-  pub memory : List MemLine
+  pub memory : MemTables
   pub bus : Traffic
   pub log : Journal
 
 -- these parts
-abbrev pub fields : Protocol → Extent → Held → List MemLine → Traffic → Journal → Fields
+abbrev pub fields : Protocol → Extent → Held → MemTables → Traffic → Journal → Fields
 fields protocol shape lines memory bus log = record { protocol = protocol; shape = shape; lines = lines; memory = memory; bus = bus; log = log }
 
 -- the queues that the bus shows
 abbrev pub queues_of : List Waiting → List (List ℕ)
 queues_of queues = map (λ queue. map (λ r. r.1) queue.requests) queues
 
--- what stands for memory's line of a block that there isn't
-abbrev pub no_memory : MemLine
-no_memory = nothing_there.memory
-
--- the picture of each block: its lines, memory's line and its open transaction
-abbrev pub pictures_of : List (List Line) → List MemLine → List (Option Open) → List Picture
-pictures_of (row ∷ rows) (memory ∷ memories) (transaction ∷ transactions) =
-    record { caches = row; memory = memory; transaction = transaction } ∷ pictures_of rows memories transactions
-pictures_of _ _ _ = []
+-- the picture of each block: its lines, memory's state and words, and its open transaction
+abbrev pub pictures_of : List (List Line) → List MemState → List Data → List (Option Open) → List Picture
+pictures_of (row ∷ rows) (state ∷ states) (value ∷ values) (transaction ∷ transactions) =
+    record { caches = row; memory = record { state = state; value = value }; transaction = transaction } ∷ pictures_of rows states values transactions
+pictures_of _ _ _ _ = []
 
 -- for how many more lines a map has room, as callers see it: none where its core's queue has no room, since there a request that is refused may have let the map grow
 abbrev pub shown_line_room : ℕ → ℕ → ℕ
@@ -58,7 +56,7 @@ standing m =
       situation = record {
         protocol = m.protocol;
         shape = m.shape;
-        pictures = pictures_of m.lines.rows m.memory m.bus.transactions;
+        pictures = pictures_of m.lines.rows m.memory.states m.memory.words m.bus.transactions;
         queues = queues_of m.bus.queues;
         log = m.log.items;
       };
@@ -68,9 +66,13 @@ standing m =
       lines = m.lines.lines;
     }
 
--- no block stands twice
-abbrev pub IsEachOnce : List (Request × ℕ) → Type 0
-IsEachOnce requests = (j k : ℕ) (d : Request × ℕ) → j < k → k < length requests → (slice_index_or requests j d).1 ≢ (slice_index_or requests k d).1
+-- the requests of a queue that are for the block
+abbrev pub requests_for : ℕ → List (Request × ℕ) → List Request
+requests_for block requests = map (λ r. r.0) (filter (λ r. r.1 == block) requests)
+
+-- a queue has one request for the block, for which the line waits, or none where the line does not wait
+abbrev pub WaitsAs : ℕ → Waiting → Line → Type 0
+WaitsAs block queue line = requests_for block queue.requests ≡ option_to_list (waiting_request line.state)
 
 -- lines, queues and open transactions fit together
 pub record IsSound (shape : Extent) (caches : List (List Line)) (bus : Traffic) : Type 0 where
@@ -80,15 +82,14 @@ pub record IsSound (shape : Extent) (caches : List (List Line)) (bus : Traffic) 
   pub transactions : length bus.transactions ≡ shape.blocks
   pub proper : (core block : ℕ) → IsProper (line_at caches core block)
   pub opened : (block : ℕ) (transaction : Open) → transaction_on bus block ≡ Some transaction → (transaction.block ≡ block) × (transaction.core < shape.cores)
-  pub queued : (core block : ℕ) (request : Request) → Contains (waiting_of bus core).requests (request, block) → waiting_request (line_at caches core block).state ≡ Some request
-  pub waits : (core block : ℕ) (request : Request) → waiting_request (line_at caches core block).state ≡ Some request → Contains (waiting_of bus core).requests (request, block)
-  pub once : (core : ℕ) → IsEachOnce (waiting_of bus core).requests
+  pub waits : (core block : ℕ) → WaitsAs block (waiting_of bus core) (line_at caches core block)
 
 -- what is kept beside the lines and the bus is as large as the shape says, and a block holds so many words
 pub record IsSized (count : ℕ) (m : Fields) : Type 0 where
   pub few : m.shape.cores < 257
   pub lines : length m.lines.lines ≡ m.shape.cores
-  pub memory : length m.memory ≡ m.shape.blocks
+  pub states : length m.memory.states ≡ m.shape.blocks
+  pub values : length m.memory.words ≡ m.shape.blocks
   pub cores : m.log.cores ≡ m.shape.cores
   pub blocks : m.log.blocks ≡ m.shape.blocks
   pub words : m.log.words ≡ m.shape.words

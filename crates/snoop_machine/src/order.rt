@@ -1,8 +1,6 @@
 //! An Order: the rows that cores take for it, which controller sends, and memory's next state.
-ghost use Rattle.std.specs.Prelude.{◌≡◌, ◌≢◌, ℕ, ◌<◌, [], length, Some, IfSome, IfNone, slice_index_or, slice_set};
+ghost use Rattle.std.specs.Prelude.{◌≡◌, ℕ, ◌<◌, [], length, Some, slice_index_or, slice_set};
 ghost use Rattle.snoop_rules.specs.Waits.{waiting_request};
-ghost use Rattle.snoop_rules.specs.declared.names.MemAction.TheVariants.{Send};
-ghost use Rattle.snoop_rules.specs.declared.names.Payload.{Payload};
 ghost use Rattle.snoop_rules.specs.Takers.{at_memory, seen_by};
 ghost use Rattle.snoop_model.specs.Pictures.Picture.{free_picture, held_at};
 ghost use Rattle.snoop_model.specs.Pictures.Sends.{IsOnlySender};
@@ -10,13 +8,13 @@ ghost use Rattle.snoop_model.specs.Moves.LookUps.{HasRow};
 ghost use Rattle.snoop_model.specs.Moves.SenderTable.{FollowsSenderTable};
 ghost use Rattle.snoop_model.specs.Moves.Move.{TakesMemRow, TakesRows};
 ghost use Rattle.snoop_machine.specs.Lines.{LinesGo, KeepsMapsRoom};
-ghost use Rattle.snoop_machine.specs.PartsView.{no_memory};
+ghost use Rattle.snoop_machine.specs.Memory.{memory_at};
 
 use crate::lines::Lines;
 use crate::memory::Memory;
 use snoop_rules::{
-    CacheAction, MemAction, MemCell, MemState, Payload, Protocol, Request, cache_cell,
-    event_at_memory, event_seen, mem_cell,
+    CacheAction, MemAction, MemState, Payload, Protocol, Request, cache_cell, event_at_memory,
+    event_seen, mem_cell,
 };
 use snoop_trace::Block;
 
@@ -56,17 +54,6 @@ pub(crate) struct Sending {
     pub(crate) memory: MemState,
 }
 
-/// The payload that memory sends, if it sends.
-fn sent_by_memory(cell: MemCell) -> Option<Payload>
-    ensures some { IfSome result (λ payload. cell.action ≡ Send payload) }
-    ensures none { IfNone result ((payload : Payload) → cell.action ≢ Send payload) }
-{
-    match cell.action {
-        MemAction::Send(payload) => Some(payload),
-        MemAction::None | MemAction::Write => None,
-    }
-}
-
 impl<B: Block> Lines<B> {
     /// The one controller that sends for a request on the block, and memory's next state.
     pub(crate) fn sender(
@@ -80,14 +67,14 @@ impl<B: Block> Lines<B> {
         requires block { block < length self.now.rows }
         requires waits { waiting_request (held_at (slice_index_or self.now.rows block []) requestor).state ≡ Some request }
         requires rows { (k : ℕ) → k < length (slice_index_or self.now.rows block []) → HasRow protocol (held_at (slice_index_or self.now.rows block []) k).state (seen_by k requestor request) }
-        requires line { FollowsSenderTable protocol (free_picture (slice_index_or self.now.rows block []) (slice_index_or memory.now block no_memory)) requestor request }
-        ensures sender { IsOnlySender protocol (free_picture (slice_index_or self.now.rows block []) (slice_index_or memory.now block no_memory)) requestor request result.from result.payload }
-        ensures memory { TakesMemRow protocol (at_memory request) (slice_index_or memory.now block no_memory).state result.memory }
+        requires line { FollowsSenderTable protocol (free_picture (slice_index_or self.now.rows block []) (memory_at memory.now block)) requestor request }
+        ensures sender { IsOnlySender protocol (free_picture (slice_index_or self.now.rows block []) (memory_at memory.now block)) requestor request result.from result.payload }
+        ensures memory { TakesMemRow protocol (at_memory request) (memory_at memory.now block).state result.memory }
     {
         let Some(row) = mem_cell(protocol, memory.state(block), event_at_memory(request)) else {
             unreachable!();
         };
-        if let Some(payload) = sent_by_memory(row) {
+        if let MemAction::Send(payload) = row.action {
             return Sending {
                 from: None,
                 payload,

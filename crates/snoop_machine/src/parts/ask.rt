@@ -148,10 +148,11 @@ impl<B: Block> Parts<B> {
         ensures lines { (k : ℕ) → LosesLines self.old self.new k }
     {
         let did = self.next_did(core, block, access, value, true);
-        if !matches!(&access.op, Op::Load) {
-            self.move_line(core, block, next, LineChange::Hit(access));
-        }
         self.log.push(Item::Did(did));
+        if let Op::Load = access.op {
+            return;
+        }
+        self.move_line(core, block, next, LineChange::Hit(access));
     }
 }
 

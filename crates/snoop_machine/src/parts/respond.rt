@@ -45,7 +45,7 @@ impl<B: Block> Parts<B> {
             closing.payload,
         );
         let came = came(closing);
-        if matches!(&closing.request, Request::PutM) {
+        if let Request::PutM = closing.request {
             return Ok(Plan::Writeback { came, memory });
         }
         let found = self.line(closing.core, block);

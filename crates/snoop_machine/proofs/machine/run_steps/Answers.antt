@@ -6,7 +6,7 @@ use Rattle.snoop_trace.specs.declared.step.Step.{Step}
 use Rattle.snoop_machine.specs.Standing.{Standing}
 use Rattle.snoop_model.specs.Invariant.MachineKeeps.{MachineKeeps}
 use Rattle.snoop_model.proofs.Invariant.Safety.{is_safe}
-use Rattle.snoop_machine.proofs.StepKeeps.{steps_stay}
+use Rattle.snoop_machine.proofs.StepKeeps.{answers, steps_stay}
 use Rattle.snoop_machine.proofs.RunSteps.{Going, has_run, goes_on}
 use Rattle.snoop_machine.specs.AnyParts.{stand}
 use Rattle.snoop_machine.proofs.machine.run_steps.Goals.{then-is_ok, else-is_ok, At-loop-step}
@@ -25,8 +25,8 @@ loop-step-preserved c =
     let middle : Standing = (stand c.loop-step.machine-inside.parts) in
     let new : Standing = (stand c.step.new.self) in
     let few : c.loop-step.taken ≤ c.loop-step.step-index = c.loop-step.invariant.1 in
-    let more = goes_on old middle new c.args.steps.now c.loop-step.step-index _ c.loop-step.taken c.step.result c.loop-step-test.true c.loop-step.invariant.0
-    c.step.ensures.taken c.step.ensures.refused c.step.ensures.full c.step.ensures.room c.step.ensures.lines in
+    let goes = answers middle new _ c.step.result c.step.ensures.taken c.step.ensures.refused c.step.ensures.full c.step.ensures.room c.step.ensures.lines in
+    let more = goes_on old middle new c.args.steps.now c.loop-step.step-index _ c.loop-step.taken c.step.result c.loop-step-test.true c.loop-step.invariant.0 goes in
     elim c.if-is_ok.branch [
       | then-is_ok w ↦
           let one : count_by is_ok (c.step.result ∷ []) ≡ 1 = rw (sym c.is_ok.ensures.value ∙ w.if-is_ok.true) in

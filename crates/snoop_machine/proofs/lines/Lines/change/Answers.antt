@@ -2,7 +2,7 @@ use Rattle.std.proofs.Common.{◌∙◌, ap, arith, inl, inr}
 use Rattle.snoop_model.specs.Pictures.Lines.{Line}
 use Rattle.snoop_machine.specs.Cache.{changed}
 use Rattle.snoop_machine.specs.Lines.{line_at}
-use Rattle.snoop_machine.proofs.LineChanges.{HasWritten, lines_after, rows_wrote, room_kept, many_kept, others_kept, lines_stay, line_gone, lines_elsewhere, lines_gone}
+use Rattle.snoop_machine.proofs.LineChanges.{HasWritten, goes_from, lines_after, writes}
 use Rattle.snoop_machine.proofs.LineMaps.{IsMap, is_map, in_rows, core_few, mover_placed}
 use Rattle.snoop_machine.proofs.LineParts.{stands}
 use Rattle.snoop_machine.proofs.ProperLines.{settled}
@@ -33,44 +33,34 @@ change-before-requires-clause-settled g c =
     let d = (goal.at.change-before-requires-clause-settled g c).After-index_mut-cache in
     rw (map_of g d).was (settled (line g d) c.requires.proper)
 
-pub follow-requires-clause-block : goal.follow-requires-clause-block
-follow-requires-clause-block g c = (map_of g (goal.at.follow-requires-clause-block g c).After-index_mut-cache).in_blocks
-
-pub follow-requires-clause-core : goal.follow-requires-clause-core
-follow-requires-clause-core g c = core_few c.self.invariant c.self.view_is (map_of g (goal.at.follow-requires-clause-core g c).After-index_mut-cache)
-
-pub follow-requires-clause-stands : goal.follow-requires-clause-stands
-follow-requires-clause-stands g c =
-    stands c.self.invariant (map_of g (goal.at.follow-requires-clause-stands g c).After-index_mut-cache) c.change-before.result c.change-before.ensures.before
+pub follow-requires : goal.follow-requires
+follow-requires g c =
+    let its = map_of g (goal.at.follow-requires g c).After-index_mut-cache in
+    record {
+      core = core_few c.self.invariant c.self.view_is its;
+      block = its.in_blocks;
+      stands = stands c.self.invariant its c.change-before.result c.change-before.ensures.before;
+    }
 
 -- the map has the changed line, and the holders have followed
 wrote : (g : Over) (c : After-follow g)
     → HasWritten c.self.inside.caches.items c.self.inside.holders c.args.self.now c.args.core c.args.block (line g (goal.at.After-follow g c).After-index_mut-cache) c.index_mut-cache.result.now c.change-before.new.self c.follow.new.holders
 wrote g c =
     let its = map_of g (goal.at.After-follow g c).After-index_mut-cache in
+    let did = c.change-before.ensures in
     record {
       map = its;
       proper = c.requires.proper;
-      here = c.change-before.ensures.here ∙ ap (λ (x : Line). changed c.args.next c.args.change x) its.was;
-      others = c.change-before.ensures.others;
+      here = did.here ∙ ap (λ (x : Line). changed c.args.next c.args.change x) its.was;
+      others = did.others;
+      goes = goes_from _ _ c.args.block c.index_mut-cache.result.now c.change-before.new.self
+          (elim c.requires.place [ inl held ↦ inl held | inr new ↦ inr new.1 ]) did.taken did.fewer did.stays;
       followed = c.follow.ensures;
-      room = c.change-before.ensures.room;
+      room = did.room;
     }
 
 pub invariant_of-self : goal.invariant_of-self
 invariant_of-self g c = lines_after (wrote g (goal.at.invariant_of-self g c).After-follow) c.self.invariant c.self.view_is
 
 pub returns : goal.returns
-returns g c =
-    let its = wrote g (goal.at.returns g c).After-follow in
-    record {
-      rows = rows_wrote its c.self.invariant c.self.view_is;
-      many = many_kept its c.self.invariant c.self.view_is;
-      stays = λ ne. lines_stay its c.self.invariant c.self.view_is (c.change-before.ensures.stays ne);
-      taken = λ e. line_gone its c.self.invariant c.self.view_is (c.change-before.ensures.taken e);
-      elsewhere = lines_elsewhere its c.self.invariant c.self.view_is;
-      lines = lines_gone its c.self.invariant c.self.view_is (elim c.requires.place [ inl held ↦ inl held | inr new ↦ inr new.1 ])
-          c.change-before.ensures.fewer c.change-before.ensures.stays;
-      others = others_kept its c.self.invariant c.self.view_is;
-      room = room_kept its c.self.invariant c.self.view_is;
-    }
+returns g c = writes (wrote g (goal.at.returns g c).After-follow) c.self.invariant c.self.view_is

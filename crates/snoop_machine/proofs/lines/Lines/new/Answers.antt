@@ -1,17 +1,12 @@
-use Rattle.std.proofs.Common.{◌≡◌, ℕ, List, [], length, replicate, sym, ◌∙◌, ap, subst, arith}
-use Rattle.std.specs.Prelude.{slice_index_or}
+use Rattle.std.proofs.Common.{◌≡◌, ℕ, length, replicate, refl, ◌∙◌, ap, arith}
 use Rattle.std.proofs.lemmas.Grind.{common_steps}
 use Rattle.std.proofs.lemmas.Result.{err_from_is_err_and}
 use Rattle.std.proofs.lemmas.List.{length-replicate, get_or-replicate}
-use Rattle.snoop_model.specs.Pictures.Lines.{Line}
 use Rattle.snoop_model.specs.Pictures.Picture.{nothing_held}
-use Rattle.snoop_model.specs.Pictures.Proper.{IsProper, keeps}
 use Rattle.snoop_model.specs.Invariant.Fits.{is_owner}
 use Rattle.snoop_model.proofs.Lists.Facts.{replicated}
 use Rattle.snoop_model.proofs.Invariant.Runs.{nothing_proper}
-use Rattle.snoop_machine.specs.declared.holders.Holders.{Holders}
-use Rattle.snoop_machine.specs.Holders.{AreHolders, no_holders}
-use Rattle.snoop_machine.specs.Lines.{held_by_block}
+use Rattle.snoop_machine.specs.Holders.{no_holders}
 use Rattle.snoop_machine.proofs.MapRows.{empty-push, line-empty, row-empty, rows-empty, blocks-empty}
 use Rattle.snoop_machine.proofs.lines.Lines.new.Given.{Over}
 use Rattle.snoop_machine.proofs.lines.Lines.new.Goals as goal
@@ -43,31 +38,26 @@ unfolding is_owner
 invariant_of-result g c =
     let d = (goal.at.invariant_of-result g c).In_ok-holders in
     let caches = c.loop.caches.items in
-    let holders = c.in_ok-holders.holders in
     let many = counted g d in
     let few = c.requires in
+    let blocks = c.args.shape.blocks in
     record {
       few = omega (arith, many, few);
-      proper = λ core block. subst (λ (line : Line). IsProper line) (sym (line-empty caches c.loop.invariant.0 core block)) nothing_proper;
+      proper = λ core block. rw (line-empty caches c.loop.invariant.0 core block) nothing_proper;
       indexed = λ block lt.
-          let long : length holders ≡ c.args.shape.blocks = ap (λ (l : List Holders). length l) (holders_are g d) ∙ length-replicate c.args.shape.blocks c.empty.result in
-          let none : slice_index_or holders block no_holders ≡ c.empty.result =
-          ap (λ (l : List Holders). slice_index_or l block no_holders) (holders_are g d) ∙ get_or-replicate c.args.shape.blocks block c.empty.result no_holders (omega (arith, long, lt)) in
-          subst (λ (row : List Line). AreHolders (slice_index_or holders block no_holders) row) (sym (row-empty caches c.loop.invariant.0 block))
-          (subst (λ (h : Holders). AreHolders h (replicate (length caches) nothing_held)) (sym none) (record {
-            owners = λ core. c.empty.ensures.owners core ∙ sym (ap (λ (l : Line). is_owner l.state) (replicated (length caches) core nothing_held));
-            readers = λ core. c.empty.ensures.readers core ∙ sym (ap (λ (l : Line). keeps l.state) (replicated (length caches) core nothing_held));
-          }));
+          let within = rw (holders_are g d, length-replicate blocks c.empty.result) at lt in
+          rw (holders_are g d, get_or-replicate blocks block c.empty.result no_holders within, row-empty caches c.loop.invariant.0 block) (record {
+            owners = λ core. rw (replicated (length caches) core nothing_held) (c.empty.ensures.owners core);
+            readers = λ core. rw (replicated (length caches) core nothing_held) (c.empty.ensures.readers core);
+          });
     }
 
 pub returns-clause-rows : goal.returns-clause-rows
 returns-clause-rows g c =
     let d = (goal.at.returns-clause-rows g c).In_ok-holders in
-    let caches = c.loop.caches.items in
-    let long : length c.in_ok-holders.holders ≡ c.args.shape.blocks = ap (λ (l : List Holders). length l) (holders_are g d) ∙ length-replicate c.args.shape.blocks c.empty.result in
-    ap (λ (n : ℕ). held_by_block n caches) long ∙ (rows-empty caches c.loop.invariant.0 c.args.shape.blocks ∙ ap (λ (n : ℕ). replicate c.args.shape.blocks (replicate n nothing_held)) (counted g d))
+    rw (holders_are g d, length-replicate c.args.shape.blocks c.empty.result, rows-empty c.loop.caches.items c.loop.invariant.0 c.args.shape.blocks, counted g d) refl
 
 pub returns-clause-lines : goal.returns-clause-lines
 returns-clause-lines g c =
     let d = (goal.at.returns-clause-lines g c).In_ok-holders in
-    blocks-empty c.loop.caches.items c.loop.invariant.0 ∙ ap (λ (n : ℕ). let l : List (List ℕ) = replicate n [] in l) (counted g d)
+    rw (blocks-empty c.loop.caches.items c.loop.invariant.0, counted g d) refl

@@ -1,6 +1,5 @@
-use Rattle.std.proofs.Common.{◌≡◌, ℕ, ◌<◌, List, ◌++◌, ◌∷◌, [], is_some, length, sym, ◌∙◌, ap, subst}
-use Rattle.std.specs.Prelude.{slice_index_or, slice_set, nat_eq, map}
-use Rattle.std.specs.Map.{lookup}
+use Rattle.std.proofs.Common.{◌≡◌, ◌<◌, length, refl, ◌∙◌, ap}
+use Rattle.std.specs.Prelude.{slice_index_or}
 use Rattle.std.proofs.lemmas.List.{get_or_read, map-set}
 use Rattle.snoop_machine.specs.Cache.{Contents, no_cache, line_in, blocks_of}
 use Rattle.snoop_machine.specs.Lines.{Held}
@@ -20,14 +19,11 @@ read g c = get_or_read c.self.inside.caches.items c.args.core c.index_mut-cache.
 
 pub put_ahead-requires-clause-absent : goal.put_ahead-requires-clause-absent
 put_ahead-requires-clause-absent g c =
-    let d = (goal.at.put_ahead-requires-clause-absent g c).After-index_mut-cache in
-    ap (λ (cache : Contents). is_some (lookup (nat_eq c.args.block) cache.entries)) (read g d)
-    ∙ (among_seen c.self.invariant c.self.view_is c.args.core c.args.block ∙ c.requires.absent)
+    rw (read g (goal.at.put_ahead-requires-clause-absent g c).After-index_mut-cache, among_seen c.self.invariant c.self.view_is c.args.core c.args.block) c.requires.absent
 
 pub put_ahead-requires-clause-room : goal.put_ahead-requires-clause-room
 put_ahead-requires-clause-room g c =
-    let d = (goal.at.put_ahead-requires-clause-room g c).After-index_mut-cache in
-    subst (λ (n : ℕ). 0 < n) (sym (ap (λ (cache : Contents). cache.spare) (read g d) ∙ spare_seen c.self.invariant c.self.view_is c.args.core)) c.requires.room
+    rw (read g (goal.at.put_ahead-requires-clause-room g c).After-index_mut-cache, spare_seen c.self.invariant c.self.view_is c.args.core) c.requires.room
 
 pub invariant_of-self : goal.invariant_of-self
 invariant_of-self g c =
@@ -40,14 +36,10 @@ returns g c =
     let d = (goal.at.returns g c).After-index_mut-cache in
     let caches = c.self.inside.caches.items in
     let core = c.args.core in
-    let blocks = c.put_ahead.ensures.blocks
-    ∙ ap (λ (blocks : List ℕ). blocks ++ c.args.block ∷ []) (ap blocks_of (read g d) ∙ blocks_seen c.self.invariant c.self.view_is core) in
     record {
       rows = rows-same (length c.self.inside.holders) caches core c.put_ahead.new.self
           (λ b. c.put_ahead.ensures.same b ∙ ap (λ (cache : Contents). line_in cache b) (read g d))
           ∙ ap (λ (h : Held). h.rows) c.self.view_is;
-      lines = map-set blocks_of caches core c.put_ahead.new.self
-          ∙ (ap (λ (blocks : List ℕ). slice_set (map blocks_of caches) core blocks) blocks
-          ∙ ap (λ (h : Held). slice_set h.lines core (slice_index_or c.args.self.now.lines core [] ++ c.args.block ∷ [])) c.self.view_is);
+      lines = rw (map-set blocks_of caches core c.put_ahead.new.self, c.put_ahead.ensures.blocks, read g d, blocks_seen c.self.invariant c.self.view_is core, ← c.self.view_is) refl;
       room = spares_kept c.self.invariant c.self.view_is core c.put_ahead.new.self c.self.inside.holders (within g d) (rw (read g d) at c.put_ahead.ensures.room);
     }

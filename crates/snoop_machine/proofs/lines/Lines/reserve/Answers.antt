@@ -1,10 +1,11 @@
-use Rattle.std.proofs.Common.{◌≡◌, ℕ, ◌<◌, List, length, sym, ◌∙◌, ap, subst}
-use Rattle.std.specs.Prelude.{slice_index_or, slice_set, map, OnOk}
+use Rattle.std.proofs.Common.{◌≡◌, ℕ, ◌<◌, List, length, sym, ◌∙◌, ap}
+use Rattle.std.specs.Prelude.{slice_index_or, slice_set, map}
 use Rattle.std.specs.Map.{keys_of}
+use Rattle.std.proofs.Math.Seq.{map-set_same}
 use Rattle.std.proofs.lemmas.List.{get_or_read, get_or-set_same, map-set}
-use Rattle.snoop_machine.specs.Cache.{Contents, no_cache, KeepsMapRoom}
+use Rattle.snoop_machine.specs.Cache.{Contents, no_cache, blocks_of}
 use Rattle.snoop_machine.specs.Lines.{Held}
-use Rattle.snoop_machine.proofs.MapRows.{rows-same, line-same, blocks-same, spare-at}
+use Rattle.snoop_machine.proofs.MapRows.{rows-same, line-same, spare-at}
 use Rattle.snoop_machine.proofs.LineMaps.{in_maps}
 use Rattle.snoop_machine.proofs.LineParts.{AreLines-alike}
 use Rattle.snoop_machine.proofs.LineChanges.{spares_kept}
@@ -37,7 +38,8 @@ returns-clause-rows g c =
 pub returns-clause-lines : goal.returns-clause-lines
 returns-clause-lines g c =
     let d = (goal.at.returns-clause-lines g c).After-reserve in
-    blocks-same c.self.inside.caches.items c.args.core c.reserve.new.self (λ i. keys_of (same g d i)) ∙ ap (λ (h : Held). h.lines) c.self.view_is
+    map-set_same blocks_of c.self.inside.caches.items c.args.core c.reserve.new.self no_cache (λ i. keys_of (same g d i))
+    ∙ ap (λ (h : Held). h.lines) c.self.view_is
 
 -- the room that callers see of each map after it
 abbrev line_rooms : (g : Over) (c : After-reserve g) → List ℕ
@@ -52,7 +54,7 @@ here g c =
 pub returns-clause-ok : goal.returns-clause-ok
 returns-clause-ok g c =
     let d = (goal.at.returns-clause-ok g c).After-reserve in
-    subst (λ (n : ℕ). OnOk c.reserve.result (0 < n)) (sym (here g d)) c.reserve.ensures.ok
+    rw (here g d) c.reserve.ensures.ok
 
 pub returns-clause-line_rooms : goal.returns-clause-line_rooms
 returns-clause-line_rooms g c =
@@ -65,4 +67,4 @@ pub returns-clause-room : goal.returns-clause-room
 returns-clause-room g c =
     let d = (goal.at.returns-clause-room g c).After-reserve in
     spares_kept c.self.invariant c.self.view_is c.args.core c.reserve.new.self c.self.inside.holders (within g d)
-    (subst (λ (cache : Contents). KeepsMapRoom cache c.reserve.new.self) (read g d) c.reserve.ensures.room)
+    (rw (read g d) at c.reserve.ensures.room)

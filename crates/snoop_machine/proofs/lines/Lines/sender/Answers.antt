@@ -1,5 +1,4 @@
 use Rattle.std.proofs.Common.{ℕ, ◌<◌, length, arith, sym, ap, ◌∙◌, Option, Some, None}
-use Rattle.std.specs.Prelude.{slice_index_or}
 use Rattle.snoop_rules.specs.declared.names.Payload.{Payload}
 use Rattle.snoop_rules.specs.Cell.{Cell}
 use Rattle.snoop_rules.specs.MemoryCell.{MemoryCell}
@@ -13,24 +12,26 @@ use Rattle.snoop_machine.proofs.lines.Lines.sender.Given.{Over}
 use Rattle.snoop_machine.proofs.lines.Lines.sender.Goals as goal
 use Rattle.snoop_machine.proofs.lines.Lines.sender.Goals.{After-concerned-concerned, In-Some, In-Some-cache_cell, In-Some-next}
 use Rattle.snoop_machine.specs.Lines.{row_of}
-use Rattle.snoop_machine.specs.PartsView.{no_memory}
+use Rattle.snoop_machine.specs.Memory.{memory_at}
 
 -- memory's row
-memory_row : (g : Over) (c : In-Some g) → MemoryCell c.args.protocol (slice_index_or c.args.memory.now c.args.block no_memory).state (at_memory c.args.request) c.in-Some.row.action c.in-Some.row.next
+memory_row : (g : Over) (c : In-Some g) → MemoryCell c.args.protocol (memory_at c.args.memory.now c.args.block).state
+    (at_memory c.args.request) c.in-Some.row.action c.in-Some.row.next
 memory_row g c =
     rw (c.event_at_memory.ensures, c.state.ensures) at c.in-Some.ensures.row
 
 -- who sends is the only one that does
 sends : (g : Over) (c : In-Some g) (from : Option ℕ) (payload : Payload)
-    → Sends c.args.protocol (free_picture (row_of c.args.self.now.rows c.args.block) (slice_index_or c.args.memory.now c.args.block no_memory)) c.args.requestor c.args.request from payload
-    → IsOnlySender c.args.protocol (free_picture (row_of c.args.self.now.rows c.args.block) (slice_index_or c.args.memory.now c.args.block no_memory)) c.args.requestor c.args.request from payload
+    → Sends c.args.protocol
+    (free_picture (row_of c.args.self.now.rows c.args.block) (memory_at c.args.memory.now c.args.block)) c.args.requestor c.args.request from payload
+    → IsOnlySender c.args.protocol
+    (free_picture (row_of c.args.self.now.rows c.args.block) (memory_at c.args.memory.now c.args.block)) c.args.requestor c.args.request from payload
 sends g c from payload sent = record { sends = sent; alone = λ other message h. c.requires.line.sent.alone other message h ∙ sym (c.requires.line.sent.alone from payload sent) }
 
-pub returns-in-Some-sent_by_memory-clause-sender : goal.returns-in-Some-sent_by_memory-clause-sender
-returns-in-Some-sent_by_memory-clause-sender g c =
-    let d = (goal.at.returns-in-Some-sent_by_memory-clause-sender g c).In-Some in
-    let held = slice_index_or c.args.memory.now c.args.block no_memory in
-    sends g d None c.in-Some-sent_by_memory.payload (c.in-Some.row.next, rw c.in-Some-sent_by_memory.ensures.some at (memory_row g d))
+pub returns-in-Send-clause-sender : goal.returns-in-Send-clause-sender
+returns-in-Send-clause-sender g c =
+    sends g (goal.at.returns-in-Send-clause-sender g c).In-Some None c.in-Send.payload
+    (c.in-Some.row.next, rw c.in-Send.is at (memory_row g (goal.at.returns-in-Send-clause-sender g c).In-Some))
 
 requestor_within : (g : Over) (c : In-Some-next g) → c.args.requestor < length (row_of c.args.self.now.rows c.args.block)
 requestor_within g c = waits_within (row_of c.args.self.now.rows c.args.block) c.args.requestor c.args.request c.requires.waits
@@ -60,28 +61,26 @@ unreachable-requires-in_default-cache_cell g c =
     let clash = sym none ∙ there in
     cc
 
-pub returns-in-Send-clause-sender : goal.returns-in-Send-clause-sender
-returns-in-Send-clause-sender g c =
-    let d = (goal.at.returns-in-Send-clause-sender g c).In-Some-cache_cell in
-    let before = free_picture (row_of c.args.self.now.rows c.args.block) (slice_index_or c.args.memory.now c.args.block no_memory) in
-    let core = c.in-Some-next.core in
-    sends g (goal.at.returns-in-Send-clause-sender g c).In-Some (Some core) c.in-Send.payload
-    (within_row g (goal.at.returns-in-Send-clause-sender g c).In-Some-next, sends_row _ _ (ap sent_by (rw c.in-Send.is at (row g d))))
+pub returns-in-Send-action-clause-sender : goal.returns-in-Send-action-clause-sender
+returns-in-Send-action-clause-sender g c =
+    let at = goal.at.returns-in-Send-action-clause-sender g c in
+    sends g at.In-Some (Some c.in-Some-next.core) c.in-Send-action.payload
+    (within_row g at.In-Some-next, sends_row _ _ (ap sent_by (rw c.in-Send-action.is at (row g at.In-Some-cache_cell))))
 
 pub loop-core-init : goal.loop-core-init
 loop-core-init g c =
     let d = (goal.at.loop-core-init g c).In-Some in
-    let held = slice_index_or c.args.memory.now c.args.block no_memory in
+    let held = memory_at c.args.memory.now c.args.block in
     let before = free_picture (row_of c.args.self.now.rows c.args.block) held in (
       Silent-none c.args.protocol before c.args.requestor c.args.request c.in-Some.row.action c.in-Some.row.next
-          (memory_row g d) c.in_default-sent_by_memory.ensures.none,
+          (memory_row g d) c.in_default-action.not-Send,
       omega arith,
     )
 
 pub loop-core-preserved : goal.loop-core-preserved
 loop-core-preserved g c =
     let d = (goal.at.loop-core-preserved g c).In-Some-cache_cell in
-    let before = free_picture (row_of c.args.self.now.rows c.args.block) (slice_index_or c.args.memory.now c.args.block no_memory) in
+    let before = free_picture (row_of c.args.self.now.rows c.args.block) (memory_at c.args.memory.now c.args.block) in
     let core = c.in-Some-next.core in
     let within : core < length (row_of c.args.self.now.rows c.args.block) = within_row g (goal.at.loop-core-preserved g c).In-Some-next in
     let silent = Silent-past c.args.protocol before c.args.requestor c.args.request c.loop-core.from core c.in-Some-next.ensures.some.0
@@ -89,13 +88,13 @@ loop-core-preserved g c =
     (c.in-Some-next.ensures.some.3 k above below))
     c.loop-core.invariant.0 in (
       Silent-more c.args.protocol before c.args.requestor c.args.request core c.in-Some-cache_cell.cell.action c.in-Some-cache_cell.cell.next
-          silent (row g d) c.in_default-action.not-Send,
+          silent (row g d) c.in_default-action-2.not-Send,
       omega arith,
     )
 
 pub unreachable-requires-2 : goal.unreachable-requires-2
 unreachable-requires-2 g c =
-    let before = free_picture (row_of c.args.self.now.rows c.args.block) (slice_index_or c.args.memory.now c.args.block no_memory) in
+    let before = free_picture (row_of c.args.self.now.rows c.args.block) (memory_at c.args.memory.now c.args.block) in
     let silent = Silent-past c.args.protocol before c.args.requestor c.args.request c.loop-core.from (length (row_of c.args.self.now.rows c.args.block)) c.loop-core.invariant.1
     (λ k above below. Cell-passed (concerned g (goal.at.unreachable-requires-2 g c).After-concerned-concerned) c.args.protocol c.requires.rows k below
     (c.in_default-next.ensures.none k above))

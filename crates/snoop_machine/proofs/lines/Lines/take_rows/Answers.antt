@@ -1,13 +1,12 @@
-use Rattle.std.proofs.Common.{◌≡◌, ◌<◌, List, length, arith, sym, ap, ◌∙◌, subst}
+use Rattle.std.proofs.Common.{◌≡◌, ◌<◌, List, length, arith, sym, ap, ◌∙◌}
 use Rattle.std.specs.Prelude.{slice_set}
-use Rattle.std.proofs.lemmas.Grind.{common_steps}
 use Rattle.std.proofs.lemmas.List.{set-set, length-set}
 use Rattle.snoop_model.specs.Pictures.Lines.{Line}
 use Rattle.snoop_model.specs.Pictures.Proper.{IsProper}
 use Rattle.snoop_model.specs.Moves.Move.{moves_to}
 use Rattle.snoop_model.proofs.Tables.Rows.{IsProper-order}
 use Rattle.snoop_machine.specs.Lines.{row_of, line_at}
-use Rattle.snoop_machine.proofs.LinesGoing.{LinesGo-set, KeepsMapsRoom-more, row_after}
+use Rattle.snoop_machine.proofs.LinesGoing.{LinesGo-more, KeepsMapsRoom-more, row_after}
 use Rattle.snoop_model.proofs.Lines.EachRow.{Taking, Taking-more, Taking-past}
 use Rattle.snoop_machine.proofs.ConcernedCores.{AreConcerned, concerned_within, TakesRow-passed, Cell-leaves}
 use Rattle.snoop_machine.proofs.lines.Lines.take_rows.Given.{Over}
@@ -49,7 +48,7 @@ first_line : (g : Over) (c : In-Some g) → line_at c.loop-core.self.rows c.in-S
 first_line g c = (so_far g c).left c.in-Some.core (omega arith)
 
 proper_line : (g : Over) (c : In-Some g) → IsProper (line_at c.loop-core.self.rows c.in-Some.core c.args.block)
-proper_line g c = subst (λ (x : Line). IsProper x) (sym (first_line g c)) (c.concerned-concerned.ensures.proper c.in-Some.core)
+proper_line g c = rw (first_line g c) (c.concerned-concerned.ensures.proper c.in-Some.core)
 
 pub take_row-requires-clause-block : goal.take_row-requires-clause-block
 take_row-requires-clause-block g c = in_blocks g (goal.at.take_row-requires-clause-block g c).In-Some
@@ -77,25 +76,27 @@ take_row-requires-clause-absent g c action next cell =
 pub loop-core-preserved : goal.loop-core-preserved
 loop-core-preserved g c =
     let d = (goal.at.loop-core-preserved g c).In-Some in
-    let n = c.in-Some.core in
     let first = c.args.self.now in
     let now = c.loop-core.self in
     let new = c.take_row.new.self in
     let block = c.args.block in
     let old = row_of first.rows block in
-    let within : n < length old = within_row g d in
     let before = c.loop-core.invariant in
     let took = c.take_row.ensures in
-    let line : Line = moves_to took.next (line_at now.rows n block) in
+    let wrote = took.wrote in
+    let within : c.in-Some.core < length old = within_row g d in
+    let in_rows = in_blocks g d in
     let found = rw c.event_seen.ensures at took.row in
-    let after : row_of new.rows block ≡ slice_set (row_of now.rows block) n line = row_after block first now new n line (in_blocks g d) (in_row g d) took.rows in (
-      Taking-more c.args.protocol c.args.requestor c.args.request old (row_of now.rows block) (row_of new.rows block) n took.action took.next within (so_far g d) found after,
+    let after = row_after wrote in_rows in (
+      Taking-more c.args.protocol c.args.requestor c.args.request old (row_of now.rows block)
+          (row_of new.rows block) c.in-Some.core took.action took.next within (so_far g d) found after,
       omega arith,
-      took.rows ∙ (ap (λ (rows : List (List Line)). slice_set rows block (slice_set (row_of now.rows block) n line)) before.2
-          ∙ (set-set first.rows block (row_of now.rows block) (slice_set (row_of now.rows block) n line) ∙ ap (λ (r : List Line). slice_set first.rows block r) (sym after))),
-      took.many ∙ before.3,
-      LinesGo-set block first now new n line (in_blocks g d) (in_row g d) took.rows before.4 (first_line g d) took.lines took.others,
-      KeepsMapsRoom-more block n first now new before.4 before.5 (let went = took.lines in omega arith) took.others took.room,
+      wrote.rows ∙ (ap (λ (rows : List (List Line)). slice_set rows block
+          (slice_set (row_of now.rows block) c.in-Some.core (moves_to took.next (line_at now.rows c.in-Some.core block)))) before.2
+          ∙ (set-set first.rows block (row_of now.rows block) _ ∙ ap (λ (r : List Line). slice_set first.rows block r) (sym after))),
+      wrote.many ∙ before.3,
+      LinesGo-more wrote in_rows first before.4 (in_row g d) (first_line g d),
+      KeepsMapsRoom-more wrote in_rows first before.4 before.5,
     )
 
 pub returns-clause-taken : goal.returns-clause-taken
@@ -115,6 +116,3 @@ loop-core-smaller g c =
     let within = within_row g d in
     let up = c.in-Some.ensures.some.0 in
     omega arith
-
-pub loop-core-init : goal.loop-core-init
-loop-core-init g c = grind (arith, common_steps)

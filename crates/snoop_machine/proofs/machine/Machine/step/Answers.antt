@@ -2,14 +2,18 @@ use Rattle.snoop_model.specs.Invariant.MachineKeeps.{MachineKeeps}
 use Rattle.snoop_model.proofs.Invariant.Safety.{is_safe}
 use Rattle.snoop_model.proofs.Invariant.Steps.{step_once}
 use Rattle.snoop_model.proofs.Runs.Replies.{step_replies, step_hits}
-use Rattle.snoop_machine.proofs.StepKeeps.{step_keeps, step_stays}
+use Rattle.snoop_machine.proofs.StepKeeps.{answers, step_keeps, step_stays}
+use Rattle.snoop_machine.specs.Runs.{Answers}
 use Rattle.snoop_machine.specs.AnyParts.{stand}
 use Rattle.snoop_machine.proofs.machine.Machine.step.Goals as goal
 use Rattle.snoop_machine.proofs.machine.Machine.step.Goals.{After-step}
 
+went : (c : After-step) → Answers (stand c.self.inside.parts) c.args.step c.step.result (stand c.step.new.self)
+went c = answers _ _ c.args.step c.step.result c.step.ensures.taken c.step.ensures.refused c.step.ensures.full c.step.ensures.room c.step.ensures.lines
+
 -- the parts keep what every machine keeps
 keeps : (c : After-step) → MachineKeeps (stand c.step.new.self).situation
-keeps c = step_keeps (stand c.self.inside.parts) (stand c.step.new.self) c.args.step c.step.result c.self.invariant c.step.ensures.taken c.step.ensures.refused
+keeps c = step_keeps _ _ c.args.step c.step.result c.self.invariant (went c)
 
 pub invariant_of-self : goal.invariant_of-self
 invariant_of-self c = keeps (goal.at.invariant_of-self c).After-step
@@ -23,7 +27,7 @@ returns-clause-once c =
 
 pub returns-clause-stays : goal.returns-clause-stays
 returns-clause-stays c =
-    rw c.self.view_is at (step_stays (stand c.self.inside.parts) (stand c.step.new.self) c.args.step c.step.result c.step.ensures.taken c.step.ensures.refused)
+    rw c.self.view_is at (step_stays _ _ c.args.step c.step.result (went (goal.at.returns-clause-stays c).After-step))
 
 pub returns-clause-replied : goal.returns-clause-replied
 returns-clause-replied c = step_replies (stand c.self.inside.parts).situation (stand c.step.new.self).situation c.args.step c.step.result c.step.ensures.taken

@@ -1,13 +1,13 @@
-use Rattle.std.proofs.Common.{◌≡◌, ◌<◌, ◌≤◌, ◌++◌, ◌∷◌, [], ◌∙◌, ℕ, List, ap, length, arith, refl}
-use Rattle.std.specs.Prelude.{slice_set, slice_index_or}
-use Rattle.std.proofs.lemmas.Grind.{common_steps}
+use Rattle.std.proofs.Common.{◌≡◌, ◌<◌, ◌≤◌, [], ◌∙◌, ℕ, List, ap, length, arith, refl}
+use Rattle.std.specs.Prelude.{slice_index_or}
 use Rattle.std.proofs.lemmas.Result.{err_from_is_err_and}
 use Rattle.std.proofs.lemmas.List.{length-set}
-use Rattle.snoop_bus.specs.Traffic.{Traffic, Waiting, waiting_of}
+use Rattle.snoop_bus.specs.Traffic.{Waiting, waiting_of}
 use Rattle.snoop_machine.specs.PartsView.{Fields, fields, shown_line_rooms}
 use Rattle.snoop_machine.specs.Lines.{KeepsMapsRoom}
 use Rattle.snoop_machine.proofs.Room.{held_in, held_in-set, keeps_room, shown-same, places-map, places-queue}
-use Rattle.snoop_machine.proofs.QueueViews.{queues_of-room, same_traffic, IsSound-room}
+use Rattle.snoop_machine.proofs.Queues.{queues_of-room}
+use Rattle.snoop_machine.proofs.Soundness.{IsSound-room}
 use Rattle.snoop_machine.proofs.parts.Parts.add_line.Given.{Over}
 use Rattle.snoop_machine.proofs.parts.Parts.add_line.Goals as goal
 use Rattle.snoop_machine.proofs.parts.Parts.add_line.Goals.{After-put_ahead}
@@ -18,22 +18,15 @@ rows g c = c.put_ahead.ensures.rows ∙ c.reserve.ensures.rows
 
 pub invariant_of-self-2 : goal.invariant_of-self-2
 invariant_of-self-2 g c =
-    let m = (fields c.self.inside.protocol c.self.inside.shape c.self.inside.lines c.self.inside.memory c.self.inside.bus c.self.inside.log) in
-    let bus = m.bus in
     let core = c.args.core in
-    let room = (waiting_of c.reserve-2.new.self core).room in
-    let in_cores = core_in c.self.invariant c.self.view_is core c.requires.core in
-    let in_queues : core < length bus.queues = omega (arith, c.self.invariant.sound.queues) in
-    let after : Traffic = record bus { queues = slice_set bus.queues core (record { requests = (waiting_of bus core).requests; room = room }) } in
-    let same : c.reserve-2.new.self ≡ after = same_traffic c.reserve-2.new.self after c.reserve-2.ensures.queue c.reserve-2.ensures.transactions in
+    let after = c.reserve.new.self in
     record {
-      sound = rw (rows g (goal.at.invariant_of-self-2 g c).After-put_ahead)
-          (rw (← same) at (IsSound-room m.shape m.lines.rows bus core room in_queues c.self.invariant.sound));
-      sized = sized_on m _ c.self.invariant.sized refl
+      sound = rw (rows g (goal.at.invariant_of-self-2 g c).After-put_ahead) (IsSound-room c.self.invariant.sound c.reserve-2.new.self core _
+          (core_in c.self.invariant c.self.view_is core c.requires.core) c.reserve-2.ensures.queue refl c.reserve-2.ensures.transactions);
+      sized = sized_on _ _ c.self.invariant.sized refl
           (ap (λ (lines : List (List ℕ)). length lines) c.put_ahead.ensures.lines
-          ∙ (length-set c.reserve.new.self.lines core (slice_index_or c.reserve.new.self.lines core [] ++ c.args.block ∷ [])
-          ∙ ap (λ (lines : List (List ℕ)). length lines) c.reserve.ensures.lines))
-          refl (refl, refl, refl);
+          ∙ (length-set after.lines core _ ∙ ap (λ (lines : List (List ℕ)). length lines) c.reserve.ensures.lines))
+          (refl, refl) (refl, refl, refl);
     }
 
 pub returns-in_err-reserve-clause-full : goal.returns-in_err-reserve-clause-full
@@ -64,12 +57,6 @@ returns-in_err-reserve-2-clause-room g c =
     let queues : (core : ℕ) → held_in m.bus.queues core ≤ held_in c.reserve-2.new.self.queues core =
     λ core. (rw c.in_err-reserve-2.ensures.refused (omega arith)) in
     keeps_room m new c.args.self.now c.self.view_is (omega arith) queues c.reserve.ensures.room
-
-pub returns-clause-ok : goal.returns-clause-ok
-returns-clause-ok g c = grind (arith, common_steps)
-
-pub returns-clause-more : goal.returns-clause-more
-returns-clause-more g c = grind (arith, common_steps)
 
 pub returns-clause-unchanged : goal.returns-clause-unchanged
 returns-clause-unchanged g c =

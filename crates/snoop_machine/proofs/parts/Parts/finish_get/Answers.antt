@@ -1,18 +1,17 @@
-use Rattle.std.proofs.Common.{◌≡◌, ◌≢◌, ◌<◌, ℕ, [], false, length, List, Some, sym, ◌∙◌, ap, arith}
-use Rattle.std.specs.Prelude.{slice_set, slice_index_or}
+use Rattle.std.proofs.Common.{◌≡◌, ◌≢◌, ◌<◌, false, length, Some, refl, sym, ◌∙◌, ap, arith}
+use Rattle.std.specs.Prelude.{slice_set}
 use Rattle.snoop_rules.specs.declared.names.Request.TheVariants.{PutM}
 use Rattle.snoop_model.specs.Pictures.Lines.{Line}
-use Rattle.snoop_model.specs.Pictures.Picture.{Picture}
 use Rattle.snoop_model.specs.Moves.Move.{Fills, next_did}
 use Rattle.snoop_machine.specs.Standing.{Standing}
 use Rattle.snoop_machine.specs.Cache.{filled_line}
 use Rattle.snoop_machine.specs.Lines.{row_of, line_at}
 use Rattle.snoop_machine.specs.PartsView.{fields}
-use Rattle.snoop_machine.proofs.Closing.{Closes, not_missing, opened, header, whole_after, room_after, responded, loses_set}
-use Rattle.snoop_machine.proofs.LineMaps.{gone-none}
-use Rattle.snoop_machine.proofs.LineWrites.{IsSound-line}
+use Rattle.snoop_machine.proofs.Closing.{Closes, opened, header, whole_after, room_after, responded, loses}
+use Rattle.snoop_machine.proofs.LinesGoing.{LinesGo-none, LinesGo-more, row_after}
+use Rattle.snoop_machine.proofs.Soundness.{IsSound-line}
 use Rattle.snoop_machine.proofs.PictureViews.{seen, line_seen, core_in, block_in}
-use Rattle.snoop_machine.proofs.Responses.{Arrives-get, IsProper-filled, waits-filled, held-filled, lands-filled}
+use Rattle.snoop_machine.proofs.Responses.{Arrives-get, IsProper-filled, waits-filled, held-filled}
 use Rattle.snoop_machine.proofs.parts.Parts.finish_get.Given.{Over}
 use Rattle.snoop_machine.proofs.parts.Parts.finish_get.Goals as goal
 use Rattle.snoop_machine.proofs.parts.Parts.finish_get.Goals.{In-Some}
@@ -43,8 +42,8 @@ fills g c = rw (opened (closes g c), line_seen c.self.invariant c.self.view_is c
 
 pub unreachable-requires : goal.unreachable-requires
 unreachable-requires g c =
-    not_missing _ c.args.came c.requires.closing.opened
-    (ap (λ (x : Picture). x.transaction) (seen c.self.invariant c.self.view_is c.args.came.block) ∙ (sym c.finish.ensures.closed ∙ c.in_default.is))
+    let clash = rw (seen c.self.invariant c.self.view_is c.args.came.block, ← c.finish.ensures.closed, c.in_default.is) at c.requires.closing.opened in
+    cc
 
 pub fill-requires-clause-core : goal.fill-requires-clause-core
 fill-requires-clause-core g c =
@@ -71,10 +70,10 @@ invariant_of-self g c =
     let core = c.in-Some.closing.core in
     let block = c.args.came.block in
     rw (c.settle.ensures, c.finish.ensures.after, c.push.ensures) (whole_after (closes g d) c.fill.new.self (Some c.next_did-did.result)
-    (rw c.fill.ensures.rows (IsSound-line _ _ _ c.self.invariant.sound core block (line g d)
+    (rw c.fill.ensures.rows (IsSound-line c.self.invariant.sound core block (line g d)
     (core_in c.self.invariant c.self.view_is core (in_cores g d)) (block_in c.self.invariant c.self.view_is block c.requires.block)
     (IsProper-filled (fills g d)) (waits-filled (fills g d))))
-    (ap (λ (lines : List (List ℕ)). length lines) c.fill.ensures.lines))
+    c.fill.ensures.many)
 
 pub returns : goal.returns
 returns g c =
@@ -87,12 +86,15 @@ returns g c =
     let get : closing.request ≢ PutM = rw (← header (closes g d)) at c.requires.get in
     let performed : did ≡ next_did c.self.inside.log.items closing.core closing.block access.word access.op c.args.filled.value false =
     rw (← c.self.view_is, ← header (closes g d)) at c.next_did-did.ensures in
-    let none = gone-none (line_at c.self.inside.lines.rows closing.core c.args.came.block).state c.args.filled.next (lands-filled (fills g d)) in
-    let same = ap (λ (lines : List (List ℕ)). length (slice_index_or lines closing.core [])) c.fill.ensures.lines in
+    let lines = c.self.inside.lines in
+    let in_block = block_in c.self.invariant c.self.view_is c.args.came.block c.requires.block in
+    let in_rows : c.args.came.block < length lines.rows = rw c.self.invariant.sound.rows in_block in
+    let in_row : closing.core < length row = rw (c.self.invariant.sound.row c.args.came.block in_block)
+    (core_in c.self.invariant c.self.view_is closing.core (in_cores g d)) in
     rw (c.settle.ensures, c.finish.ensures.after, c.push.ensures, ← c.next_did-did.ensures) (record {
       responded = responded (closes g d) filled (slice_set row closing.core (line g d)) (Some did) c.fill.ensures.rows
           (rw performed (Arrives-get closing c.self.inside.protocol c.self.inside.log.items row (line g d) access c.args.filled.value get (fills g d)));
       room = room_after (closes g d) filled (Some did) c.requires.room c.fill.ensures.room;
-      lines = loses_set (closes g d) filled (Some did) closing.core (line g d) (in_cores g d) c.fill.ensures.rows (omega arith)
-          (λ k ne. ap (λ (lines : List (List ℕ)). slice_index_or lines k []) c.fill.ensures.lines);
+      lines = loses (closes g d) filled (slice_set row closing.core (line g d)) (Some did) c.fill.ensures.rows (sym (row_after c.fill.ensures in_rows))
+          (LinesGo-more c.fill.ensures in_rows lines (LinesGo-none c.args.came.block lines) in_row refl);
     })

@@ -1,9 +1,8 @@
-use Rattle.std.proofs.Common.{None, [], refl, sym, ◌∙◌, ap}
+use Rattle.std.proofs.Common.{None, [], refl, sym, ◌∙◌}
 use Rattle.std.proofs.lemmas.List.{set-get_or}
-use Rattle.snoop_model.specs.Pictures.Picture.{Picture}
 use Rattle.snoop_machine.specs.Lines.{row_of}
 use Rattle.snoop_machine.specs.PartsView.{fields}
-use Rattle.snoop_machine.proofs.Closing.{Closes, not_missing, header, whole_after, room_after, responded, loses_rows}
+use Rattle.snoop_machine.proofs.Closing.{Closes, header, whole_after, room_after, responded, loses}
 use Rattle.snoop_machine.proofs.LinesGoing.{LinesGo-none}
 use Rattle.snoop_machine.proofs.PictureViews.{seen}
 use Rattle.snoop_machine.proofs.Responses.{Arrives-put}
@@ -25,8 +24,8 @@ closes g c = record {
 
 pub unreachable-requires : goal.unreachable-requires
 unreachable-requires g c =
-    not_missing _ c.args.came c.requires.closing.opened
-    (ap (λ (x : Picture). x.transaction) (seen c.self.invariant c.self.view_is c.args.came.block) ∙ (sym c.finish.ensures.closed ∙ c.in_default.is))
+    let clash = rw (seen c.self.invariant c.self.view_is c.args.came.block, ← c.finish.ensures.closed, c.in_default.is) at c.requires.closing.opened in
+    cc
 
 pub invariant_of-self : goal.invariant_of-self
 invariant_of-self g c =
@@ -42,5 +41,5 @@ returns g c =
     rw (c.settle.ensures, c.finish.ensures.after, c.push.ensures) (record {
       responded = responded its lines row None same (Arrives-put c.in-Some.closing c.self.inside.protocol c.self.inside.log.items row (rw (← header its) at c.requires.put));
       room = room_after its lines None c.requires.room (KeepsMapsRoom-same lines);
-      lines = loses_rows its lines row None same refl (LinesGo-none c.args.came.block lines);
+      lines = loses its lines row None same refl (LinesGo-none c.args.came.block lines);
     })

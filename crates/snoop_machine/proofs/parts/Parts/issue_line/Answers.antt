@@ -1,7 +1,7 @@
 use Rattle.std.proofs.Common.{◌≡◌, ◌<◌, ◌+◌, ◌-◌, ◌++◌, ◌∷◌, [], length, refl, arith}
 use Rattle.std.proofs.lemmas.List.{length-append}
 use Rattle.std.specs.Prelude.{slice_set}
-use Rattle.snoop_bus.specs.Traffic.{Traffic, Waiting, waiting_of}
+use Rattle.snoop_bus.specs.Traffic.{Waiting, waiting_of}
 use Rattle.snoop_model.specs.Pictures.Lines.{Line}
 use Rattle.snoop_model.specs.Pictures.Picture.{with_line}
 use Rattle.snoop_machine.specs.Cache.{changed}
@@ -9,9 +9,9 @@ use Rattle.snoop_machine.specs.declared.cache.LineChange.TheVariants.{Wait}
 use Rattle.snoop_machine.specs.Lines.{line_at}
 use Rattle.snoop_machine.specs.PartsView.{Fields, fields, standing, pictures_of}
 use Rattle.snoop_machine.proofs.Following.{follows-set}
-use Rattle.snoop_machine.proofs.LineWrites.{IsSound-issue}
+use Rattle.snoop_machine.proofs.Soundness.{IsSound-issue}
 use Rattle.snoop_machine.proofs.PictureViews.{seen, line_seen, picture_in, line-written, core_in, block_in, sized_on}
-use Rattle.snoop_machine.proofs.QueueViews.{queues_of-issue, same_traffic}
+use Rattle.snoop_machine.proofs.Queues.{queues_of-issue}
 use Rattle.snoop_machine.proofs.Room.{held_in-set, keeps_room}
 use Rattle.snoop_machine.proofs.parts.Parts.issue_line.Given.{Over}
 use Rattle.snoop_machine.proofs.parts.Parts.issue_line.Goals as goal
@@ -32,9 +32,10 @@ queue g c =
     record { requests = before.requests ++ (c.args.request, c.args.block) ∷ []; room = before.room - 1 }
 
 -- the picture that the block has now
-wrote : (g : Over) (c : After-issue g) → pictures_of c.change.new.self.rows c.self.inside.memory c.issue.new.self.transactions
+wrote : (g : Over) (c : After-issue g) → pictures_of c.change.new.self.rows c.self.inside.memory.states c.self.inside.memory.words c.issue.new.self.transactions
     ≡ slice_set (standing (parts g c)).situation.pictures c.args.block (with_line (picture_in (parts g c) c.args.block) c.args.core (line g c))
-wrote g c = rw c.issue.ensures.transactions (line-written (parts g c) c.args.block c.change.new.self.rows c.args.core (line g c) c.change.ensures.rows)
+wrote g c =
+    rw c.issue.ensures.transactions (line-written c.self.invariant refl c.args.block c.change.new.self.rows c.args.core (line g c) c.change.ensures.rows)
 
 pub change-requires-clause-proper : goal.change-requires-clause-proper
 change-requires-clause-proper g c = rw (line_seen c.self.invariant c.self.view_is c.args.core c.args.block) at c.requires.proper
@@ -42,16 +43,13 @@ change-requires-clause-proper g c = rw (line_seen c.self.invariant c.self.view_i
 pub invariant_of-self : goal.invariant_of-self
 invariant_of-self g c =
     let d = (goal.at.invariant_of-self g c).After-issue in
-    let bus = c.self.inside.bus in
     let here = line_seen c.self.invariant c.self.view_is c.args.core c.args.block in
-    let after : Traffic = record bus { queues = slice_set bus.queues c.args.core (queue g d) } in
-    let same : c.issue.new.self ≡ after = same_traffic c.issue.new.self after c.issue.ensures.queue c.issue.ensures.transactions in
     record {
-      sound = rw (c.change.ensures.rows, same) (IsSound-issue _ _ _ c.self.invariant.sound c.args.core c.args.block (line g d)
+      sound = rw c.change.ensures.rows (IsSound-issue c.self.invariant.sound c.args.core c.args.block (line g d)
           (core_in c.self.invariant c.self.view_is c.args.core c.requires.core) (block_in c.self.invariant c.self.view_is c.args.block c.requires.block)
-          (rw here at c.requires.proper)
-          c.args.request (queue g d).room (rw here at c.requires.idle) c.requires.waits);
-      sized = sized_on _ _ c.self.invariant.sized refl c.change.ensures.many refl (refl, refl, refl);
+          (rw here at c.requires.proper) c.issue.new.self c.args.request (queue g d).room c.issue.ensures.queue c.issue.ensures.transactions
+          (rw here at c.requires.idle) c.requires.waits);
+      sized = sized_on _ _ c.self.invariant.sized refl c.change.ensures.many (refl, refl) (refl, refl, refl);
     }
 
 pub returns : goal.returns
@@ -69,5 +67,5 @@ returns g c =
       room = keeps_room m (record m { lines = c.change.new.self; bus = c.issue.new.self }) c.args.self.now c.self.view_is (omega arith)
           (rw c.issue.ensures.queue (held_in-set m.bus.queues core (queue g d) in_queues (omega arith))) c.change.ensures.room;
       lines = follows-set c.self.invariant c.self.view_is _ c.args.block (with_line (picture_in m c.args.block) core (line g d)) c.change.new.self c.requires.block
-          (wrote g d) refl core (line g d) c.requires.core refl c.change.ensures.rows c.change.ensures.lines c.change.ensures.others;
+          (wrote g d) refl c.change.ensures c.requires.core refl;
     }

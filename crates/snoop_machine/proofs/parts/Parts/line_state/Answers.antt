@@ -1,7 +1,5 @@
-use Rattle.std.proofs.Common.{◌∙◌, sym}
 use Rattle.snoop_machine.proofs.PictureViews.{state_seen}
 use Rattle.snoop_machine.proofs.parts.Parts.line_state.Goals as goal
 
 pub returns : goal.returns
-returns g c =
-    c.state.ensures ∙ sym (state_seen c.self.invariant c.self.view_is c.args.core c.args.block)
+returns g c = rw (state_seen c.self.invariant c.self.view_is c.args.core c.args.block) c.state.ensures

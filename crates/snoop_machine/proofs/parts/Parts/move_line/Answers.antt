@@ -6,7 +6,7 @@ use Rattle.snoop_machine.specs.Cache.{changed}
 use Rattle.snoop_machine.specs.Lines.{line_at}
 use Rattle.snoop_machine.specs.PartsView.{Fields, fields}
 use Rattle.snoop_machine.proofs.Following.{follows-set}
-use Rattle.snoop_machine.proofs.LineWrites.{IsSound-line}
+use Rattle.snoop_machine.proofs.Soundness.{IsSound-line}
 use Rattle.snoop_machine.proofs.PictureViews.{seen, line_seen, state_seen, picture_in, line-written, core_in, block_in, sized_on}
 use Rattle.snoop_machine.proofs.Room.{keeps_room}
 use Rattle.snoop_machine.proofs.parts.Parts.move_line.Given.{Over}
@@ -34,10 +34,10 @@ pub invariant_of-self : goal.invariant_of-self
 invariant_of-self g c =
     let here = line_seen c.self.invariant c.self.view_is c.args.core c.args.block in
     record {
-      sound = rw c.change.ensures.rows (IsSound-line _ _ _ c.self.invariant.sound c.args.core c.args.block (line g (goal.at.invariant_of-self g c).After-change)
+      sound = rw c.change.ensures.rows (IsSound-line c.self.invariant.sound c.args.core c.args.block (line g (goal.at.invariant_of-self g c).After-change)
           (core_in c.self.invariant c.self.view_is c.args.core c.requires.core) (block_in c.self.invariant c.self.view_is c.args.block c.requires.block)
           (rw here at c.requires.proper) (rw here at c.requires.same));
-      sized = sized_on _ _ c.self.invariant.sized refl c.change.ensures.many refl (refl, refl, refl);
+      sized = sized_on _ _ c.self.invariant.sized refl c.change.ensures.many (refl, refl) (refl, refl, refl);
     }
 
 pub returns : goal.returns
@@ -45,10 +45,9 @@ returns g c =
     let d = (goal.at.returns g c).After-change in
     let m = parts g d in
     let next = with_line (picture_in m c.args.block) c.args.core (line g d) in
-    let wrote = line-written m c.args.block c.change.new.self.rows c.args.core (line g d) c.change.ensures.rows in
+    let wrote = line-written c.self.invariant refl c.args.block c.change.new.self.rows c.args.core (line g d) c.change.ensures.rows in
     record {
       written = rw (← c.self.view_is, seen c.self.invariant refl c.args.block, wrote);
       room = keeps_room m (record m { lines = c.change.new.self }) c.args.self.now c.self.view_is (omega arith) (λ core. omega arith) c.change.ensures.room;
-      lines = follows-set c.self.invariant c.self.view_is _ c.args.block next c.change.new.self c.requires.block wrote refl
-          c.args.core (line g d) c.requires.core refl c.change.ensures.rows c.change.ensures.lines c.change.ensures.others;
+      lines = follows-set c.self.invariant c.self.view_is _ c.args.block next c.change.new.self c.requires.block wrote refl c.change.ensures c.requires.core refl;
     }

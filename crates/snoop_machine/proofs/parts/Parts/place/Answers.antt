@@ -1,5 +1,5 @@
 use Rattle.std.proofs.Common.{◌∙◌}
-use Rattle.snoop_machine.proofs.QueueHeads.{place_shown}
+use Rattle.snoop_machine.proofs.Queues.{place_shown}
 use Rattle.snoop_machine.proofs.parts.Parts.place.Goals as goal
 
 pub returns : goal.returns

@@ -1,5 +1,5 @@
 use Rattle.std.proofs.Common.{◌≡◌, Option, Some, None, refl, sym, ap, ◌∙◌, false}
-use Rattle.std.specs.Prelude.{ℕ, is_some, option_copied, slice_index_or}
+use Rattle.std.specs.Prelude.{ℕ, is_some, option_copied}
 use Rattle.snoop_trace.specs.declared.step.Step.TheVariants.{Order}
 use Rattle.snoop_rules.specs.Takers.{seen_by}
 use Rattle.std.specs.Borrow.{Bor}
@@ -11,8 +11,9 @@ use Rattle.snoop_model.proofs.Invariant.Coherence.{orders_follow_sender_table, f
 use Rattle.snoop_machine.specs.declared.plan.Plan.TheVariants as plan
 use Rattle.snoop_machine.proofs.Plans.{order-allowed}
 use Rattle.snoop_machine.specs.Plan.{IsPlan}
-use Rattle.snoop_machine.specs.PartsView.{Fields, standing, no_memory, IsWhole}
+use Rattle.snoop_machine.specs.PartsView.{Fields, standing, IsWhole}
 use Rattle.snoop_machine.specs.Lines.{row_of}
+use Rattle.snoop_machine.specs.Memory.{memory_at}
 use Rattle.snoop_machine.proofs.parts.Parts.plan_order.Given.{Over}
 use Rattle.snoop_machine.proofs.parts.Parts.plan_order.Goals as goal
 use Rattle.snoop_machine.proofs.parts.Parts.plan_order.Goals.{After-sender-from}
@@ -26,7 +27,7 @@ free_copied (Some found) transaction shown none = cc
 -- has this picture
 free_seen : {count : ℕ} {m : Fields} (whole : IsWhole count m) {now : Standing} (view : standing m ≡ now) (block : ℕ)
     → (picture_of now.situation block).transaction ≡ None
-    → free_picture (row_of m.lines.rows block) (slice_index_or m.memory block no_memory) ≡ picture_of now.situation block
+    → free_picture (row_of m.lines.rows block) (memory_at m.memory block) ≡ picture_of now.situation block
 free_seen whole view block free =
     let shown = seen whole view block in
     rw (shown, sym (ap (λ (x : Picture). x.transaction) shown) ∙ free)

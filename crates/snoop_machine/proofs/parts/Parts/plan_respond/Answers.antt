@@ -1,4 +1,4 @@
-use Rattle.std.proofs.Common.{rules, arith, ℕ, ◌≡◌, ◌≢◌, true, false, Some, refl, sym, ap, ◌∙◌, subst}
+use Rattle.std.proofs.Common.{arith, ℕ, ◌≡◌, ◌≢◌, Some, refl, sym, ap, ◌∙◌, subst}
 use Rattle.std.specs.Prelude.{Option, option_copied, option_map}
 use Rattle.snoop_bus.specs.Traffic.{Open}
 use Rattle.snoop_history.specs.declared.items.Came.{Came}
@@ -15,7 +15,7 @@ use Rattle.snoop_machine.specs.Plan.{IsClosing}
 use Rattle.snoop_machine.proofs.WordsHeld.{waiting_held}
 use Rattle.snoop_machine.proofs.parts.Parts.plan_respond.Given.{Over}
 use Rattle.snoop_machine.proofs.parts.Parts.plan_respond.Goals as goal
-use Rattle.snoop_machine.proofs.parts.Parts.plan_respond.Goals.{in-PutM, in_default-matches, After-came-came}
+use Rattle.snoop_machine.proofs.parts.Parts.plan_respond.Goals.{After-came-came}
 
 pub settle-memory-requires : goal.settle-memory-requires
 settle-memory-requires g c =
@@ -31,10 +31,7 @@ pub fill-filled-requires-clause-possible : goal.fill-filled-requires-clause-poss
 fill-filled-requires-clause-possible g c =
     let s = c.args.self.now.situation in
     let closing = c.in-Some.closing.now in
-    let get : closing.request ≢ PutM = elim c.match-matches.branch [
-      | in-PutM w ↦ λ e. (let clash : true ≡ false = sym w.matches-is ∙ c.if-matches.false in cc)
-      | in_default-matches w ↦ w.in_default-matches.not-PutM
-    ] in
+    let get : closing.request ≢ PutM = c.in_default-request.not-PutM in
     let line = held_by (picture_of s c.args.block) closing.core in
     let finds = finds_rows s c.requires.inductive (Respond c.args.block) in
     rw (c.line-found.ensures.line, ap (λ (x : Standing). x.situation.protocol) c.self.view_is)
@@ -66,13 +63,12 @@ closes g c =
       settles = rw here (rw (c.memory_state.ensures, ap (λ (x : Standing). x.situation.protocol) c.self.view_is) at c.settle-memory.ensures);
     })
 
-pub returns-then-matches-clause-found : goal.returns-then-matches-clause-found
-returns-then-matches-clause-found g c =
-    let d = (goal.at.returns-then-matches-clause-found g c).After-came-came in
-    let put : c.in-Some.closing.now.request ≡ PutM = search rules in
+pub returns-in-PutM-clause-found : goal.returns-in-PutM-clause-found
+returns-in-PutM-clause-found g c =
+    let d = (goal.at.returns-in-PutM-clause-found g c).After-came-came in
     let here = its g d in
     let inside = c.requires.block in
-    (ap Respond (its g d), (omega arith, closes g d, ap (λ (x : Came). x.request) c.came-came.ensures ∙ put))
+    (ap Respond (its g d), (omega arith, closes g d, ap (λ (x : Came). x.request) c.came-came.ensures ∙ c.in-PutM.is))
 
 pub returns-clause-found : goal.returns-clause-found
 returns-clause-found g c =
@@ -80,10 +76,7 @@ returns-clause-found g c =
     let s = c.args.self.now.situation in
     let block = c.args.block in
     let closing = c.in-Some.closing.now in
-    let get : closing.request ≢ PutM = elim c.match-matches.branch [
-      | in-PutM w ↦ λ e. (let clash : true ≡ false = sym w.matches-is ∙ c.if-matches.false in cc)
-      | in_default-matches w ↦ w.in_default-matches.not-PutM
-    ] in
+    let get : closing.request ≢ PutM = c.in_default-request.not-PutM in
     let filled = c.fill-filled.result in
     let fills = rw (c.line-found.ensures.line, ap (λ (x : Standing). x.situation.protocol) c.self.view_is) at c.fill-filled.ensures in
     let waits = ap (λ (x : Line). x.waiting) (sym c.line-found.ensures.line) ∙ c.fill-filled.ensures.waited in

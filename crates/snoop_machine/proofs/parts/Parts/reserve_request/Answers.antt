@@ -1,25 +1,18 @@
-use Rattle.std.proofs.Common.{◌≡◌, ◌<◌, ap, length, arith, refl}
-use Rattle.std.specs.Prelude.{slice_set}
-use Rattle.snoop_bus.specs.Traffic.{Traffic, Waiting, waiting_of}
+use Rattle.std.proofs.Common.{◌<◌, ap, length, arith, refl}
+use Rattle.snoop_bus.specs.Traffic.{Waiting, waiting_of}
 use Rattle.snoop_machine.proofs.Room.{held_in-set, keeps_room, KeepsMapsRoom-same}
-use Rattle.snoop_machine.proofs.QueueViews.{queues_of-room, same_traffic, IsSound-room}
+use Rattle.snoop_machine.proofs.Queues.{queues_of-room}
+use Rattle.snoop_machine.proofs.Soundness.{IsSound-room}
 use Rattle.snoop_machine.specs.PartsView.{Fields, fields}
 use Rattle.snoop_machine.proofs.parts.Parts.reserve_request.Goals as goal
 use Rattle.snoop_machine.proofs.PictureViews.{core_in, sized_on}
 
 pub invariant_of-self : goal.invariant_of-self
-invariant_of-self g c =
-    let bus = c.self.inside.bus in
-    let core = c.args.core in
-    let room = (waiting_of c.reserve.new.self core).room in
-    let in_cores = core_in c.self.invariant c.self.view_is core c.requires in
-    let in_queues : core < length bus.queues = omega (arith, c.self.invariant.sound.queues) in
-    let after : Traffic = record bus { queues = slice_set bus.queues core (record { requests = (waiting_of bus core).requests; room = room }) } in
-    let same : c.reserve.new.self ≡ after = same_traffic c.reserve.new.self after c.reserve.ensures.queue c.reserve.ensures.transactions in
-    record {
-      sound = rw (← same) at (IsSound-room c.self.inside.shape c.self.inside.lines.rows bus core room in_queues c.self.invariant.sound);
-      sized = sized_on (fields c.self.inside.protocol c.self.inside.shape c.self.inside.lines c.self.inside.memory c.self.inside.bus c.self.inside.log) _ c.self.invariant.sized refl refl refl (refl, refl, refl);
-    }
+invariant_of-self g c = record {
+  sound = IsSound-room c.self.invariant.sound c.reserve.new.self c.args.core _
+      (core_in c.self.invariant c.self.view_is c.args.core c.requires) c.reserve.ensures.queue refl c.reserve.ensures.transactions;
+  sized = sized_on _ _ c.self.invariant.sized refl refl (refl, refl) (refl, refl, refl);
+}
 
 pub returns-clause-unchanged : goal.returns-clause-unchanged
 returns-clause-unchanged g c =

@@ -1,8 +1,6 @@
 use Rattle.snoop_model.specs.Pictures.Picture.{first_memory, nothing_held}
-use Rattle.snoop_model.specs.Pictures.Lines.{MemLine, Line}
-use Rattle.snoop_rules.specs.declared.names.MemState.{MemState}
-use Rattle.snoop_model.specs.Pictures.Situation.{reset}
-use Rattle.std.proofs.Common.{rules, ◌≡◌, ℕ, List, [], length, replicate, refl, ap, ◌∙◌, Option, None}
+use Rattle.snoop_machine.specs.Memory.{MemTables}
+use Rattle.std.proofs.Common.{rules, ℕ, List, [], length, replicate, refl, ap, ◌∙◌, None}
 use Rattle.snoop_trace.specs.Words.{zero_words}
 use Rattle.snoop_history.specs.Journal.{Journal}
 use Rattle.std.specs.Prelude.{slice_index_or}
@@ -10,9 +8,7 @@ use Rattle.std.proofs.lemmas.List.{length-replicate}
 use Rattle.snoop_model.proofs.Lists.Facts.{replicated}
 use Rattle.snoop_machine.proofs.AtReset.{IsSound-reset, queues_of-reset}
 use Rattle.snoop_machine.proofs.parts.Parts.reset.Goals as goal
-use Rattle.snoop_machine.proofs.PictureViews.{pictures_of-replicate, same_situation}
-use Rattle.snoop_machine.specs.PartsView.{pictures_of}
-use Rattle.snoop_bus.specs.Traffic.{Open}
+use Rattle.snoop_machine.proofs.PictureViews.{pictures_of-replicate}
 
 pub invariant_of-result : goal.invariant_of-result
 invariant_of-result g c =
@@ -20,7 +16,9 @@ invariant_of-result g c =
       sized = record {
         few = search rules;
         lines = ap (λ (l : List (List ℕ)). length l) c.in_ok-lines.ensures.lines ∙ length-replicate c.args.shape.cores [];
-        memory = ap (λ (l : List MemLine). length l) c.in_ok-memory.ensures ∙ (length-replicate c.blocks-2.result (record { state = c.first_state.result; value = zero_words }) ∙ c.blocks-2.ensures.value);
+        states = ap (λ (m : MemTables). length m.states) c.in_ok-memory.ensures
+            ∙ (length-replicate c.blocks-2.result c.first_state.result ∙ c.blocks-2.ensures.value);
+        values = ap (λ (m : MemTables). length m.words) c.in_ok-memory.ensures ∙ (length-replicate c.blocks-2.result zero_words ∙ c.blocks-2.ensures.value);
         cores = ap (λ (j : Journal). j.cores) c.in_ok-log.ensures;
         blocks = ap (λ (j : Journal). j.blocks) c.in_ok-log.ensures;
         words = ap (λ (j : Journal). j.words) c.in_ok-log.ensures;
@@ -32,18 +30,18 @@ invariant_of-result g c =
 
 pub returns-clause-situation : goal.returns-clause-situation
 returns-clause-situation g c =
-    let items : c.in_ok-memory.memory ≡ replicate c.args.shape.blocks (record { state = first_memory c.args.protocol; value = zero_words }) =
-    c.in_ok-memory.ensures
-    ∙ (ap (λ (n : ℕ). let l : List MemLine = replicate n (record { state = c.first_state.result; value = zero_words }) in l) c.blocks-2.ensures.value
-    ∙ ap (λ (x : MemState). let l : List MemLine = replicate c.args.shape.blocks (record { state = x; value = zero_words }) in l) c.first_state.ensures) in
     let shape = c.args.shape in
-    let blank = ap (λ (l : List (List Line)). pictures_of l c.in_ok-memory.memory c.in_ok-bus.bus.transactions) c.in_ok-lines.ensures.rows
-    ∙ (ap (λ (l : List MemLine). pictures_of (replicate shape.blocks (replicate shape.cores nothing_held)) l c.in_ok-bus.bus.transactions) items
-    ∙ (ap (λ (l : List (Option Open)). pictures_of (replicate shape.blocks (replicate shape.cores nothing_held)) (replicate shape.blocks (record { state = first_memory c.args.protocol; value = zero_words })) l) c.in_ok-bus.ensures.transactions
-    ∙ pictures_of-replicate shape.blocks (replicate shape.cores nothing_held) _ None)) in
-    same_situation _ (reset c.args.protocol c.args.shape) refl refl blank
-    (queues_of-reset c.in_ok-bus.bus.queues c.in_ok-bus.ensures.queues.1 ∙ ap (λ (n : ℕ). let l : List (List ℕ) = replicate n [] in l) c.in_ok-bus.ensures.queues.0)
-    (ap (λ (j : Journal). j.items) c.in_ok-log.ensures)
+    rw (
+      c.in_ok-lines.ensures.rows,
+      c.in_ok-memory.ensures,
+      c.in_ok-bus.ensures.transactions,
+      c.blocks-2.ensures.value,
+      c.first_state.ensures,
+      pictures_of-replicate shape.blocks (replicate shape.cores nothing_held) (first_memory c.args.protocol) zero_words None,
+      queues_of-reset c.in_ok-bus.bus.queues c.in_ok-bus.ensures.queues.1,
+      c.in_ok-bus.ensures.queues.0,
+      c.in_ok-log.ensures,
+    ) refl
 
 pub returns-clause-empty : goal.returns-clause-empty
 returns-clause-empty g c core =

@@ -1,25 +1,26 @@
 use Rattle.std.proofs.Common.{◌≡◌, ℕ, List, ◌<◌, ◌-◌, ◌++◌, ◌∷◌, [], length, drop, Option, Some, ◌∙◌, refl, sym, ap, arith}
-use Rattle.std.specs.Prelude.{◌==◌, not, filter, slice_set, slice_index_or}
+use Rattle.std.specs.Prelude.{slice_set}
 use Rattle.std.specs.Option.{ForSome}
-use Rattle.std.proofs.lemmas.List.{length-set, length-append, length-drop}
+use Rattle.std.proofs.lemmas.List.{length-set, length-append, length-drop, set-get_or}
 use Rattle.snoop_trace.specs.declared.protocol.Protocol.{Protocol}
 use Rattle.snoop_rules.specs.declared.names.Payload.{Payload}
 use Rattle.snoop_rules.specs.declared.names.Request.{Request}
 use Rattle.snoop_history.specs.declared.items.Item.TheVariants as item
-use Rattle.snoop_bus.specs.Traffic.{Open, Traffic, Waiting, waiting_of, head_of, Starts}
+use Rattle.snoop_bus.specs.Traffic.{Open, Waiting, waiting_of, head_of, Starts}
 use Rattle.snoop_model.specs.Pictures.Lines.{MemLine}
 use Rattle.snoop_model.specs.Pictures.Picture.{Picture}
 use Rattle.snoop_model.specs.Pictures.Sends.{Sends}
 use Rattle.snoop_model.specs.Pictures.Situation.{picture_of}
 use Rattle.snoop_machine.specs.Standing.{Standing}
 use Rattle.snoop_machine.specs.Lines.{row_of}
-use Rattle.snoop_machine.specs.PartsView.{Fields, fields, standing, pictures_of, no_memory}
-use Rattle.snoop_machine.proofs.AfterOrders.{IsSound-order, blocks_of-rest}
+use Rattle.snoop_machine.specs.PartsView.{Fields, fields, standing, pictures_of}
+use Rattle.snoop_machine.specs.Memory.{MemTables, memory_at}
+use Rattle.snoop_trace.specs.Words.{zero_words}
 use Rattle.snoop_machine.proofs.Following.{follows-rows}
 use Rattle.snoop_machine.proofs.PictureViews.{seen, line_seen, picture-written, core_in, block_in, sized_on}
-use Rattle.snoop_machine.proofs.QueueHeads.{head_from_line}
-use Rattle.snoop_machine.proofs.QueueViews.{queues_of-set, queue_of-queues_of, same_traffic}
+use Rattle.snoop_machine.proofs.Queues.{head_from_line, head_alone, queues_of-order}
 use Rattle.snoop_machine.proofs.Room.{held_in-set, keeps_room}
+use Rattle.snoop_machine.proofs.Soundness.{IsSound-order}
 use Rattle.snoop_machine.proofs.parts.Parts.start.Given.{Over}
 use Rattle.snoop_machine.proofs.parts.Parts.start.Goals as goal
 use Rattle.snoop_machine.proofs.parts.Parts.start.Goals.{After-words_sent-words, After-start}
@@ -27,7 +28,7 @@ use Rattle.snoop_machine.proofs.parts.Parts.start.Goals.{After-words_sent-words,
 -- the head of the core's queue
 head : (g : Over) (c : After-words_sent-words g) → head_of c.self.inside.bus c.args.core ≡ Some (c.args.request, c.args.block)
 head g c =
-    head_from_line _ _ _ c.self.invariant.sound c.args.core c.args.request c.args.block (rw (← c.self.view_is) at c.requires.head.first)
+    head_from_line c.self.invariant.sound c.args.core c.args.request c.args.block (rw (← c.self.view_is) at c.requires.head.first)
     (rw (line_seen c.self.invariant c.self.view_is c.args.core c.args.block) at c.requires.head.waits)
 
 pub take_rows-requires-clause-rows : goal.take_rows-requires-clause-rows
@@ -81,29 +82,27 @@ opened g c = record {
 
 -- memory's line now, and the block's picture
 abbrev memory_now : (g : Over) (c : After-start g) → MemLine
-memory_now g c = record { state = c.args.memory; value = (slice_index_or c.self.inside.memory c.args.block no_memory).value }
+memory_now g c = record { state = c.args.memory; value = (memory_at c.self.inside.memory c.args.block).value }
 
 abbrev next : (g : Over) (c : After-start g) → Picture
 next g c = record { caches = row_of c.take_rows.new.self.rows c.args.block; memory = memory_now g c; transaction = Some (opened g c) }
 
 wrote : (g : Over) (c : After-start g)
-    → pictures_of c.take_rows.new.self.rows c.move_to.new.self c.start.new.self.transactions ≡ slice_set (standing (parts g c)).situation.pictures c.args.block (next g c)
-wrote g c = picture-written (parts g c) c.args.block (next g c) _ _ _ c.take_rows.ensures.others c.move_to.ensures (starts g c).transactions
+    → pictures_of c.take_rows.new.self.rows c.move_to.new.self.states c.move_to.new.self.words c.start.new.self.transactions
+    ≡ slice_set (standing (parts g c)).situation.pictures c.args.block (next g c)
+wrote g c =
+    picture-written c.self.invariant refl c.args.block (next g c) _ _ _ _ c.take_rows.ensures.others (ap (λ (m : MemTables). m.states) c.move_to.ensures)
+    (ap (λ (m : MemTables). m.words) c.move_to.ensures ∙ sym (set-get_or c.self.inside.memory.words c.args.block zero_words)) (starts g c).transactions
 
 pub invariant_of-self : goal.invariant_of-self
 invariant_of-self g c =
     let d = (goal.at.invariant_of-self g c).After-start in
-    let bus = c.self.inside.bus in
-    let transactions = slice_set bus.transactions c.args.block (Some (opened g d)) in
-    let after : Traffic = record { queues = slice_set bus.queues c.args.core (queue g d); transactions = transactions } in
-    let same : c.start.new.self ≡ after = same_traffic c.start.new.self after (starts g d).queues (starts g d).transactions in
     record {
-      sound = rw same (IsSound-order c.self.inside.shape c.self.inside.lines.rows c.take_rows.new.self.rows bus c.self.inside.protocol c.args.core c.args.block c.args.request c.args.payload c.words_sent-words.result c.args.from
-          c.self.invariant.sound (core_in c.self.invariant c.self.view_is c.args.core c.requires.core)
+      sound = rw c.take_rows.ensures.others (IsSound-order c.self.invariant.sound (core_in c.self.invariant c.self.view_is c.args.core c.requires.core)
           (block_in c.self.invariant c.self.view_is c.args.block c.requires.head.within)
-          (head g (goal.at.invariant_of-self g c).After-words_sent-words) c.take_rows.ensures.others c.take_rows.ensures.taken (starts g d).room);
+          (head g (goal.at.invariant_of-self g c).After-words_sent-words) (starts g d) c.take_rows.ensures.taken);
       sized = rw c.push.ensures (sized_on (parts g d) _ c.self.invariant.sized refl c.take_rows.ensures.many
-          (ap (λ (l : List MemLine). length l) c.move_to.ensures ∙ length-set c.self.inside.memory c.args.block (memory_now g d)) (refl, refl, refl));
+          (rw c.move_to.ensures (length-set c.self.inside.memory.states c.args.block c.args.memory, refl)) (refl, refl, refl));
     }
 
 pub returns : goal.returns
@@ -114,8 +113,9 @@ returns g c =
     let block = c.args.block in
     let before = waiting_of m.bus core in
     let here = seen c.self.invariant refl block in
-    let left = blocks_of-rest before.requests c.args.request block (head g (goal.at.returns g c).After-words_sent-words) (c.self.invariant.sound.once core)
-    ∙ ap (filter (λ x. not (x == block))) (sym (queue_of-queues_of m.bus.queues core)) in
+    let its = head g (goal.at.returns g c).After-words_sent-words in
+    let left = queues_of-order m.bus.queues core block (queue g d).room c.args.request its
+    (head_alone c.self.invariant.sound core c.args.request block its).1 in
     let in_cores = core_in c.self.invariant c.self.view_is core c.requires.core in
     let in_queues : core < length m.bus.queues = omega (arith, c.self.invariant.sound.queues) in
     let fewer = length-drop 1 before.requests in
@@ -140,7 +140,7 @@ returns g c =
         memory = rw (← c.self.view_is) at c.requires.memory;
         value = sym (ap (λ (x : Picture). x.memory.value) here);
         opened = ap (λ (x : List ℕ). let o : Option Open = Some (record (opened g d) { value = x }) in o) (rw (← c.self.view_is) at c.words_sent-words.ensures);
-        after = rw (wrote g d, (starts g d).queues, queues_of-set m.bus.queues core (queue g d), left, c.push.ensures);
+        after = rw (wrote g d, (starts g d).queues, left, c.push.ensures);
       });
       room = rw c.push.ensures (keeps_room m new c.args.self.now c.self.view_is (omega arith)
           (rw (starts g d).queues (held_in-set m.bus.queues core (queue g d) in_queues (omega arith))) c.take_rows.ensures.room);

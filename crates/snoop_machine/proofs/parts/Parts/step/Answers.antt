@@ -22,17 +22,13 @@ returns-clause-prepared g c =
     λ entry prepared. (refl, prepared-log c.args.self.now new c.args.step c.perform.result (entry_of c.args.self.now.situation.log plan) entry prepared move)
 
 pub returns-clause-lines : goal.returns-clause-lines
-returns-clause-lines g c core =
-    let plan = c.in-Ok.plan in
-    let new = c.perform.new.self.situation in
+returns-clause-lines g c =
     let move = rw (c.make_room.ensures.unchanged, c.in-Ok.ensures.found.0) at c.perform.ensures.moved in
-    HoldsOn-taken c.args.self.now c.make_room.new.self c.perform.new.self c.args.step plan core c.perform.result (entry_of c.args.self.now.situation.log plan)
-    c.in-Ok.ensures.found c.make_room.ensures.unchanged (c.make_room.ensures.lines core) (c.perform.ensures.lines core) move
+    HoldsOn-taken c.args.self.now c.make_room.new.self c.perform.new.self c.args.step c.in-Ok.plan c.perform.result _
+    c.in-Ok.ensures.found c.make_room.ensures.unchanged c.make_room.ensures.lines c.perform.ensures.lines move
 
 pub returns-clause-room : goal.returns-clause-room
 returns-clause-room g c =
-    let plan = c.in-Ok.plan in
-    let new = c.perform.new.self.situation in
     let move = rw (c.make_room.ensures.unchanged, c.in-Ok.ensures.found.0) at c.perform.ensures.moved in
-    KeepsRoom-taken c.args.self.now c.make_room.new.self c.perform.new.self c.args.step plan c.perform.result (entry_of c.args.self.now.situation.log plan)
+    KeepsRoom-taken c.args.self.now c.make_room.new.self c.perform.new.self c.args.step c.in-Ok.plan c.perform.result _
     c.in-Ok.ensures.found c.make_room.ensures.unchanged c.make_room.ensures.lines c.perform.ensures.lines move c.make_room.ensures.room c.perform.ensures.room

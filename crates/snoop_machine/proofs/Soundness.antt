@@ -1,0 +1,148 @@
+-- Lines, queues and open transactions fit together after each change.
+use Rattle.std.proofs.Common.{◌≡◌, ◌≢◌, ℕ, ◌<◌, List, ◌∷◌, ◌++◌, [], length, drop, Option, Some, None, refl, sym, ◌∙◌, ap, arith, inl, inr}
+use Rattle.std.specs.Prelude.{option_to_list, slice_set}
+use Rattle.std.proofs.lemmas.Bool.{cases_lt}
+use Rattle.std.proofs.lemmas.Option.{same_Some}
+use Rattle.std.proofs.lemmas.List.{length-set, get_or_past, get_or-set_same, get_or-set_other}
+use Rattle.snoop_trace.specs.Extent.{Extent}
+use Rattle.snoop_trace.specs.Words.{Data}
+use Rattle.snoop_trace.specs.declared.protocol.Protocol.{Protocol}
+use Rattle.snoop_rules.specs.declared.names.Request.{Request}
+use Rattle.snoop_rules.specs.declared.names.Payload.{Payload}
+use Rattle.snoop_rules.specs.Waits.{waiting_request}
+use Rattle.snoop_bus.specs.Traffic.{Open, Traffic, Waiting, Starts, no_queue, waiting_of, head_of, transaction_on}
+use Rattle.snoop_model.specs.Pictures.Lines.{Line}
+use Rattle.snoop_model.specs.Pictures.Picture.{held_at, nothing_held}
+use Rattle.snoop_model.specs.Pictures.Proper.{IsProper}
+use Rattle.snoop_model.specs.Moves.Move.{TakesRows}
+use Rattle.snoop_model.proofs.Tables.Rows.{IsProper-order}
+use Rattle.snoop_model.proofs.Queues.Orders.{own_waits, others_wait}
+use Rattle.snoop_machine.specs.Lines.{row_of, line_at, placed}
+use Rattle.snoop_machine.specs.PartsView.{requests_for, IsSound, WaitsAs}
+use Rattle.snoop_machine.proofs.EachPlace.{each_place}
+use Rattle.snoop_machine.proofs.Queues.{issued_own, issued_other, head_other, head_alone}
+
+-- an open transaction is of the block on which it is found, and its core one that there is
+abbrev IsOpened : Extent → ℕ → Option Open → Type 0
+IsOpened shape block found = (transaction : Open) → found ≡ Some transaction → (transaction.block ≡ block) × (transaction.core < shape.cores)
+
+module _ {shape : Extent} {caches : List (List Line)} {bus : Traffic} (sound : IsSound shape caches bus) where
+  -- a transaction closes
+  pub IsSound-close : (block : ℕ) → block < shape.blocks → IsSound shape caches (record bus { transactions = slice_set bus.transactions block None })
+  IsSound-close block in_blocks = record {
+    rows = sound.rows;
+    row = sound.row;
+    queues = sound.queues;
+    transactions = length-set bus.transactions block None ∙ sound.transactions;
+    proper = sound.proper;
+    opened = each_place (λ b found. IsOpened shape b found) bus.transactions block None None (rw sound.transactions in_blocks) (λ t e. cc)
+        (λ b ne. sound.opened b);
+    waits = sound.waits;
+  }
+
+  -- one core has another queue
+  module _ (now : Traffic) (core : ℕ) (queue : Waiting) (in_cores : core < shape.cores) (wrote : now.queues ≡ slice_set bus.queues core queue) where
+    as_many : length now.queues ≡ shape.cores
+    as_many = ap (λ (queues : List Waiting). length queues) wrote ∙ (length-set bus.queues core queue ∙ sound.queues)
+
+    own_queue : waiting_of now core ≡ queue
+    own_queue = rw wrote (get_or-set_same bus.queues core queue no_queue (rw sound.queues in_cores))
+
+    other_queue : (k : ℕ) → k ≢ core → waiting_of now k ≡ waiting_of bus k
+    other_queue k ne = rw wrote (get_or-set_other bus.queues core k queue no_queue ne)
+
+    each_queue : (P : ℕ → Waiting → Type 0) → P core queue → ((k : ℕ) → k ≢ core → P k (waiting_of bus k)) → (k : ℕ) → P k (waiting_of now k)
+    each_queue P own others k = rw wrote (each_place P bus.queues core queue no_queue (rw sound.queues in_cores) own others k)
+
+    -- with other room
+    pub IsSound-room : queue.requests ≡ (waiting_of bus core).requests → now.transactions ≡ bus.transactions → IsSound shape caches now
+    IsSound-room same transactions = record {
+      rows = sound.rows;
+      row = sound.row;
+      queues = as_many;
+      transactions = ap (λ (found : List (Option Open)). length found) transactions ∙ sound.transactions;
+      proper = sound.proper;
+      opened = rw transactions sound.opened;
+      waits = λ k b. each_queue (λ k its. WaitsAs b its (line_at caches k b)) (rw same (sound.waits core b)) (λ k ne. sound.waits k b) k;
+    }
+
+  -- the row of one block is written
+  module _ (now : Traffic) (block : ℕ) (row : List Line) (in_blocks : block < shape.blocks) (wide : length row ≡ shape.cores)
+      (proper : (k : ℕ) → IsProper (held_at row k)) where
+    each_row : (P : ℕ → List Line → Type 0) → P block row → ((b : ℕ) → b ≢ block → P b (row_of caches b)) → (b : ℕ)
+        → P b (row_of (slice_set caches block row) b)
+    each_row P here others = each_place P caches block row [] (rw sound.rows in_blocks) here others
+
+    IsSound-row : length now.queues ≡ shape.cores → length now.transactions ≡ shape.blocks → ((b : ℕ) → IsOpened shape b (transaction_on now b))
+        → ((k : ℕ) → WaitsAs block (waiting_of now k) (held_at row k))
+        → ((k b : ℕ) → b ≢ block → requests_for b (waiting_of now k).requests ≡ requests_for b (waiting_of bus k).requests)
+        → IsSound shape (slice_set caches block row) now
+    IsSound-row queues transactions opened here elsewhere = record {
+      rows = length-set caches block row ∙ sound.rows;
+      row = each_row (λ b its. b < shape.blocks → length its ≡ shape.cores) (λ h. wide) (λ b ne. sound.row b);
+      queues = queues;
+      transactions = transactions;
+      proper = λ k. each_row (λ b its. IsProper (held_at its k)) (proper k) (λ b ne. sound.proper k b);
+      opened = opened;
+      waits = λ k. each_row (λ b its. WaitsAs b (waiting_of now k) (held_at its k)) (here k) (λ b ne. elsewhere k b ne ∙ sound.waits k b);
+    }
+
+  -- a line is written
+  module _ (core block : ℕ) (line : Line) (in_cores : core < shape.cores) (in_blocks : block < shape.blocks) (proper : IsProper line) where
+    each_line : (P : ℕ → Line → Type 0) → P core line → ((k : ℕ) → k ≢ core → P k (line_at caches k block)) → (k : ℕ)
+        → P k (held_at (slice_set (row_of caches block) core line) k)
+    each_line P here others = each_place P (row_of caches block) core line nothing_held (rw (sound.row block in_blocks) in_cores) here others
+
+    IsSound-placed : (now : Traffic) → length now.queues ≡ shape.cores → length now.transactions ≡ shape.blocks
+        → ((b : ℕ) → IsOpened shape b (transaction_on now b))
+        → WaitsAs block (waiting_of now core) line
+        → ((k : ℕ) → k ≢ core → requests_for block (waiting_of now k).requests ≡ requests_for block (waiting_of bus k).requests)
+        → ((k b : ℕ) → b ≢ block → requests_for b (waiting_of now k).requests ≡ requests_for b (waiting_of bus k).requests)
+        → IsSound shape (placed caches core block line) now
+    IsSound-placed now queues transactions opened own others elsewhere =
+        IsSound-row now block (slice_set (row_of caches block) core line) in_blocks (length-set (row_of caches block) core line ∙ sound.row block in_blocks)
+        (each_line (λ k its. IsProper its) proper (λ k ne. sound.proper k block)) queues transactions opened
+        (each_line (λ k its. WaitsAs block (waiting_of now k) its) own (λ k ne. others k ne ∙ sound.waits k block)) elsewhere
+
+    -- which waits as it did
+    pub IsSound-line : waiting_request line.state ≡ waiting_request (line_at caches core block).state → IsSound shape (placed caches core block line) bus
+    IsSound-line same = IsSound-placed bus sound.queues sound.transactions sound.opened (rw same (sound.waits core block)) (λ k ne. refl) (λ k b ne. refl)
+
+    -- for which the core issues a request: it did not wait on the block
+    pub IsSound-issue : (now : Traffic) (request : Request) (room : ℕ)
+        → now.queues ≡ slice_set bus.queues core (record { requests = (waiting_of bus core).requests ++ (request, block) ∷ []; room = room })
+        → now.transactions ≡ bus.transactions → waiting_request (line_at caches core block).state ≡ None → waiting_request line.state ≡ Some request
+        → IsSound shape (placed caches core block line) now
+    IsSound-issue now request room wrote transactions idle waits =
+        let queue : Waiting = record { requests = (waiting_of bus core).requests ++ (request, block) ∷ []; room = room } in
+        IsSound-placed now (as_many now core queue in_cores wrote)
+        (ap (λ (found : List (Option Open)). length found) transactions ∙ sound.transactions) (rw transactions sound.opened)
+        (rw (own_queue now core queue in_cores wrote, waits) (issued_own (waiting_of bus core).requests request block (rw idle at (sound.waits core block))))
+        (λ k ne. rw (other_queue now core queue in_cores wrote k ne) refl)
+        (λ k b ne. each_queue now core queue in_cores wrote (λ k its. requests_for b its.requests ≡ requests_for b (waiting_of bus k).requests)
+        (issued_other (waiting_of bus core).requests request block b ne) (λ k apart. refl) k)
+
+  -- a core's oldest request leaves its queue, and its transaction opens: each core has taken its row for it
+  pub IsSound-order : {now : Traffic} {p : Protocol} {core block : ℕ} {request : Request} {payload : Payload} {value : Data} {from : Option ℕ} {row : List Line}
+      → core < shape.cores → block < shape.blocks → head_of bus core ≡ Some (request, block) → Starts bus now core request block payload value from
+      → TakesRows p core request (row_of caches block) row → IsSound shape (slice_set caches block row) now
+  IsSound-order {now} {p} {core} {block} {request} {payload} {value} {from} {row} in_cores in_blocks head starts takes =
+      let old = row_of caches block in
+      let wide = sound.row block in_blocks in
+      let queue : Waiting = record { requests = drop 1 (waiting_of bus core).requests; room = starts.room } in
+      let opened : Open = record { core = core; request = request; block = block; payload = payload; value = value; from = from } in
+      let each = each_queue now core queue in_cores starts.queues in
+      let proper : (k : ℕ) → IsProper (held_at row k) = λ k. elim (cases_lt k (length old)) [
+        | inl lt ↦ (let t = takes.rows k lt in rw t.2 (IsProper-order p (held_at old k) k core request t.0.action t.0.next (sound.proper k block) t.1))
+        | inr ge ↦ (let same = takes.same_length in rw (get_or_past row k nothing_held (omega arith) ∙ sym (get_or_past old k nothing_held ge))
+            (sound.proper k block))
+      ] in
+      IsSound-row now block row in_blocks (takes.same_length ∙ wide) proper (as_many now core queue in_cores starts.queues)
+      (ap (λ (found : List (Option Open)). length found) starts.transactions ∙ (length-set bus.transactions block (Some opened) ∙ sound.transactions))
+      (rw starts.transactions (each_place (λ b found. IsOpened shape b found) bus.transactions block (Some opened) None (rw sound.transactions in_blocks)
+      (λ t e. rw (← (same_Some _ _ e)) (refl, in_cores)) (λ b ne. sound.opened b)))
+      (each (λ k its. WaitsAs block its (held_at row k))
+      ((head_alone sound core request block head).1 ∙ ap option_to_list (sym (own_waits p core request old row takes (omega arith))))
+      (λ k ne. sound.waits k block ∙ ap option_to_list (sym (others_wait p core request old row takes k ne))))
+      (λ k b ne. each (λ k its. requests_for b its.requests ≡ requests_for b (waiting_of bus k).requests)
+      (head_other (waiting_of bus core).requests request block b head ne) (λ k apart. refl) k)
