@@ -1,6 +1,8 @@
 -- The step of each case of a work under way.
-use Rattle.std.proofs.Common.{◌≡◌, ℕ, ◌==◌, Bool, true, false, Option, Some, None, refl}
+use Rattle.std.proofs.Common.{◌≡◌, ℕ, ◌<◌, ◌==◌, Bool, true, false, Option, Some, None}
 use Rattle.std.specs.Prelude.{is_some, if◌then◌else◌}
+use Rattle.snoop_trace.specs.Extent.{Extent}
+use Rattle.snoop_trace.specs.Output.{IsReadableStep}
 use Rattle.snoop_trace.specs.declared.step.Op.{Op}
 use Rattle.snoop_trace.specs.declared.step.Step.{Step}
 use Rattle.snoop_trace.specs.declared.step.Step.TheVariants.{Order, Respond}
@@ -35,6 +37,9 @@ pub at_case : (s : Situation) (core block word : ℕ) (asking : Op) {waits : Boo
     → IsCase core block (case_of s core block true) waits step
 at_case s core block word asking e f = rw (← e, ← f) (case_is (waiting_request (state_of s core block)) (picture_of s block).transaction core block)
 
--- where no request waits the step is the response
-pub a_response : {core block : ℕ} {k : Case} {step : Step} → IsCase core block k false (Some step) → step ≡ Respond block
-a_response ending = refl
+-- the step is one that is read again from its text
+pub turn_within : {core block : ℕ} {k : Case} {waits : Bool} {step : Step} (shape : Extent) → core < shape.cores → block < shape.blocks
+    → IsCase core block k waits (Some step) → IsReadableStep shape step
+turn_within shape c b ordering = c
+turn_within shape c b helping = b
+turn_within shape c b ending = b

@@ -1,12 +1,11 @@
 -- What a turn answers is the outcome of the work.
-use Rattle.std.proofs.Common.{◌≡◌, ◌≢◌, ℕ, ◌<◌, ◌==◌, inr, Bool, true, false, true≢false, List, Option, Some, None, nat_lt, refl, sym, ap, ◌∙◌, arith}
+use Rattle.std.proofs.Common.{◌≡◌, ◌≢◌, ℕ, ◌==◌, inr, Bool, true, false, List, Option, Some, None, nat_lt, refl, sym, ap, ◌∙◌}
 use Rattle.std.specs.Prelude.{if◌then◌else◌}
-use Rattle.std.proofs.lemmas.Bool.{eq-eqb, eqb-true, ne_eqb, and_parts}
-use Rattle.std.proofs.lemmas.Bool.Decides.{nat_tests}
+use Rattle.std.proofs.lemmas.Bool.{lt-ltb, eq-eqb, eqb-true, ne_eqb, and_parts}
 use Rattle.snoop_trace.specs.declared.step.Op.{Op}
 use Rattle.snoop_trace.specs.declared.step.Op.TheVariants as op
 use Rattle.snoop_trace.specs.declared.step.Step.{Step}
-use Rattle.snoop_trace.specs.declared.step.Step.TheVariants.{Ask}
+use Rattle.snoop_trace.specs.declared.step.Step.TheVariants.{Ask, Respond}
 use Rattle.snoop_rules.specs.declared.names.Request.{Request}
 use Rattle.snoop_rules.specs.Waits.{waiting_request}
 use Rattle.snoop_bus.specs.Traffic.{Open}
@@ -31,46 +30,40 @@ use Rattle.snoop_bench.specs.Works.{access_of, work_at, IsOp, Does}
 use Rattle.snoop_bench.specs.Recording.{TakesAndPublishes}
 use Rattle.snoop_bench.specs.Locked.{Locked, IsClosed, EndsWith, record_of}
 use Rattle.snoop_bench.specs.Turns.{Case, Finishes, Asked, TurnsIn}
-use Rattle.snoop_bench.specs.Turns.Case.{ends, over}
+use Rattle.snoop_bench.specs.Turns.Case.{over}
 use Rattle.snoop_bench.specs.Outcomes.{works_asked, turn_asked, turn_over}
 use Rattle.snoop_bench.specs.Keeps.{AreUnderWay}
 use Rattle.snoop_bench.specs.Faults.{IsInside}
 use Rattle.snoop_bench.proofs.Cases.{IsCase}
-use Rattle.snoop_bench.proofs.Cases.IsCase.{ordering, helping, ending, closed}
+use Rattle.snoop_bench.proofs.Cases.IsCase.{ordering, helping, ending}
 use Rattle.snoop_bench.proofs.Waiting.{Stepped}
-use Rattle.snoop_bench.proofs.Turning.{Facing, ended, asks_its}
+use Rattle.snoop_bench.proofs.Turning.{Facing, ended, asks_its, same_op-is}
 
-is_op : (asking : Op) (did : Did) (load : Bool) → did.load ≡ load → same_op asking (if load then op.Load else op.Store did.value) ≡ true → IsOp asking did
-is_op op.Load did true e h = e
-is_op (op.Store v) did false e h = (e, sym (eqb-true v did.value h))
-is_op asking did true e h = absurd (true≢false (sym h))
-is_op asking did false e h = absurd (true≢false (sym h))
+is_op : (did : Did) (load : Bool) → did.load ≡ load → IsOp (if load then op.Load else op.Store did.value) did
+is_op did true e = e
+is_op did false e = (e, refl)
 
 -- the test that the operation is that of the work
 does : (did : Did) (work : Work) → did_it work.block (access_of work) did ≡ true → Does did work
 does did work e =
     let parts = and_parts (did.block == work.block) (same_access (access_of work) (did_access did)) e in
     let rest = and_parts (work.word == did.word) (same_op work.op (did_access did).op) parts.1 in
-    (eqb-true did.block work.block parts.0, sym (eqb-true work.word did.word rest.0), is_op work.op did did.load refl rest.1)
+    (eqb-true did.block work.block parts.0, sym (eqb-true work.word did.word rest.0), rw (same_op-is work.op (did_access did).op rest.1) (is_op did did.load refl))
 
 pub ends_with : (s : Situation) (core : ℕ) (work : Work) → IsLast s core work.block (access_of work) → (did : Did) × EndsWith s core work did
 ends_with s core work last = (last.0, record { last = last.1; does = does last.0 work last.2 })
 
 -- a work with no step left is answered by its operation, the last of the core's in the log
 pub finishes : TurnLaws → {s : Situation} {works : List (Option Work)} {core : ℕ} {work : Work} → Facing s works core work None
-    → (cores : ℕ) (items : List Item) (last : Option Did) → cores ≡ s.shape.cores → items ≡ s.log
-    → last ≡ (if nat_lt core cores then last_of items core else None) → Finishes s core work work.op (turn_over work.op last)
-finishes rule {s} {works} {core} {work} f cores items last same log is =
+    → (last : Option Did) → last ≡ (if nat_lt core s.shape.cores then last_of s.log core else None) → Finishes s core work work.op (turn_over work.op last)
+finishes rule {s} {works} {core} {work} f last is =
     let last_one = rule.closed_is_last s core work.block work.word work.op (access_of work) f.well in
     by_op work.op (λ isnt. ends_with s core work (last_one (f.under.owed core work f.its isnt) f.step_is))
   where
-    tests : (n : ℕ) → core < n → nat_lt core n ≡ true
-    tests n h = grind (arith, nat_tests)
-
     by_op : (asking : Op) → (asking ≢ op.Evict → (did : Did) × EndsWith s core work did) → Finishes s core work asking (turn_over asking last)
     by_op op.Load ended =
         let d = ended (λ e. cc) in
-        (d.0, (d.1, rw (is, same, tests s.shape.cores f.inside.0, log, d.1.last) refl))
+        (d.0, (d.1, rw (is, lt-ltb core s.shape.cores f.inside.0, d.1.last) refl))
     by_op (op.Store v) ended = let d = ended (λ e. cc) in (d.0, (d.1, refl))
     by_op op.Evict ended = refl
 
@@ -109,30 +102,31 @@ asked_so rule core work (reply.Ordered request) given p q u idle inside m fits h
   where
     not_ordered : (asking : Op) → IsReplyTo (Ask core work.block work.word asking) (reply.Ordered request) → ⊥
     not_ordered op.Load f = f
-    not_ordered (op.Store v) f = f
-    not_ordered op.Evict f = f
+    not_ordered _ f = f
 asked_so rule core work (reply.Came payload from did) given p q u idle inside m fits hit e w = absurd (not_came work.op fits)
   where
     not_came : (asking : Op) → IsReplyTo (Ask core work.block work.word asking) (reply.Came payload from did) → ⊥
     not_came op.Load f = f
-    not_came (op.Store v) f = f
-    not_came op.Evict f = f
+    not_came _ f = f
 
--- the turn of a core whose request waits
-pub served_turn : (core : ℕ) (work : Work) {k : Case} {step : Step} (p q : Locked) → IsCase core work.block k true (Some step)
-    → (answer : Reply) × (TakesAndPublishes step answer (record_of p) (record_of q) × (q.works ≡ p.works)) → TurnsIn k core work turn.Going p q
-served_turn core work p q ordering t = (t.0, (t.1.0, (refl, t.1.1)))
-served_turn core work p q helping t = (t.0, (t.1.0, (refl, t.1.1)))
+module _ (core : ℕ) (work : Work) {answer : Reply} where
+  -- the turn of a core whose request waits
+  pub served_turn : {k : Case} {step : Step} (p q : Locked) → IsCase core work.block k true (Some step)
+      → TakesAndPublishes step answer (record_of p) (record_of q) → q.works ≡ p.works → TurnsIn k core work turn.Going p q
+  served_turn p q ordering took same = (answer, (took, (refl, same)))
+  served_turn p q helping took same = (answer, (took, (refl, same)))
 
--- the turn of a core whose own transaction is open
-pub finished_turn : (core : ℕ) (work : Work) {k : Case} {step : Step} (given : Turn) (p q : Locked) → IsCase core work.block k false (Some step)
-    → TurnsIn ends core work given p q → TurnsIn k core work given p q
-finished_turn core work given p q ending t = t
-
--- the turn of a core whose transaction another core's turn has closed
-pub over_turn : (core : ℕ) (work : Work) {k : Case} {waits : Bool} (given : Turn) (p q : Locked) → IsCase core work.block k waits None
-    → TurnsIn over core work given p q → TurnsIn k core work given p q
-over_turn core work given p q closed t = t
+  -- the turn of a core whose own transaction is open: with the response its work is over
+  pub finished_turn : {k : Case} {step : Step} (given : Turn) (p m q : Locked) → IsCase core work.block k false (Some step)
+      → TakesAndPublishes step answer (record_of p) (record_of m) → m.works ≡ p.works → TurnsIn over core work given m q → TurnsIn k core work given p q
+  finished_turn given p m q ending took same t =
+      let all : TakesAndPublishes (Respond work.block) answer (record_of p) (record_of q) = record {
+        item = took.item;
+        move = rw t.0.situation took.move;
+        steps = t.0.steps ∙ took.steps;
+        published = t.0.published ∙ took.published;
+      } in
+      (answer, (all, (t.1.0, rw (← same) t.1.1)))
 
 -- a core that neither waits nor has its transaction open has no step left
 pub closed_turn : (s : Situation) (core block word : ℕ) (asking : Op) → IsClosed s core block → turn_of s core block word asking true ≡ None

@@ -1,6 +1,6 @@
 -- Turns keep works under way.
-use Rattle.std.proofs.Common.{◌≡◌, ◌≢◌, ◌⊎◌, ⊎_elim, ℕ, zero, suc, ◌<◌, ◌==◌, inl, inr, Bool, true, true≢false, List, length, replicate, Option, Some, None, refl, sym, ap, ◌∙◌, arith}
-use Rattle.std.specs.Prelude.{slice_set, option_map, ◌&&◌}
+use Rattle.std.proofs.Common.{◌≡◌, ◌≢◌, ◌⊎◌, ⊎_elim, ℕ, zero, suc, ◌<◌, ◌==◌, inl, inr, Bool, true, true≢false, List, length, replicate, Option, Some, None, refl, sym, ap, ◌∙◌, arith, false}
+use Rattle.std.specs.Prelude.{slice_set, option_map, ◌&&◌, is_some}
 use Rattle.std.specs.Option.{option_map_or}
 use Rattle.std.proofs.lemmas.Bool.{eq-eqb, eqb-true, ne_eqb, and_parts, cases_eq}
 use Rattle.std.proofs.lemmas.List.{length-set, length-replicate}
@@ -10,7 +10,7 @@ use Rattle.snoop_trace.specs.declared.protocol.Protocol.{Protocol}
 use Rattle.snoop_trace.specs.declared.step.Op.{Op}
 use Rattle.snoop_trace.specs.declared.step.Op.TheVariants as op
 use Rattle.snoop_trace.specs.declared.step.Step.{Step}
-use Rattle.snoop_trace.specs.declared.step.Step.TheVariants.{Ask}
+use Rattle.snoop_trace.specs.declared.step.Step.TheVariants.{Ask, Respond}
 use Rattle.snoop_trace.specs.declared.step.Work.{Work}
 use Rattle.snoop_rules.specs.declared.names.Request.{Request}
 use Rattle.snoop_model.specs.declared.access.Access.{Access}
@@ -18,7 +18,7 @@ use Rattle.snoop_model.specs.declared.replies.Refused.{Refused}
 use Rattle.snoop_model.specs.declared.replies.Reply.{Reply}
 use Rattle.snoop_model.specs.declared.replies.Reply.TheVariants as reply
 use Rattle.snoop_model.specs.Pictures.Lines.{Line}
-use Rattle.snoop_model.specs.Pictures.Situation.{Situation, reset}
+use Rattle.snoop_model.specs.Pictures.Situation.{Situation, reset, picture_of, state_of}
 use Rattle.snoop_model.specs.Runs.Once.{waits_for, asks, same_op, same_access}
 use Rattle.snoop_model.specs.Turns.Serving.{IsUnderWay}
 use Rattle.snoop_model.specs.Invariant.WellKept.{IsWellKept}
@@ -38,6 +38,12 @@ use Rattle.snoop_bench.proofs.Cases.{IsCase}
 use Rattle.snoop_bench.proofs.Cases.IsCase.{ordering, helping, ending}
 use Rattle.snoop_bench.proofs.Places.{its_block, changed, unchanged, put_out, has_place, apart}
 use Rattle.snoop_bench.proofs.Waiting.{Stepped, AsksNothing, waited_or_asked, owed_still}
+use Rattle.snoop_rules.specs.Waits.{waiting_request}
+use Rattle.snoop_history.specs.declared.items.Item.{Item}
+use Rattle.snoop_model.specs.Pictures.Picture.{Picture, held_by}
+use Rattle.snoop_model.specs.Moves.Move.{FirstMove}
+use Rattle.snoop_model.proofs.OneBlock.OfBlocks.{in_pictures, picture_here}
+use Rattle.snoop_model.proofs.Queues.Responds.{arrives_waits}
 
 -- the works after a step: those under way stay, and each new one is asked by the step
 record GoOn (works after : List (Option Work)) (step : Step) : Type 0 where
@@ -70,25 +76,25 @@ goes_on rule {s} {t} {step} {answer} m works after u g = record {
     stays core block None e f = cc
     stays core block (Some work) e f = its_block _ _ (g.stay core (none_some _ work e))
 
--- the step of a work under way keeps the works
+-- the step of a work under way is no load or store that is asked
+unasked : (works : List (Option Work)) {core block : ℕ} {k : Case} {waits : Bool} {step : Step} → IsCase core block k waits (Some step)
+    → ((c : ℕ) → AsksNothing c step) × IsUnderWay (works_under_way works) step
+unasked works ordering = (λ c block wanted. refl, tt)
+unasked works helping = (λ c block wanted. refl, tt)
+unasked works ending = (λ c block wanted. refl, tt)
+
+-- so it keeps the works
 pub serving_step : TurnLaws → {s t : Situation} {step : Step} {answer : Reply} {core block : ℕ} {k : Case} {waits : Bool} → Stepped s t step answer
     → (works : List (Option Work)) → AreUnderWay works s → IsCase core block k waits (Some step) → AreUnderWay works t
-serving_step rule m works u is = goes_on rule m works works u (unasked (by_case is))
-  where
-    by_case : {core block : ℕ} {k : Case} {waits : Bool} {step : Step} → IsCase core block k waits (Some step)
-        → ((c : ℕ) → AsksNothing c step) × IsUnderWay (works_under_way works) step
-    by_case ordering = (λ c block wanted. refl, tt)
-    by_case helping = (λ c block wanted. refl, tt)
-    by_case ending = (λ c block wanted. refl, tt)
-
-    unasked : {step : Step} → ((c : ℕ) → AsksNothing c step) × IsUnderWay (works_under_way works) step → GoOn works works step
-    unasked none = record {
+serving_step rule m works u is =
+    let none = unasked works is in
+    goes_on rule m works works u (record {
       places = refl;
       stay = λ core busy. refl;
       under = none.1;
       asked = λ core block wanted e. absurd (true≢false (sym e ∙ none.0 core block wanted));
       new = λ core work its isnt. inl (its, none.0 core);
-    }
+    })
 
 -- a core with a work under way, at the turn of this step, if any
 pub record Facing (s : Situation) (works : List (Option Work)) (core : ℕ) (work : Work) (step : Option Step) : Type 0 where
@@ -133,8 +139,40 @@ over_keeps rule {s} {works} {core} {work} f = record {
         let mine : block ≡ work.block = cc in
         has_step s c block work.word work.op wanted f.well waits (rw (same, mine) f.step_is)
 
+-- after the response a core that does not wait has no step left for its work
+closed_after : (s t : Situation) (core block word : ℕ) (asking : Op) (answer : Reply) (entry : Option Item) → IsWellKept s
+    → waiting_request (state_of s core block) ≡ None → FirstMove s (Respond block) answer t entry → turn_of t core block word asking true ≡ None
+closed_after s t core block word asking answer entry kept none move =
+    let b = move.0 in
+    let m = move.1.1 in
+    let r = m.responds in
+    let there : picture_of t b ≡ r.next =
+    ap (λ (x : Situation). picture_of x b) r.after
+    ∙ picture_here s b r.next s.queues s.log (in_pictures s b kept.shaped m.within) in
+    let free : (picture_of t b).transaction ≡ None = ap (λ (x : Picture). x.transaction) there ∙ r.closed in
+    let waits : waiting_request (state_of t core b) ≡ None =
+    ap (λ (x : Picture). waiting_request (held_by x core).state) there
+    ∙ arrives_waits m.closing s.protocol s.log (picture_of s b).caches r.next.caches m.did r.requestor core ∙ (rw m.on_block at none) in
+    rw (m.on_block, waits, free) refl
+
+-- the response for the core's own transaction: its work has no step left
+pub finished : TurnLaws → {s t : Situation} {works : List (Option Work)} {core : ℕ} {work : Work} {k : Case} {step : Step} {answer : Reply}
+    → IsCase core work.block k false (Some step) → Facing s works core work (Some step)
+    → false ≡ is_some (waiting_request (state_of s core work.block)) → Stepped s t step answer → Facing t works core work None
+finished rule {s} {t} {works} {core} {work} {k} {step} {answer} ending f waits m = record {
+  under = serving_step rule {core = core} m works f.under ending;
+  well = m.kept;
+  inside = rw m.shape f.inside;
+  its = f.its;
+  step_is = closed_after s t core work.block work.word work.op answer m.entry f.well (no_request (waiting_request (state_of s core work.block)) waits) m.move;
+}
+  where
+    no_request : (w : Option Request) → false ≡ is_some w → w ≡ None
+    no_request None e = refl
+    no_request (Some r) e = absurd (true≢false (sym e))
+
 -- an operation that is asked is that of the work
-same_op-is : (wanted asking : Op) → same_op wanted asking ≡ true → wanted ≡ asking
+pub same_op-is : (wanted asking : Op) → same_op wanted asking ≡ true → wanted ≡ asking
 same_op-is op.Load op.Load e = refl
 same_op-is (op.Store v) (op.Store w) e = ap (λ (n : ℕ). op.Store n) (eqb-true v w e)
 same_op-is wanted asking e = absurd (true≢false (sym e))

@@ -17,6 +17,7 @@ use Rattle.snoop_model.specs.Moves.Move.{FirstMove}
 use Rattle.snoop_model.specs.Runs.Once.{did_it, did_access, waits_for, asks, same_op, OnceMore}
 use Rattle.snoop_model.specs.Runs.Owed.{IsOwed}
 use Rattle.snoop_model.specs.Invariant.WellKept.{IsWellKept}
+use Rattle.snoop_model.specs.Turns.TurnLaws.{TurnLaws}
 use Rattle.snoop_model.proofs.Runs.Logged.{move-log}
 use Rattle.snoop_model.proofs.Once.Owed.{entry_op, answers_are, one_or_none, one_waits, owes}
 use Rattle.snoop_bench.specs.Works.{access_of, work_at}
@@ -32,10 +33,15 @@ pub record Stepped (s t : Situation) (step : Step) (answer : Reply) : Type 0 whe
   pub kept : IsWellKept t
 
 -- the same from a step that was recorded
-pub stepped : {p q : Recording} {step : Step} {answer : Reply} → TakesAndPublishes step answer p q → OnceMore p.situation (step ∷ []) (Ok answer ∷ []) q.situation
-    → q.situation.shape ≡ p.situation.shape → IsWellKept q.situation
-    → Stepped p.situation q.situation step answer
-stepped took once shape kept = record { entry = took.item; move = took.move; once = once; shape = shape; kept = kept }
+pub stepped : TurnLaws → {p q : Recording} {step : Step} {answer : Reply} → IsWellKept p.situation → TakesAndPublishes step answer p q
+    → OnceMore p.situation (step ∷ []) (Ok answer ∷ []) q.situation → q.situation.shape ≡ p.situation.shape → Stepped p.situation q.situation step answer
+stepped rule {p} {q} {step} {answer} well took once shape = record {
+  entry = took.item;
+  move = took.move;
+  once = once;
+  shape = shape;
+  kept = rule.keeps_well p.situation q.situation step answer took.item well took.move;
+}
 
 -- the step is no load or store that the core asks
 abbrev pub AsksNothing : ℕ → Step → Type 0

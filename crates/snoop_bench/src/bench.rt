@@ -1,19 +1,14 @@
 //! The value under the lock.
-ghost use Rattle.std.specs.Prelude.{◌≡◌, ◌≢◌, ◌<◌, ◌^◌, ◌↔◌, IsTrue, true, false, is_some, length, IsOk, IfOk, IfErr, OnOk, OnErr, Err, Some, None, slice_set};
-ghost use Rattle.snoop_trace.specs.Words.{HasWord};
+ghost use Rattle.std.specs.Prelude.{◌≡◌, ◌<◌, ◌^◌, true, IsOk, IfOk, IfErr, OnErr, Err, Some, None};
 ghost use Rattle.snoop_trace.specs.Output.{IsReadableStep};
 ghost use Rattle.snoop_trace.specs.declared.step.Step.TheVariants.{Ask};
-ghost use Rattle.snoop_rules.specs.Waits.{waiting_request};
-ghost use Rattle.snoop_model.specs.declared.replies.Reply.{Reply};
-ghost use Rattle.snoop_model.specs.Pictures.Situation.{state_of};
 ghost use Rattle.snoop_model.specs.Runs.Safe.{IsSafe};
 ghost use Rattle.snoop_model.specs.Turns.Turn.{turn_of};
 ghost use Rattle.snoop_bench.specs.declared.work.AdvanceFault.{AdvanceFault};
 ghost use Rattle.snoop_bench.specs.Works.{as_asked, work_at};
-ghost use Rattle.snoop_bench.specs.Locked.{opened, record_of, IsKept};
+ghost use Rattle.snoop_bench.specs.Locked.{opened, IsKept};
 ghost use Rattle.snoop_bench.specs.Turns.{Turns, TurnsIn};
-ghost use Rattle.snoop_bench.specs.Turns.Case.{asks, ends, over};
-ghost use Rattle.snoop_bench.specs.Recording.{TakesAndPublishes};
+ghost use Rattle.snoop_bench.specs.Turns.Case.{asks, over};
 ghost use Rattle.snoop_bench.specs.Faults.{IsInside, RefusesTurn, MustRefuse};
 
 use crate::outcome::{asked, note, over, set_work};
@@ -96,7 +91,6 @@ impl Bench {
     {
         let _ = &self.works;
         self.recorder.recorded();
-        self.recorder.machine().coherent();
         turns_are_served();
     }
 
@@ -168,7 +162,7 @@ impl Bench {
         ensures err { OnErr result (self.new ≡ self.old) }
     {
         turns_are_served();
-        self.recorder.machine().coherent();
+        self.recorder.recorded();
         let step = Step::Ask {
             core,
             block: work.block,
@@ -176,7 +170,6 @@ impl Bench {
             op: work.op,
         };
         let reply = self.recorder.take(rt, step)?;
-        self.recorder.machine().coherent();
         note(&mut self.works, core, work, reply);
         Ok(asked(reply))
     }
@@ -193,55 +186,17 @@ impl Bench {
         let Some(step) = machine.turn_step(core, work.block, work.word, work.op, true) else {
             return Ok(self.close(core, work));
         };
-        if machine.waits_on(core, work.block) {
-            self.serve(rt, core, work, step)?;
+        let waits = machine.waits_on(core, work.block);
+        turns_are_served();
+        self.recorder.recorded();
+        self.recorder.take(rt, step)?;
+        if waits {
             return Ok(Turn::Going);
         }
-        let turn = self.finish(rt, core, work, step)?;
-        Ok(turn)
+        Ok(self.close(core, work))
     }
 
-    // Takes the step of a core whose request waits.
-    fn serve<R: Wait>(&mut self, rt: &R, core: u32, work: Work, step: Step) -> Result<(), NoMemory>
-        requires inside { IsInside core work self.old }
-        requires its { work_at self.old.works core ≡ Some work }
-        requires step { turn_of self.old.situation core work.block work.word work.op true ≡ Some step }
-        requires waits { is_some (waiting_request (state_of self.old.situation core work.block)) ≡ true }
-        ensures ok { OnOk result ((answer : Reply) × (TakesAndPublishes step answer (record_of self.old) (record_of self.new) × (self.new.works ≡ self.old.works))) }
-        ensures err { OnErr result (self.new ≡ self.old) }
-    {
-        turns_are_served();
-        self.recorder.machine().coherent();
-        self.recorder.take(rt, step)?;
-        self.recorder.machine().coherent();
-        Ok(())
-    }
-
-    // Takes the response for the core's own transaction.
-    fn finish<R: Wait>(
-        &mut self,
-        rt: &R,
-        core: u32,
-        work: Work,
-        step: Step,
-    ) -> Result<Turn, NoMemory>
-        requires inside { IsInside core work self.old }
-        requires its { work_at self.old.works core ≡ Some work }
-        requires step { turn_of self.old.situation core work.block work.word work.op true ≡ Some step }
-        requires waits { is_some (waiting_request (state_of self.old.situation core work.block)) ≡ false }
-        ensures ok { IfOk result (λ given. TurnsIn ends core work given self.old self.new) }
-        ensures err { OnErr result (self.new ≡ self.old) }
-    {
-        turns_are_served();
-        self.recorder.machine().coherent();
-        self.recorder.take(rt, step)?;
-        self.recorder.machine().coherent();
-        let last = self.recorder.machine().log().last(core);
-        set_work(&mut self.works, core, None);
-        Ok(over(work.op, last))
-    }
-
-    // Another core's turn has closed the work.
+    // The core's work, which has no step left, is over.
     fn close(&mut self, core: u32, work: Work) -> Turn
         requires inside { IsInside core work self.old }
         requires its { work_at self.old.works core ≡ Some work }
@@ -249,7 +204,7 @@ impl Bench {
         ensures { TurnsIn over core work result self.old self.new }
     {
         turns_are_served();
-        self.recorder.machine().coherent();
+        self.recorder.recorded();
         let last = self.recorder.machine().log().last(core);
         set_work(&mut self.works, core, None);
         over(work.op, last)

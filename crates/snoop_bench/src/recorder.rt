@@ -7,6 +7,7 @@ ghost use Rattle.snoop_model.specs.Pictures.Situation.{Situation, reset};
 ghost use Rattle.snoop_model.specs.Moves.Refuses.{Refuses};
 ghost use Rattle.snoop_model.specs.Moves.Replies.{IsReplyTo, IsLoadHit};
 ghost use Rattle.snoop_model.specs.Runs.Once.{OnceMore};
+ghost use Rattle.snoop_model.specs.Runs.Safe.{IsSafe};
 ghost use Rattle.snoop_machine.specs.Standing.{Standing};
 ghost use Rattle.snoop_machine.specs.Prepared.{IsPrepared};
 ghost use Rattle.snoop_bench.specs.Recording.{IsRecorded, TakesAndPublishes};
@@ -76,11 +77,12 @@ impl Recorder {
         self.steps.as_slice()
     }
 
-    /// Every recorder is the run of its steps. This does nothing: a proof calls it for what it ensures.
+    /// Every recorder is the run of its steps, and its machine is coherent. This does nothing: a proof calls it for what it ensures.
     pub(crate) fn recorded(&self)
-        ensures { IsRecorded self.now }
+        ensures recorded { IsRecorded self.now }
+        ensures safe { IsSafe self.now.situation }
     {
-        let _ = &self.machine;
+        self.machine.coherent();
     }
 
     /// Takes a step that no cause refuses, and publishes its item. `NoMemory` changes nothing: all growths come before the step.

@@ -1,6 +1,6 @@
 -- What a reader of one version knows of a core's operations.
-use Rattle.std.proofs.Common.{◌≡◌, ◌≢◌, ℕ, ◌+◌, ◌<◌, ◌≤◌, List, [], ◌∷◌, ◌++◌, length, Option, Some, None, true, nat_lt, if◌then◌else◌, refl, sym, ap, ◌∙◌, arith, length-append, append-nil}
-use Rattle.std.proofs.lemmas.Bool.Decides.{nat_tests}
+use Rattle.std.proofs.Common.{◌≡◌, ◌≢◌, ℕ, ◌+◌, ◌<◌, ◌≤◌, List, [], ◌∷◌, ◌++◌, length, Option, Some, None, nat_lt, if◌then◌else◌, refl, sym, ap, ◌∙◌, arith, length-append, append-nil}
+use Rattle.std.proofs.lemmas.Bool.{lt-ltb}
 use Rattle.snoop_history.specs.declared.items.Did.{Did}
 use Rattle.snoop_history.specs.History.{answers_of, next_number, last_of}
 use Rattle.snoop_history.specs.Totals.{capped}
@@ -36,11 +36,8 @@ none_more all dids (rest, is) count below =
 several : (n m c : ℕ) → m ≤ n → capped n ≡ c → c < most → c ≢ m → c ≢ m + 1 → m + 1 < n
 several n m c h e b p q = omega arith
 
-some_is : (o : Option ℕ) (a b : ℕ) → o ≡ Some a → o ≡ Some b → a ≡ b
-some_is o a b e f = cc
-
 inside : {A : Type 0} (core cores : ℕ) (o here : Option A) → core < cores → o ≡ (if nat_lt core cores then here else None) → o ≡ here
-inside core cores o here lt is = let yes : nat_lt core cores ≡ true = grind (arith, nat_tests) in rw yes at is
+inside core cores o here lt is = rw (lt-ltb core cores lt) at is
 
 -- what is judged is shown
 pub own_shown : (own : Own) (core : ℕ) (v w : Viewing) (answers : List Did) (count : Option ℕ) (last : Option Did)
@@ -57,7 +54,7 @@ own_shown own core v w answers count last e lt b counted lasts = by_case own
     all = answers_of w.seen core
 
     counts : (n : ℕ) → count ≡ Some n → capped (length all) ≡ n
-    counts n is = some_is count (capped (length all)) n (inside core w.cores count (Some (capped (next_number w.seen core))) within counted) is
+    counts n is = let read : count ≡ Some (capped (length all)) = inside core w.cores count _ within counted in cc
 
     last_is : last ≡ last_of w.seen core
     last_is = inside core w.cores last (last_of w.seen core) within lasts

@@ -1,5 +1,5 @@
 -- What the steps of some frames come to, computed one after another.
-use Rattle.std.proofs.Common.{◌≡◌, List, [], ◌∷◌, refl, subst}
+use Rattle.std.proofs.Common.{◌≡◌, List, [], ◌∷◌, refl}
 use Rattle.snoop_trace.specs.Extent.{Extent}
 use Rattle.snoop_trace.specs.declared.step.Step.{Step}
 use Rattle.snoop_trace.specs.declared.protocol.Protocol.{Protocol}
@@ -33,12 +33,10 @@ plays old steady (step ∷ steps) =
     ((next.1, (goes, rest.0)), (next.1, (goes, refl, rest.1)))
 
 -- the steps of these frames come to these frames, and to this end
-pub told : (protocol : Protocol) (shape : Extent) (frames : List Frame) (end : Situation)
+pub told : {protocol : Protocol} {shape : Extent} {frames : List Frame} {end : Situation}
     → frames_from (reset protocol shape) (steps_of frames) ≡ frames → end_from (reset protocol shape) (steps_of frames) ≡ end
     → IsPlayed protocol shape frames end
-told protocol shape frames end same leads =
-    let first : Situation = reset protocol shape in
-    let steps : List Step = steps_of frames in
-    let played = plays first (reset_steady protocol shape) steps in
-    let here = subst (λ s. Plays first steps frames s) leads (subst (λ es. Plays first steps es (end_from first steps)) same played) in
+told {protocol} {shape} {frames} {end} same leads =
+    let played = plays (reset protocol shape) (reset_steady protocol shape) (steps_of frames) in
+    let here : Plays (reset protocol shape) (steps_of frames) frames end = rw (same, leads) at played in
     record { run = here.0; states = here.1 }

@@ -1,6 +1,6 @@
 use Rattle.std.proofs.Common.{◌∙◌, refl, sym}
 use Rattle.std.specs.Prelude.{slice_index_or}
-use Rattle.snoop_cores.proofs.Answering.{first_on, stands_there}
+use Rattle.snoop_cores.proofs.Joining.{first_on, stands_there}
 use Rattle.snoop_cores.proofs.gathering.answers_match.Goals.{in-Some-did+else-not-is_at_its_number, in_default-did}
 use Rattle.snoop_cores.proofs.gathering.answers_match.Goals as goal
 

@@ -12,13 +12,12 @@ use Rattle.snoop_cores.proofs.gathering.gather.Goals as goal
 
 pub returns-in-Some-clause-not_all : goal.returns-in-Some-clause-not_all
 returns-in-Some-clause-not_all g c = λ core odd.
-    let cores = c.cores.ensures.value ∙ ap (λ (e : Extent). e.cores) c.shape.ensures in
-    ap (λ (k : ℕ). Err (NotAllSeats k)) (odd_one c.args.shared.now.shape.cores c.args.seats.now c.in-Some.core core (rw cores at c.in-Some.ensures.some) odd)
+    let some = rw (c.cores.ensures.value, c.shape.ensures) at c.in-Some.ensures.some in
+    ap (λ (k : ℕ). Err (NotAllSeats k)) (odd_one c.args.shared.now.shape.cores c.args.seats.now c.in-Some.core core some odd)
 
 pub returns-clause-not_all : goal.returns-clause-not_all
 returns-clause-not_all g c = λ core odd.
-    let cores = c.cores.ensures.value ∙ ap (λ (e : Extent). e.cores) c.shape.ensures in
-    absurd (not_odd c.args.shared.now.shape.cores c.args.seats.now core (rw cores at c.in_default.ensures.none) odd)
+    absurd (not_odd c.args.shared.now.shape.cores c.args.seats.now core (rw (c.cores.ensures.value, c.shape.ensures) at c.in_default.ensures.none) odd)
 
 -- what refuses to join a bench of the machine refuses to gather
 refuses : (protocol : Protocol) (shape : Extent) (seats : List Seating) (b : Locked) (answer : Result Gathered GatherFault) → OneForEach shape.cores seats → IsHeld protocol shape b → IfErr answer (RefusesJoin b seats) → IfErr answer (RefusesGather protocol shape seats)
@@ -28,9 +27,8 @@ refuses protocol shape seats b (Err fault) one_each held joined = (one_each, (b,
 
 pub returns-clause-err : goal.returns-clause-err
 returns-clause-err g c =
-    let bench = c.deref-2.result.now in
     let protocol = ap (λ (b : Locked). b.situation.protocol) c.deref-2.ensures ∙ c.lock-bench.ensures.protocol in
     let shape = ap (λ (b : Locked). b.situation.shape) c.deref-2.ensures ∙ c.lock-bench.ensures.shape in
-    let cores = c.cores.ensures.value ∙ ap (λ (e : Extent). e.cores) c.shape.ensures in
-    refuses c.args.shared.now.protocol c.args.shared.now.shape c.args.seats.now bench c.join.result (rw cores at c.in_default.ensures.none)
+    refuses c.args.shared.now.protocol c.args.shared.now.shape c.args.seats.now c.deref-2.result.now c.join.result
+    (rw (c.cores.ensures.value, c.shape.ensures) at c.in_default.ensures.none)
     (record { kept = subst IsKept (c.deref.ensures ∙ sym c.deref-2.ensures) c.kept.ensures.kept; protocol_is = protocol; shape_is = shape }) c.join.ensures.err

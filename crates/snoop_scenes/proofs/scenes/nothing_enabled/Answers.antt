@@ -1,9 +1,6 @@
 use Rattle.std.proofs.Common.{refl}
-use Rattle.snoop_trace.specs.declared.protocol.Protocol.TheVariants.{Msi}
-use Rattle.snoop_scenes.specs.Scene.{two_cores}
-use Rattle.snoop_scenes.specs.NothingEnabled.{frames, end}
 use Rattle.snoop_scenes.proofs.Play.{told}
 use Rattle.snoop_scenes.proofs.scenes.nothing_enabled.Goals as goal
 
 pub returns-clause-scene : goal.returns-clause-scene
-returns-clause-scene c = told Msi two_cores frames end refl refl
+returns-clause-scene c = told refl refl

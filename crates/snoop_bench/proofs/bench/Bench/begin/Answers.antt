@@ -1,4 +1,4 @@
-use Rattle.std.proofs.Common.{refl, false, sym, subst}
+use Rattle.std.proofs.Common.{false, refl, sym, subst}
 use Rattle.snoop_trace.specs.Output.{IsReadableStep}
 use Rattle.snoop_trace.specs.declared.step.Step.TheVariants.{Ask}
 use Rattle.snoop_bench.specs.Works.{works_under_way}
@@ -11,13 +11,10 @@ use Rattle.snoop_bench.proofs.bench.Bench.begin.Goals as goal
 
 pub take-requires-clause-allowed : goal.take-requires-clause-allowed
 take-requires-clause-allowed g c =
-    let s = c.self.inside.recorder.situation in
     let work = c.args.work in
     let inside = rw (← c.self.view_is) at c.requires.inside in
-    let well = rw c.machine.ensures at c.coherent.ensures.well_kept in
-    let ask = Ask c.args.core work.block work.word work.op in
-    c.turns_are_served.ensures.never_refused s (works_under_way c.self.inside.works.items) c.args.core work.block work.word work.op false ask
-    c.self.invariant.serving well inside.0 inside.1 inside.2 (its_block _ _ (rw (← c.self.view_is) at c.requires.idle)) refl
+    c.turns_are_served.ensures.never_refused c.self.inside.recorder.situation (works_under_way c.self.inside.works.items) c.args.core work.block work.word work.op false _
+    c.self.invariant.serving c.recorded.ensures.safe.well_kept inside.0 inside.1 inside.2 (its_block _ _ (rw (← c.self.view_is) at c.requires.idle)) refl
 
 pub take-requires-clause-within : goal.take-requires-clause-within
 take-requires-clause-within g c =
@@ -26,22 +23,15 @@ take-requires-clause-within g c =
 
 pub invariant_of-self-2 : goal.invariant_of-self-2
 invariant_of-self-2 g c =
-    let idle = rw (← c.self.view_is) at c.requires.idle in
-    let inside = rw (← c.self.view_is) at c.requires.inside in
     rw c.note.ensures
-    (asked_keeps c.turns_are_served.ensures c.self.inside.works.items c.args.core c.args.work c.in_ok-reply.reply c.self.invariant idle inside
-    (stepped c.in_ok-reply.ensures.takes c.in_ok-reply.ensures.once c.take.ensures.stays.1 (rw c.machine-2.ensures at c.coherent-2.ensures.well_kept)))
+    (asked_keeps c.turns_are_served.ensures c.self.inside.works.items c.args.core c.args.work c.in_ok-reply.reply c.self.invariant
+    (rw (← c.self.view_is) at c.requires.idle) (rw (← c.self.view_is) at c.requires.inside)
+    (stepped c.turns_are_served.ensures c.recorded.ensures.safe.well_kept c.in_ok-reply.ensures.takes c.in_ok-reply.ensures.once c.take.ensures.stays.1))
 
 pub returns-clause-ok : goal.returns-clause-ok
 returns-clause-ok g c =
-    let idle = rw (← c.self.view_is) at c.requires.idle in
-    let inside = rw (← c.self.view_is) at c.requires.inside in
-    rw (← c.self.view_is) (
-      c.in_ok-reply.reply,
-      (
-        c.in_ok-reply.ensures.takes,
-        asked_so c.turns_are_served.ensures c.args.core c.args.work c.in_ok-reply.reply c.asked.result _ _ c.self.invariant idle inside
-            (stepped c.in_ok-reply.ensures.takes c.in_ok-reply.ensures.once c.take.ensures.stays.1 (rw c.machine-2.ensures at c.coherent-2.ensures.well_kept))
-            c.in_ok-reply.ensures.replied c.in_ok-reply.ensures.hit c.asked.ensures c.note.ensures,
-      ),
-    )
+    let asked = asked_so c.turns_are_served.ensures c.args.core c.args.work c.in_ok-reply.reply c.asked.result _ _ c.self.invariant
+    (rw (← c.self.view_is) at c.requires.idle) (rw (← c.self.view_is) at c.requires.inside)
+    (stepped c.turns_are_served.ensures c.recorded.ensures.safe.well_kept c.in_ok-reply.ensures.takes c.in_ok-reply.ensures.once c.take.ensures.stays.1)
+    c.in_ok-reply.ensures.replied c.in_ok-reply.ensures.hit c.asked.ensures c.note.ensures in
+    rw (← c.self.view_is) (c.in_ok-reply.reply, (c.in_ok-reply.ensures.takes, asked))

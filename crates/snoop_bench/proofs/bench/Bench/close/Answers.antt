@@ -1,20 +1,17 @@
-use Rattle.std.proofs.Common.{refl, ap, ◌∙◌}
-use Rattle.snoop_model.specs.Pictures.Situation.{Situation}
-use Rattle.snoop_bench.proofs.Turning.{facing, over_keeps}
+use Rattle.std.proofs.Common.{None, refl}
+use Rattle.snoop_bench.proofs.Turning.{Facing, facing, over_keeps}
 use Rattle.snoop_bench.proofs.Outcomes.{finishes}
+use Rattle.snoop_bench.proofs.bench.Bench.close.Goals.{After-recorded}
 use Rattle.snoop_bench.proofs.bench.Bench.close.Goals as goal
 
+faces : (c : After-recorded) → Facing c.self.inside.recorder.situation c.self.inside.works.items c.args.core c.args.work None
+faces c = facing c.self.view_is c.args.core c.args.work c.self.invariant c.recorded.ensures.safe.well_kept c.requires.inside c.requires.its c.requires.closed
+
 pub invariant_of-self : goal.invariant_of-self
-invariant_of-self c =
-    let f = facing c.self.view_is c.args.core c.args.work c.self.invariant
-    (rw c.machine.ensures at c.coherent.ensures.well_kept) c.requires.inside c.requires.its c.requires.closed in
-    rw c.set_work.ensures (over_keeps c.turns_are_served.ensures f)
+invariant_of-self c = rw c.set_work.ensures (over_keeps c.turns_are_served.ensures (faces (goal.at.invariant_of-self c).After-recorded))
 
 pub returns : goal.returns
 returns c =
-    let f = facing c.self.view_is c.args.core c.args.work c.self.invariant
-    (rw c.machine.ensures at c.coherent.ensures.well_kept) c.requires.inside c.requires.its c.requires.closed in
-    let cores = c.log.ensures.shape.0 ∙ ap (λ (x : Situation). x.shape.cores) c.machine-2.ensures in
-    let items = c.log.ensures.items ∙ ap (λ (x : Situation). x.log) c.machine-2.ensures in
-    let done = finishes c.turns_are_served.ensures f c.log.result.now.cores c.log.result.now.items c.last-last.result cores items c.last-last.ensures in
+    let last = rw (c.log.ensures.shape.0, c.log.ensures.items, c.machine.ensures) at c.last-last.ensures in
+    let done = finishes c.turns_are_served.ensures (faces (goal.at.returns c).After-recorded) c.last-last.result last in
     rw (← c.self.view_is) (record { situation = refl; steps = refl; published = refl }, (rw c.over.ensures done, c.set_work.ensures))

@@ -1,21 +1,67 @@
-use Rattle.std.proofs.Common.{sym, ap, ◌∙◌}
+use Rattle.std.proofs.Common.{◌≡◌, ◌∙◌, Some, true, ap, refl, sym}
+use Rattle.std.specs.Prelude.{is_some}
+use Rattle.snoop_rules.specs.Waits.{waiting_request}
+use Rattle.snoop_model.specs.Pictures.Situation.{state_of}
+use Rattle.snoop_bench.specs.Keeps.{locked}
 use Rattle.snoop_bench.specs.Locked.{Locked}
-use Rattle.snoop_bench.proofs.Cases.{at_case}
-use Rattle.snoop_bench.proofs.Outcomes.{served_turn, finished_turn}
+use Rattle.snoop_bench.specs.Turns.{case_of}
+use Rattle.snoop_bench.proofs.Cases.{IsCase, at_case, turn_within}
+use Rattle.snoop_bench.proofs.Waiting.{stepped}
+use Rattle.snoop_bench.proofs.Turning.{Facing, facing, finished, never, serving_step}
+use Rattle.snoop_bench.proofs.Outcomes.{finished_turn, served_turn}
+use Rattle.snoop_bench.proofs.bench.Bench.go_on.Given.{Over}
+use Rattle.snoop_bench.proofs.bench.Bench.go_on.Goals.{After-recorded}
 use Rattle.snoop_bench.proofs.bench.Bench.go_on.Goals as goal
 
-pub returns-then-waits_on-clause-ok : goal.returns-then-waits_on-clause-ok
-returns-then-waits_on-clause-ok g c =
-    let same = c.machine-machine.ensures ∙ ap (λ (l : Locked). l.situation) c.self.view_is in
-    let work = c.args.work in
-    let waits = rw same at (sym (c.waits_on.ensures.inside (rw same c.requires.inside.0) (rw same c.requires.inside.1)) ∙ c.if-waits_on.true) in
-    let case = at_case c.args.self.now.situation c.args.core work.block work.word work.op waits (rw same at (sym c.turn_step.ensures ∙ c.in-Some.is)) in
-    rw c.requires.its (served_turn c.args.core work c.args.self.now c.serve.new.self case c.in_ok-serve.ensures.ok)
+module _ (g : Over) (c : After-recorded g) where
+  faces : Facing c.self.inside.recorder.situation c.self.inside.works.items c.args.core c.args.work (Some c.in-Some.step)
+  faces =
+      let same = c.machine-machine.ensures ∙ ap (λ (l : Locked). l.situation) c.self.view_is in
+      facing c.self.view_is c.args.core c.args.work c.self.invariant c.recorded.ensures.safe.well_kept c.requires.inside c.requires.its
+      (rw same at (sym c.turn_step.ensures ∙ c.in-Some.is))
+
+  waits : c.waits_on-waits.result ≡ is_some (waiting_request (state_of c.self.inside.recorder.situation c.args.core c.args.work.block))
+  waits = (rw c.machine-machine.ensures at c.waits_on-waits.ensures.inside) faces.inside.0 faces.inside.1
+
+  case : IsCase c.args.core c.args.work.block (case_of c.self.inside.recorder.situation c.args.core c.args.work.block true) c.waits_on-waits.result (Some c.in-Some.step)
+  case = at_case c.self.inside.recorder.situation c.args.core c.args.work.block c.args.work.word c.args.work.op (sym waits) faces.step_is
+
+pub take-requires-clause-allowed : goal.take-requires-clause-allowed
+take-requires-clause-allowed g c = never c.turns_are_served.ensures (faces g (goal.at.take-requires-clause-allowed g c).After-recorded)
+
+pub take-requires-clause-within : goal.take-requires-clause-within
+take-requires-clause-within g c =
+    let d = (goal.at.take-requires-clause-within g c).After-recorded in
+    turn_within c.self.inside.recorder.situation.shape (faces g d).inside.0 (faces g d).inside.1 (case g d)
+
+pub invariant_of-self-then-waits : goal.invariant_of-self-then-waits
+invariant_of-self-then-waits g c =
+    let d = (goal.at.invariant_of-self-then-waits g c).After-recorded in
+    let m = stepped c.turns_are_served.ensures c.recorded.ensures.safe.well_kept c.in_ok-take.ensures.takes c.in_ok-take.ensures.once c.take.ensures.stays.1 in
+    serving_step c.turns_are_served.ensures m c.self.inside.works.items (faces g d).under (case g d)
+
+pub returns-then-waits-clause-ok : goal.returns-then-waits-clause-ok
+returns-then-waits-clause-ok g c =
+    let d = (goal.at.returns-then-waits-clause-ok g c).After-recorded in
+    let taken : Locked = record { situation = c.take.new.self.situation; steps = c.take.new.self.steps; works = c.self.inside.works.items; published = c.take.new.self.published } in
+    rw (← c.self.view_is, (faces g d).its)
+    (served_turn c.args.core c.args.work (locked c.self.inside) taken (rw c.if-waits.true at (case g d)) c.in_ok-take.ensures.takes refl)
+
+pub invariant_of-self-2 : goal.invariant_of-self-2
+invariant_of-self-2 g c =
+    let d = (goal.at.invariant_of-self-2 g c).After-recorded in
+    let m = stepped c.turns_are_served.ensures c.recorded.ensures.safe.well_kept c.in_ok-take.ensures.takes c.in_ok-take.ensures.once c.take.ensures.stays.1 in
+    serving_step c.turns_are_served.ensures m c.self.inside.works.items (faces g d).under (case g d)
+
+pub close-requires-2-clause-closed : goal.close-requires-2-clause-closed
+close-requires-2-clause-closed g c =
+    let d = (goal.at.close-requires-2-clause-closed g c).After-recorded in
+    let m = stepped c.turns_are_served.ensures c.recorded.ensures.safe.well_kept c.in_ok-take.ensures.takes c.in_ok-take.ensures.once c.take.ensures.stays.1 in
+    (finished c.turns_are_served.ensures (rw c.if-waits.false at (case g d)) (faces g d) (sym c.if-waits.false ∙ waits g d) m).step_is
 
 pub returns-clause-ok : goal.returns-clause-ok
 returns-clause-ok g c =
-    let same = c.machine-machine.ensures ∙ ap (λ (l : Locked). l.situation) c.self.view_is in
-    let work = c.args.work in
-    let waits = rw same at (sym (c.waits_on.ensures.inside (rw same c.requires.inside.0) (rw same c.requires.inside.1)) ∙ c.if-waits_on.false) in
-    let case = at_case c.args.self.now.situation c.args.core work.block work.word work.op waits (rw same at (sym c.turn_step.ensures ∙ c.in-Some.is)) in
-    rw c.requires.its (finished_turn c.args.core work c.in_ok-turn.turn c.args.self.now c.finish.new.self case c.in_ok-turn.ensures.ok)
+    let d = (goal.at.returns-clause-ok g c).After-recorded in
+    let taken : Locked = record { situation = c.take.new.self.situation; steps = c.take.new.self.steps; works = c.self.inside.works.items; published = c.take.new.self.published } in
+    rw (← c.self.view_is, (faces g d).its)
+    (finished_turn c.args.core c.args.work c.close-2.result (locked c.self.inside) taken c.close-2.new.self (rw c.if-waits.false at (case g d)) c.in_ok-take.ensures.takes refl c.close-2.ensures)

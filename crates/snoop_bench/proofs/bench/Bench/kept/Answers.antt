@@ -6,16 +6,14 @@ pub returns-clause-kept : goal.returns-clause-kept
 returns-clause-kept c =
     let s = c.self.inside.recorder.situation in
     let u = c.self.invariant in
-    let r = c.recorded.ensures in
+    let r = c.recorded.ensures.recorded in
     rw (← c.self.view_is) (record {
       run = r.run;
       readable = r.readable;
       places = u.places;
       serving = u.serving;
       closed = λ core work its isnt closed.
-          let well = rw c.machine.ensures at c.coherent.ensures.well_kept in
-          let last = c.turns_are_served.ensures.closed_is_last s core work.block work.word work.op (access_of work)
-          well (u.owed core work its isnt) (closed_turn s core work.block work.word work.op closed) in
-          ends_with s core work last;
+          ends_with s core work (c.turns_are_served.ensures.closed_is_last s core work.block work.word work.op (access_of work)
+          c.recorded.ensures.safe.well_kept (u.owed core work its isnt) (closed_turn s core work.block work.word work.op closed));
       published = r.published;
     })
