@@ -11,7 +11,7 @@ def shown(field):
     """A field as it stands: printable, not too long, and no further than its first line end."""
     front = re.split(rb"[\r\n]", field)[0][:40]
     escaped = "".join("\\\\" if byte == 0x5c else chr(byte) if 0x20 <= byte <= 0x7e else f"\\x{byte:02x}" for byte in front)
-    return f"'{escaped}'" + (f" and {len(field) - len(front)} more bytes" if len(field) > len(front) else "")
+    return f"'{escaped}'" + (f" and {counted(len(field) - len(front), 'more byte')}" if len(field) > len(front) else "")
 
 
 def first_of(*hints):

@@ -1,7 +1,6 @@
 -- The first hint of some fields, field by field.
-use Rattle.std.proofs.Common.{◌≡◌, ℕ, ◌+◌, ◌<◌, List, [], ◌∷◌, drop, get_or, length, refl, sym, ap, ◌∙◌, arith, true, false}
+use Rattle.std.proofs.Common.{◌≡◌, ℕ, ◌+◌, ◌<◌, List, [], ◌∷◌, arith, cond, drop, false, get_or, length, refl, ◌∙◌}
 use Rattle.std.specs.Prelude.{zero, suc, ◌==◌}
-use Rattle.std.proofs.lemmas.Bool.{false≢true}
 use Rattle.std.proofs.lemmas.Bool.Decides.{nat_tests}
 use Rattle.std.proofs.lemmas.List.{at_drop_more}
 use Rattle.csv.specs.Records.{field_at}
@@ -14,34 +13,12 @@ field_is [] i = refl
 field_is (f ∷ fs) zero = refl
 field_is (f ∷ fs) (suc i) = field_is fs i
 
-cons_hint : (f : List ℕ) (fs : List (List ℕ)) → fields_hint (f ∷ fs) ≡ or_else (field_hint f) (fields_hint fs)
-unfolding fields_hint
-cons_hint f fs = refl
+or_else_is : (hint other : List ℕ) → or_else hint other ≡ cond (length hint == 0) other hint
+or_else_is [] other = refl
+or_else_is (byte ∷ bytes) other = let some : (length (byte ∷ bytes) == 0) ≡ false = grind (arith, nat_tests) in rw some refl
 
 -- the hint of the next field, or else of those after it
-next_hint : (fields : List (List ℕ)) (i : ℕ) → i < length fields → fields_hint (drop i fields) ≡ or_else (field_hint (field fields i)) (fields_hint (drop (i + 1) fields))
-next_hint fields i h =
-    at_drop_more fields_hint fields i [] h ∙ cons_hint (get_or fields i []) (drop (i + 1) fields)
-    ∙ ap (λ (f : List ℕ). or_else (field_hint f) (fields_hint (drop (i + 1) fields))) (field_is fields i)
-
-some_first : (hint other : List ℕ) → (length hint == 0) ≡ false → or_else hint other ≡ hint
-some_first [] other some = absurd (false≢true (sym some))
-some_first (byte ∷ bytes) other some = refl
-
-none_first : (hint other : List ℕ) → (length hint == 0) ≡ true → or_else hint other ≡ other
-none_first [] other none = refl
-none_first (byte ∷ bytes) other none = absurd (grind (arith, nat_tests))
-
--- a field with a hint, after fields with none
-pub hint_found : (fields : List (List ℕ)) (i : ℕ) (hint : List ℕ) → i < length fields → hint ≡ field_hint (field fields i) → (length hint == 0) ≡ false
-    → fields_hint fields ≡ fields_hint (drop i fields) → hint ≡ fields_hint fields
-hint_found fields i hint h is some far =
-    sym (far ∙ next_hint fields i h ∙ ap (λ (t : List ℕ). or_else t (fields_hint (drop (i + 1) fields))) (sym is)
-    ∙ some_first hint (fields_hint (drop (i + 1) fields)) some)
-
--- one field more has none
-pub hint_later : (fields : List (List ℕ)) (i : ℕ) (hint : List ℕ) → i < length fields → hint ≡ field_hint (field fields i) → (length hint == 0) ≡ true
-    → fields_hint fields ≡ fields_hint (drop i fields) → fields_hint fields ≡ fields_hint (drop (i + 1) fields)
-hint_later fields i hint h is none far =
-    far ∙ next_hint fields i h ∙ ap (λ (t : List ℕ). or_else t (fields_hint (drop (i + 1) fields))) (sym is)
-    ∙ none_first hint (fields_hint (drop (i + 1) fields)) none
+pub next_hint : (fields : List (List ℕ)) (i : ℕ) → i < length fields
+    → fields_hint (drop i fields) ≡ cond (length (field_hint (field fields i)) == 0) (fields_hint (drop (i + 1) fields)) (field_hint (field fields i))
+unfolding fields_hint
+next_hint fields i h = at_drop_more fields_hint fields i [] h ∙ rw (field_is fields i) (or_else_is (field_hint (field fields i)) (fields_hint (drop (i + 1) fields)))

@@ -1,9 +1,7 @@
-pub mod MarkLemmas
 pub mod FindingLemmas
 pub mod TallyLemmas
 pub mod LookedLemmas
 pub mod LineLemmas
-pub mod LintedLemmas
 pub mod BoundLemmas
 pub mod FewestLemmas
 pub mod EachLine

@@ -3,8 +3,7 @@ use Rattle.std.proofs.Common.{◌≡◌, ℕ, ◌+◌, ◌≤◌, ◌++◌, List
 use Rattle.std.specs.Prelude.{zero, suc, ◌-◌, nat_lt, option_to_list, if◌then◌else◌}
 use Rattle.std.specs.List.{flat_map}
 use Rattle.std.specs.Option.{option_map_or}
-use Rattle.std.proofs.lemmas.Bool.{cases_lt}
-use Rattle.std.proofs.lemmas.Bool.Decides.{nat_tests}
+use Rattle.std.proofs.lemmas.Bool.{cases_lt, le-ltb, lt-ltb}
 use Rattle.std.proofs.lemmas.List.{length_push, take-append-le, take_all}
 use Rattle.std.proofs.lemmas.List.Concat.{flat_map-append}
 use Rattle.csv.specs.Reading.{Reached, ReadRecord, default_config, reader_config, reader_state, records, source_of}
@@ -22,7 +21,7 @@ use Rattle.snoop_lint.specs.Findings.{Finding, fault_at, finding, findings, find
 use Rattle.snoop_lint.specs.Linted.{first_lines, line_at}
 use Rattle.snoop_lint.specs.Looked.{line_if_room}
 use Rattle.snoop_lint.specs.Tallies.{one_more, tally_of}
-use Rattle.snoop_lint.proofs.FindingLemmas.{findings_more}
+use Rattle.snoop_lint.proofs.FindingLemmas.{Fields, findings_more}
 use Rattle.snoop_lint.proofs.TallyLemmas.{tally_more}
 
 piece_of : (f : Finding → List ℕ) (o : Option Finding) → flat_map f (option_to_list o) ≡ option_map_or f o []
@@ -36,30 +35,26 @@ short (Some x) = omega arith
 -- the piece of one finding more, where there is room for it
 take_room : (f : Finding → List ℕ) (most : ℕ) (fs : List Finding) (o : Option Finding)
     → flat_map f (take most (fs ++ option_to_list o)) ≡ flat_map f (take most fs) ++ (if nat_lt (length fs) most then option_map_or f o [] else [])
-take_room f most fs o =
-    elim (cases_lt (length fs) most) [
-      | inl h ↦
-          let room : nat_lt (length fs) most ≡ true = grind (arith, nat_tests) in
-          let all = take_all most fs (omega arith) in
-          let more = take_all most (fs ++ option_to_list o) (omega (arith, length-append fs (option_to_list o), short o)) in
-          rw (room, all, more) (flat_map-append f fs (option_to_list o) ∙ ap (λ (t : List ℕ). flat_map f fs ++ t) (piece_of f o))
-      | inr h ↦
-          let full : nat_lt (length fs) most ≡ false = grind (arith, nat_tests) in
-          let same = take-append-le most fs (option_to_list o) h in
-          rw (full, same) (sym (append-nil (flat_map f (take most fs))))
-    ]
+take_room f most fs o = elim (cases_lt (length fs) most) [
+  | inl room ↦
+      rw (lt-ltb (length fs) most room, take_all most fs (omega arith), take_all most (fs ++ option_to_list o) (omega (arith, length-append fs (option_to_list o), short o)))
+      (simp (flat_map-append, piece_of f) refl)
+  | inr full ↦ rw (le-ltb (length fs) most full, take-append-le most fs (option_to_list o) full) (sym (append-nil (flat_map f (take most fs))))
+]
 
-lines_more : (form : Form) (most : ℕ) (protocol : Protocol) (shape : Extent) (lines : List ℕ) (rows : List (List (List ℕ))) (row : List (List ℕ)) (n : ℕ) → n ≡ length rows + 1
-    → first_lines form most protocol shape lines (rows ++ (row ∷ []))
-    ≡ first_lines form most protocol shape lines rows ++ line_if_room form most protocol shape lines (length (findings form protocol shape rows)) n row
-unfolding first_lines
-lines_more form most protocol shape lines rows row n e =
-    ap (λ (fs : List Finding). flat_map (line_at form protocol shape lines) (take most fs)) (findings_more (fault_at form protocol shape) 1 rows row n (omega arith))
-    ∙ take_room (line_at form protocol shape lines) most (findings form protocol shape rows) (finding (fault_at form protocol shape) n row)
+none_taken : (n : ℕ) → take {A = Finding} n [] ≡ []
+none_taken zero = refl
+none_taken (suc n) = refl
+
+few_found : (fault : ℕ → Fields → Option TextFault) (n : ℕ) (rows : List Fields) → length (findings_from fault n rows) ≤ length rows
+unfolding findings_from
+few_found fault n [] = omega arith
+few_found fault n (row ∷ rows) =
+    omega (arith, length-append (option_to_list (finding fault n row)) (findings_from fault (n + 1) rows), short (finding fault n row), few_found fault (n + 1) rows)
 
 -- n records of a text were read; their lines were appended, and they were counted
 pub record Looked (form : Form) (most : ℕ) (protocol : Protocol) (shape : Extent) (lines xs : List ℕ) (s : State) (left : Option (List ℕ)) (old out : List ℕ) (tally : Tally) (n : ℕ) : Type 0 where
-  pub rows : List (List (List ℕ))
+  pub rows : List Fields
   pub ys : List ℕ
   pub at : left ≡ Some ys
   pub reached : Reached default_config st.StartRecord xs rows s ys
@@ -67,79 +62,65 @@ pub record Looked (form : Form) (most : ℕ) (protocol : Protocol) (shape : Exte
   pub out_is : out ≡ old ++ first_lines form most protocol shape lines rows
   pub tally_is : tally ≡ tally_of form protocol shape rows
 
-none_taken : (n : ℕ) (fs : List Finding) → fs ≡ [] → take n fs ≡ []
-none_taken zero fs e = refl
-none_taken (suc n) fs e = rw e refl
+module _ {form : Form} {most : ℕ} {protocol : Protocol} {shape : Extent} {lines xs old : List ℕ} where
+  -- no record was read yet
+  pub looked_none : {s : State} {left : Option (List ℕ)} {tally : Tally} → left ≡ Some xs → s ≡ st.StartRecord
+      → tally ≡ record { records = 0; faults = 0; has_others = false; has_heading = false; asks = false; drives = false; core = 0; block = 0 }
+      → Looked form most protocol shape lines xs s left old old tally 0
+  unfolding Reached first_lines findings_from tally_of
+  looked_none at begins none = record {
+    rows = [];
+    ys = xs;
+    at = at;
+    reached = (sym begins, refl);
+    count = refl;
+    out_is = rw (none_taken most) (sym (append-nil old));
+    tally_is = none;
+  }
 
--- no record was read yet
-pub looked_none : (form : Form) (most : ℕ) (protocol : Protocol) (shape : Extent) (lines xs : List ℕ) (s : State) (left : Option (List ℕ)) (old : List ℕ) (tally : Tally)
-    → left ≡ Some xs → s ≡ st.StartRecord
-    → tally ≡ record { records = 0; faults = 0; has_others = false; has_heading = false; asks = false; drives = false; core = 0; block = 0 }
-    → Looked form most protocol shape lines xs s left old old tally 0
-unfolding Reached first_lines findings_from tally_of
-looked_none form most protocol shape lines xs s left old tally at begins none =
-    record {
-      rows = [];
-      ys = xs;
-      at = at;
-      reached = (sym begins, refl);
-      count = refl;
-      out_is = sym (ap (λ (fs : List Finding). old ++ flat_map (line_at form protocol shape lines) fs) (none_taken most [] refl) ∙ append-nil old);
-      tally_is = none;
-    }
+  faults_are : {s : State} {left : Option (List ℕ)} {out : List ℕ} {tally : Tally} {n : ℕ}
+      → (far : Looked form most protocol shape lines xs s left old out tally n) → tally.faults ≡ length (findings form protocol shape far.rows)
+  unfolding tally_of
+  faults_are far = ap (λ (t : Tally). t.faults) far.tally_is
 
-few_found : (fault : ℕ → List (List ℕ) → Option TextFault) (n : ℕ) (rows : List (List (List ℕ))) → length (findings_from fault n rows) ≤ length rows
-unfolding findings_from
-few_found fault n [] = omega arith
-few_found fault n (row ∷ rows) =
-    omega (arith, length-append (option_to_list (finding fault n row)) (findings_from fault (n + 1) rows), short (finding fault n row), few_found fault (n + 1) rows)
+  -- no more records are faulty than were read
+  pub looked_few : {s : State} {left : Option (List ℕ)} {out : List ℕ} {tally : Tally} {n : ℕ} → Looked form most protocol shape lines xs s left old out tally n → tally.faults ≤ n
+  looked_few far = omega (arith, faults_are far, few_found (fault_at form protocol shape) 1 far.rows, far.count)
 
--- no more records are faulty than were read
-pub looked_few : (form : Form) (most : ℕ) (protocol : Protocol) (shape : Extent) (lines xs : List ℕ) (s : State) (left : Option (List ℕ)) (old out : List ℕ) (tally : Tally) (n : ℕ)
-    → Looked form most protocol shape lines xs s left old out tally n → tally.faults ≤ n
-unfolding tally_of
-looked_few form most protocol shape lines xs s left old out tally n far =
-    let faults : tally.faults ≡ length (findings form protocol shape far.rows) = ap (λ (t : Tally). t.faults) far.tally_is in
-    omega (arith, faults, few_found (fault_at form protocol shape) 1 far.rows, far.count)
+  -- one record more
+  pub looked_more : {R : Type 0} (rem : R → Option (List ℕ)) (a b : Reader R) (f : Fields) {out next : List ℕ} {tally counted : Tally} {n : ℕ}
+      → reader_config a ≡ default_config → ReadRecord rem a b true f
+      → Looked form most protocol shape lines xs (reader_state a) (source_of rem a) old out tally n
+      → next ≡ out ++ line_if_room form most protocol shape lines tally.faults (n + 1) f
+      → counted ≡ one_more form shape (n + 1) f (fault_at form protocol shape (n + 1) f) tally
+      → Looked form most protocol shape lines xs (reader_state b) (source_of rem b) old next counted (n + 1)
+  unfolding first_lines
+  looked_more rem a b f {out} {next} {tally} {counted} {n} config read far line count =
+      let (z, at_z, reached) = rows-more rem a b f default_config st.StartRecord xs far.ys far.rows config far.at far.reached read in
+      let number : n + 1 ≡ length far.rows + 1 = omega (arith, far.count) in
+      let piece = line_at form protocol shape lines in
+      let found = findings_more (fault_at form protocol shape) 1 far.rows f (n + 1) (omega (arith, number)) in
+      record {
+        rows = far.rows ++ (f ∷ []);
+        ys = z;
+        at = at_z;
+        reached = reached;
+        count = length_push far.rows f ∙ sym number;
+        out_is = line ∙ rw (far.out_is, faults_are far, found, take_room piece most (findings form protocol shape far.rows) (finding (fault_at form protocol shape) (n + 1) f)) (append_assoc old _ _);
+        tally_is = count ∙ ap (λ (t : Tally). one_more form shape (n + 1) f (fault_at form protocol shape (n + 1) f) t) far.tally_is
+            ∙ sym (tally_more form protocol shape far.rows f (n + 1) number);
+      }
 
--- one record more
-pub looked_more : {R : Type 0} (rem : R → Option (List ℕ)) (a b : Reader R) (f : List (List ℕ))
-    (form : Form) (most : ℕ) (protocol : Protocol) (shape : Extent) (lines xs old out next : List ℕ) (tally counted : Tally) (n : ℕ)
-    → reader_config a ≡ default_config → ReadRecord rem a b true f
-    → Looked form most protocol shape lines xs (reader_state a) (source_of rem a) old out tally n
-    → next ≡ out ++ line_if_room form most protocol shape lines tally.faults (n + 1) f
-    → counted ≡ one_more form shape (n + 1) f (fault_at form protocol shape (n + 1) f) tally
-    → Looked form most protocol shape lines xs (reader_state b) (source_of rem b) old next counted (n + 1)
-unfolding tally_of
-looked_more rem a b f form most protocol shape lines xs old out next tally counted n config read far line count =
-    let faults : tally.faults ≡ length (findings form protocol shape far.rows) = ap (λ (t : Tally). t.faults) far.tally_is in
-    let (z, at_z, reached) = rows-more rem a b f default_config st.StartRecord xs far.ys far.rows config far.at far.reached read in
-    let number : n + 1 ≡ length far.rows + 1 = omega (arith, far.count) in
-    record {
-      rows = far.rows ++ (f ∷ []);
-      ys = z;
-      at = at_z;
-      reached = reached;
-      count = length_push far.rows f ∙ sym number;
-      out_is = line ∙ ap (λ (t : List ℕ). t ++ line_if_room form most protocol shape lines tally.faults (n + 1) f) far.out_is
-          ∙ append_assoc old (first_lines form most protocol shape lines far.rows) (line_if_room form most protocol shape lines tally.faults (n + 1) f)
-          ∙ ap (λ (t : List ℕ). old ++ t) (ap (λ (k : ℕ). first_lines form most protocol shape lines far.rows ++ line_if_room form most protocol shape lines k (n + 1) f) faults
-          ∙ sym (lines_more form most protocol shape lines far.rows f (n + 1) number));
-      tally_is = count ∙ ap (λ (t : Tally). one_more form shape (n + 1) f (fault_at form protocol shape (n + 1) f) t) far.tally_is
-          ∙ sym (tally_more form protocol shape far.rows f (n + 1) number);
-    }
-
--- these were all
-pub looked_all : {R : Type 0} (rem : R → Option (List ℕ)) (a b : Reader R) (f : List (List ℕ))
-    (form : Form) (most : ℕ) (protocol : Protocol) (shape : Extent) (lines xs old out : List ℕ) (tally : Tally) (n : ℕ)
-    → reader_config a ≡ default_config → ReadRecord rem a b false f
-    → Looked form most protocol shape lines xs (reader_state a) (source_of rem a) old out tally n
-    → (tally ≡ tally_of form protocol shape (records default_config xs)) × (out ≡ old ++ first_lines form most protocol shape lines (records default_config xs))
-looked_all rem a b f form most protocol shape lines xs old out tally n config read far =
-    let none = rows-end rem a b f default_config far.ys config far.at read in
-    let few = reached-most default_config st.StartRecord xs far.rows (reader_state a) far.ys far.reached in
-    let left : ℕ = (length xs + 1) - length far.rows in
-    let all : records default_config xs ≡ far.rows =
-    records-reached default_config left st.StartRecord xs far.rows (reader_state a) far.ys far.reached (length xs + 1) (omega (arith, few))
-    ∙ ap (λ (rest : List (List (List ℕ))). far.rows ++ rest) (records-ended default_config left (reader_state a) far.ys none) ∙ append-nil far.rows in
-    (rw all far.tally_is, rw all far.out_is)
+  -- these were all
+  pub looked_all : {R : Type 0} (rem : R → Option (List ℕ)) (a b : Reader R) (f : Fields) {out : List ℕ} {tally : Tally} {n : ℕ}
+      → reader_config a ≡ default_config → ReadRecord rem a b false f
+      → Looked form most protocol shape lines xs (reader_state a) (source_of rem a) old out tally n
+      → (tally ≡ tally_of form protocol shape (records default_config xs)) × (out ≡ old ++ first_lines form most protocol shape lines (records default_config xs))
+  looked_all rem a b f config read far =
+      let none = rows-end rem a b f default_config far.ys config far.at read in
+      let few = reached-most default_config st.StartRecord xs far.rows (reader_state a) far.ys far.reached in
+      let left : ℕ = (length xs + 1) - length far.rows in
+      let all : records default_config xs ≡ far.rows =
+      records-reached default_config left st.StartRecord xs far.rows (reader_state a) far.ys far.reached (length xs + 1) (omega (arith, few))
+      ∙ rw (records-ended default_config left (reader_state a) far.ys none) (append-nil far.rows) in
+      (rw all far.tally_is, rw all far.out_is)

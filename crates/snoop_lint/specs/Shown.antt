@@ -17,9 +17,13 @@ shown_byte byte =
 unfoldable pub labelled : List ℕ → ℕ → List ℕ
 labelled text number = text ++ decimal number
 
+-- a number of things, in words
+unfoldable pub counted : ℕ → List ℕ → List ℕ
+counted count thing = decimal count ++ codes " " ++ thing ++ (if count == 1 then [] else codes "s")
+
 -- so many bytes that are not shown, if there are any
 unfoldable pub not_shown : ℕ → List ℕ
-not_shown count = if nat_lt 0 count then labelled (codes " and ") count ++ codes " more bytes" else []
+not_shown count = if nat_lt 0 count then codes " and " ++ counted count (codes "more byte") else []
 
 -- what is shown of a field: its first 40 bytes at most, and none from its first line end on
 unfoldable pub front : List ℕ → List ℕ

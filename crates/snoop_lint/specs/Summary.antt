@@ -1,15 +1,10 @@
 -- What is said of a whole text.
 -- Source: this project's profile.
 use Rattle.std.specs.Prelude.{ℕ, ◌+◌, ◌==◌, ◌&&◌, ◌||◌, not, Bool, List, [], ◌++◌, codes, nat_lt, if◌then◌else◌}
-use Rattle.std.specs.Fmt.{decimal}
 use Rattle.snoop_lint.specs.declared.form.Form.{Form}
 use Rattle.snoop_lint.specs.declared.form.Form.TheVariants.{Steps, Rows}
-use Rattle.snoop_lint.specs.Shown.{labelled}
+use Rattle.snoop_lint.specs.Shown.{counted, labelled}
 use Rattle.snoop_lint.specs.declared.tally.Tally.{Tally}
-
--- a number of things, in words
-unfoldable pub counted : ℕ → List ℕ → List ℕ
-counted count thing = decimal count ++ codes " " ++ thing ++ (if count == 1 then [] else codes "s")
 
 -- how many faults there are
 unfoldable pub fault_count : ℕ → List ℕ

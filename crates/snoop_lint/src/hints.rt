@@ -44,7 +44,7 @@ pub(crate) fn kind_hint(form: Form, names: bool, count: usize, field: &[u8]) -> 
 }
 
 /// The first hint of some fields at what may be wrong with a field, whatever it stands for.
-#[tactic(auto, unfolding(crate::specs::Hints::fields_hint))]
+#[tactic(auto, using(crate::proofs::HintLemmas::next_hint), unfolding(crate::specs::Hints::fields_hint))]
 pub(crate) fn fields_hint(fields: &ByteRecord) -> &'static str
     ensures { result.now ≡ spec.fields_hint (fields_of fields.now) }
 {

@@ -105,16 +105,17 @@ pub(crate) fn record_lines(alloc: Global, text: &[u8]) -> Result<Vec<u64>, NoMem
 }
 
 /// The text without a byte order mark at its head.
+#[tactic(auto, unfolding(csv::specs::Reading::strip_bom))]
 fn without_mark(text: &[u8]) -> &[u8]
     ensures { result.now ≡ strip_bom text.now }
 {
-    if text.len() >= 3 && text[0] == 0xEF && text[1] == 0xBB && text[2] == 0xBF {
-        &text[3..]
-    } else {
-        text
+    match text {
+        [0xEF, 0xBB, 0xBF, rest @ ..] => rest,
+        _ => text,
     }
 }
 
+#[tactic(auto, using(crate::proofs::LineLemmas::reading))]
 fn lines_from(alloc: Global, text: &[u8]) -> Result<Vec<u64>, NoMemory>
     ensures { IfOk result (λ lines. lines.items ≡ spec.lines_from st.StartRecord 1 text.now) }
 {

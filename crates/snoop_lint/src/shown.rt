@@ -78,11 +78,22 @@ fn push_not_shown(out: &mut Vec<u8>, count: usize) -> Result<(), NoMemory>
     ensures { OnOk result (out.new.items ≡ out.old.items ++ spec.not_shown count) }
 {
     if count > 0 {
-        push_labelled(out, " and ", count as u64)?;
-        push_text(out, " more bytes")
+        push_text(out, " and ")?;
+        push_counted(out, count as u64, "more byte")
     } else {
         Ok(())
     }
+}
+
+/// Appends a number of things, in words.
+#[tactic(auto, unfolding(crate::specs::Shown::counted))]
+pub(crate) fn push_counted(out: &mut Vec<u8>, count: u64, thing: &str) -> Result<(), NoMemory>
+    ensures { OnOk result (out.new.items ≡ out.old.items ++ spec.counted count thing.now) }
+{
+    push_decimal(out, count)?;
+    push_text(out, " ")?;
+    push_text(out, thing)?;
+    push_text(out, if count == 1 { "" } else { "s" })
 }
 
 /// Appends a text, and then a number.

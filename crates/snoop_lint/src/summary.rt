@@ -3,10 +3,10 @@ ghost use Rattle.std.specs.Prelude.{◌≡◌, ◌<◌, ◌++◌, true, OnOk};
 ghost use Rattle.snoop_lint.specs.Summary as spec;
 
 use crate::form::Form;
-use crate::shown::push_labelled;
+use crate::shown::{push_counted, push_labelled};
 use crate::tally::Tally;
 use snoop_trace::NoMemory;
-use snoop_trace::streams::{push_decimal, push_text};
+use snoop_trace::streams::push_text;
 
 /// Appends what is said of a whole text, by what was counted in it.
 #[tactic(auto, unfolding(crate::specs::Summary::summary))]
@@ -43,16 +43,6 @@ fn push_fault_count(out: &mut Vec<u8>, faults: u64) -> Result<(), NoMemory>
     } else {
         push_counted(out, faults, "fault")
     }
-}
-
-#[tactic(auto, unfolding(crate::specs::Summary::counted))]
-fn push_counted(out: &mut Vec<u8>, count: u64, thing: &str) -> Result<(), NoMemory>
-    ensures { OnOk result (out.new.items ≡ out.old.items ++ spec.counted count thing.now) }
-{
-    push_decimal(out, count)?;
-    push_text(out, " ")?;
-    push_text(out, thing)?;
-    push_text(out, if count == 1 { "" } else { "s" })
 }
 
 #[tactic(auto, unfolding(crate::specs::Summary::shown_count))]

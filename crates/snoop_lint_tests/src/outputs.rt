@@ -122,7 +122,7 @@ fn each_hint_of_a_kind(rt: HostRuntime) -> Result<(), Fail> {
 }
 
 const FIELDS: &[u8] =
-    b"L,0,0;O,0\nO,0 O\nR,0: Data, load 0\nR,0,0\nL,0,0\\n\nL,0,0,\nL,\"0,0\"\nL,1,\"0\nS,1,0\n";
+    b"L,0,0;O,0\nO,0 O\nR,0: Data, load 0\nR,0,0\nL,0,0\\n\nL,0,0,\nL,\"0,0\"\nL,1,\"0\n\"\nL,1,\"0\nS,1,0\n";
 
 const FIELDS_OUTPUT: &str = "\
 record 1, line 1: BadFields: L has 3 fields (L,core,address), and this record has 4; each record has a line of its own
@@ -132,8 +132,9 @@ record 4, line 4: BadFields: R has 2 fields (R,address), and this record has 3; 
 record 5, line 5: BadNumber: address '0\\\\n' is no number; a backslash stands for itself: printf makes a line end of \\n
 record 6, line 6: BadFields: L has 3 fields (L,core,address), and this record has 4; a comma stands at the end
 record 7, line 7: BadFields: L has 3 fields (L,core,address), and this record has 2; within quotes a comma is part of the field
-record 8, line 8: BadNumber: address '0' and 7 more bytes is no number; a quote is closed on a later line, or not at all
-8 faults in 8 records
+record 8, line 8: BadNumber: address '0' and 1 more byte is no number; a quote is closed on a later line, or not at all
+record 9, line 10: BadNumber: address '0' and 7 more bytes is no number; a quote is closed on a later line, or not at all
+9 faults in 9 records
 ";
 
 /// Behind the open quote stand a line end, 5 bytes and another line end.
