@@ -1,12 +1,12 @@
 -- The frames that a view was shown: what was written of them, or stands in the chunk.
-use Rattle.std.proofs.Common.{◌≡◌, ℕ, ◌+◌, List, [], ◌∷◌, ◌++◌, length, length-append, Option, refl, sym, ap, subst, ◌∙◌, append_assoc, append-nil, arith}
-use Rattle.std.specs.Prelude.{Result, Ok, Err}
+use Rattle.std.proofs.Common.{◌≡◌, ℕ, ◌+◌, List, [], ◌∷◌, ◌++◌, length, length-append, Option, refl, sym, ap, ◌∙◌, append_assoc, append-nil, arith, Result, Ok, Err}
 use Rattle.std.specs.Io.KnownBytes.{Appends}
 use Rattle.snoop_trace.specs.Extent.{Extent}
 use Rattle.snoop_trace.specs.Output.{AppendsFront, Gathers, Spills}
 use Rattle.snoop_trace.specs.declared.step.Step.{Step}
 use Rattle.snoop_trace.specs.declared.protocol.Protocol.{Protocol}
 use Rattle.snoop_trace.specs.declared.fault.WriteFault.{WriteFault}
+use Rattle.snoop_trace.specs.declared.fault.WriteFault.TheVariants as write
 use Rattle.snoop_trace.proofs.GathersLemmas.{gathers_cut, gathers_done, gathers_more, gathers_spilled, gathers_stop}
 use Rattle.snoop_trace.proofs.OutputLemmas.{appends_none, appends_none_of}
 use Rattle.snoop_model.specs.declared.replies.Reply.{Reply}
@@ -27,7 +27,6 @@ use Rattle.snoop_engine.specs.declared.seen.Seen.{Seen}
 use Rattle.snoop_engine.proofs.TrueLines.{lines_fit}
 use Rattle.snoop_engine.proofs.CourseLemmas.{Along, along_more, along_none, ends_here, ends_on}
 use Rattle.snoop_engine.proofs.FrameLemmas.{are_the_run, framed, frames_keep, frames_on, steps_of_on}
-use Rattle.snoop_engine.proofs.WrittenLemmas.{write_faults}
 
 -- what is shown of more frames comes after what is shown of the first
 pub shown_on : (shows : List Frame → Frame → List ℕ) (before first rest : List Frame) → shown shows before (first ++ rest) ≡ shown shows before first ++ shown shows (before ++ first) rest
@@ -114,8 +113,7 @@ module _ {protocol : Protocol} {shape : Extent} {heading : Protocol → Extent �
       let run : FramesFrom (reset protocol shape) (far.frames ++ frame_seen to what after ∷ []) after =
       frames_on far.frames (frame ∷ []) (reset protocol shape) to after far.are.run (record { before = refl; goes = goes }, refl) in
       let keeps = frames_keep (far.frames ++ frame_seen to what after ∷ []) (reset protocol shape) after run in
-      let here : Sees after_it what after grown protocol shape =
-      subst (λ (p : Protocol). Sees after_it what after grown p shape) keeps.0 (subst (λ (s : Extent). Sees after_it what after grown after.protocol s) keeps.1 sees) in
+      let here : Sees after_it what after grown protocol shape = rw (keeps.0, keeps.1) at sees in
       let one = here far.frames to far.has_seen (record { run = far.are.run; goes = goes; lines = lines; block = block; number = place }) in
       record {
         along = along_more far.along next what.step what.outcome after goes on can_end;
@@ -165,7 +163,7 @@ module _ {protocol : Protocol} {shape : Extent} {heading : Protocol → Extent �
       all_lines : Gathers a b grown (text far.frames to)
       all_lines =
           let keeps = frames_keep far.frames (reset protocol shape) to far.are.run in
-          let here : Ends grown protocol shape = subst (λ (p : Protocol). Ends grown p shape) keeps.0 (subst (λ (s : Extent). Ends grown to.protocol s) keeps.1 ends) in
+          let here : Ends grown protocol shape = rw (keeps.0, keeps.1) at ends in
           gathers_more a b chunk grown (heading protocol shape ++ shown (shows protocol shape) [] far.frames) (ending protocol shape far.frames to) far.lines (here far.frames far.has_seen far.are.run)
 
       -- all was written
@@ -195,8 +193,8 @@ module _ {protocol : Protocol} {shape : Extent} {heading : Protocol → Extent �
 -- a failed write, or out of memory, after the whole text was read
 pub simulates_view_front : (protocol : Protocol) (shape : Extent) (input : Input) (text : List Frame → Situation → List ℕ) (bytes : Option (List ℕ)) (steps : List Step) (fault : WriteFault) (result : Result (Unit {0}) SimFault) (old new : Option (List ℕ))
     → result ≡ Err (fault_of_write fault) → GivesSteps protocol shape input bytes steps → BeginsToShow protocol shape text steps old new → SimulatesView protocol shape input text bytes result old new
-simulates_view_front protocol shape input text bytes steps cause result old new e gives begins =
-    write_faults (λ r. SimulatesView protocol shape input text bytes r old new) cause result e (steps, (gives, begins)) (steps, (gives, begins))
+simulates_view_front protocol shape input text bytes steps write.Write result old new e gives begins = rw e (steps, (gives, begins))
+simulates_view_front protocol shape input text bytes steps write.NoMemory result old new e gives begins = rw e (steps, (gives, begins))
 
 -- another definition of the same text
 module _ (protocol : Protocol) (shape : Extent) (one other : List Frame → Situation → List ℕ)

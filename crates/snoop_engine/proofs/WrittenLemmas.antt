@@ -1,11 +1,9 @@
 -- The lines of a course's steps, written or in the chunk, and then the report.
-use Rattle.std.proofs.Common.{◌≡◌, ℕ, List, [], ◌∷◌, ◌++◌, Option, Some, None, refl, sym, ap, ◌∙◌, append_assoc, inr}
-use Rattle.std.specs.Prelude.{Result, Ok, Err, IfSome}
+use Rattle.std.proofs.Common.{◌≡◌, ℕ, List, [], ◌∷◌, ◌++◌, Option, Some, None, refl, sym, ap, ◌∙◌, append_assoc, ◌⊎◌, inl, inr, Result, Ok, Err, IsErrAnd}
 use Rattle.std.specs.Io.KnownBytes.{Appends}
 use Rattle.std.proofs.lemmas.List.{append-nil}
 use Rattle.snoop_trace.specs.Extent.{Extent}
 use Rattle.snoop_trace.specs.Output.{AppendsFront, Gathers, Spills}
-use Rattle.snoop_trace.specs.Text.{rows_of}
 use Rattle.snoop_trace.specs.declared.fault.WriteFault.{WriteFault}
 use Rattle.snoop_trace.specs.declared.fault.WriteFault.TheVariants as write
 use Rattle.snoop_trace.specs.declared.protocol.Protocol.{Protocol}
@@ -26,13 +24,13 @@ use Rattle.snoop_engine.specs.Journey.{IsAtTheEnd, IsAtTheStart}
 use Rattle.snoop_engine.specs.Line.{line_text, line_texts}
 use Rattle.snoop_engine.specs.Round.{Progress}
 use Rattle.snoop_engine.specs.Simulated.{Begins}
-use Rattle.snoop_engine.specs.SimulatedRun.{BeginsRun, ReadsRows, ReportsRun}
+use Rattle.snoop_engine.specs.SimulatedRun.{BeginsRun, ReportsRun}
 use Rattle.snoop_engine.specs.SimulatedSerial.{BeginsSerial, ReportsSerial}
 use Rattle.snoop_engine.specs.Written.{run_text}
 use Rattle.snoop_engine.specs.declared.fault.SimFault.{SimFault}
 use Rattle.snoop_engine.specs.declared.fault.SimFault.TheVariants as fault
 use Rattle.snoop_engine.proofs.CourseLemmas.{Along, along_more, along_none, driver_served, ends_here, ends_on, in_order_served}
-use Rattle.snoop_engine.proofs.TakenLemmas.{line_texts_more, run_shape}
+use Rattle.snoop_engine.proofs.TakenLemmas.{run_shape}
 
 -- the lines of a run that goes on
 line_texts_on : (shape : Extent) (first rest : List Step) (outcomes more : List (Result Reply Refused)) (old new : Situation)
@@ -40,8 +38,7 @@ line_texts_on : (shape : Extent) (first rest : List Step) (outcomes more : List 
     → line_texts shape (first ++ rest) (outcomes ++ more) ≡ line_texts shape first outcomes ++ line_texts shape rest more
 line_texts_on shape [] rest [] more old new run = refl
 line_texts_on shape (s ∷ ss) rest (o ∷ os) more old new run =
-    ap (λ (t : List ℕ). line_text shape s o ++ t) (line_texts_on shape ss rest os more run.0 new run.1.1)
-    ∙ sym (append_assoc (line_text shape s o) (line_texts shape ss os) (line_texts shape rest more))
+    rw (line_texts_on shape ss rest os more run.0 new run.1.1, append_assoc)
 line_texts_on shape [] rest (o ∷ os) more old new run = absurd run
 line_texts_on shape (s ∷ ss) rest [] more old new run = absurd run
 
@@ -65,7 +62,7 @@ module _ {protocol : Protocol} {shape : Extent} {first now : Leading} {here : Si
   unfolding along_more
   writing_more next step outcome after grown goes on can_end e = record {
     along = along_more far.along next step outcome after goes on can_end;
-    lines = rw (line_texts_more shape far.along.steps far.along.outcomes (reset protocol shape) here step outcome far.along.run)
+    lines = rw (line_texts_on shape far.along.steps (step ∷ []) far.along.outcomes (outcome ∷ []) (reset protocol shape) here far.along.run, append-nil)
         (gathers_more a b chunk grown (line_texts shape far.along.steps far.along.outcomes) (line_text shape step outcome) far.lines e);
   }
 
@@ -120,15 +117,15 @@ begins_nothing go_on protocol shape steps a =
     record { outcomes = all.0; final = all.1.0; run = all.1.1; output = appends_none_of a (run_text shape steps all.0 all.1.0) }
 
 -- a driver at its end has served its rows
-module _ (protocol : Protocol) (shape : Extent) (rows : List Row) (start : Progress) (at : IsAtTheStart protocol shape rows start) (a b : Option (List ℕ)) where
-  pub reports_run : LeadsToEndWith (λ steps outcomes final. IsAtTheEnd start steps outcomes final) (λ steps outcomes final. Appends a b (run_text start.situation.shape steps outcomes final)) → ReportsRun protocol shape rows a b
+module _ {protocol : Protocol} {shape : Extent} {rows : List Row} {start : Progress} (at : IsAtTheStart protocol shape rows start) {a b : Option (List ℕ)} where
+  pub reports_run : LeadsToEndWith (IsAtTheEnd start) (λ steps outcomes final. Appends a b (run_text start.situation.shape steps outcomes final)) → ReportsRun protocol shape rows a b
   reports_run end =
-      let served = driver_served protocol shape rows start end.steps end.outcomes end.final at end.way in
+      let served = driver_served at end.way in
       record { steps = end.steps; outcomes = end.outcomes; final = end.final; run = served.0; serves = served.1; output = rw at.situation at end.holds }
 
-  pub begins_run : LeadsToEndWith (λ steps outcomes final. IsAtTheEnd start steps outcomes final) (λ steps outcomes final. AppendsFront a b (run_text start.situation.shape steps outcomes final)) → BeginsRun protocol shape rows a b
+  pub begins_run : LeadsToEndWith (IsAtTheEnd start) (λ steps outcomes final. AppendsFront a b (run_text start.situation.shape steps outcomes final)) → BeginsRun protocol shape rows a b
   begins_run end =
-      let served = driver_served protocol shape rows start end.steps end.outcomes end.final at end.way in
+      let served = driver_served at end.way in
       record {
         steps = end.steps;
         outcomes = end.outcomes;
@@ -140,15 +137,15 @@ module _ (protocol : Protocol) (shape : Extent) (rows : List Row) (start : Progr
       }
 
 -- and so has one that serves them one after another
-module _ (protocol : Protocol) (shape : Extent) (rows : List Row) (start : InOrder) (at : start.situation ≡ reset protocol shape) (left : start.left ≡ rows) (a b : Option (List ℕ)) where
-  pub reports_serial : LeadsToEndWith (λ steps outcomes final. EndsInOrder start steps outcomes final) (λ steps outcomes final. Appends a b (run_text start.situation.shape steps outcomes final)) → ReportsSerial protocol shape rows a b
+module _ {protocol : Protocol} {shape : Extent} {rows : List Row} {start : InOrder} (at : start.situation ≡ reset protocol shape) (left : start.left ≡ rows) {a b : Option (List ℕ)} where
+  pub reports_serial : LeadsToEndWith (EndsInOrder start) (λ steps outcomes final. Appends a b (run_text start.situation.shape steps outcomes final)) → ReportsSerial protocol shape rows a b
   reports_serial end =
-      let served = in_order_served protocol shape rows start end.steps end.outcomes end.final at left end.way in
+      let served = in_order_served at left end.way in
       record { steps = end.steps; outcomes = end.outcomes; final = end.final; run = served.0; serves = served.1; output = rw at at end.holds }
 
-  pub begins_serial : LeadsToEndWith (λ steps outcomes final. EndsInOrder start steps outcomes final) (λ steps outcomes final. AppendsFront a b (run_text start.situation.shape steps outcomes final)) → BeginsSerial protocol shape rows a b
+  pub begins_serial : LeadsToEndWith (EndsInOrder start) (λ steps outcomes final. AppendsFront a b (run_text start.situation.shape steps outcomes final)) → BeginsSerial protocol shape rows a b
   begins_serial end =
-      let served = in_order_served protocol shape rows start end.steps end.outcomes end.final at left end.way in
+      let served = in_order_served at left end.way in
       record {
         steps = end.steps;
         outcomes = end.outcomes;
@@ -163,14 +160,8 @@ module _ (protocol : Protocol) (shape : Extent) (rows : List Row) (start : InOrd
         output = inr (served.1, rw at at end.holds);
       }
 
--- a failed write, or out of memory, after the whole text was read
-pub write_faults : (P : Result (Unit {0}) SimFault → Type 0) (cause : WriteFault) (result : Result (Unit {0}) SimFault) → result ≡ Err (fault_of_write cause)
-    → P (Err fault.Write) → P (Err fault.NoMemory) → P result
-write_faults P write.Write result e failed full = rw e failed
-write_faults P write.NoMemory result e failed full = rw e full
-
--- the rows of a text are read where what they ask for is
-pub rows_read : (shape : Extent) (input : Option (List ℕ)) (rows : List Row) → IfSome input (λ bytes. rows_of shape bytes ≡ Ok rows)
-    → ReadsRows shape input (Ok rows)
-rows_read shape None rows given = tt
-rows_read shape (Some bytes) rows given = given
+-- a failed write, or out of memory: what a fault of a write becomes
+pub write_faulted : (cause : WriteFault) (result : Result (Unit {0}) SimFault) → IsErrAnd result (λ made. made ≡ fault_of_write cause) → (result ≡ Err fault.Write) ⊎ (result ≡ Err fault.NoMemory)
+write_faulted write.Write (Err made) is = inl (ap (λ (f : SimFault). Err f) is)
+write_faulted write.NoMemory (Err made) is = inr (ap (λ (f : SimFault). Err f) is)
+write_faulted cause (Ok u) is = absurd is
