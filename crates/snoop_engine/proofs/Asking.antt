@@ -1,10 +1,7 @@
 -- Steps that all ask, and what they ask for.
 use Rattle.std.proofs.Common.{◌≡◌, ◌<◌, ◌^◌, ℕ, List, [], ◌∷◌, ◌++◌, length, map, refl, sym, ◌∙◌, ap, Result, Ok, Err, OnOk, OnErr}
-use Rattle.std.proofs.lemmas.List.{length-map, map-append}
+use Rattle.snoop_engine.proofs.Common.{length-map, map-append, Asked, Step, Ask, Order, Respond}
 use Rattle.snoop_trace.specs.Asked.{step_of}
-use Rattle.snoop_trace.specs.declared.step.Asked.{Asked}
-use Rattle.snoop_trace.specs.declared.step.Step.{Step}
-use Rattle.snoop_trace.specs.declared.step.Step.TheVariants.{Ask, Order, Respond}
 use Rattle.snoop_engine.specs.Todo.{asked_by}
 
 -- one more Ask asks for one thing more

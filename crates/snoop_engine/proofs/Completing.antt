@@ -1,22 +1,7 @@
 -- From wherever a driver of rows has come, its rows can be served.
 use Rattle.std.proofs.Common.{◌≡◌, ◌⊎◌, ℕ, zero, suc, ◌+◌, ◌/◌, ◌<◌, true, false, Option, Some, None, List, [], ◌∷◌, ◌++◌, length, refl, sym, ◌∙◌, ap, arith, inl, inr, Result, Ok, Err, Contains, IsOk, slice_set}
-use Rattle.std.proofs.lemmas.Bool.{cases_eq}
-use Rattle.std.proofs.lemmas.List.Elements.{All-head, All-nil, All-tail, Contains-append_cases}
-use Rattle.snoop_trace.specs.Extent.{Extent}
-use Rattle.snoop_trace.specs.Grammar.{word_asked}
-use Rattle.snoop_trace.specs.declared.step.Row.{Row}
-use Rattle.snoop_trace.specs.declared.step.Step.{Step}
-use Rattle.snoop_trace.specs.declared.step.Step.TheVariants.{Ask, Order, Respond}
-use Rattle.snoop_trace.specs.declared.step.Work.{Work}
-use Rattle.snoop_trace.specs.declared.protocol.Protocol.{Protocol}
-use Rattle.snoop_history.specs.declared.items.Item.{Item}
-use Rattle.snoop_model.specs.declared.replies.Reply.{Reply}
-use Rattle.snoop_model.specs.declared.replies.Refused.{Refused}
-use Rattle.snoop_model.specs.Moves.Move.{FirstMove}
-use Rattle.snoop_model.specs.Pictures.Situation.{Situation, reset}
-use Rattle.snoop_model.specs.Runs.Run.{FirstRunFrom, RunsGoOn, TheRun}
-use Rattle.snoop_model.specs.Turns.Serving.{IsUnderWay}
-use Rattle.snoop_model.specs.Turns.Turn.{turn_of}
+use Rattle.snoop_engine.proofs.Common.{cases_eq, All-head, All-nil, All-tail, Contains-append_cases, Extent, word_asked, Row, Step, Ask, Order, Respond, Work, Protocol, Item, Reply, Refused}
+use Rattle.snoop_engine.proofs.Common.{FirstMove, Situation, reset, FirstRunFrom, RunsGoOn, TheRun, IsUnderWay, turn_of}
 use Rattle.snoop_engine.specs.Courses.{CanEnd, Leading, LeadsOn}
 use Rattle.snoop_engine.specs.InOrder.{EndsInOrder, FollowsInOrder, InOrder, IsInOrder, TakesUpNext, remaining_in_order, row_under_way}
 use Rattle.snoop_engine.specs.Journey.{IsAtTheEnd}

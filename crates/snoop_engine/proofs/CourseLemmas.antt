@@ -1,25 +1,11 @@
 -- Courses, step by step, and the rows that they serve.
 use Rattle.std.proofs.Common.{◌≡◌, ◌==◌, ℕ, ◌+◌, ◌*◌, ◌<◌, Bool, true, false, cond, Option, Some, None, List, [], ◌∷◌, ◌++◌, length, length-append, map, filter, drop, refl, sym, ◌∙◌, ap, arith, append_assoc, append-nil, get_or, Result, Ok, IsOk, IfNone, option_to_list}
+use Rattle.snoop_engine.proofs.Common.{length-map, map-append, All-cons, All-nil, Extent, Row, Step, Ask, Order, Respond, Work, Protocol, Item, Reply, Refused, Picture, Situation, reset}
+use Rattle.snoop_engine.proofs.Common.{FirstMove, FirstRunFrom, GoesFirst, TheRun, IsQuiet, steps_paid, turn_rule}
 use Rattle.std.specs.List.{cons_option}
-use Rattle.std.proofs.lemmas.List.{length-map, map-append}
-use Rattle.std.proofs.lemmas.List.Elements.{All-cons, All-nil}
 use Rattle.std.proofs.lemmas.List.Folds.{sum_by-replicate}
-use Rattle.snoop_trace.specs.Extent.{Extent}
-use Rattle.snoop_trace.specs.declared.step.Row.{Row}
-use Rattle.snoop_trace.specs.declared.step.Step.{Step}
-use Rattle.snoop_trace.specs.declared.step.Step.TheVariants.{Ask, Order, Respond}
-use Rattle.snoop_trace.specs.declared.step.Work.{Work}
-use Rattle.snoop_trace.specs.declared.protocol.Protocol.{Protocol}
-use Rattle.snoop_history.specs.declared.items.Item.{Item}
-use Rattle.snoop_model.specs.declared.replies.Reply.{Reply}
-use Rattle.snoop_model.specs.declared.replies.Refused.{Refused}
-use Rattle.snoop_model.specs.Pictures.Picture.{Picture}
-use Rattle.snoop_model.specs.Pictures.Situation.{Situation, reset, untouched}
-use Rattle.snoop_model.specs.Moves.Move.{FirstMove}
-use Rattle.snoop_model.specs.Runs.Run.{FirstRunFrom, GoesFirst, TheRun}
-use Rattle.snoop_model.specs.Turns.Quiet.{IsQuiet}
-use Rattle.snoop_model.specs.Turns.Serving.{has_transaction, steps_owed, steps_paid}
-use Rattle.snoop_model.proofs.Turns.Laws.{turn_rule}
+use Rattle.snoop_model.specs.Pictures.Situation.{untouched}
+use Rattle.snoop_model.specs.Turns.Serving.{has_transaction, steps_owed}
 use Rattle.snoop_engine.specs.Courses.{CanEnd, LeadsToEndWith, Leading, LeadsOn}
 use Rattle.snoop_engine.specs.InOrder.{EndsInOrder, FindsInOrder, FollowsInOrder, InOrder, LeadsToRest, remaining_in_order}
 use Rattle.snoop_engine.specs.Inputs.{StepsServe, StepsServeSerially}

@@ -1,18 +1,8 @@
 -- What a turn of a driver gives.
 use Rattle.std.proofs.Common.{◌≡◌, ◌≢◌, ℕ, ◌<◌, Bool, true, false, Option, Some, None, refl, sym, ◌∙◌, ap, inl, inr, cond, eqb, arith, get_or, Contains, IfSome, IfNone, slice_set, List, [], ◌∷◌, length}
-use Rattle.std.proofs.lemmas.Bool.{cases_eq, eq-eqb, ne_eqb}
-use Rattle.std.proofs.lemmas.List.{length-set, get_or_default, get_or-set_same, get_or-set_other}
-use Rattle.std.proofs.lemmas.List.Elements.{All-head, All-nil, All-tail}
-use Rattle.snoop_trace.specs.declared.step.Step.{Step}
-use Rattle.snoop_trace.specs.declared.step.Step.TheVariants.{Ask}
-use Rattle.snoop_history.specs.declared.items.Item.{Item}
-use Rattle.snoop_model.specs.declared.replies.Reply.{Reply}
-use Rattle.snoop_model.specs.Moves.Move.{FirstMove}
-use Rattle.snoop_model.specs.Pictures.Situation.{Situation}
-use Rattle.snoop_trace.specs.declared.step.Work.{Work}
-use Rattle.snoop_model.specs.Turns.Turn.{turn_of}
-use Rattle.snoop_model.specs.Turns.Serving.{IsUnderWay}
-use Rattle.snoop_model.proofs.Turns.Laws.{turn_rule}
+use Rattle.snoop_engine.proofs.Common.{cases_eq, get_or_default, All-head, All-nil, All-tail, Step, Ask, Item, Reply, FirstMove, Situation, Work, turn_of, IsUnderWay, turn_rule}
+use Rattle.std.proofs.lemmas.Bool.{eq-eqb, ne_eqb}
+use Rattle.std.proofs.lemmas.List.{length-set, get_or-set_same, get_or-set_other}
 use Rattle.snoop_engine.specs.Todo.{Todo, todo_of, nothing_to_do, lanes_under_way, block_of_work}
 use Rattle.snoop_engine.specs.Round.{IsOver, IsEnabled, IsFit, IsIdle, IsTodoWithin, IsWorkWithin, TakesUp}
 use Rattle.snoop_engine.proofs.TakenLemmas.{same_shape}

@@ -1,10 +1,6 @@
 -- Frames: as a run, and one after another.
 use Rattle.std.proofs.Common.{◌≡◌, List, [], ◌∷◌, ◌++◌, refl, ap, ◌∙◌, Result}
-use Rattle.snoop_trace.specs.declared.step.Step.{Step}
-use Rattle.snoop_model.specs.declared.replies.Reply.{Reply}
-use Rattle.snoop_model.specs.declared.replies.Refused.{Refused}
-use Rattle.snoop_model.specs.Pictures.Situation.{Situation, reset}
-use Rattle.snoop_model.specs.Runs.Run.{FirstRunFrom}
+use Rattle.snoop_engine.proofs.Common.{Step, Reply, Refused, Situation, reset, FirstRunFrom}
 use Rattle.snoop_engine.specs.Frames.{Frame, FramesAreTheRun, FramesFrom, outcomes_of, steps_of}
 use Rattle.snoop_engine.proofs.TakenLemmas.{goes_alike}
 

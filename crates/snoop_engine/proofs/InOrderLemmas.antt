@@ -1,25 +1,11 @@
 -- A driver that serves rows one after another: what its steps need, and what they keep.
 use Rattle.std.proofs.Common.{◌≡◌, ◌≢◌, ℕ, ◌<◌, ◌/◌, Bool, true, false, cond, Option, Some, None, List, [], ◌∷◌, refl, sym, ◌∙◌, ◌==◌, IfNone, IfSome, lt-ltb}
+use Rattle.snoop_engine.proofs.Common.{All-head, All-tail, Extent, IsRowWithin, word_asked, Op, Row, Step, Ask, Respond, Item, Request, waiting_request, Open, Reply, FirstMove, Situation}
+use Rattle.snoop_engine.proofs.Common.{picture_of, state_of, IsQuiet, IsUnderWay, turn_of, turn_rule}
 use Rattle.std.proofs.lemmas.Bool.{eq-eqb, ne_eqb}
-use Rattle.std.proofs.lemmas.List.Elements.{All-head, All-tail}
-use Rattle.snoop_trace.specs.Extent.{Extent}
-use Rattle.snoop_trace.specs.Grammar.{IsRowWithin, block_at, word_asked}
-use Rattle.snoop_trace.specs.declared.step.Op.{Op}
-use Rattle.snoop_trace.specs.declared.step.Row.{Row}
-use Rattle.snoop_trace.specs.declared.step.Step.{Step}
-use Rattle.snoop_trace.specs.declared.step.Step.TheVariants.{Ask, Respond}
+use Rattle.snoop_trace.specs.Grammar.{block_at}
 use Rattle.snoop_trace.proofs.WordPlaces.{word_there}
-use Rattle.snoop_history.specs.declared.items.Item.{Item}
-use Rattle.snoop_rules.specs.declared.names.Request.{Request}
-use Rattle.snoop_rules.specs.Waits.{waiting_request}
-use Rattle.snoop_bus.specs.Traffic.{Open}
-use Rattle.snoop_model.specs.declared.replies.Reply.{Reply}
-use Rattle.snoop_model.specs.Moves.Move.{FirstMove}
-use Rattle.snoop_model.specs.Pictures.Situation.{Situation, picture_of, state_of}
-use Rattle.snoop_model.specs.Turns.Quiet.{IsQuiet}
-use Rattle.snoop_model.specs.Turns.Serving.{IsUnderWay}
-use Rattle.snoop_model.specs.Turns.Turn.{step_under_way, turn_of}
-use Rattle.snoop_model.proofs.Turns.Laws.{turn_rule}
+use Rattle.snoop_model.specs.Turns.Turn.{step_under_way}
 use Rattle.snoop_engine.specs.InOrder.{InOrder, IsInOrder, TakesUpNext, row_under_way}
 use Rattle.snoop_engine.specs.UnderWay.{ServesOnly, nothing, only}
 use Rattle.snoop_engine.specs.Round.{IsEnabled}

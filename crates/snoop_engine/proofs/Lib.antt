@@ -1,3 +1,4 @@
+pub mod Common
 pub mod TakenLemmas
 pub mod AskerLemmas
 pub mod Driving

@@ -1,17 +1,9 @@
 -- What a core's line says nothing of: values in a state that may not be read, a place where no request waits.
-use Rattle.std.proofs.Common.{◌≡◌, ℕ, ◌+◌, Bool, true, false, cond, Option, Some, None, List, [], ◌∷◌, ◌++◌, length, refl, sym, ◌∙◌, ap, arith}
-use Rattle.std.specs.Prelude.{◌&&◌, ◌==◌, count_by, is_some, nat_lt, not, option_map}
-use Rattle.std.specs.List.{flat_map, position_or_len, range_with_len}
+use Rattle.std.proofs.Common.{◌≡◌, ℕ, ◌+◌, Bool, true, false, cond, Option, Some, None, List, [], ◌∷◌, ◌++◌, length, refl, sym, ◌∙◌, ap, arith, ◌&&◌, ◌==◌, count_by, is_some, nat_lt, not, option_map, flat_map}
+use Rattle.snoop_engine.proofs.Common.{range_with_len, sum_by-cons, word_at, CacheState, waiting_request, queue_of, held_by, Situation, picture_of, state_of, keeps}
+use Rattle.std.specs.List.{position_or_len}
 use Rattle.std.proofs.lemmas.Bool.{le-ltb}
-use Rattle.std.proofs.lemmas.List.Sums.{sum_by-cons}
-use Rattle.snoop_trace.specs.Words.{word_at}
-use Rattle.snoop_rules.specs.declared.names.CacheState.{CacheState}
-use Rattle.snoop_rules.specs.Waits.{waiting_request}
-use Rattle.snoop_bus.specs.Queues.{queue_of}
 use Rattle.snoop_model.specs.Pictures.InQueue.{IsInQueue}
-use Rattle.snoop_model.specs.Pictures.Picture.{held_by}
-use Rattle.snoop_model.specs.Pictures.Situation.{Situation, picture_of, state_of}
-use Rattle.snoop_model.specs.Pictures.Proper.{keeps}
 use Rattle.snoop_engine.specs.States.{kept_at, kept_text, place_text, value_text}
 use Rattle.snoop_engine.specs.Taken.{state_at}
 use Rattle.snoop_engine.proofs.Inside.{state_there}

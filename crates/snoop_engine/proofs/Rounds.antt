@@ -1,13 +1,9 @@
 -- What a round gives, turn by turn.
 use Rattle.std.proofs.Common.{◌≡◌, ◌≢◌, ℕ, ◌<◌, Option, Some, None, sym, ◌∙◌, ap, inl, inr, arith, List, [], ◌∷◌, ◌++◌, take, drop, All, Contains, IfNone, slice_get}
-use Rattle.std.proofs.lemmas.Bool.{cases_eq}
+use Rattle.snoop_engine.proofs.Common.{cases_eq, All-append, Contains-append_cases, Contains-append_left, Contains-append_right, Step, Situation, IsQuiet, IsUnderWay, turn_rule}
 use Rattle.std.proofs.lemmas.List.{take-append-drop}
-use Rattle.std.proofs.lemmas.List.Elements.{All-append, All-take, All-drop, Contains-append_cases, Contains-append_left, Contains-append_right}
-use Rattle.snoop_trace.specs.declared.step.Step.{Step}
-use Rattle.snoop_model.specs.Pictures.Situation.{Situation}
-use Rattle.snoop_model.specs.Turns.Quiet.{IsQuiet}
-use Rattle.snoop_model.specs.Turns.Serving.{IsServing, IsUnderWay}
-use Rattle.snoop_model.proofs.Turns.Laws.{turn_rule}
+use Rattle.std.proofs.lemmas.List.Elements.{All-take, All-drop}
+use Rattle.snoop_model.specs.Turns.Serving.{IsServing}
 use Rattle.snoop_engine.specs.Todo.{Todo, todo_of, lanes_under_way, block_of_work}
 use Rattle.snoop_engine.specs.Round.{Progress, IsFit, IsIdle, IsUnasked, IsDone, IsEnabled, TakesUp, Finds}
 
@@ -54,7 +50,7 @@ module _ {start loop : Progress} (so_far : IsUnasked start loop) where
   still_unasked core mid new same others idle same_too lanes = record {
     situation = same_too ∙ (same ∙ so_far.situation);
     left = λ k. rw lanes (elim (cases_eq k core) [
-      | inl e ↦ rw (e, idle.1.0, ← idle.0) (so_far.left core)
+      | inl e ↦ rw (e, idle.1.0) (sym idle.0 ∙ so_far.left core)
       | inr ne ↦ rw (others k ne) (so_far.left k)
     ]);
   }

@@ -1,18 +1,9 @@
 -- The frames that a view was shown: what was written of them, or stands in the chunk.
 use Rattle.std.proofs.Common.{◌≡◌, ℕ, ◌+◌, List, [], ◌∷◌, ◌++◌, length, length-append, Option, refl, sym, ap, ◌∙◌, append_assoc, append-nil, arith, Result, Ok, Err}
-use Rattle.std.specs.Io.KnownBytes.{Appends}
-use Rattle.snoop_trace.specs.Extent.{Extent}
-use Rattle.snoop_trace.specs.Output.{AppendsFront, Gathers, Spills}
-use Rattle.snoop_trace.specs.declared.step.Step.{Step}
-use Rattle.snoop_trace.specs.declared.protocol.Protocol.{Protocol}
-use Rattle.snoop_trace.specs.declared.fault.WriteFault.{WriteFault}
+use Rattle.snoop_engine.proofs.Common.{Appends, Extent, AppendsFront, Gathers, Spills, Step, Protocol, WriteFault, gathers_cut, gathers_done, gathers_more, gathers_spilled, gathers_stop}
+use Rattle.snoop_engine.proofs.Common.{appends_none_of, Reply, Refused, Situation, reset, GoesFirst, RunsGoOn, TheRun}
 use Rattle.snoop_trace.specs.declared.fault.WriteFault.TheVariants as write
-use Rattle.snoop_trace.proofs.GathersLemmas.{gathers_cut, gathers_done, gathers_more, gathers_spilled, gathers_stop}
-use Rattle.snoop_trace.proofs.OutputLemmas.{appends_none, appends_none_of}
-use Rattle.snoop_model.specs.declared.replies.Reply.{Reply}
-use Rattle.snoop_model.specs.declared.replies.Refused.{Refused}
-use Rattle.snoop_model.specs.Pictures.Situation.{Situation, reset}
-use Rattle.snoop_model.specs.Runs.Run.{GoesFirst, RunsGoOn, TheRun}
+use Rattle.snoop_trace.proofs.OutputLemmas.{appends_none}
 use Rattle.snoop_engine.specs.Courses.{CanEnd, LeadsToEndWith, Leading, LeadsOn}
 use Rattle.snoop_engine.specs.Fault.{fault_of_write}
 use Rattle.snoop_engine.specs.Frames.{AreFrames, Frame, FramesFrom}

@@ -1,9 +1,6 @@
 -- The states of frames, as a view writes them.
-use Rattle.std.proofs.Common.{◌≡◌, ℕ, ◌+◌, Bool, true, false, cond, List, [], ◌++◌, length, sym, ap, ◌∙◌, append-nil}
-use Rattle.std.specs.Prelude.{Option}
-use Rattle.std.specs.List.{flat_map}
-use Rattle.snoop_trace.specs.Extent.{Extent}
-use Rattle.snoop_model.specs.Pictures.Situation.{Situation}
+use Rattle.std.proofs.Common.{◌≡◌, ℕ, ◌+◌, Bool, true, false, cond, List, [], ◌++◌, length, sym, ap, ◌∙◌, append-nil, Option, flat_map}
+use Rattle.snoop_engine.proofs.Common.{Extent, Situation}
 use Rattle.snoop_engine.specs.Frames.{Frame}
 use Rattle.snoop_engine.specs.Chosen.{Chosen, is_shown}
 use Rattle.snoop_engine.specs.States.{frame_text, header_text, shown_text, states_text, step_fields, taken_text}

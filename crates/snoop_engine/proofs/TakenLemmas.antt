@@ -1,13 +1,6 @@
 -- Steps and runs: what they keep, and one step more.
 use Rattle.std.proofs.Common.{◌≡◌, List, [], ◌∷◌, ◌++◌, Option, refl, ◌∙◌, Result, Ok, Err}
-use Rattle.snoop_trace.specs.Extent.{Extent}
-use Rattle.snoop_trace.specs.declared.step.Step.{Step}
-use Rattle.snoop_model.specs.declared.replies.Reply.{Reply}
-use Rattle.snoop_model.specs.declared.replies.Refused.{Refused}
-use Rattle.snoop_history.specs.declared.items.Item.{Item}
-use Rattle.snoop_model.specs.Pictures.Situation.{Situation}
-use Rattle.snoop_model.specs.Moves.Move.{FirstMove}
-use Rattle.snoop_model.specs.Runs.Run.{FirstRunFrom, GoesFirst}
+use Rattle.snoop_engine.proofs.Common.{Extent, Step, Reply, Refused, Item, Situation, FirstMove, FirstRunFrom, GoesFirst}
 use Rattle.snoop_model.proofs.Runs.Along as along
 use Rattle.snoop_model.proofs.Runs.Shape.{IsAlike, move_stays, same_alike}
 

@@ -1,49 +1,24 @@
 -- Each line of the frames of a run fits its step.
-use Rattle.std.proofs.Common.{◌≡◌, ◌⊎◌, ℕ, ◌<◌, ◌+◌, Bool, true, false, zero, suc, List, [], ◌∷◌, length, Option, Some, None, refl, sym, ap, ◌∙◌, inl, inr, arith, ◌≢◌, ◌&&◌, ◌||◌, All, IsSomeAnd, MatchBool, Result, Ok, Err, nat_lt, not, if◌then◌else◌}
-use Rattle.std.specs.List.{flat_map, range_with_len}
-use Rattle.std.specs.Option.{option_map_or}
+use Rattle.std.proofs.Common.{◌≡◌, ◌⊎◌, ℕ, ◌<◌, ◌+◌, Bool, true, false, zero, suc, List, [], ◌∷◌, length, Option, Some, None, refl, sym, ap, ◌∙◌, inl, inr, arith, ◌≢◌, ◌&&◌, ◌||◌, All, IsSomeAnd, MatchBool, Result, Ok, Err, nat_lt, not, if◌then◌else◌, flat_map}
+use Rattle.snoop_engine.proofs.Common.{range_with_len, option_map_or, All-append, All-cons, All-nil, Extent, Protocol, Msi, Mesi, Op, Step, Ask, Order, Respond, CacheCell, CacheEvent}
+use Rattle.snoop_engine.proofs.Common.{CacheState, I, MemEvent, MemState, Request, PutM, arrival, arrival_at_memory, asked, at_memory, seen_by, takes_payload, Did, Item, Open, Reply}
+use Rattle.snoop_engine.proofs.Common.{Refused, BusTaken, Line, Picture, held_at, held_by, nothing_held, Situation, picture_of, reset, state_of, ConsultsCache, ConsultsMemory, ArrivesFor}
+use Rattle.snoop_engine.proofs.Common.{FillsRequestor, IsAbsent, Asks, IsWithin, Orders, Responds, TakesFirst, GoesFirst, Invariant}
 use denote.Enum.Bare.{same_true, sameb}
 use Rattle.std.proofs.lemmas.List.{get_or-set_same}
-use Rattle.std.proofs.lemmas.List.Elements.{All-append, All-cons, All-nil}
-use Rattle.snoop_trace.specs.Extent.{Extent}
-use Rattle.snoop_trace.specs.declared.protocol.Protocol.{Protocol}
-use Rattle.snoop_trace.specs.declared.protocol.Protocol.TheVariants.{Msi, Mesi}
-use Rattle.snoop_trace.specs.declared.step.Op.{Op}
 use Rattle.snoop_trace.specs.declared.step.Op.TheVariants as op
-use Rattle.snoop_trace.specs.declared.step.Step.{Step}
-use Rattle.snoop_trace.specs.declared.step.Step.TheVariants.{Ask, Order, Respond}
 use Rattle.snoop_rules.specs.declared.names.CacheAction.{CacheAction}
 use Rattle.snoop_rules.specs.declared.names.CacheAction.TheVariants as action
-use Rattle.snoop_rules.specs.declared.names.CacheCell.{CacheCell}
-use Rattle.snoop_rules.specs.declared.names.CacheEvent.{CacheEvent}
-use Rattle.snoop_rules.specs.declared.names.CacheState.{CacheState}
-use Rattle.snoop_rules.specs.declared.names.CacheState.TheVariants.{I}
 use Rattle.snoop_rules.specs.contracts.names.CacheState.{the_type}
 use Rattle.snoop_rules.specs.declared.names.MemAction.{MemAction}
 use Rattle.snoop_rules.specs.declared.names.MemAction.TheVariants as mem_action
-use Rattle.snoop_rules.specs.declared.names.MemEvent.{MemEvent}
-use Rattle.snoop_rules.specs.declared.names.MemState.{MemState}
-use Rattle.snoop_rules.specs.declared.names.Request.{Request}
-use Rattle.snoop_rules.specs.declared.names.Request.TheVariants.{PutM}
 use Rattle.snoop_rules.specs.Cell.{Cell}
 use Rattle.snoop_rules.specs.MemoryCell.{MemoryCell}
-use Rattle.snoop_rules.specs.Takers.{arrival, arrival_at_memory, asked, at_memory, seen_by, takes_payload}
 use Rattle.snoop_rules.proofs.Every.{all_protocols, all_states, all_events}
 use Rattle.snoop_rules.proofs.Rows.{each_row, each_row-at}
-use Rattle.snoop_history.specs.declared.items.Did.{Did}
-use Rattle.snoop_history.specs.declared.items.Item.{Item}
-use Rattle.snoop_bus.specs.Traffic.{Open}
-use Rattle.snoop_model.specs.declared.replies.Reply.{Reply}
-use Rattle.snoop_model.specs.declared.replies.Refused.{Refused}
-use Rattle.snoop_model.specs.declared.replies.Refused.TheVariants.{Stalled, NothingWaiting, BusTaken, NoTransaction}
-use Rattle.snoop_model.specs.Pictures.Lines.{Line}
-use Rattle.snoop_model.specs.Pictures.Picture.{Picture, held_at, held_by, nothing_held}
-use Rattle.snoop_model.specs.Pictures.Situation.{Situation, picture_of, reset, state_of}
-use Rattle.snoop_model.specs.Moves.LookUps.{ConsultsCache, ConsultsMemory}
-use Rattle.snoop_model.specs.Moves.Move.{ArrivesFor, FillsRequestor, IsAbsent, Asks, IsWithin, Orders, Responds, Settles, Takes, TakesFirst}
+use Rattle.snoop_model.specs.declared.replies.Refused.TheVariants.{Stalled, NothingWaiting, NoTransaction}
+use Rattle.snoop_model.specs.Moves.Move.{Settles, Takes}
 use Rattle.snoop_model.specs.Moves.Refuses.{Refuses}
-use Rattle.snoop_model.specs.Runs.Run.{GoesFirst}
-use Rattle.snoop_model.specs.Invariant.Invariant.{Invariant}
 use Rattle.snoop_model.proofs.Invariant.Runs.{reset_invariant}
 use Rattle.snoop_model.proofs.OneBlock.AfterMoves.{ask_line, order_here, respond_here}
 use Rattle.snoop_model.proofs.Queues.Moves.{keeps_well, starts_well}

@@ -1,22 +1,12 @@
 -- The lines of a course's steps, written or in the chunk, and then the report.
 use Rattle.std.proofs.Common.{◌≡◌, ℕ, List, [], ◌∷◌, ◌++◌, Option, Some, None, refl, sym, ap, ◌∙◌, append_assoc, ◌⊎◌, inl, inr, Result, Ok, Err, IsErrAnd}
-use Rattle.std.specs.Io.KnownBytes.{Appends}
+use Rattle.snoop_engine.proofs.Common.{Appends, Extent, AppendsFront, Gathers, Spills, WriteFault, Protocol, Row, Step, gathers_cut, gathers_done, gathers_more, gathers_spilled}
+use Rattle.snoop_engine.proofs.Common.{gathers_stop, appends_none_of, Item, Reply, Refused, Situation, reset, FirstRunFrom, GoesFirst, RunsGoOn, TheRun}
 use Rattle.std.proofs.lemmas.List.{append-nil}
-use Rattle.snoop_trace.specs.Extent.{Extent}
-use Rattle.snoop_trace.specs.Output.{AppendsFront, Gathers, Spills}
-use Rattle.snoop_trace.specs.declared.fault.WriteFault.{WriteFault}
 use Rattle.snoop_trace.specs.declared.fault.WriteFault.TheVariants as write
-use Rattle.snoop_trace.specs.declared.protocol.Protocol.{Protocol}
-use Rattle.snoop_trace.specs.declared.step.Row.{Row}
-use Rattle.snoop_trace.specs.declared.step.Step.{Step}
-use Rattle.snoop_trace.proofs.GathersLemmas.{gathers_cut, gathers_done, gathers_more, gathers_none, gathers_spilled, gathers_stop}
-use Rattle.snoop_trace.proofs.OutputLemmas.{appends_more, appends_none_of, front_after}
-use Rattle.snoop_history.specs.declared.items.Item.{Item}
+use Rattle.snoop_trace.proofs.GathersLemmas.{gathers_none}
+use Rattle.snoop_trace.proofs.OutputLemmas.{appends_more, front_after}
 use Rattle.snoop_history.specs.Report.{report_of}
-use Rattle.snoop_model.specs.declared.replies.Reply.{Reply}
-use Rattle.snoop_model.specs.declared.replies.Refused.{Refused}
-use Rattle.snoop_model.specs.Pictures.Situation.{Situation, reset}
-use Rattle.snoop_model.specs.Runs.Run.{FirstRunFrom, GoesFirst, RunsGoOn, TheRun}
 use Rattle.snoop_engine.specs.Courses.{CanEnd, LeadsToEndWith, Leading, LeadsOn}
 use Rattle.snoop_engine.specs.Fault.{fault_of_write}
 use Rattle.snoop_engine.specs.InOrder.{EndsInOrder, InOrder}

@@ -1,8 +1,7 @@
+use Rattle.snoop_engine.proofs.Common.{cache_events, piece_more, pieces_all}
 use Rattle.snoop_rules.specs.declared.names.CacheEvent.TheVariants.{Load}
-use Rattle.snoop_rules.specs.TableOrder.{cache_events}
 use Rattle.snoop_engine.specs.Counts.{cache_count_at}
 use Rattle.snoop_engine.specs.Tallies.{counts_in}
-use Rattle.snoop_rules.proofs.TextLemmas.{piece_more, pieces_all}
 use Rattle.snoop_engine.proofs.counts_text.push_cache_rows.Goals as goal
 
 pub loop-event-preserved : goal.loop-event-preserved

@@ -1,8 +1,7 @@
+use Rattle.snoop_engine.proofs.Common.{memory_events, piece_more, pieces_all}
 use Rattle.snoop_rules.specs.declared.names.MemEvent.TheVariants.{GetS}
-use Rattle.snoop_rules.specs.TableOrder.{memory_events}
 use Rattle.snoop_engine.specs.Counts.{memory_count_at}
 use Rattle.snoop_engine.specs.Tallies.{memory_counts_in}
-use Rattle.snoop_rules.proofs.TextLemmas.{piece_more, pieces_all}
 use Rattle.snoop_engine.proofs.counts_text.push_memory_rows.Goals as goal
 
 pub loop-event-preserved : goal.loop-event-preserved

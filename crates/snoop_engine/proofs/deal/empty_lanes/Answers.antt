@@ -1,6 +1,5 @@
 use Rattle.std.proofs.Common.{◌≡◌, arith}
-use Rattle.std.proofs.lemmas.Grind.{common_steps}
-use Rattle.std.proofs.lemmas.List.Elements.{All-push}
+use Rattle.snoop_engine.proofs.Common.{common_steps, All-push}
 use Rattle.snoop_engine.specs.Todo.{nothing_to_do}
 use Rattle.snoop_engine.proofs.deal.empty_lanes.Goals as goal
 

@@ -1,5 +1,5 @@
-use Rattle.std.proofs.Common.{◌≡◌, ◌++◌, ℕ, ◌≤◌, false, List, ap, sym, ◌∙◌, append-nil, arith}
-use Rattle.std.specs.List.{flat_map, range_with_len}
+use Rattle.std.proofs.Common.{◌≡◌, ◌++◌, ℕ, ◌≤◌, false, List, ap, sym, ◌∙◌, append-nil, arith, flat_map}
+use Rattle.snoop_engine.proofs.Common.{range_with_len}
 use Rattle.snoop_blocks.specs.CoreSet.{has}
 use Rattle.snoop_engine.specs.Taken.{of_holder}
 use Rattle.snoop_engine.specs.declared.taken.Taken.{Taken}

@@ -1,6 +1,5 @@
-use Rattle.std.proofs.Common.{rules, ◌≡◌, ◌++◌, List, ℕ, false, sym, ap, ◌∙◌, append-nil}
-use Rattle.std.specs.Prelude.{is_some}
-use Rattle.snoop_rules.specs.Waits.{waiting_request}
+use Rattle.std.proofs.Common.{rules, ◌≡◌, ◌++◌, List, ℕ, false, sym, ap, ◌∙◌, append-nil, is_some}
+use Rattle.snoop_engine.proofs.Common.{waiting_request}
 use Rattle.snoop_engine.proofs.NowLemmas.{none_placed}
 use Rattle.snoop_engine.proofs.taken_text.push_place_in.Goals as goal
 

@@ -1,6 +1,5 @@
-use Rattle.std.proofs.Common.{ℕ, ap, ◌++◌, ◌∙◌, codes}
-use Rattle.std.specs.Fmt.{decimal}
-use Rattle.snoop_trace.specs.Words.{word_at}
+use Rattle.std.proofs.Common.{ℕ, ap, ◌++◌, ◌∙◌, codes, decimal}
+use Rattle.snoop_engine.proofs.Common.{word_at}
 use Rattle.snoop_engine.proofs.RangeLemmas.{range_piece}
 use Rattle.snoop_engine.proofs.words.push_data.Goals as goal
 

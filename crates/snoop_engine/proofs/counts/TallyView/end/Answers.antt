@@ -1,5 +1,5 @@
 use Rattle.std.proofs.Common.{List, ℕ, ◌++◌, ap, ◌∙◌}
-use Rattle.std.proofs.lemmas.Result.{on_ok_weaker}
+use Rattle.snoop_engine.proofs.Common.{on_ok_weaker}
 use Rattle.snoop_engine.specs.Counts.{counts_text}
 use Rattle.snoop_engine.specs.Tallies.{counts_in, memory_counts_in}
 use Rattle.snoop_engine.proofs.CountedLemmas.{text_of_frames}

@@ -1,5 +1,5 @@
-use Rattle.snoop_engine.proofs.Driving.{goes_on, lane_read, over_now}
 use Rattle.std.proofs.Common.{sym}
+use Rattle.snoop_engine.proofs.Driving.{goes_on, lane_read, over_now}
 use Rattle.snoop_engine.proofs.driver.Driver.continued.Goals as goal
 
 pub returns-clause-enabled : goal.returns-clause-enabled

@@ -1,5 +1,5 @@
 use Rattle.std.proofs.Common.{◌≡◌, []}
-use Rattle.snoop_model.specs.Turns.Quiet.{IsQuiet}
+use Rattle.snoop_engine.proofs.Common.{IsQuiet}
 use Rattle.snoop_engine.proofs.InOrderLemmas.{at_rest, none_and}
 use Rattle.snoop_engine.proofs.serial_driver.SerialDriver.turn.Goals as goal
 

@@ -1,7 +1,5 @@
-use Rattle.std.proofs.Common.{◌≡◌, ◌++◌, List, ℕ, ap, ◌∙◌}
-use Rattle.std.specs.List.{flat_map}
-use Rattle.std.proofs.lemmas.Result.{on_ok_weaker}
-use Rattle.snoop_trace.specs.Extent.{Extent}
+use Rattle.std.proofs.Common.{◌≡◌, ◌++◌, List, ℕ, ap, ◌∙◌, flat_map}
+use Rattle.snoop_engine.proofs.Common.{on_ok_weaker, Extent}
 use Rattle.snoop_engine.specs.States.{step_fields, taken_text}
 use Rattle.snoop_engine.proofs.states.States.push_seen.Goals as goal
 

@@ -1,5 +1,5 @@
 use Rattle.std.proofs.Common.{◌++◌, ◌+◌, ℕ, List, length, sym, ap, ◌∙◌, append-nil}
-use Rattle.std.proofs.lemmas.Result.{on_ok_weaker}
+use Rattle.snoop_engine.proofs.Common.{on_ok_weaker}
 use Rattle.snoop_engine.specs.Chosen.{Chosen}
 use Rattle.snoop_engine.specs.States.{shown_text}
 use Rattle.snoop_engine.specs.Views.{frame_seen}

@@ -1,6 +1,6 @@
 use Rattle.std.proofs.Common.{List, [], ◌∷◌, ◌++◌, None, append_assoc, get_or, take}
-use Rattle.std.proofs.lemmas.List.{take_all, take_more}
-use Rattle.snoop_rules.specs.declared.names.CacheState.TheVariants.{I}
+use Rattle.snoop_engine.proofs.Common.{take_more, I}
+use Rattle.std.proofs.lemmas.List.{take_all}
 use Rattle.snoop_engine.specs.declared.taken.Taken.TheVariants.{Core}
 use Rattle.snoop_engine.proofs.tally.Tally.add_all.Goals as goal
 
