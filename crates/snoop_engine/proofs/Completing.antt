@@ -71,7 +71,7 @@ abbrev DriverNext : Progress → Type 0
 DriverNext = HasNext (λ (d : Progress). d.situation) (λ (d : Progress). IsAtTheEnd d) (λ (d : Progress). remaining d + length d.turns) (λ (d : Progress). IsFit d.situation d.lanes d.turns)
 
 module _ {s : Situation} {lanes : List Todo} {core : ℕ} {turns : List ℕ} (fit : IsFit s lanes (core ∷ turns)) where
-  here : Progress
+  abbrev here : Progress
   here = record { situation = s; lanes = lanes; turns = core ∷ turns }
 
   has_core : core < s.shape.cores
@@ -155,7 +155,7 @@ abbrev InOrderNext : InOrder → Type 0
 InOrderNext = HasNext (λ (d : InOrder). d.situation) (λ (d : InOrder). EndsInOrder d) remaining_in_order (λ (d : InOrder). IsInOrder d.situation d.left d.row)
 
 module _ (s : Situation) (left : List Row) (row : Option Row) (fit : IsInOrder s left row) where
-  there : InOrder
+  abbrev there : InOrder
   there = record { situation = s; left = left; row = row }
 
   -- by one step more

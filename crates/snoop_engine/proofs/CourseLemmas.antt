@@ -10,7 +10,7 @@ use Rattle.snoop_engine.specs.Courses.{CanEnd, LeadsToEndWith, Leading, LeadsOn}
 use Rattle.snoop_engine.specs.InOrder.{EndsInOrder, FindsInOrder, FollowsInOrder, InOrder, LeadsToRest, remaining_in_order}
 use Rattle.snoop_engine.specs.Inputs.{StepsServe, StepsServeSerially}
 use Rattle.snoop_engine.specs.Journey.{IsAtTheEnd, IsAtTheStart}
-use Rattle.snoop_engine.specs.Round.{Finds, Advances, IsDone, Progress}
+use Rattle.snoop_engine.specs.Round.{Finds, Advances, Progress}
 use Rattle.snoop_engine.specs.Serial.{ServesSerially, all_asks, ask_for, is_ask}
 use Rattle.snoop_engine.specs.Served.{Serves, ask_of, asks_of}
 use Rattle.snoop_engine.specs.Todo.{work_of, works_of}
@@ -92,11 +92,6 @@ driver_leads old new step answer follows steps outcomes final h = record {
   quiet = h.quiet;
   few = omega (arith, follows.fewer, h.few);
 }
-
--- at the end
-pub driver_end : (old new : Progress) (r : Option Step) → IfNone r (IsDone old new) → IfNone r (IsAtTheEnd old [] [] old.situation)
-driver_end old new (Some step) h = tt
-driver_end old new None done = record { run = refl; taken = All-nil IsOk; asked = done.left; quiet = rw done.situation at done.quiet; few = omega arith }
 
 -- a machine at reset owes no steps
 owed_reset : (protocol : Protocol) (shape : Extent) → steps_owed (reset protocol shape) ≡ 0
@@ -229,6 +224,7 @@ module _ {before old : InOrder} {step : Step} (finds : FindsInOrder before step 
   pub in_order_follows : new.left ≡ old.left → FollowsInOrder before step answer new
   in_order_follows left = record { entry = move.0; move = rw finds.situation at move.1; takes_up = rw left finds.takes_up }
 
-pub in_order_end : (old : InOrder) (r : Option Step) → IfNone r ((old.left ≡ []) × IsQuiet old.situation) → IfNone r (EndsInOrder old [] [] old.situation)
-in_order_end old (Some step) h = tt
-in_order_end old None h = in_order_ends old h.0 h.1
+-- at the end
+pub in_order_end : (old : InOrder) (r : Option Step) → IsQuiet old.situation → IfNone r (old.left ≡ []) → IfNone r (EndsInOrder old [] [] old.situation)
+in_order_end old (Some step) quiet none = tt
+in_order_end old None quiet none = in_order_ends old none quiet

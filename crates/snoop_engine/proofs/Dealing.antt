@@ -132,9 +132,6 @@ pub record Counted (cores : List ℕ) (n : ℕ) : Type 0 where
   pub within : All (λ core. core < n) cores
   pub all : (core : ℕ) → core < n → Contains cores core
 
-pub counted_none : Counted [] 0
-counted_none = record { within = λ k d lt. absurd (omega arith); all = λ core lt. absurd (omega arith) }
-
 pub counted_more : (cores : List ℕ) (n : ℕ) → Counted cores n → Counted (cores ++ n ∷ []) (n + 1)
 counted_more cores n counted = record {
   within = All-push (λ core. core < n + 1) cores n (All-weaker (λ core. core < n) (λ core. core < n + 1) (λ core lt. omega arith) cores counted.within) (omega arith);

@@ -1,5 +1,5 @@
 -- A driver that serves rows one after another: what its steps need, and what they keep.
-use Rattle.std.proofs.Common.{◌≡◌, ◌≢◌, ℕ, ◌<◌, ◌/◌, Bool, true, false, cond, Option, Some, None, List, [], ◌∷◌, refl, sym, ◌∙◌, ◌==◌, IfNone, IfSome, lt-ltb}
+use Rattle.std.proofs.Common.{◌≡◌, ◌≢◌, ℕ, ◌<◌, ◌/◌, Bool, true, false, cond, Option, Some, None, List, [], ◌∷◌, refl, sym, ◌∙◌, ◌==◌, IfNone, IfSome, lt-ltb, subst}
 use Rattle.snoop_engine.proofs.Common.{All-head, All-tail, Extent, IsRowWithin, word_asked, Op, Row, Step, Ask, Respond, Item, Request, waiting_request, Open, Reply, FirstMove, Situation}
 use Rattle.snoop_engine.proofs.Common.{picture_of, state_of, IsQuiet, IsUnderWay, turn_of, turn_rule}
 use Rattle.std.proofs.lemmas.Bool.{eq-eqb, ne_eqb}
@@ -99,9 +99,10 @@ block_is shape row within found block at is =
     let there : block_at shape row.address ≡ Some (row.address / shape.block_bytes) = rw (lt-ltb (row.address / shape.block_bytes) shape.blocks within.1) in
     cc
 
-pub none_and : {X : Type 0} (r : Option X) (P Q : Type 0) → Q → IfNone r P → IfNone r (P × Q)
-none_and None P Q q p = (p, q)
-none_and (Some x) P Q q p = tt
+-- its Ask, by the block and the word that the shape answers
+pub asks_row : (shape : Extent) (row : Row) → IsRowWithin shape row → (found : Option ℕ) (block word : ℕ) → found ≡ block_at shape row.address → found ≡ Some block → word ≡ word_asked shape row.address row.op
+    → Ask row.core block word row.op ≡ ask_for shape row
+asks_row shape row within found block word at is its = rw (block_is shape row within found block at is, its)
 
 -- a step that asks nothing takes up nothing
 pub asks_nothing_more : (old : InOrder) (step : Step) → is_ask step ≡ false → TakesUpNext old step old.left
@@ -116,7 +117,7 @@ in_order_moves {s} {left} {row} fit t step answer entry its move =
       limits = rw e fit.limits;
       within = rw e fit.within;
       begun = rw e fit.begun;
-      serves = rw e (record {
+      serves = subst (λ (x : Extent). ServesOnly (row_under_way x row) t) (sym e) (record {
         kept = turn_rule.keeps_well s t step answer entry fit.serves.kept move;
         serving = turn_rule.serves_on s t (row_under_way s.shape row) (row_under_way s.shape row) step answer entry fit.serves.serving move (λ k b h. h) its;
       });

@@ -1,11 +1,12 @@
 -- What a round gives, turn by turn.
-use Rattle.std.proofs.Common.{◌≡◌, ◌≢◌, ℕ, ◌<◌, Option, Some, None, sym, ◌∙◌, ap, inl, inr, arith, List, [], ◌∷◌, ◌++◌, take, drop, All, Contains, IfNone, slice_get}
-use Rattle.snoop_engine.proofs.Common.{cases_eq, All-append, Contains-append_cases, Contains-append_left, Contains-append_right, Step, Situation, IsQuiet, IsUnderWay, turn_rule}
+use Rattle.std.proofs.Common.{◌≡◌, ◌≢◌, ℕ, ◌<◌, Option, Some, None, refl, IsOk, sym, ◌∙◌, ap, inl, inr, arith, List, [], ◌∷◌, ◌++◌, take, drop, All, Contains, IfNone, slice_get}
+use Rattle.snoop_engine.proofs.Common.{All-nil, cases_eq, All-append, Contains-append_cases, Contains-append_left, Contains-append_right, Step, Situation, IsQuiet, IsUnderWay, turn_rule}
 use Rattle.std.proofs.lemmas.List.{take-append-drop}
 use Rattle.std.proofs.lemmas.List.Elements.{All-take, All-drop}
 use Rattle.snoop_model.specs.Turns.Serving.{IsServing}
 use Rattle.snoop_engine.specs.Todo.{Todo, todo_of, lanes_under_way, block_of_work}
-use Rattle.snoop_engine.specs.Round.{Progress, IsFit, IsIdle, IsUnasked, IsDone, IsEnabled, TakesUp, Finds}
+use Rattle.snoop_engine.specs.Journey.{IsAtTheEnd}
+use Rattle.snoop_engine.specs.Round.{Progress, IsFit, IsIdle, IsUnasked, IsEnabled, TakesUp, Finds}
 
 module _ {s : Situation} {lanes : List Todo} {turns : List ℕ} (fit : IsFit s lanes turns) where
   -- the first turn may come last
@@ -65,5 +66,5 @@ module _ {start loop : Progress} (so_far : IsUnasked start loop) where
     enabled = rw same_too enabled;
   }
 
-  pub done_now : ((core : ℕ) → (todo_of loop.lanes core).left ≡ []) × IsQuiet loop.situation → IsDone start loop
-  done_now done = record { situation = so_far.situation; left = λ core. sym (so_far.left core) ∙ done.0 core; quiet = done.1 }
+  pub done_now : ((core : ℕ) → (todo_of loop.lanes core).left ≡ []) × IsQuiet loop.situation → IsAtTheEnd start [] [] start.situation
+  done_now done = record { run = refl; taken = All-nil IsOk; asked = λ core. sym (so_far.left core) ∙ done.0 core; quiet = rw so_far.situation at done.1; few = omega arith }

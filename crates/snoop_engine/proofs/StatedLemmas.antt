@@ -18,15 +18,9 @@ states_view shape choice frames final =
 
 -- what is written of a step that is seen
 module _ (choice : Chosen) (frames : List Frame) (before : Situation) (seen : Seen) (after : Situation) (next : IsNextSeen after.protocol after.shape frames before seen after) where
-  is_same : is_shown choice seen.block seen.number ≡ is_shown choice (block_of_step before seen.step) (1 + length frames)
-  is_same = ap (λ (b : Option ℕ). is_shown choice b seen.number) next.block ∙ ap (is_shown choice (block_of_step before seen.step)) next.number
-
   pub text_shown : is_shown choice seen.block seen.number ≡ true
       → flat_map (λ taken. step_fields after.shape seen.number seen.step seen.outcome ++ taken_text after taken) seen.lines.now ≡ shown_text after.shape choice (1 + length frames) (frame_seen before seen after)
-  text_shown here =
-      ap (λ (l : List Taken). flat_map (λ taken. step_fields after.shape seen.number seen.step seen.outcome ++ taken_text after taken) l) next.lines
-      ∙ ap (λ (n : ℕ). flat_map (λ taken. step_fields after.shape n seen.step seen.outcome ++ taken_text after taken) (lines_of_step before seen.step seen.outcome)) next.number
-      ∙ ap (λ (b : Bool). cond b (frame_text after.shape (1 + length frames) (frame_seen before seen after)) []) (sym (sym is_same ∙ here))
+  text_shown here = rw (next.lines, next.number, rw (next.block, next.number) at here)
 
   pub text_hidden : is_shown choice seen.block seen.number ≡ false → [] ≡ shown_text after.shape choice (1 + length frames) (frame_seen before seen after)
-  text_hidden other = ap (λ (b : Bool). cond b (frame_text after.shape (1 + length frames) (frame_seen before seen after)) []) (sym (sym is_same ∙ other))
+  text_hidden other = rw (rw (next.block, next.number) at other)

@@ -28,7 +28,8 @@ line_texts_on : (shape : Extent) (first rest : List Step) (outcomes more : List 
     → line_texts shape (first ++ rest) (outcomes ++ more) ≡ line_texts shape first outcomes ++ line_texts shape rest more
 line_texts_on shape [] rest [] more old new run = refl
 line_texts_on shape (s ∷ ss) rest (o ∷ os) more old new run =
-    rw (line_texts_on shape ss rest os more run.0 new run.1.1, append_assoc)
+    ap (λ (t : List ℕ). line_text shape s o ++ t) (line_texts_on shape ss rest os more run.0 new run.1.1)
+    ∙ sym (append_assoc (line_text shape s o) (line_texts shape ss os) (line_texts shape rest more))
 line_texts_on shape [] rest (o ∷ os) more old new run = absurd run
 line_texts_on shape (s ∷ ss) rest [] more old new run = absurd run
 
@@ -52,7 +53,7 @@ module _ {protocol : Protocol} {shape : Extent} {first now : Leading} {here : Si
   unfolding along_more
   writing_more next step outcome after grown goes on can_end e = record {
     along = along_more far.along next step outcome after goes on can_end;
-    lines = rw (line_texts_on shape far.along.steps (step ∷ []) far.along.outcomes (outcome ∷ []) (reset protocol shape) here far.along.run, append-nil)
+    lines = rw (line_texts_on shape far.along.steps (step ∷ []) far.along.outcomes (outcome ∷ []) (reset protocol shape) here far.along.run, append-nil (line_text shape step outcome))
         (gathers_more a b chunk grown (line_texts shape far.along.steps far.along.outcomes) (line_text shape step outcome) far.lines e);
   }
 

@@ -1,9 +1,6 @@
 use Rattle.std.proofs.Common.{arith}
-use Rattle.snoop_engine.proofs.Dealing.{counted_none, counted_more}
+use Rattle.snoop_engine.proofs.Dealing.{counted_more}
 use Rattle.snoop_engine.proofs.deal.all_cores.Goals as goal
-
-pub loop-core-init : goal.loop-core-init
-loop-core-init c = (rw c.in_ok-cores.ensures.items counted_none, c.in_ok-cores.ensures.len, c.in_ok-cores.ensures.capacity)
 
 pub loop-core-preserved : goal.loop-core-preserved
 loop-core-preserved c = (

@@ -8,8 +8,8 @@ returns-clause-enabled c =
     let b = c.in_ok-row.was in
     let under : c.self.inside.row ≡ Some c.in_ok-row.row = search rules in
     let fit = rw under at c.self.invariant in
-    let block = block_is _ c.in_ok-row.row fit.begun _ _ (rw c.shape-shape.ensures at c.block_of.ensures) c.unwrap-block.ensures in
-    rw (← c.self.view_is) (goes_on_enabled fit _ (rw (block, rw c.shape-shape.ensures at c.word_asked-word.ensures) at c.turn_step.ensures))
+    let block = block_is c.self.inside.machine.situation.shape c.in_ok-row.row fit.begun _ _ (rw c.shape-shape.ensures at c.block_of.ensures) c.unwrap-block.ensures in
+    rw (← c.self.view_is) (goes_on_enabled fit _ (rw block at c.turn_step.ensures))
 
 pub returns-clause-over : goal.returns-clause-over
 returns-clause-over c =
@@ -17,5 +17,5 @@ returns-clause-over c =
     let b = c.in_ok-row.was in
     let under : c.self.inside.row ≡ Some c.in_ok-row.row = search rules in
     let fit = rw under at c.self.invariant in
-    let block = block_is _ c.in_ok-row.row fit.begun _ _ (rw c.shape-shape.ensures at c.block_of.ensures) c.unwrap-block.ensures in
-    rw (← c.self.view_is) (over_now fit _ (rw (block, rw c.shape-shape.ensures at c.word_asked-word.ensures) at c.turn_step.ensures))
+    let block = block_is c.self.inside.machine.situation.shape c.in_ok-row.row fit.begun _ _ (rw c.shape-shape.ensures at c.block_of.ensures) c.unwrap-block.ensures in
+    rw (← c.self.view_is) (over_now fit _ (rw block at c.turn_step.ensures))
