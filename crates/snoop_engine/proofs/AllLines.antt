@@ -1,5 +1,5 @@
 -- No row of a step that is taken is left out of its lines.
-use Rattle.std.proofs.Common.{◌≡◌, ℕ, ◌<◌, ◌≤◌, ◌+◌, Bool, true, zero, suc, List, [], ◌∷◌, Option, Some, None, refl, sym, subst, ◌∙◌, inl, inr, lt-ltb, arith, ◌&&◌, Contains, Ok, nat_lt, slice_get, if◌then◌else◌, flat_map}
+use Rattle.std.proofs.Common.{◌≡◌, ℕ, ◌<◌, ◌≤◌, ◌+◌, Bool, true, zero, suc, List, [], ◌∷◌, Option, Some, None, refl, sym, subst, ◌∙◌, inl, inr, lt-ltb, arith, ◌&&◌, Contains, Ok, nat_lt, slice_get, if◌then◌else◌, flat_map, ap}
 use Rattle.snoop_engine.proofs.Common.{range_with_len, option_map_or, cases_eq, cases_lt, get_or_past, Contains-append_left, Contains-append_right, Contains-push, same_Some, Op, Step, Ask}
 use Rattle.snoop_engine.proofs.Common.{Order, Respond, CacheEvent, CacheState, I, MemEvent, Request, GetS, GetM, PutM, arrival, arrival_at_memory, asked, at_memory, seen_by, takes_payload}
 use Rattle.snoop_engine.proofs.Common.{waiting_request, queue_of, Open, Reply, Line, nothing_held, Situation, picture_of, state_of, ConsultsCache, ConsultsMemory, IsWithin, TakesFirst}
@@ -54,7 +54,8 @@ module _ (s : Situation) (g : Invariant s) where
     | inl x ↦ x
     | inr past ↦
         let long = g.shaped.row block y in
-        absurd (held (rw (get_or_past (picture_of s block).caches core nothing_held (omega arith)) tt))
+        let idle : state_of s core block ≡ I = ap (λ (l : Line). l.state) (get_or_past (picture_of s block).caches core nothing_held (omega arith)) in
+        absurd (held (subst (DoesNothing (Order requestor)) (sym idle) tt))
   ]
 
   holder_listed : (requestor core block : ℕ) (request : Request) → block < s.shape.blocks → (DoesNothing (Order requestor) (state_of s core block) → ⊥)

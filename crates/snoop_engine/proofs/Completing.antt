@@ -25,9 +25,9 @@ module _ {D : Type 0} (at : D → Situation) (leads : D → Leading) (left : D �
   HasNext d =
       leads d [] [] (at d)
       ⊎ (((e : D) × (Fits e × (at e ≡ at d) × (left e < left d)
-          × ((steps : List Step) (outcomes : List (Result Reply Refused)) (final : Situation) → leads e steps outcomes final → leads d steps outcomes final)))
+      × ((steps : List Step) (outcomes : List (Result Reply Refused)) (final : Situation) → leads e steps outcomes final → leads d steps outcomes final)))
       ⊎ ((step : Step) × (IsEnabled (at d) step × ((answer : Reply) (s : Situation) (entry : Option Item) → FirstMove (at d) step answer s entry
-          → (e : D) × (Fits e × (at e ≡ s) × (left e < left d) × LeadsOn (leads d) step (Ok answer) (leads e))))))
+      → (e : D) × (Fits e × (at e ≡ s) × (left e < left d) × LeadsOn (leads d) step (Ok answer) (leads e))))))
 
   module _ (go_on : RunsGoOn) (protocol : Protocol) (shape : Extent) (next : (d : D) → Fits d → HasNext d) where
     -- a step that no cause refuses is taken
@@ -82,11 +82,23 @@ module _ {s : Situation} {lanes : List Todo} {core : ℕ} {turns : List ℕ} (fi
 
   -- by one step more
   by : (next : List Todo) (step : Step) → IsFit s next (core ∷ turns) → IsUnderWay (lanes_under_way next) step → IsEnabled s step → TakesUp lanes step next → DriverNext here
-  by next step fit_next its enabled takes = inr (inr (step, (enabled, λ answer t entry move.
-      let new : Progress = record { situation = t; lanes = next; turns = core ∷ turns } in
-      let fewer = leaves_fewer here new step answer entry move takes in
-      (new, (fit_moves fit_next t step answer entry its move, refl, omega (arith, fewer),
-        driver_leads here new step answer (record { entry = entry; move = move; takes_up = takes; fewer = fewer }))))))
+  by next step fit_next its enabled takes = inr (inr (
+    step,
+    (
+      enabled,
+      λ answer t entry move.
+          let new : Progress = record { situation = t; lanes = next; turns = core ∷ turns } in
+          let fewer = leaves_fewer here new step answer entry move takes in (
+            new,
+            (
+              fit_moves fit_next t step answer entry its move,
+              refl,
+              omega (arith, fewer),
+              driver_leads here new step answer (record { entry = entry; move = move; takes_up = takes; fewer = fewer }),
+            ),
+          ),
+    ),
+  ))
 
   -- the core's work is over, and no row is left: it needs no turn
   idle : IsOver lanes s core → (todo_of lanes core).left ≡ [] → DriverNext here
@@ -113,13 +125,21 @@ module _ {s : Situation} {lanes : List Todo} {core : ℕ} {turns : List ℕ} (fi
           | inr h ↦ inr h
         ];
       } in
-      inr (inl (record { situation = s; lanes = next; turns = turns }, (fit_rest, refl, omega (arith, as_many), λ steps outcomes final end. record {
-        run = end.run;
-        taken = end.taken;
-        asked = λ k. sym (same k) ∙ end.asked k;
-        quiet = end.quiet;
-        few = (let most = end.few in omega (arith, as_many));
-      })))
+      inr (inl (
+        record { situation = s; lanes = next; turns = turns },
+        (
+          fit_rest,
+          refl,
+          omega (arith, as_many),
+          λ steps outcomes final end. record {
+            run = end.run;
+            taken = end.taken;
+            asked = λ k. sym (same k) ∙ end.asked k;
+            quiet = end.quiet;
+            few = (let most = end.few in omega (arith, as_many));
+          },
+        ),
+      ))
     where
       only_one : (k : ℕ) → Contains (core ∷ []) k → core ≡ k
       only_one k (zero, lt, e) = e
@@ -160,10 +180,16 @@ module _ (s : Situation) (left : List Row) (row : Option Row) (fit : IsInOrder s
 
   -- by one step more
   then : (rest : List Row) (next : Option Row) (step : Step) → IsInOrder s rest next → IsUnderWay (row_under_way s.shape next) step → IsEnabled s step → TakesUpNext there step rest → InOrderNext there
-  then rest next step fit_next its enabled takes = inr (inr (step, (enabled, λ answer t entry move.
-      let new : InOrder = record { situation = t; left = rest; row = next } in
-      let follows : FollowsInOrder there step answer new = record { entry = entry; move = move; takes_up = takes } in
-      (new, (in_order_moves fit_next t step answer entry its move, refl, fewer_in_order there new step answer follows, in_order_leads there new step answer follows)))))
+  then rest next step fit_next its enabled takes = inr (inr (
+    step,
+    (
+      enabled,
+      λ answer t entry move.
+          let new : InOrder = record { situation = t; left = rest; row = next } in
+          let follows : FollowsInOrder there step answer new = record { entry = entry; move = move; takes_up = takes } in
+          (new, (in_order_moves fit_next t step answer entry its move, refl, fewer_in_order there new step answer follows, in_order_leads there new step answer follows)),
+    ),
+  ))
 
   then_left : ServesOnly nothing s → (rows : List Row) → left ≡ rows → InOrderNext there
   then_left serves [] none = inl (in_order_ends there none (at_rest s serves))

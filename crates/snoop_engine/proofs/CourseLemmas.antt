@@ -96,8 +96,11 @@ driver_leads old new step answer follows steps outcomes final h = record {
 -- a machine at reset owes no steps
 owed_reset : (protocol : Protocol) (shape : Extent) → steps_owed (reset protocol shape) ≡ 0
 owed_reset protocol shape =
-    omega (arith, sum_by-replicate (λ (queue : List ℕ). length queue) shape.cores [],
-    sum_by-replicate (λ (picture : Picture). cond (has_transaction picture) 1 0) shape.blocks (untouched protocol shape.cores))
+    omega (
+      arith,
+      sum_by-replicate (λ (queue : List ℕ). length queue) shape.cores [],
+      sum_by-replicate (λ (picture : Picture). cond (has_transaction picture) 1 0) shape.blocks (untouched protocol shape.cores),
+    )
 
 -- the driver's steps from reset serve its rows
 pub driver_served : {protocol : Protocol} {shape : Extent} {rows : List Row} {start : Progress} {steps : List Step} {outcomes : List (Result Reply Refused)} {final : Situation}

@@ -56,8 +56,12 @@ steps_more (k ∷ ks) ws vs h mw mv e f =
     let v : stored_by k.kind ≤ length vs = omega (arith, f) in
     let rest_w : worded_in ks ≡ length (drop (worded_by k.kind) ws) = omega (arith, e, w, length-drop (worded_by k.kind) ws) in
     let rest_v : stored_in ks ≡ length (drop (stored_by k.kind) vs) = omega (arith, f, v, length-drop (stored_by k.kind) vs) in
-    rw (step_on k.kind k ws mw vs mv w v, dropped_on (worded_by k.kind) ws mw (few_words k.kind) w, dropped_on (stored_by k.kind) vs mv (few_values k.kind) v,
-    steps_more ks (drop (worded_by k.kind) ws) (drop (stored_by k.kind) vs) h mw mv rest_w rest_v)
+    rw (
+      step_on k.kind k ws mw vs mv w v,
+      dropped_on (worded_by k.kind) ws mw (few_words k.kind) w,
+      dropped_on (stored_by k.kind) vs mv (few_values k.kind) v,
+      steps_more ks (drop (worded_by k.kind) ws) (drop (stored_by k.kind) vs) h mw mv rest_w rest_v,
+    )
 
 -- as many words and values stand in a queue as its heads have
 pub worded_after : (hs : List Head) (ws more : List ℕ) (h : Head) → worded_by h.kind ≡ length more → worded_in hs ≡ length ws → worded_in (hs ++ h ∷ []) ≡ length (ws ++ more)

@@ -1,5 +1,5 @@
 -- The frames that a view was shown: what was written of them, or stands in the chunk.
-use Rattle.std.proofs.Common.{◌≡◌, ℕ, ◌+◌, List, [], ◌∷◌, ◌++◌, length, length-append, Option, refl, sym, ap, ◌∙◌, append_assoc, append-nil, arith, Result, Ok, Err}
+use Rattle.std.proofs.Common.{◌≡◌, ℕ, ◌+◌, List, [], ◌∷◌, ◌++◌, length, length-append, Option, refl, sym, ap, ◌∙◌, append_assoc, append-nil, arith, Result, Ok, Err, subst}
 use Rattle.snoop_engine.proofs.Common.{Appends, Extent, AppendsFront, Gathers, Spills, Step, Protocol, WriteFault, gathers_cut, gathers_done, gathers_more, gathers_spilled, gathers_stop}
 use Rattle.snoop_engine.proofs.Common.{appends_none_of, Reply, Refused, Situation, reset, GoesFirst, RunsGoOn, TheRun}
 use Rattle.snoop_trace.specs.declared.fault.WriteFault.TheVariants as write
@@ -104,7 +104,8 @@ module _ {protocol : Protocol} {shape : Extent} {heading : Protocol → Extent �
       let run : FramesFrom (reset protocol shape) (far.frames ++ frame_seen to what after ∷ []) after =
       frames_on far.frames (frame ∷ []) (reset protocol shape) to after far.are.run (record { before = refl; goes = goes }, refl) in
       let keeps = frames_keep (far.frames ++ frame_seen to what after ∷ []) (reset protocol shape) after run in
-      let here : Sees after_it what after grown protocol shape = rw (keeps.0, keeps.1) at sees in
+      let here : Sees after_it what after grown protocol shape =
+      subst (λ (p : Protocol). Sees after_it what after grown p shape) keeps.0 (subst (λ (s : Extent). Sees after_it what after grown after.protocol s) keeps.1 sees) in
       let one = here far.frames to far.has_seen (record { run = far.are.run; goes = goes; lines = lines; block = block; number = place }) in
       record {
         along = along_more far.along next what.step what.outcome after goes on can_end;
@@ -154,7 +155,7 @@ module _ {protocol : Protocol} {shape : Extent} {heading : Protocol → Extent �
       all_lines : Gathers a b grown (text far.frames to)
       all_lines =
           let keeps = frames_keep far.frames (reset protocol shape) to far.are.run in
-          let here : Ends grown protocol shape = rw (keeps.0, keeps.1) at ends in
+          let here : Ends grown protocol shape = subst (λ (p : Protocol). Ends grown p shape) keeps.0 (subst (λ (s : Extent). Ends grown to.protocol s) keeps.1 ends) in
           gathers_more a b chunk grown (heading protocol shape ++ shown (shows protocol shape) [] far.frames) (ending protocol shape far.frames to) far.lines (here far.frames far.has_seen far.are.run)
 
       -- all was written

@@ -1,5 +1,5 @@
 -- Each line of the frames of a run fits its step.
-use Rattle.std.proofs.Common.{◌≡◌, ◌⊎◌, ℕ, ◌<◌, ◌+◌, Bool, true, false, zero, suc, List, [], ◌∷◌, length, Option, Some, None, refl, sym, ap, ◌∙◌, inl, inr, arith, ◌≢◌, ◌&&◌, ◌||◌, All, IsSomeAnd, MatchBool, Result, Ok, Err, nat_lt, not, if◌then◌else◌, flat_map}
+use Rattle.std.proofs.Common.{◌≡◌, ◌⊎◌, ℕ, ◌<◌, ◌+◌, Bool, true, false, zero, suc, List, [], ◌∷◌, length, Option, Some, None, refl, sym, ap, ◌∙◌, inl, inr, arith, ◌≢◌, ◌&&◌, ◌||◌, All, IsSomeAnd, MatchBool, Result, Ok, Err, nat_lt, not, if◌then◌else◌, flat_map, subst}
 use Rattle.snoop_engine.proofs.Common.{range_with_len, option_map_or, All-append, All-cons, All-nil, Extent, Protocol, Msi, Mesi, Op, Step, Ask, Order, Respond, CacheCell, CacheEvent}
 use Rattle.snoop_engine.proofs.Common.{CacheState, I, MemEvent, MemState, Request, PutM, arrival, arrival_at_memory, asked, at_memory, seen_by, takes_payload, Did, Item, Open, Reply}
 use Rattle.snoop_engine.proofs.Common.{Refused, BusTaken, Line, Picture, held_at, held_by, nothing_held, Situation, picture_of, reset, state_of, ConsultsCache, ConsultsMemory, ArrivesFor}
@@ -138,7 +138,8 @@ module _ (old new : Situation) (step : Step) (outcome : Result Reply Refused) wh
     ask_fits core word asking answer entry g within moves looks = elim moves [
       | inl absent ↦ asker_fits core block asking None (no_event asking (state_of old core block) absent.0 absent.1) (idle_fits core block absent.3)
       | inr a ↦ asked_fits core asking a.row.action a.row.next a.is_row
-          (rw (ask_line old core block word asking answer new entry g within a) (taken_state a.row.action a.row.next old.log core block word asking (held_by (picture_of old block) core) a.held answer entry a.taken))
+          (ap (λ (l : Line). l.state) (ask_line old core block word asking answer new entry g within a)
+          ∙ taken_state a.row.action a.row.next old.log core block word asking (held_by (picture_of old block) core) a.held answer entry a.taken)
           looks
     ]
 
@@ -150,10 +151,10 @@ module _ (old new : Situation) (step : Step) (outcome : Result Reply Refused) wh
         let wide = g.shaped.row block within.1 in
         let holder : (k : ℕ) → k < 0 + old.shape.cores → All (FitsStep here) (of_holder old core block request k) = λ k k_in.
         (let row = o.taken.rows k (omega arith) in
-        let is : state_of new k block ≡ row.0.next = rw (now, row.2) in
+        let is : state_of new k block ≡ row.0.next = ap (λ (p : Picture). (held_by p k).state) now ∙ ap (λ (l : Line). l.state) row.2 in
         all_at (FitsStep here) old k block (λ before. unless_i before (Core k block (Some (seen_by k core request)) before))
         (all_unless_i (FitsStep here) (state_of old k block) _ (row_fits k (seen_by k core request) row.0.action row.0.next row.1 is (looks k)))) in
-        let done : (picture_of new block).memory.state ≡ o.memory.0.next = rw now o.memory.2 in
+        let done : (picture_of new block).memory.state ≡ o.memory.0.next = ap (λ (p : Picture). p.memory.state) now ∙ o.memory.2 in
         All-append (FitsStep here) (flat_map (of_holder old core block request) (range_with_len 0 old.shape.cores)) (of_memory old block (at_memory request))
         (all_range (FitsStep here) (of_holder old core block request) 0 old.shape.cores holder)
         (memory_fits (at_memory request) o.memory.0.action (rw done o.memory.1) memory_looks)
@@ -164,7 +165,10 @@ module _ (old new : Situation) (step : Step) (outcome : Result Reply Refused) wh
         → ((event : CacheEvent) → Some event ≡ arrival closing.payload → ConsultsCache old step closing.core block (Some event))
         → All (FitsStep here) (of_arrival old closing.core block (arrival closing.payload))
     filled_fits closing did next within now f looks =
-        let is : state_of new closing.core block ≡ f.fills.row.next = rw (now, f.held, get_or-set_same (picture_of old block).caches closing.core f.line nothing_held within, f.fills.held) in
+        let is : state_of new closing.core block ≡ f.fills.row.next =
+        ap (λ (p : Picture). (held_by p closing.core).state) now
+        ∙ (ap (λ (l : List Line). (held_at l closing.core).state) f.held
+        ∙ (ap (λ (l : Line). l.state) (get_or-set_same (picture_of old block).caches closing.core f.line nothing_held within) ∙ ap (λ (l : Line). l.state) f.fills.held)) in
         rw f.fills.arrives
         (all_at (FitsStep here) old closing.core block (λ before. Core closing.core block (Some f.fills.event) before ∷ [])
         (all_one (FitsStep here) _ (row_fits closing.core f.fills.event f.fills.row.action f.fills.row.next f.fills.is_row is (looks f.fills.event (sym f.fills.arrives)))))
@@ -192,7 +196,7 @@ module _ (old new : Situation) (step : Step) (outcome : Result Reply Refused) wh
         let now : picture_of new block ≡ r.next = respond_here old block closing did new g within r in
         let core_in = (g.blocks block within).requestor_in closing r.opened in
         let long = g.shaped.row block within in
-        let settled : Settles old.protocol closing.request closing.payload (picture_of old block).memory.state r.memory.act (picture_of new block).memory.state = rw now r.memory.settled in
+        let settled : Settles old.protocol closing.request closing.payload (picture_of old block).memory.state r.memory.act (picture_of new block).memory.state = subst (λ (p : Picture). Settles old.protocol closing.request closing.payload (picture_of old block).memory.state r.memory.act p.memory.state) (sym now) r.memory.settled in
         All-append (FitsStep here) (of_requestor closing.request old block closing) (of_waiting_memory old block closing)
         (requestor_fits closing.request closing did r.next (omega arith) now r.requestor looks)
         (all_at_memory (FitsStep here) old block (λ before. if takes_payload closing.request before then of_arrival_at_memory old block (arrival_at_memory closing.payload) else [])
