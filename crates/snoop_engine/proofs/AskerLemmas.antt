@@ -1,6 +1,6 @@
 -- Only an Ask moves its core out of I.
-use Rattle.std.proofs.Common.{◌≡◌, ◌⊎◌, ℕ, ◌≤◌, Bool, true, false, List, [], length, Some, None, Option, refl, sym, ap, ◌∙◌, inl, inr, arith, ◌==◌, ◌&&◌, ◌%◌, IfNone, IfSome, Ok, nat_lt, slice_get, unwrap_or, slice_index_or, slice_set, if◌then◌else◌}
-use Rattle.snoop_engine.proofs.Common.{option_map_or, cases_lt, get_or_past, Extent, Protocol, Msi, Mesi, Op, Step, Ask, Order, Respond, CacheCell, CacheEvent, CacheState, I, Request, GetS}
+use Rattle.std.proofs.Common.{◌≡◌, ◌⊎◌, ℕ, ◌≤◌, Bool, true, false, List, [], length, Some, None, Option, refl, sym, ap, ◌∙◌, inl, inr, arith, ◌==◌, ◌&&◌, ◌%◌, IfNone, IfSome, Ok, nat_lt, slice_get, slice_index_or, slice_set, if◌then◌else◌}
+use Rattle.snoop_engine.proofs.Common.{option_map_or, cases_lt, get_or_past, Protocol, Msi, Mesi, Op, Step, Ask, Order, Respond, CacheCell, CacheEvent, CacheState, I, Request, GetS}
 use Rattle.snoop_engine.proofs.Common.{GetM, PutM, arrival, seen_by, Did, Item, queue_of, Open, Situation, picture_of, state_of, Reply, Line, Picture, held_at, held_by, nothing_held}
 use Rattle.snoop_engine.proofs.Common.{ArrivesFor, FillsRequestor, IsAbsent, Asks, Orders, Responds, GoesFirst}
 use Rattle.std.proofs.lemmas.Bool.{le-ltb}

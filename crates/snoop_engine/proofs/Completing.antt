@@ -6,7 +6,7 @@ use Rattle.snoop_engine.specs.Courses.{CanEnd, Leading, LeadsOn}
 use Rattle.snoop_engine.specs.InOrder.{EndsInOrder, FollowsInOrder, InOrder, IsInOrder, TakesUpNext, remaining_in_order, row_under_way}
 use Rattle.snoop_engine.specs.Journey.{IsAtTheEnd}
 use Rattle.snoop_engine.specs.UnderWay.{ServesOnly, nothing}
-use Rattle.snoop_engine.specs.Round.{IsEnabled, IsFit, IsIdle, IsOver, Progress, TakesUp, remaining}
+use Rattle.snoop_engine.specs.Round.{IsEnabled, IsFit, IsOver, Progress, TakesUp, remaining}
 use Rattle.snoop_engine.specs.Serial.{ask_for, is_ask}
 use Rattle.snoop_engine.specs.Served.{ask_of}
 use Rattle.snoop_engine.specs.Todo.{Todo, block_of_work, left_in, nothing_to_do, todo_of, lanes_under_way}

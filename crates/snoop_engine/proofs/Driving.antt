@@ -1,5 +1,5 @@
 -- What a turn of a driver gives.
-use Rattle.std.proofs.Common.{◌≡◌, ◌≢◌, ℕ, ◌<◌, Bool, true, false, Option, Some, None, refl, sym, ◌∙◌, ap, inl, inr, cond, eqb, arith, get_or, Contains, IfSome, IfNone, slice_set, List, [], ◌∷◌, length}
+use Rattle.std.proofs.Common.{◌≡◌, ◌≢◌, ℕ, ◌<◌, true, false, Option, Some, None, refl, sym, ◌∙◌, ap, inl, inr, cond, eqb, arith, get_or, Contains, IfSome, IfNone, slice_set, List, ◌∷◌, length}
 use Rattle.snoop_engine.proofs.Common.{cases_eq, get_or_default, All-head, All-nil, All-tail, Step, Ask, Item, Reply, FirstMove, Situation, Work, turn_of, IsUnderWay, turn_rule}
 use Rattle.std.proofs.lemmas.Bool.{eq-eqb, ne_eqb}
 use Rattle.std.proofs.lemmas.List.{length-set, get_or-set_same, get_or-set_other}

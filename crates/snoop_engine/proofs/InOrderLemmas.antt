@@ -1,5 +1,5 @@
 -- A driver that serves rows one after another: what its steps need, and what they keep.
-use Rattle.std.proofs.Common.{◌≡◌, ◌≢◌, ℕ, ◌<◌, ◌/◌, Bool, true, false, cond, Option, Some, None, List, [], ◌∷◌, refl, sym, ◌∙◌, ◌==◌, IfNone, IfSome, lt-ltb, subst}
+use Rattle.std.proofs.Common.{◌≡◌, ℕ, ◌/◌, Bool, true, false, cond, Option, Some, None, List, [], ◌∷◌, refl, sym, ◌∙◌, ◌==◌, IfNone, IfSome, lt-ltb, subst}
 use Rattle.snoop_engine.proofs.Common.{All-head, All-tail, Extent, IsRowWithin, word_asked, Op, Row, Step, Ask, Respond, Item, Request, waiting_request, Open, Reply, FirstMove, Situation}
 use Rattle.snoop_engine.proofs.Common.{picture_of, state_of, IsQuiet, IsUnderWay, turn_of, turn_rule}
 use Rattle.std.proofs.lemmas.Bool.{eq-eqb, ne_eqb}

@@ -1,5 +1,5 @@
 -- What a core's line says nothing of: values in a state that may not be read, a place where no request waits.
-use Rattle.std.proofs.Common.{◌≡◌, ℕ, ◌+◌, Bool, true, false, cond, Option, Some, None, List, [], ◌∷◌, ◌++◌, length, refl, sym, ◌∙◌, ap, arith, ◌&&◌, ◌==◌, count_by, is_some, nat_lt, not, option_map, flat_map}
+use Rattle.std.proofs.Common.{◌≡◌, ℕ, ◌+◌, Bool, true, false, cond, Option, Some, None, List, [], ◌∷◌, length, refl, sym, ap, arith, ◌&&◌, ◌==◌, count_by, is_some, nat_lt, not, option_map, flat_map}
 use Rattle.snoop_engine.proofs.Common.{range_with_len, sum_by-cons, word_at, CacheState, waiting_request, queue_of, held_by, Situation, picture_of, state_of, keeps}
 use Rattle.std.specs.List.{position_or_len}
 use Rattle.std.proofs.lemmas.Bool.{le-ltb}

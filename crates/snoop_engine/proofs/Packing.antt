@@ -1,8 +1,6 @@
 -- Packed steps, and one more.
-use Rattle.std.proofs.Common.{◌≡◌, ℕ, zero, suc, ◌+◌, ◌≤◌, List, [], ◌∷◌, ◌++◌, length, length-append, drop, slice_index_or, refl, ap, ◌∙◌, arith}
-use Rattle.snoop_engine.proofs.Common.{Step, Ask}
+use Rattle.std.proofs.Common.{◌≡◌, ℕ, zero, suc, ◌+◌, ◌≤◌, List, [], ◌∷◌, ◌++◌, length, length-append, drop, slice_index_or, refl, arith}
 use Rattle.std.proofs.lemmas.List.{length-drop}
-use Rattle.snoop_trace.specs.declared.step.Op.TheVariants as op
 use Rattle.snoop_engine.specs.declared.packed.Kind.{Kind}
 use Rattle.snoop_engine.specs.declared.packed.Kind.TheVariants as kind
 use Rattle.snoop_engine.specs.declared.packed.Head.{Head}

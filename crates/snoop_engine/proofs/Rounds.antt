@@ -1,5 +1,5 @@
 -- What a round gives, turn by turn.
-use Rattle.std.proofs.Common.{◌≡◌, ◌≢◌, ℕ, ◌<◌, Option, Some, None, refl, IsOk, sym, ◌∙◌, ap, inl, inr, arith, List, [], ◌∷◌, ◌++◌, take, drop, All, Contains, IfNone, slice_get}
+use Rattle.std.proofs.Common.{◌≡◌, ◌≢◌, ℕ, ◌<◌, Option, Some, None, refl, IsOk, sym, ◌∙◌, ap, inl, inr, arith, List, [], ◌∷◌, ◌++◌, take, drop, Contains, IfNone, slice_get}
 use Rattle.snoop_engine.proofs.Common.{All-nil, cases_eq, All-append, Contains-append_cases, Contains-append_left, Contains-append_right, Step, Situation, IsQuiet, IsUnderWay, turn_rule}
 use Rattle.std.proofs.lemmas.List.{take-append-drop}
 use Rattle.std.proofs.lemmas.List.Elements.{All-take, All-drop}

@@ -1,14 +1,12 @@
 -- The states of frames, as a view writes them.
-use Rattle.std.proofs.Common.{◌≡◌, ℕ, ◌+◌, Bool, true, false, cond, List, [], ◌++◌, length, sym, ap, ◌∙◌, append-nil, Option, flat_map}
+use Rattle.std.proofs.Common.{◌≡◌, ℕ, ◌+◌, true, false, List, [], ◌++◌, length, ap, ◌∙◌, append-nil, flat_map}
 use Rattle.snoop_engine.proofs.Common.{Extent, Situation}
 use Rattle.snoop_engine.specs.Frames.{Frame}
 use Rattle.snoop_engine.specs.Chosen.{Chosen, is_shown}
-use Rattle.snoop_engine.specs.States.{frame_text, header_text, shown_text, states_text, step_fields, taken_text}
-use Rattle.snoop_engine.specs.Taken.{lines_of_step}
-use Rattle.snoop_engine.specs.Views.{IsNextSeen, block_of_step, frame_seen, shown, view_text}
+use Rattle.snoop_engine.specs.States.{header_text, shown_text, states_text, step_fields, taken_text}
+use Rattle.snoop_engine.specs.Views.{IsNextSeen, frame_seen, shown, view_text}
 use Rattle.snoop_engine.specs.declared.seen.Seen.{Seen}
 use Rattle.snoop_engine.proofs.ViewLemmas.{shown_numbered}
-use Rattle.snoop_engine.specs.declared.taken.Taken.{Taken}
 
 pub states_view : (shape : Extent) (choice : Chosen) (frames : List Frame) (final : Situation)
     → view_text header_text (λ (fs : List Frame) (f : Frame). shown_text shape choice (1 + length fs) f) (λ (fs : List Frame) (s : Situation). []) frames final ≡ states_text shape choice frames

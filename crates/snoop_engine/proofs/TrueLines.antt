@@ -24,7 +24,7 @@ use Rattle.snoop_model.proofs.OneBlock.AfterMoves.{ask_line, order_here, respond
 use Rattle.snoop_model.proofs.Queues.Moves.{keeps_well, starts_well}
 use Rattle.snoop_model.proofs.Runs.GoOn.{IsSteady, steady_on}
 use Rattle.snoop_engine.specs.Frames.{Frame, FramesFrom}
-use Rattle.snoop_engine.specs.Taken.{event_asked, lines_of_step, of_arrival, of_arrival_at_memory, of_ask, of_holder, of_memory, of_order, of_request, of_requestor, of_respond, of_waiting_memory, memory_at, refused_by, state_at, unless_i}
+use Rattle.snoop_engine.specs.Taken.{event_asked, lines_of_step, of_arrival, of_arrival_at_memory, of_ask, of_holder, of_memory, of_request, of_requestor, of_respond, of_waiting_memory, memory_at, refused_by, state_at, unless_i}
 use Rattle.snoop_engine.specs.TrueLines.{FitsStep, HasAllLines, ShowsRows, HasTakenRows}
 use Rattle.snoop_engine.proofs.AllLines.{asker_listed, cores_listed, memory_rows_listed}
 use Rattle.snoop_engine.specs.declared.taken.Taken.{Taken}

@@ -1,5 +1,5 @@
 -- The lines of a course's steps, written or in the chunk, and then the report.
-use Rattle.std.proofs.Common.{◌≡◌, ℕ, List, [], ◌∷◌, ◌++◌, Option, Some, None, refl, sym, ap, ◌∙◌, append_assoc, ◌⊎◌, inl, inr, Result, Ok, Err, IsErrAnd}
+use Rattle.std.proofs.Common.{◌≡◌, ℕ, List, [], ◌∷◌, ◌++◌, Option, refl, sym, ap, ◌∙◌, append_assoc, ◌⊎◌, inl, inr, Result, Ok, Err, IsErrAnd}
 use Rattle.snoop_engine.proofs.Common.{Appends, Extent, AppendsFront, Gathers, Spills, WriteFault, Protocol, Row, Step, gathers_cut, gathers_done, gathers_more, gathers_spilled}
 use Rattle.snoop_engine.proofs.Common.{gathers_stop, appends_none_of, Item, Reply, Refused, Situation, reset, FirstRunFrom, GoesFirst, RunsGoOn, TheRun}
 use Rattle.std.proofs.lemmas.List.{append-nil}

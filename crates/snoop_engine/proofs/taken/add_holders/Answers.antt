@@ -1,6 +1,4 @@
-use Rattle.std.proofs.Common.{◌≡◌, ◌++◌, ℕ, ◌≤◌, false, List, ap, sym, ◌∙◌, append-nil, arith, flat_map}
-use Rattle.snoop_engine.proofs.Common.{range_with_len}
-use Rattle.snoop_blocks.specs.CoreSet.{has}
+use Rattle.std.proofs.Common.{ℕ, List, sym, append-nil, arith}
 use Rattle.snoop_engine.specs.Taken.{of_holder}
 use Rattle.snoop_engine.specs.declared.taken.Taken.{Taken}
 use Rattle.snoop_engine.proofs.AskerLemmas.{no_line_in_i, no_line_past}

@@ -1,4 +1,4 @@
-use Rattle.std.proofs.Common.{rules, ◌≡◌, ◌++◌, List, ℕ, false, sym, ap, ◌∙◌, append-nil}
+use Rattle.std.proofs.Common.{rules, ◌≡◌, false, sym, ◌∙◌, append-nil}
 use Rattle.snoop_engine.proofs.Common.{keeps}
 use Rattle.snoop_engine.proofs.NowLemmas.{none_kept}
 use Rattle.snoop_engine.proofs.taken_text.push_kept_in.Goals as goal

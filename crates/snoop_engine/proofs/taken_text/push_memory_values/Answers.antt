@@ -1,4 +1,3 @@
-use Rattle.std.proofs.Common.{ℕ, Option, ap, ◌++◌, ◌∙◌}
 use Rattle.snoop_engine.specs.States.{memory_value_at, value_text}
 use Rattle.snoop_engine.proofs.RangeLemmas.{range_piece}
 use Rattle.snoop_engine.proofs.taken_text.push_memory_values.Goals as goal

@@ -1,4 +1,4 @@
-use Rattle.std.proofs.Common.{ℕ, ap, ◌++◌, ◌∙◌, codes, decimal}
+use Rattle.std.proofs.Common.{◌++◌, codes, decimal}
 use Rattle.snoop_engine.proofs.Common.{word_at}
 use Rattle.snoop_engine.proofs.RangeLemmas.{range_piece}
 use Rattle.snoop_engine.proofs.words.push_data.Goals as goal

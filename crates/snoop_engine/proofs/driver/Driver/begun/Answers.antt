@@ -1,5 +1,4 @@
-use Rattle.std.proofs.Common.{sym, ap, ◌∙◌}
-use Rattle.snoop_engine.specs.Todo.{Todo}
+use Rattle.std.proofs.Common.{sym, ◌∙◌}
 use Rattle.snoop_engine.proofs.Driving.{first_in, fit_begins, fit_idles, goes_begun, lane_put, lane_read, takes_first}
 use Rattle.snoop_engine.proofs.driver.Driver.begun.Goals as goal
 

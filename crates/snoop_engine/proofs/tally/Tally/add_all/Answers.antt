@@ -1,4 +1,4 @@
-use Rattle.std.proofs.Common.{List, [], ◌∷◌, ◌++◌, None, append_assoc, get_or, take}
+use Rattle.std.proofs.Common.{[], ◌∷◌, ◌++◌, None, append_assoc, get_or, take}
 use Rattle.snoop_engine.proofs.Common.{take_more, I}
 use Rattle.std.proofs.lemmas.List.{take_all}
 use Rattle.snoop_engine.specs.declared.taken.Taken.TheVariants.{Core}
