@@ -1,35 +1,11 @@
 -- No row of a step that is taken is left out of its lines.
-use Rattle.std.proofs.Common.{◌≡◌, ℕ, ◌<◌, ◌≤◌, ◌+◌, Bool, true, zero, suc, List, [], ◌∷◌, Option, Some, None, refl, sym, ap, subst, ◌∙◌, inl, inr, lt-ltb, arith}
-use Rattle.std.specs.Prelude.{◌&&◌, Contains, Ok, nat_lt, slice_get, if◌then◌else◌}
-use Rattle.std.specs.List.{flat_map, range_with_len}
-use Rattle.std.specs.Option.{option_map_or}
-use Rattle.std.proofs.lemmas.Bool.{cases_eq, cases_lt}
-use Rattle.std.proofs.lemmas.List.{get_or_past}
-use Rattle.std.proofs.lemmas.List.Elements.{Contains-append_left, Contains-append_right, Contains-push}
-use Rattle.std.proofs.lemmas.Option.{same_Some}
-use Rattle.snoop_trace.specs.declared.step.Op.{Op}
+use Rattle.std.proofs.Common.{◌≡◌, ℕ, ◌<◌, ◌≤◌, ◌+◌, Bool, true, zero, suc, List, [], ◌∷◌, Some, None, refl, sym, subst, ◌∙◌, inl, inr, lt-ltb, arith, ◌&&◌, Contains, Ok, nat_lt, slice_get, if◌then◌else◌, flat_map, ap}
+use Rattle.snoop_engine.proofs.Common.{range_with_len, option_map_or, cases_eq, cases_lt, get_or_past, Contains-append_left, Contains-append_right, Contains-push, same_Some, Op, Step, Ask}
+use Rattle.snoop_engine.proofs.Common.{Order, Respond, CacheEvent, CacheState, I, MemEvent, Request, PutM, arrival, arrival_at_memory, asked, at_memory, seen_by, takes_payload}
+use Rattle.snoop_engine.proofs.Common.{waiting_request, queue_of, Open, Reply, Line, nothing_held, Situation, picture_of, state_of, ConsultsCache, ConsultsMemory, IsWithin, TakesFirst}
+use Rattle.snoop_engine.proofs.Common.{GoesFirst, Invariant}
 use Rattle.snoop_trace.specs.declared.step.Op.TheVariants as op
-use Rattle.snoop_trace.specs.declared.step.Step.{Step}
-use Rattle.snoop_trace.specs.declared.step.Step.TheVariants.{Ask, Order, Respond}
-use Rattle.snoop_rules.specs.declared.names.CacheEvent.{CacheEvent}
-use Rattle.snoop_rules.specs.declared.names.CacheState.{CacheState}
-use Rattle.snoop_rules.specs.declared.names.CacheState.TheVariants.{I}
-use Rattle.snoop_rules.specs.declared.names.MemEvent.{MemEvent}
-use Rattle.snoop_rules.specs.declared.names.Request.{Request}
-use Rattle.snoop_rules.specs.declared.names.Request.TheVariants.{GetS, GetM, PutM}
-use Rattle.snoop_rules.specs.Takers.{arrival, arrival_at_memory, asked, at_memory, seen_by, takes_payload}
-use Rattle.snoop_rules.specs.Waits.{waiting_request}
-use Rattle.snoop_bus.specs.Queues.{queue_of}
-use Rattle.snoop_bus.specs.Traffic.{Open}
-use Rattle.snoop_model.specs.declared.replies.Reply.{Reply}
-use Rattle.snoop_model.specs.Pictures.Lines.{Line}
-use Rattle.snoop_model.specs.Pictures.Picture.{nothing_held}
-use Rattle.snoop_model.specs.Pictures.Situation.{Situation, picture_of, state_of}
-use Rattle.snoop_model.specs.Moves.LookUps.{ConsultsCache, ConsultsMemory}
-use Rattle.snoop_model.specs.Moves.Move.{IsWithin, TakesFirst}
-use Rattle.snoop_model.specs.Runs.Run.{GoesFirst}
-use Rattle.snoop_model.specs.Invariant.Invariant.{Invariant}
-use Rattle.snoop_engine.specs.Taken.{event_asked, of_arrival, of_arrival_at_memory, of_ask, of_core, of_holder, of_memory, of_order, of_request, of_requestor, of_respond, of_waiting_memory, taken_by, unless_i}
+use Rattle.snoop_engine.specs.Taken.{event_asked, of_arrival_at_memory, of_ask, of_core, of_holder, of_memory, of_request, of_requestor, of_respond, of_waiting_memory, taken_by, unless_i}
 use Rattle.snoop_engine.specs.TrueLines.{DoesNothing}
 use Rattle.snoop_engine.specs.declared.taken.Taken.{Taken}
 use Rattle.snoop_engine.specs.declared.taken.Taken.TheVariants.{Core, Memory}
@@ -61,10 +37,8 @@ module _ (s : Situation) (g : Invariant s) where
 
   ask_listed : (core block : ℕ) (asking : Op) → IsWithin s core block → ((asking ≡ op.Evict) × (state_of s core block ≡ I) → ⊥) → Contains (of_ask s core block asking) (Core core block (Some (asked asking)) (state_of s core block))
   ask_listed core block asking within event =
-      let st : CacheState = state_of s core block in
-      let line : Contains (Core core block (event_asked asking st) st ∷ []) (Core core block (Some (asked asking)) st) =
-      subst (λ (e : Option CacheEvent). Contains (Core core block e st ∷ []) (Core core block (Some (asked asking)) st)) (sym (event_unless asking st event)) (has_one (Core core block (Some (asked asking)) st)) in
-      has_if (nat_lt core s.shape.cores && nat_lt block s.shape.blocks) st (λ before. Core core block (event_asked asking before) before ∷ []) _ (both_there core block within.0 within.1) line
+      has_if (nat_lt core s.shape.cores && nat_lt block s.shape.blocks) (state_of s core block) (λ before. Core core block (event_asked asking before) before ∷ []) _ (both_there core block within.0 within.1)
+      (rw (event_unless asking (state_of s core block) event) (has_one _))
 
   core_listed : (core block : ℕ) (event : CacheEvent) → core < s.shape.cores → block < s.shape.blocks → Contains (of_core s core block (Some event)) (Core core block (Some event) (state_of s core block))
   core_listed core block event x y =
@@ -101,37 +75,27 @@ module _ (s : Situation) (g : Invariant s) where
   -- the lines of an Order are those of the request that waits for the first block
   order_lines : (requestor block : ℕ) (request : Request) (line : Taken) → slice_get (queue_of s.queues requestor) 0 ≡ Some block → waiting_request (state_of s requestor block) ≡ Some request
       → Contains (of_request s requestor block request) line → Contains (taken_by s (Order requestor)) line
-  order_lines requestor block request line first waits has =
-      subst (λ (b : Option ℕ). Contains (option_map_or (of_order s requestor) b []) line) (sym first)
-      (subst (λ (w : Option Request). Contains (option_map_or (of_request s requestor block) w []) line) (sym waits) has)
+  order_lines requestor block request line first waits has = rw (first, waits) has
 
   requestor_listed : (request : Request) (block : ℕ) (closing : Open) (event : CacheEvent) → (request ≡ PutM → ⊥) → closing.core < s.shape.cores → block < s.shape.blocks → Some event ≡ arrival closing.payload
       → Contains (of_requestor request s block closing) (Core closing.core block (Some event) (state_of s closing.core block))
   requestor_listed PutM block closing event other x y comes = absurd (other refl)
-  requestor_listed GetS block closing event other x y comes = subst (λ (e : Option CacheEvent). Contains (of_arrival s closing.core block e) (Core closing.core block (Some event) (state_of s closing.core block))) comes (core_listed closing.core block event x y)
-  requestor_listed GetM block closing event other x y comes = subst (λ (e : Option CacheEvent). Contains (of_arrival s closing.core block e) (Core closing.core block (Some event) (state_of s closing.core block))) comes (core_listed closing.core block event x y)
+  requestor_listed _ block closing event other x y comes = rw (← comes) (core_listed closing.core block event x y)
 
   arrival_listed : (block : ℕ) (closing : Open) (event : MemEvent) → block < s.shape.blocks → takes_payload closing.request (picture_of s block).memory.state ≡ true → Some event ≡ arrival_at_memory closing.payload
       → Contains (of_waiting_memory s block closing) (Memory block event (picture_of s block).memory.state)
   arrival_listed block closing event y takes comes =
-      let line : Taken = Memory block event (picture_of s block).memory.state in
-      let one : Contains (of_arrival_at_memory s block (arrival_at_memory closing.payload)) line = subst (λ (e : Option MemEvent). Contains (of_arrival_at_memory s block e) line) comes (memory_listed block event y) in
-      let here : Contains (if takes_payload closing.request (picture_of s block).memory.state then of_arrival_at_memory s block (arrival_at_memory closing.payload) else []) line = rw takes one in
       has_if (nat_lt block s.shape.blocks) (picture_of s block).memory.state
-      (λ before. if takes_payload closing.request before then of_arrival_at_memory s block (arrival_at_memory closing.payload) else []) line (lt-ltb block s.shape.blocks y) here
+      (λ before. if takes_payload closing.request before then of_arrival_at_memory s block (arrival_at_memory closing.payload) else []) _ (lt-ltb block s.shape.blocks y) (rw (takes, ← comes) (memory_listed block event y))
 
   respond_lines : (block : ℕ) (closing : Open) (line : Taken) → (picture_of s block).transaction ≡ Some closing → Contains (of_respond s block closing) line → Contains (taken_by s (Respond block)) line
-  respond_lines block closing line opened has = subst (λ (t : Option Open). Contains (option_map_or (of_respond s block) t []) line) (sym opened) has
+  respond_lines block closing line opened has = rw opened has
 
 -- the row of an Ask
 pub asker_listed : (s : Situation) (asker on word : ℕ) (asking : Op) → Invariant s → IsWithin s asker on → (core block : ℕ) (event : CacheEvent) → ConsultsCache s (Ask asker on word asking) core block (Some event)
     → Contains (of_ask s asker on asking) (Core core block (Some event) (state_of s core block))
 asker_listed s asker on word asking g within core block event looks =
-    let P : ℕ → ℕ → CacheEvent → Type 0 = λ c b e. Contains (of_ask s asker on asking) (Core c b (Some e) (state_of s c b)) in
-    let apart : (asking ≡ op.Evict) × (state_of s asker on ≡ I) → ⊥ =
-    subst (λ (b : ℕ). (asking ≡ op.Evict) × (state_of s asker b ≡ I) → ⊥) looks.1 (subst (λ (c : ℕ). (asking ≡ op.Evict) × (state_of s c block ≡ I) → ⊥) looks.0 looks.2) in
-    subst (λ (e : CacheEvent). P core block e) (sym (same_Some _ _ looks.3))
-    (subst (λ (c : ℕ). P c block (asked asking)) (sym looks.0) (subst (λ (b : ℕ). P asker b (asked asking)) (sym looks.1) (ask_listed s g asker on asking within apart)))
+    rw (same_Some _ _ looks.3, looks.0, looks.1) (ask_listed s g asker on asking within (rw (looks.0, looks.1) at looks.2))
 
 -- where the move of a step is, each row that a core looks up is listed
 pub cores_listed : (s new : Situation) (step : Step) (answer : Reply) → Invariant s → GoesFirst s step (Ok answer) new → (core block : ℕ) (event : CacheEvent) → TakesFirst s step block → ConsultsCache s step core block (Some event)
@@ -143,21 +107,16 @@ cores_listed s new (Ask asker on word asking) answer g goes core block event fir
 cores_listed s new (Order requestor) answer g goes core block event first looks held =
     let m = goes.1 in
     let same : m.0 ≡ block = same_Some _ _ (sym m.1.0 ∙ first) in
-    let y : block < s.shape.blocks = subst (λ (b : ℕ). b < s.shape.blocks) same m.1.1.within.1 in
-    let request : Request = looks.0 in
-    let line : ℕ → CacheEvent → Taken = λ c e. Core c block (Some e) (state_of s c block) in
-    subst (λ (e : CacheEvent). Contains (taken_by s (Order requestor)) (line core e)) (sym (same_Some _ _ looks.1.1))
-    (order_lines s g requestor block request (line core (seen_by core requestor request)) first looks.1.0.0 (holder_listed s g requestor core block request y held))
+    let y : block < s.shape.blocks = rw same at m.1.1.within.1 in
+    rw (same_Some _ _ looks.1.1) (order_lines s g requestor block looks.0 _ first looks.1.0.0 (holder_listed s g requestor core block looks.0 y held))
 cores_listed s new (Respond on) answer g goes core block event first looks held =
     let m = goes.1.1.1 in
-    let y : on < s.shape.blocks = subst (λ (b : ℕ). b < s.shape.blocks) (sym m.on_block) m.within in
+    let y : on < s.shape.blocks = rw m.on_block m.within in
     let closing : Open = looks.0 in
-    let P : ℕ → ℕ → Type 0 = λ c b. Contains (taken_by s (Respond on)) (Core c b (Some event) (state_of s c b)) in
-    let opened : (picture_of s on).transaction ≡ Some closing = subst (λ (b : ℕ). (picture_of s b).transaction ≡ Some closing) looks.1.0 looks.1.1 in
+    let opened : (picture_of s on).transaction ≡ Some closing = rw (← looks.1.0) looks.1.1 in
     let x = (g.blocks on y).requestor_in closing opened in
-    subst (λ (c : ℕ). P c block) (sym looks.1.2) (subst (λ (b : ℕ). P closing.core b) (sym looks.1.0)
-    (respond_lines s g on closing _ opened
-    (Contains-append_left (of_requestor closing.request s on closing) (of_waiting_memory s on closing) _ (requestor_listed s g closing.request on closing event looks.1.3 x y looks.1.4))))
+    rw (looks.1.2, looks.1.0) (respond_lines s g on closing _ opened
+    (Contains-append_left (of_requestor closing.request s on closing) (of_waiting_memory s on closing) _ (requestor_listed s g closing.request on closing event looks.1.3 x y looks.1.4)))
 
 -- and each of memory's
 pub memory_rows_listed : (s new : Situation) (step : Step) (answer : Reply) → Invariant s → GoesFirst s step (Ok answer) new → (block : ℕ) (event : MemEvent) → TakesFirst s step block → ConsultsMemory s step block (Some event)
@@ -166,16 +125,13 @@ memory_rows_listed s new (Ask asker on word asking) answer g goes block event fi
 memory_rows_listed s new (Order requestor) answer g goes block event first looks =
     let m = goes.1 in
     let same : m.0 ≡ block = same_Some _ _ (sym m.1.0 ∙ first) in
-    let y : block < s.shape.blocks = subst (λ (b : ℕ). b < s.shape.blocks) same m.1.1.within.1 in
-    let request : Request = looks.0 in
-    subst (λ (e : MemEvent). Contains (taken_by s (Order requestor)) (Memory block e (picture_of s block).memory.state)) (sym (same_Some _ _ looks.1.1))
-    (order_lines s g requestor block request _ first looks.1.0.0 (request_at_memory s g requestor block request y))
+    let y : block < s.shape.blocks = rw same at m.1.1.within.1 in
+    rw (same_Some _ _ looks.1.1) (order_lines s g requestor block looks.0 _ first looks.1.0.0 (request_at_memory s g requestor block looks.0 y))
 memory_rows_listed s new (Respond on) answer g goes block event first looks =
     let m = goes.1.1.1 in
-    let y : on < s.shape.blocks = subst (λ (b : ℕ). b < s.shape.blocks) (sym m.on_block) m.within in
+    let y : on < s.shape.blocks = rw m.on_block m.within in
     let closing : Open = looks.0 in
-    let opened : (picture_of s on).transaction ≡ Some closing = subst (λ (b : ℕ). (picture_of s b).transaction ≡ Some closing) looks.1.0 looks.1.1 in
-    let takes : takes_payload closing.request (picture_of s on).memory.state ≡ true = subst (λ (b : ℕ). takes_payload closing.request (picture_of s b).memory.state ≡ true) looks.1.0 looks.1.2 in
-    subst (λ (b : ℕ). Contains (taken_by s (Respond on)) (Memory b event (picture_of s b).memory.state)) (sym looks.1.0)
-    (respond_lines s g on closing _ opened
+    let opened : (picture_of s on).transaction ≡ Some closing = rw (← looks.1.0) looks.1.1 in
+    let takes : takes_payload closing.request (picture_of s on).memory.state ≡ true = rw (← looks.1.0) looks.1.2 in
+    rw looks.1.0 (respond_lines s g on closing _ opened
     (Contains-append_right (of_requestor closing.request s on closing) (of_waiting_memory s on closing) _ (arrival_listed s g on closing event y takes looks.1.3)))

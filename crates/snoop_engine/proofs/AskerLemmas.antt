@@ -1,41 +1,21 @@
 -- Only an Ask moves its core out of I.
-use Rattle.std.proofs.Common.{◌≡◌, ◌⊎◌, ℕ, ◌≤◌, Bool, true, false, List, [], length, Some, None, Option, refl, sym, ap, subst, ◌∙◌, inl, inr, arith}
-use Rattle.std.specs.Prelude.{◌==◌, ◌&&◌, ◌%◌, IfNone, IfSome, Ok, nat_lt, slice_get, unwrap_or, slice_index_or, slice_set, if◌then◌else◌}
-use Rattle.std.specs.Option.{option_map_or}
-use Rattle.std.proofs.lemmas.Bool.{cases_lt, le-ltb}
-use Rattle.std.proofs.lemmas.List.{get_or_past}
-use Rattle.snoop_trace.specs.Extent.{Extent}
-use Rattle.snoop_trace.specs.declared.protocol.Protocol.{Protocol}
-use Rattle.snoop_trace.specs.declared.protocol.Protocol.TheVariants.{Msi, Mesi}
-use Rattle.snoop_trace.specs.declared.step.Op.{Op}
-use Rattle.snoop_trace.specs.declared.step.Step.{Step}
-use Rattle.snoop_trace.specs.declared.step.Step.TheVariants.{Ask, Order, Respond}
-use Rattle.snoop_rules.specs.declared.names.CacheCell.{CacheCell}
-use Rattle.snoop_rules.specs.declared.names.CacheEvent.{CacheEvent}
-use Rattle.snoop_rules.specs.declared.names.CacheState.{CacheState}
-use Rattle.snoop_rules.specs.declared.names.CacheState.TheVariants.{I}
+use Rattle.std.proofs.Common.{◌≡◌, ◌⊎◌, ℕ, ◌≤◌, Bool, true, false, List, [], length, Some, None, Option, refl, sym, ap, ◌∙◌, inl, inr, arith, ◌==◌, ◌&&◌, ◌%◌, IfNone, IfSome, Ok, nat_lt, slice_get, slice_index_or, slice_set, if◌then◌else◌}
+use Rattle.snoop_engine.proofs.Common.{option_map_or, cases_lt, get_or_past, Protocol, Msi, Mesi, Op, Step, Ask, Order, Respond, CacheCell, CacheEvent, CacheState, I, Request, GetS}
+use Rattle.snoop_engine.proofs.Common.{GetM, PutM, arrival, seen_by, Did, Item, queue_of, Open, Situation, picture_of, state_of, Reply, Line, Picture, held_at, held_by, nothing_held}
+use Rattle.snoop_engine.proofs.Common.{ArrivesFor, FillsRequestor, IsAbsent, Asks, Orders, Responds, GoesFirst}
+use Rattle.std.proofs.lemmas.Bool.{le-ltb}
 use Rattle.snoop_rules.specs.declared.names.Payload.{Payload}
 use Rattle.snoop_rules.specs.declared.names.Payload.TheVariants.{Data}
-use Rattle.snoop_rules.specs.declared.names.Request.{Request}
-use Rattle.snoop_rules.specs.declared.names.Request.TheVariants.{GetS, GetM, PutM}
 use Rattle.snoop_rules.specs.Cell.{cell_of}
-use Rattle.snoop_rules.specs.Takers.{arrival, other, own, seen_by}
-use Rattle.snoop_history.specs.declared.items.Did.{Did}
-use Rattle.snoop_history.specs.declared.items.Item.{Item}
+use Rattle.snoop_rules.specs.Takers.{other, own}
 use Rattle.snoop_blocks.specs.CoreSet.{Puts, has, set_of}
-use Rattle.snoop_bus.specs.Queues.{queue_of}
-use Rattle.snoop_bus.specs.Traffic.{Open}
-use Rattle.snoop_model.specs.Pictures.Situation.{IsHead, Situation, nothing_there, picture_of, state_of}
-use Rattle.snoop_model.specs.declared.replies.Reply.{Reply}
-use Rattle.snoop_model.specs.Pictures.Lines.{Line}
-use Rattle.snoop_model.specs.Pictures.Picture.{Picture, held_at, held_by, nothing_held, with_line}
-use Rattle.snoop_model.specs.Moves.Move.{ArrivesFor, FillsRequestor, IsAbsent, Asks, Orders, Responds}
-use Rattle.snoop_model.specs.Runs.Run.{GoesFirst}
+use Rattle.snoop_model.specs.Pictures.Situation.{IsHead, nothing_there}
+use Rattle.snoop_model.specs.Pictures.Picture.{with_line}
 use Rattle.snoop_model.proofs.Lists.Writes.{set_cases}
 use Rattle.std.proofs.lemmas.Nat.Bits.{bit_at-zero}
-use Rattle.std.proofs.lemmas.Option.{get_or_from_slice_get, same_Some, unwrap_or-slice_get}
+use Rattle.std.proofs.lemmas.Option.{get_or_from_slice_get, unwrap_or-slice_get}
 use Rattle.snoop_engine.specs.Askers.{AreAskers, AreOthersInI, IsHeadFor}
-use Rattle.snoop_engine.specs.Taken.{of_holder, state_at, unless_i}
+use Rattle.snoop_engine.specs.Taken.{of_holder, unless_i}
 use Rattle.snoop_engine.specs.declared.taken.Taken.{Taken}
 use Rattle.snoop_engine.specs.declared.taken.Taken.TheVariants.{Core}
 use Rattle.snoop_engine.proofs.TakenLemmas.{same_shape}
@@ -56,68 +36,47 @@ no_row _ _ = refl
 
 no_fill : (p : Protocol) (payload : Payload) (event : CacheEvent) (row : CacheCell) → arrival payload ≡ Some event → cell_of p I event ≡ Some row → ⊥
 no_fill p payload event row comes is =
-    let none : cell_of p I event ≡ None = sym (ap (λ (e : Option CacheEvent). option_map_or (λ event. cell_of p I event) e None) comes) ∙ no_row p payload in
-    cc
+    let none = rw comes at (no_row p payload) in cc
 
 -- a core that is in I of a block before a step
 module _ (old new : Situation) (core block : ℕ) (idle : state_of old core block ≡ I) where
   idle_in : (b : ℕ) → block ≡ b → state_of old core b ≡ I
-  idle_in b same = subst (λ (x : ℕ). state_of old core x ≡ I) same idle
+  idle_in b same = rw (← same) idle
 
   -- a block has a new picture
   in_i_of_picture : (b : ℕ) (next : Picture) → (block ≡ b → (held_by next core).state ≡ I) → (held_by (slice_index_or (slice_set old.pictures b next) block nothing_there) core).state ≡ I
-  in_i_of_picture b next here = elim (set_cases old.pictures b block next nothing_there) [
-    | inl p ↦ ap (λ (x : Picture). (held_by x core).state) p.1 ∙ here p.0
-    | inr e ↦ ap (λ (x : Picture). (held_by x core).state) e ∙ idle
-  ]
+  in_i_of_picture b next here = elim (set_cases old.pictures b block next nothing_there) [ inl p ↦ rw p.1 (here p.0) | inr e ↦ rw e idle ]
 
   in_i_after_ask : (asker b word : ℕ) (asking : Op) (answer : Reply) (entry : Option Item) → IsAbsent old asker b asking answer new entry ⊎ Asks old asker b word asking answer new entry → (core ≡ asker → block ≡ b → ⊥) → state_of new core block ≡ I
   in_i_after_ask asker b word asking answer entry moves another = elim moves [
-    | inl absent ↦ ap (λ (s : Situation). state_of s core block) absent.3 ∙ idle
-    | inr a ↦
-        let caches : List Line = (picture_of old b).caches in
-        ap (λ (s : Situation). state_of s core block) a.after
-        ∙ in_i_of_picture b (with_line (picture_of old b) asker a.held)
-        (λ same. elim (set_cases caches asker core a.held nothing_held) [
-          | inl p ↦ absurd (another p.0 same)
-          | inr e ↦ ap (λ (l : Line). l.state) e ∙ idle_in b same
-        ])
+    | inl absent ↦ rw absent.3 idle
+    | inr a ↦ rw a.after (in_i_of_picture b (with_line (picture_of old b) asker a.held) (λ same. elim (set_cases (picture_of old b).caches asker core a.held nothing_held) [
+      | inl p ↦ absurd (another p.0 same)
+      | inr e ↦ rw e (idle_in b same)
+    ]))
   ]
 
   in_i_after_order : (requestor b : ℕ) (request : Request) → Orders old requestor b request new → state_of new core block ≡ I
-  in_i_after_order requestor b request o =
-      ap (λ (s : Situation). state_of s core block) o.after
-      ∙ in_i_of_picture b o.next
-      (λ same. elim (cases_lt core (length (picture_of old b).caches)) [
-        | inl there ↦
-            let row = o.taken.rows core there in
-            let from_i : cell_of old.protocol I (seen_by core requestor request) ≡ Some row.0 = subst (λ (s : CacheState). cell_of old.protocol s (seen_by core requestor request) ≡ Some row.0) (idle_in b same) row.1 in
-            ap (λ (l : Line). l.state) row.2 ∙ seen_row old.protocol (core == requestor) request row.0 from_i
-        | inr past ↦
-            let long = o.taken.same_length in
-            ap (λ (l : Line). l.state) (get_or_past o.next.caches core nothing_held (omega arith))
-      ])
+  in_i_after_order requestor b request o = rw o.after (in_i_of_picture b o.next (λ same. elim (cases_lt core (length (picture_of old b).caches)) [
+    | inl there ↦ let row = o.taken.rows core there in rw row.2 (seen_row old.protocol (core == requestor) request row.0 (rw (idle_in b same) at row.1))
+    | inr past ↦ let long = o.taken.same_length in rw (get_or_past o.next.caches core nothing_held (omega arith))
+  ]))
 
   in_i_after_fill : (b : ℕ) (closing : Open) (did : Option Did) (next : List Line) → block ≡ b → FillsRequestor closing old.protocol old.log (picture_of old b).caches next did → (held_at next core).state ≡ I
-  in_i_after_fill b closing did next same f =
-      let caches : List Line = (picture_of old b).caches in
-      ap (λ (l : List Line). (held_at l core).state) f.held
-      ∙ elim (set_cases caches closing.core core f.line nothing_held) [
-        | inl p ↦
-            let here : (held_at caches closing.core).state ≡ I = subst (λ (k : ℕ). (held_at caches k).state ≡ I) p.0 (idle_in b same) in
-            absurd (no_fill old.protocol closing.payload f.fills.event f.fills.row f.fills.arrives (subst (λ (s : CacheState). cell_of old.protocol s f.fills.event ≡ Some f.fills.row) here f.fills.is_row))
-        | inr e ↦ ap (λ (l : Line). l.state) e ∙ idle_in b same
-      ]
+  in_i_after_fill b closing did next same f = rw f.held (elim (set_cases (picture_of old b).caches closing.core core f.line nothing_held) [
+    | inl p ↦
+        let here = rw p.0 at (idle_in b same) in
+        absurd (no_fill old.protocol closing.payload f.fills.event f.fills.row f.fills.arrives (rw here at f.fills.is_row))
+    | inr e ↦ rw e (idle_in b same)
+  ])
 
   in_i_after_arrival : (request : Request) (b : ℕ) (closing : Open) (did : Option Did) (next : List Line) → block ≡ b → ArrivesFor request closing old.protocol old.log (picture_of old b).caches next did → (held_at next core).state ≡ I
-  in_i_after_arrival PutM b closing did next same f = ap (λ (l : List Line). (held_at l core).state) f.0 ∙ idle_in b same
+  in_i_after_arrival PutM b closing did next same f = rw f.0 (idle_in b same)
   in_i_after_arrival GetS b closing did next same f = in_i_after_fill b closing did next same f
   in_i_after_arrival GetM b closing did next same f = in_i_after_fill b closing did next same f
 
   in_i_after_respond : (b : ℕ) (closing : Open) (did : Option Did) → Responds old b closing did new → state_of new core block ≡ I
-  in_i_after_respond b closing did r =
-      ap (λ (s : Situation). state_of s core block) r.after
-      ∙ in_i_of_picture b r.next (λ same. in_i_after_arrival closing.request b closing did r.next.caches same r.requestor)
+  in_i_after_respond b closing did r = rw r.after (in_i_of_picture b r.next (λ same. in_i_after_arrival closing.request b closing did r.next.caches same r.requestor))
 
 -- the step is the core's Ask for the block
 abbrev IsAskOf : Step → ℕ → ℕ → Type 0
@@ -137,9 +96,9 @@ stays_in_i old new (Respond on) answer goes core block another idle =
     in_i_after_respond old new core block idle goes.1.0 m.closing m.did m.responds
 
 -- the sets after a step that is no Ask
-follow_other : (old new : Situation) (step : Step) (answer : Reply) (sets : List (List ℕ)) → ((core block : ℕ) → IsAskOf step core block → ⊥) → AreAskers old sets → GoesFirst old step (Ok answer) new → AreAskers new sets
+pub follow_other : (old new : Situation) (step : Step) (answer : Reply) (sets : List (List ℕ)) → ((core block : ℕ) → IsAskOf step core block → ⊥) → AreAskers old sets → GoesFirst old step (Ok answer) new → AreAskers new sets
 follow_other old new step answer sets other are goes = record {
-  many = are.many ∙ sym (ap (λ (e : Extent). e.blocks) (same_shape old new step answer goes.0 goes.1));
+  many = rw (same_shape old new step answer goes.0 goes.1) are.many;
   others = λ block core out. stays_in_i old new step answer goes core block (other core block) (are.others block core out);
 }
 
@@ -150,20 +109,13 @@ follow_ask old new asker on word asking answer sets next are few goes puts =
     let m = goes.1.1.1 in
     let within = m.within in
     let on_block = m.on_block in
-    let long = are.many in
     let put : has (set_of next on) asker ≡ true = puts.here (omega arith) (omega arith) in
     record {
-      many = puts.many ∙ are.many ∙ sym (ap (λ (e : Extent). e.blocks) (same_shape old new (Ask asker on word asking) answer goes.0 goes.1));
+      many = rw (puts.many, same_shape old new (Ask asker on word asking) answer goes.0 goes.1) are.many;
       others = λ block core out.
-          let another : (core ≡ asker) × (block ≡ on) → ⊥ = λ it.
-          (let is : has (set_of next on) asker ≡ false = subst (λ (k : ℕ). has (set_of next on) k ≡ false) it.0 (subst (λ (b : ℕ). has (set_of next b) core ≡ false) it.1 out) in
-          cc) in
+          let another : (core ≡ asker) × (block ≡ on) → ⊥ = λ it. let is = rw (it.0, it.1) at out in cc in
           stays_in_i old new (Ask asker on word asking) answer goes core block another (are.others block core (sym (puts.apart block core (λ here same. another (same, here))) ∙ out));
     }
-
-found_at : (there : Bool) (state : CacheState) → (let found : Option CacheState = if there then Some state else None in found ≡ Some I) → state ≡ I
-found_at true state is = same_Some _ _ is
-found_at false state is = cc
 
 -- a core in I has no line at an Order
 idle_line : (there : Bool) (state : CacheState) (line : CacheState → Taken) → state ≡ I → option_map_or (λ before. unless_i before (line before)) (if there then Some state else None) [] ≡ []
@@ -178,20 +130,10 @@ no_line_in_i s requestor block request core is =
 pub no_line_past : (s : Situation) (requestor block : ℕ) (request : Request) (core : ℕ) → s.shape.cores ≤ core → of_holder s requestor block request core ≡ []
 no_line_past s requestor block request core past = rw (le-ltb core s.shape.cores past) refl
 
--- of a core that was found in I, and taken out of the set
-pub found_in_i : (s : Situation) (core block : ℕ) → state_at s core block ≡ Some I → state_of s core block ≡ I
-found_in_i s core block is = found_at (nat_lt core s.shape.cores && nat_lt block s.shape.blocks) (state_of s core block) is
-
 -- the head that a machine answers is that of an Order
 pub head_is : (s : Situation) (core : ℕ) (found : Option (Request × ℕ)) → IfSome found (λ head. IsHead s core head.0 head.1) → IfNone found (slice_get (queue_of s.queues core) 0 ≡ None) → IsHeadFor s (Order core) found
 head_is s core None some none = none
 head_is s core (Some head) some none = some
-
-pub follow_order : (old new : Situation) (requestor : ℕ) (answer : Reply) (sets : List (List ℕ)) → AreAskers old sets → GoesFirst old (Order requestor) (Ok answer) new → AreAskers new sets
-follow_order old new requestor answer sets are goes = follow_other old new (Order requestor) answer sets (λ core block is. is) are goes
-
-pub follow_respond : (old new : Situation) (on : ℕ) (answer : Reply) (sets : List (List ℕ)) → AreAskers old sets → GoesFirst old (Respond on) (Ok answer) new → AreAskers new sets
-follow_respond old new on answer sets are goes = follow_other old new (Respond on) answer sets (λ core block is. is) are goes
 
 has_nothing : (core : ℕ) → has [] core ≡ false
 unfolding has
@@ -200,10 +142,8 @@ has_nothing core = ap (λ (b : ℕ). b == 1) (bit_at-zero (core % 64))
 -- the set of a block, by what the table answers
 pub asked_by_none : (s : Situation) (sets : List (List ℕ)) (block : ℕ) → AreAskers s sets → slice_get sets block ≡ None → (core : ℕ) → state_of s core block ≡ I
 asked_by_none s sets block are none core =
-    let nothing : set_of sets block ≡ [] = sym (unwrap_or-slice_get sets block []) ∙ ap (λ (o : Option (List ℕ)). unwrap_or o []) none in
-    are.others block core (ap (λ (l : List ℕ). has l core) nothing ∙ has_nothing core)
+    let nothing = rw none at (sym (unwrap_or-slice_get sets block [])) in
+    are.others block core (rw nothing (has_nothing core))
 
 pub asked_by : (s : Situation) (sets : List (List ℕ)) (block : ℕ) (set : List ℕ) → AreAskers s sets → slice_get sets block ≡ Some set → AreOthersInI s block set
-asked_by s sets block set are some = λ core out.
-    let is : set_of sets block ≡ set = get_or_from_slice_get sets block set [] some in
-    are.others block core (ap (λ (l : List ℕ). has l core) is ∙ out)
+asked_by s sets block set are some core out = are.others block core (rw (get_or_from_slice_get sets block set [] some) out)

@@ -1,11 +1,7 @@
 -- Steps that all ask, and what they ask for.
-use Rattle.std.proofs.Common.{◌≡◌, ◌<◌, ◌^◌, ℕ, List, [], ◌∷◌, ◌++◌, length, map, refl, sym, ◌∙◌, ap, subst}
-use Rattle.std.specs.Prelude.{Result, Ok, Err, OnOk, OnErr}
-use Rattle.std.proofs.lemmas.List.{length-map, map-append}
+use Rattle.std.proofs.Common.{◌≡◌, ◌<◌, ◌^◌, List, [], ◌∷◌, ◌++◌, length, map, refl, sym, ◌∙◌, ap, Result, Ok, Err, OnOk, OnErr}
+use Rattle.snoop_engine.proofs.Common.{length-map, map-append, Asked, Step, Ask, Order, Respond}
 use Rattle.snoop_trace.specs.Asked.{step_of}
-use Rattle.snoop_trace.specs.declared.step.Asked.{Asked}
-use Rattle.snoop_trace.specs.declared.step.Step.{Step}
-use Rattle.snoop_trace.specs.declared.step.Step.TheVariants.{Ask, Order, Respond}
 use Rattle.snoop_engine.specs.Todo.{asked_by}
 
 -- one more Ask asks for one thing more
@@ -21,7 +17,7 @@ asked_more old new asked is = ap asked_by is ∙ go old
 -- and all steps ask still
 pub all_ask : (old new : List Step) (asked : Asked) → old ≡ map step_of (asked_by old) → new ≡ old ++ step_of asked ∷ [] → new ≡ map step_of (asked_by new)
 all_ask old new asked kept is =
-    is ∙ (ap (λ (l : List Step). l ++ step_of asked ∷ []) kept ∙ (sym (map-append step_of (asked_by old) (asked ∷ [])) ∙ ap (map step_of) (sym (asked_more old new asked is))))
+    rw (is, asked_more old (old ++ step_of asked ∷ []) asked refl, map-append step_of (asked_by old) (asked ∷ []), ← kept)
 
 -- there is an Ask for each
 pub asked_counted : (steps : List Step) → steps ≡ map step_of (asked_by steps) → length (asked_by steps) ≡ length steps
@@ -40,7 +36,7 @@ first_asks steps rest step kept first none = go (asked_by steps) (sym first ∙ 
 pub still_ask : {E : Type 0} (r : Result (Unit {0}) E) (old new : List Step) (asked : Asked) → old ≡ map step_of (asked_by old) → OnOk r (new ≡ old ++ step_of asked ∷ []) → OnErr r (new ≡ old)
     → new ≡ map step_of (asked_by new)
 still_ask (Ok u) old new asked kept ok err = all_ask old new asked kept ok
-still_ask (Err e) old new asked kept ok err = let K : List Step → Type 0 = λ l. l ≡ map step_of (asked_by l) in subst K (sym err) kept
+still_ask (Err e) old new asked kept ok err = rw err kept
 
 pub one_more : {E : Type 0} (r : Result (Unit {0}) E) (old new : List Step) (asked : Asked) (shown : List Asked) → asked_by old ≡ shown → OnOk r (new ≡ old ++ step_of asked ∷ [])
     → OnOk r (asked_by new ≡ shown ++ asked ∷ [])
@@ -48,5 +44,5 @@ one_more (Ok u) old new asked shown view ok = asked_more old new asked ok ∙ ap
 one_more (Err e) old new asked shown view ok = tt
 
 pub few_asks : {E : Type 0} (r : Result (Unit {0}) E) (new : List Step) → new ≡ map step_of (asked_by new) → OnOk r (length new < 2 ^ 63) → OnOk r (length (asked_by new) < 2 ^ 63)
-few_asks (Ok u) new kept few = let L : ℕ → Type 0 = λ n. n < 2 ^ 63 in subst L (sym (asked_counted new kept)) few
+few_asks (Ok u) new kept few = rw (asked_counted new kept) few
 few_asks (Err e) new kept few = tt

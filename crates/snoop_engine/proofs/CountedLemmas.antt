@@ -1,8 +1,6 @@
 -- The counts of frames, as a view writes them.
 use Rattle.std.proofs.Common.{◌≡◌, ℕ, List, [], ◌∷◌, ◌++◌}
-use Rattle.std.proofs.lemmas.List.{flat_map_more}
-use Rattle.snoop_trace.specs.declared.protocol.Protocol.{Protocol}
-use Rattle.snoop_model.specs.Pictures.Situation.{Situation}
+use Rattle.snoop_engine.proofs.Common.{flat_map_more, Protocol, Situation}
 use Rattle.snoop_engine.specs.Counts.{all_lines, counts_text, frames_counts_text}
 use Rattle.snoop_engine.specs.Frames.{Frame}
 use Rattle.snoop_engine.specs.Taken.{lines_of_step}

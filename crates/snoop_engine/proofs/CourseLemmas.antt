@@ -1,35 +1,20 @@
 -- Courses, step by step, and the rows that they serve.
-use Rattle.std.proofs.Common.{◌≡◌, ℕ, ◌+◌, ◌*◌, ◌<◌, true, Option, Some, None, List, [], ◌∷◌, ◌++◌, length, length-append, map, drop, refl, sym, ◌∙◌, ap, subst, arith, append_assoc, append-nil, get_or}
-use Rattle.std.specs.Prelude.{Result, Ok, IsOk, IfNone, option_to_list}
+use Rattle.std.proofs.Common.{◌≡◌, ◌==◌, ℕ, ◌+◌, ◌*◌, ◌<◌, Bool, true, false, cond, Option, Some, None, List, [], ◌∷◌, ◌++◌, length, length-append, map, filter, drop, refl, sym, ◌∙◌, ap, arith, append_assoc, append-nil, get_or, Result, Ok, IsOk, IfNone, option_to_list}
+use Rattle.snoop_engine.proofs.Common.{length-map, map-append, All-cons, All-nil, Extent, Row, Step, Ask, Order, Respond, Work, Protocol, Item, Reply, Refused, Picture, Situation, reset}
+use Rattle.snoop_engine.proofs.Common.{FirstMove, GoesFirst, TheRun, IsQuiet, steps_paid, turn_rule}
 use Rattle.std.specs.List.{cons_option}
-use Rattle.std.proofs.lemmas.List.{length-map, map-append}
-use Rattle.std.proofs.lemmas.List.Elements.{All-cons, All-nil}
-use Rattle.snoop_trace.specs.Extent.{Extent}
-use Rattle.snoop_trace.specs.declared.step.Row.{Row}
-use Rattle.snoop_trace.specs.declared.step.Step.{Step}
-use Rattle.snoop_trace.specs.declared.step.Step.TheVariants.{Ask, Order, Respond}
-use Rattle.snoop_trace.specs.declared.step.Work.{Work}
-use Rattle.snoop_trace.specs.declared.protocol.Protocol.{Protocol}
-use Rattle.snoop_history.specs.declared.items.Item.{Item}
-use Rattle.snoop_model.specs.declared.replies.Reply.{Reply}
-use Rattle.snoop_model.specs.declared.replies.Refused.{Refused}
-use Rattle.snoop_model.specs.Pictures.Situation.{Situation, reset}
-use Rattle.snoop_model.specs.Moves.Move.{FirstMove}
-use Rattle.snoop_model.specs.Runs.Run.{FirstRunFrom, GoesFirst, TheRun}
-use Rattle.snoop_model.specs.Turns.Quiet.{IsQuiet}
-use Rattle.snoop_model.specs.Turns.Serving.{steps_owed, steps_paid}
-use Rattle.snoop_model.proofs.Turns.Laws.{turn_rule}
+use Rattle.std.proofs.lemmas.List.Folds.{sum_by-replicate}
+use Rattle.snoop_model.specs.Pictures.Situation.{untouched}
+use Rattle.snoop_model.specs.Turns.Serving.{has_transaction, steps_owed}
 use Rattle.snoop_engine.specs.Courses.{CanEnd, LeadsToEndWith, Leading, LeadsOn}
 use Rattle.snoop_engine.specs.InOrder.{EndsInOrder, FindsInOrder, FollowsInOrder, InOrder, LeadsToRest, remaining_in_order}
 use Rattle.snoop_engine.specs.Inputs.{StepsServe, StepsServeSerially}
 use Rattle.snoop_engine.specs.Journey.{IsAtTheEnd, IsAtTheStart}
-use Rattle.snoop_engine.specs.Round.{Finds, Advances, IsDone, Progress, TakesUp}
+use Rattle.snoop_engine.specs.Round.{Finds, Advances, Progress}
 use Rattle.snoop_engine.specs.Serial.{ServesSerially, all_asks, ask_for, is_ask}
 use Rattle.snoop_engine.specs.Served.{Serves, ask_of, asks_of}
-use Rattle.snoop_engine.specs.Todo.{Todo}
+use Rattle.snoop_engine.specs.Todo.{work_of, works_of}
 use Rattle.snoop_engine.proofs.Fewer.{leaves_fewer}
-use Rattle.snoop_engine.proofs.Journeys.{end_serves, owed_reset}
-use Rattle.snoop_engine.proofs.SerialLemmas.{asks_among, asks_of_rows}
 use Rattle.snoop_engine.proofs.TakenLemmas.{run_more, same_shape}
 
 -- what leads on from here leads on from the first place too, after these steps
@@ -99,39 +84,41 @@ asks_first core step steps = go (ask_of core step)
     go (Some work) = refl
 
 -- a driver of rows leads on by its step
-pub driver_leads : (old new : Progress) (step : Step) (answer : Reply) → Advances old step answer new
-    → (steps : List Step) (outcomes : List (Result Reply Refused)) (final : Situation) → IsAtTheEnd new steps outcomes final → IsAtTheEnd old (step ∷ steps) (Ok answer ∷ outcomes) final
+pub driver_leads : (old new : Progress) (step : Step) (answer : Reply) → Advances old step answer new → LeadsOn (IsAtTheEnd old) step (Ok answer) (IsAtTheEnd new)
 driver_leads old new step answer follows steps outcomes final h = record {
   run = (new.situation, ((follows.entry, follows.move), h.run));
   taken = All-cons IsOk (Ok answer) outcomes refl h.taken;
-  asked = λ core. follows.takes_up core ∙ (ap (λ (l : List Work). option_to_list (ask_of core step) ++ l) (h.asked core) ∙ asks_first core step steps);
+  asked = λ core. rw (follows.takes_up core, h.asked core) (asks_first core step steps);
   quiet = h.quiet;
   few = omega (arith, follows.fewer, h.few);
 }
 
-pub driver_ends : (old new : Progress) → IsDone old new → IsAtTheEnd old [] [] old.situation
-driver_ends old new done = record {
-  run = refl;
-  taken = All-nil IsOk;
-  asked = λ core. done.left core;
-  quiet = subst IsQuiet done.situation done.quiet;
-  few = omega arith;
-}
+-- a machine at reset owes no steps
+owed_reset : (protocol : Protocol) (shape : Extent) → steps_owed (reset protocol shape) ≡ 0
+owed_reset protocol shape =
+    omega (
+      arith,
+      sum_by-replicate (λ (queue : List ℕ). length queue) shape.cores [],
+      sum_by-replicate (λ (picture : Picture). cond (has_transaction picture) 1 0) shape.blocks (untouched protocol shape.cores),
+    )
 
 -- the driver's steps from reset serve its rows
-pub driver_served : (protocol : Protocol) (shape : Extent) (rows : List Row) (start : Progress) (steps : List Step) (outcomes : List (Result Reply Refused)) (final : Situation)
+pub driver_served : {protocol : Protocol} {shape : Extent} {rows : List Row} {start : Progress} {steps : List Step} {outcomes : List (Result Reply Refused)} {final : Situation}
     → IsAtTheStart protocol shape rows start → IsAtTheEnd start steps outcomes final
     → TheRun protocol shape steps outcomes final × Serves shape rows steps outcomes final
-driver_served protocol shape rows start steps outcomes final begins end = (
-  subst (λ (s : Situation). FirstRunFrom s steps outcomes final) begins.situation end.run,
-  end_serves protocol shape rows start steps outcomes final begins.situation begins.left begins.all end,
+driver_served {protocol} {shape} begins end = (
+  rw begins.situation at end.run,
+  record {
+    taken = end.taken;
+    asked = λ core. sym (end.asked core) ∙ begins.left core;
+    quiet = end.quiet;
+    few = omega (arith, rw (begins.situation, begins.all) at end.few, owed_reset protocol shape);
+  },
 )
 
-pub driver_serves : (protocol : Protocol) (shape : Extent) (rows : List Row) (start : Progress) (steps : List Step) (outcomes : List (Result Reply Refused)) (final : Situation)
+pub driver_serves : {protocol : Protocol} {shape : Extent} {rows : List Row} {start : Progress} {steps : List Step} {outcomes : List (Result Reply Refused)} {final : Situation}
     → IsAtTheStart protocol shape rows start → IsAtTheEnd start steps outcomes final → StepsServe protocol shape rows steps
-driver_serves protocol shape rows start steps outcomes final begins end =
-    let served = driver_served protocol shape rows start steps outcomes final begins end in
-    record { outcomes = outcomes; final = final; run = served.0; serves = served.1 }
+driver_serves {outcomes = outcomes} {final = final} begins end = let served = driver_served begins end in record { outcomes = outcomes; final = final; run = served.0; serves = served.1 }
 
 -- an Ask pays for three steps
 paid_asks : (step : Step) → steps_paid step ≡ 3 * length (all_asks (step ∷ []))
@@ -150,40 +137,28 @@ module _ (old new : InOrder) (step : Step) (answer : Reply) (follows : FollowsIn
   pub fewer_in_order : remaining_in_order new < remaining_in_order old
   fewer_in_order =
       let pays = turn_rule.pays old.situation new.situation step answer follows.entry follows.move in
-      let asked : length (all_asks (step ∷ [])) ≡ length follows.takes_up.first =
-      ap (λ (l : List Step). length l) follows.takes_up.asked ∙ length-map follows.takes_up.first (ask_for old.situation.shape) in
-      let left : length old.left ≡ length follows.takes_up.first + length new.left = ap (λ (l : List Row). length l) follows.takes_up.left ∙ length-append follows.takes_up.first new.left in
+      let asked : length (all_asks (step ∷ [])) ≡ length follows.takes_up.first = rw follows.takes_up.asked (length-map follows.takes_up.first (ask_for old.situation.shape)) in
+      let left : length old.left ≡ length follows.takes_up.first + length new.left = rw follows.takes_up.left (length-append follows.takes_up.first new.left) in
       omega (arith, pays, paid_asks step, asked, left)
 
   module _ (steps : List Step) (outcomes : List (Result Reply Refused)) (final : Situation) (h : EndsInOrder new steps outcomes final) where
     same : new.situation.shape ≡ old.situation.shape
     same = same_shape old.situation new.situation step answer follows.entry follows.move
 
-    -- to rest from here, with the step before it
-    rest_first : (before : List Step) → LeadsToRest new.situation before → LeadsToRest old.situation (step ∷ before)
-    rest_first before later = record {
-      outcomes = Ok answer ∷ later.outcomes;
-      reached = later.reached;
-      run = (new.situation, ((follows.entry, follows.move), later.run));
-      quiet = later.quiet;
-    }
-
     at_rest : (before after : List Step) (x : Step) → step ∷ steps ≡ before ++ x ∷ after → is_ask x ≡ true → LeadsToRest old.situation before
     at_rest [] after x split its =
         let same_step : step ≡ x = ap (λ (l : List Step). get_or l 0 x) split in
-        record { outcomes = []; reached = old.situation; run = refl; quiet = follows.takes_up.rest (ap is_ask same_step ∙ its) }
+        record { outcomes = []; reached = old.situation; run = refl; quiet = follows.takes_up.rest (rw same_step its) }
     at_rest (b ∷ bs) after x split its =
         let same_step : step ≡ b = ap (λ (l : List Step). get_or l 0 x) split in
-        let rest : steps ≡ bs ++ x ∷ after = ap (λ (l : List Step). drop 1 l) split in
-        subst (λ (w : Step). LeadsToRest old.situation (w ∷ bs)) same_step (rest_first bs (h.apart bs after x rest its))
+        let later = h.apart bs after x (ap (λ (l : List Step). drop 1 l) split) its in
+        rw (← same_step) (record { outcomes = Ok answer ∷ later.outcomes; reached = later.reached; run = (new.situation, ((follows.entry, follows.move), later.run)); quiet = later.quiet })
 
     pub in_order_leads : EndsInOrder old (step ∷ steps) (Ok answer ∷ outcomes) final
     in_order_leads = record {
       run = (new.situation, ((follows.entry, follows.move), h.run));
       taken = All-cons IsOk (Ok answer) outcomes refl h.taken;
-      asked = all_asks_first step steps ∙ (ap (λ (l : List Step). l ++ all_asks steps) follows.takes_up.asked
-          ∙ (ap (λ (l : List Step). map (ask_for old.situation.shape) follows.takes_up.first ++ l) (h.asked ∙ ap (λ (x : Extent). map (ask_for x) new.left) same)
-          ∙ (sym (map-append (ask_for old.situation.shape) follows.takes_up.first new.left) ∙ ap (map (ask_for old.situation.shape)) (sym follows.takes_up.left))));
+      asked = rw (all_asks_first step steps, follows.takes_up.asked, h.asked, same, follows.takes_up.left) (sym (map-append (ask_for old.situation.shape) follows.takes_up.first new.left));
       apart = at_rest;
       quiet = h.quiet;
       few = omega (arith, fewer_in_order, h.few);
@@ -194,66 +169,65 @@ in_order_ends old none quiet = record {
   run = refl;
   taken = All-nil IsOk;
   asked = ap (map (ask_for old.situation.shape)) (sym none);
-  apart = λ before after step split its. absurd (no_split before after step split);
+  apart = λ before after step split its. (let long : 0 ≡ length (before ++ step ∷ after) = ap (λ (l : List Step). length l) split in absurd (omega (arith, length-append before (step ∷ after))));
   quiet = quiet;
   few = omega arith;
 }
+
+-- a core's Asks are among the Asks of all cores
+asks_among : (core : ℕ) (steps : List Step) → asks_of steps core ≡ asks_of (all_asks steps) core
+asks_among core [] = refl
+asks_among core (Ask c block word asking ∷ steps) = ap (cons_option (ask_of core (Ask c block word asking))) (asks_among core steps)
+asks_among core (Order c ∷ steps) = asks_among core steps
+asks_among core (Respond block ∷ steps) = asks_among core steps
+
+-- those of the rows are the core's works
+asks_of_rows : (shape : Extent) (core : ℕ) (rows : List Row) → asks_of (map (ask_for shape) rows) core ≡ works_of shape rows core
+asks_of_rows shape core [] = refl
+asks_of_rows shape core (row ∷ rows) = go (row.core == core) (asks_of_rows shape core rows)
   where
-    no_split : (before after : List Step) (step : Step) → [] ≡ before ++ step ∷ after → ⊥
-    no_split before after step split =
-        let long : 0 ≡ length (before ++ step ∷ after) = ap (λ (l : List Step). length l) split in
-        absurd (omega (arith, long, length-append before (step ∷ after)))
+    go : (own : Bool) → asks_of (map (ask_for shape) rows) core ≡ works_of shape rows core → cons_option (cond {A = Option Work} own (Some (work_of shape row)) None) (asks_of (map (ask_for shape) rows) core)
+        ≡ map (work_of shape) (cond own (row ∷ filter (λ (r : Row). r.core == core) rows) (filter (λ (r : Row). r.core == core) rows))
+    go true rest = ap (λ (l : List Work). work_of shape row ∷ l) rest
+    go false rest = rest
 
-pub in_order_served : (protocol : Protocol) (shape : Extent) (rows : List Row) (start : InOrder) (steps : List Step) (outcomes : List (Result Reply Refused)) (final : Situation)
-    → start.situation ≡ reset protocol shape → start.left ≡ rows → EndsInOrder start steps outcomes final
-    → TheRun protocol shape steps outcomes final × ServesSerially protocol shape rows steps outcomes final
-in_order_served protocol shape rows start steps outcomes final at left end =
-    let asked : all_asks steps ≡ map (ask_for shape) rows = end.asked ∙ (ap (λ (s : Situation). map (ask_for s.shape) start.left) at ∙ ap (map (ask_for shape)) left) in
-    let none : steps_owed start.situation ≡ 0 = ap (λ (s : Situation). steps_owed s) at ∙ owed_reset protocol shape in
-    let all : length start.left ≡ length rows = ap (λ (l : List Row). length l) left in (
-      subst (λ (s : Situation). FirstRunFrom s steps outcomes final) at end.run,
-      record {
-        serves = record {
-          taken = end.taken;
-          asked = λ core. asks_among core steps ∙ (ap (λ (l : List Step). asks_of l core) asked ∙ asks_of_rows shape core rows);
-          quiet = end.quiet;
-          few = omega (arith, none, all, end.few);
-        };
-        asked = asked;
-        apart = λ before after step split its.
-            (let rest = end.apart before after step split its in
-            record { outcomes = rest.outcomes; reached = rest.reached; run = subst (λ (s : Situation). FirstRunFrom s before rest.outcomes rest.reached) at rest.run; quiet = rest.quiet });
-      },
-    )
+module _ {protocol : Protocol} {shape : Extent} {rows : List Row} {start : InOrder} (at : start.situation ≡ reset protocol shape) (left : start.left ≡ rows)
+    {steps : List Step} {outcomes : List (Result Reply Refused)} {final : Situation} (end : EndsInOrder start steps outcomes final) where
+  pub in_order_served : TheRun protocol shape steps outcomes final × ServesSerially protocol shape rows steps outcomes final
+  in_order_served =
+      let asked : all_asks steps ≡ map (ask_for shape) rows = rw (at, left) at end.asked in (
+        rw at at end.run,
+        record {
+          serves = record {
+            taken = end.taken;
+            asked = λ core. rw (asks_among core steps, asked) (asks_of_rows shape core rows);
+            quiet = end.quiet;
+            few = omega (arith, rw (at, left) at end.few, owed_reset protocol shape);
+          };
+          asked = asked;
+          apart = λ before after step split its.
+              (let rest = rw at at (end.apart before after step split its) in
+              record { outcomes = rest.outcomes; reached = rest.reached; run = rest.run; quiet = rest.quiet });
+        },
+      )
 
-pub in_order_serves : (protocol : Protocol) (shape : Extent) (rows : List Row) (start : InOrder) (steps : List Step) (outcomes : List (Result Reply Refused)) (final : Situation)
-    → start.situation ≡ reset protocol shape → start.left ≡ rows → EndsInOrder start steps outcomes final → StepsServeSerially protocol shape rows steps
-in_order_serves protocol shape rows start steps outcomes final at left end =
-    let served = in_order_served protocol shape rows start steps outcomes final at left end in
-    record { outcomes = outcomes; final = final; run = served.0; serves = served.1 }
+  pub in_order_serves : StepsServeSerially protocol shape rows steps
+  in_order_serves = record { outcomes = outcomes; final = final; run = in_order_served.0; serves = in_order_served.1 }
 
 -- a step that a driver found, taken
-module _ (before old new : Progress) (step : Step) (answer : Reply) (finds : Finds before step old) (move : (entry : Option Item) × FirstMove old.situation step answer new.situation entry) (lanes : new.lanes ≡ old.lanes) where
-  pub driver_follows : Advances before step answer new
-  driver_follows =
-      let moved : FirstMove before.situation step answer new.situation move.0 = subst (λ (s : Situation). FirstMove s step answer new.situation move.0) finds.situation move.1 in
-      let takes_up : TakesUp before.lanes step new.lanes = subst (λ (l : List Todo). TakesUp before.lanes step l) (sym lanes) finds.takes_up in
+module _ {before old : Progress} {step : Step} (finds : Finds before step old) (new : Progress) (answer : Reply) (move : (entry : Option Item) × FirstMove old.situation step answer new.situation entry) where
+  pub driver_follows : new.lanes ≡ old.lanes → Advances before step answer new
+  driver_follows lanes =
+      let moved = rw finds.situation at move.1 in
+      let takes_up = rw (← lanes) at finds.takes_up in
       record { entry = move.0; move = moved; takes_up = takes_up; fewer = leaves_fewer before new step answer move.0 moved takes_up }
 
 -- the same where rows are served one after another
-module _ (before old new : InOrder) (step : Step) (answer : Reply) (finds : FindsInOrder before step old) (move : (entry : Option Item) × FirstMove old.situation step answer new.situation entry) (left : new.left ≡ old.left) where
-  pub in_order_follows : FollowsInOrder before step answer new
-  in_order_follows = record {
-    entry = move.0;
-    move = subst (λ (s : Situation). FirstMove s step answer new.situation move.0) finds.situation move.1;
-    takes_up = rw left finds.takes_up;
-  }
+module _ {before old : InOrder} {step : Step} (finds : FindsInOrder before step old) (new : InOrder) (answer : Reply) (move : (entry : Option Item) × FirstMove old.situation step answer new.situation entry) where
+  pub in_order_follows : new.left ≡ old.left → FollowsInOrder before step answer new
+  in_order_follows left = record { entry = move.0; move = rw finds.situation at move.1; takes_up = rw left finds.takes_up }
 
 -- at the end
-pub driver_end : (old new : Progress) (r : Option Step) → IfNone r (IsDone old new) → IfNone r (IsAtTheEnd old [] [] old.situation)
-driver_end old new (Some step) h = tt
-driver_end old new None h = driver_ends old new h
-
-pub in_order_end : (old : InOrder) (r : Option Step) → IfNone r ((old.left ≡ []) × IsQuiet old.situation) → IfNone r (EndsInOrder old [] [] old.situation)
-in_order_end old (Some step) h = tt
-in_order_end old None h = in_order_ends old h.0 h.1
+pub in_order_end : (old : InOrder) (r : Option Step) → IsQuiet old.situation → IfNone r (old.left ≡ []) → IfNone r (EndsInOrder old [] [] old.situation)
+in_order_end old (Some step) quiet none = tt
+in_order_end old None quiet none = in_order_ends old none quiet

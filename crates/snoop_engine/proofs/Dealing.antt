@@ -1,25 +1,16 @@
 -- What dealing the rows to their cores gives.
-use Rattle.std.proofs.Common.{◌≡◌, ℕ, zero, suc, ◌+◌, ◌/◌, ◌<◌, Bool, true, false, cond, Option, Some, None, List, [], ◌∷◌, ◌++◌, length, map, filter, append-nil, append_assoc, refl, sym, ◌∙◌, ap, subst, arith, inl, inr, ltb}
-use Rattle.std.specs.Prelude.{◌==◌, All, Contains, IfSome, slice_set}
-use Rattle.std.proofs.lemmas.Bool.{cases_eq, cases_lt, eq-eqb, ne_eqb, lt-ltb}
-use Rattle.std.proofs.lemmas.Option.{same_Some}
-use Rattle.std.proofs.lemmas.List.{length-set, length_push, get_or-set_same, get_or-set_other, get_or_past, length-map}
-use Rattle.std.proofs.lemmas.List.Elements.{All-head, All-tail, All-map, All-filter, All-push, All-weaker, Contains-push, Contains-append_left}
-use Rattle.std.proofs.lemmas.List.Sums.{sum_by-set, sum_by-cons}
+use Rattle.std.proofs.Common.{◌≡◌, ◌≢◌, ℕ, zero, suc, ◌+◌, ◌<◌, Bool, true, false, cond, None, List, [], ◌∷◌, ◌++◌, length, map, filter, append-nil, append_assoc, refl, sym, ◌∙◌, ap, arith, inl, inr, get_or, ◌==◌, All, Contains, slice_set}
+use Rattle.snoop_engine.proofs.Common.{cases_eq, cases_lt, length_push, get_or_default, get_or_past, length-map, All-head, All-tail, All-push, Contains-push, Contains-append_left}
+use Rattle.snoop_engine.proofs.Common.{sum_by-cons, Extent, Asked, Op, Row, IsRowWithin, Work, Protocol, reset, turn_rule}
+use Rattle.std.proofs.lemmas.Bool.{eq-eqb, ne_eqb}
+use Rattle.std.proofs.lemmas.List.{length-set, get_or-set_same, get_or-set_other}
+use Rattle.std.proofs.lemmas.List.Elements.{All-map, All-filter, All-weaker}
+use Rattle.std.proofs.lemmas.List.Sums.{sum_by-set}
 use Rattle.snoop_trace.specs.Words.{HasWord}
-use Rattle.snoop_trace.specs.Extent.{Extent, IsWithinLimits}
+use Rattle.snoop_trace.specs.Extent.{IsWithinLimits}
 use Rattle.snoop_trace.specs.Asked.{asked_of}
-use Rattle.snoop_trace.specs.Grammar.{block_at}
-use Rattle.snoop_trace.specs.declared.step.Asked.{Asked}
-use Rattle.snoop_trace.specs.declared.step.Op.{Op}
 use Rattle.snoop_trace.specs.declared.step.Op.TheVariants as op
 use Rattle.snoop_trace.proofs.WordPlaces.{asked_within}
-use Rattle.snoop_trace.specs.declared.step.Row.{Row}
-use Rattle.snoop_trace.specs.Grammar.{IsRowWithin}
-use Rattle.snoop_trace.specs.declared.step.Work.{Work}
-use Rattle.snoop_trace.specs.declared.protocol.Protocol.{Protocol}
-use Rattle.snoop_model.specs.Pictures.Situation.{reset}
-use Rattle.snoop_model.specs.Turns.TurnLaws.{TurnLaws}
 use Rattle.snoop_engine.specs.Round.{IsFit, IsWorkWithin}
 use Rattle.snoop_engine.specs.Packed.{largest}
 use Rattle.snoop_engine.specs.Todo.{IsAskedWithin, Todo, todo_of, nothing_to_do, lanes_under_way, left_in, work_of, works, works_by, works_of}
@@ -54,56 +45,42 @@ dealt_none shape all lanes within cores none = record {
   within = within;
 }
 
--- the first of the asks that are left
-pub first_within : (shape : Extent) (all rest more : List Asked) (asked : Asked) (lanes : List Todo) → Dealt shape all rest lanes → rest ≡ asked ∷ more
-    → IsAskedWithin shape asked × All (IsAskedWithin shape) more
-first_within shape all rest more asked lanes dealt first =
-    let A : List Asked → Type 0 = λ l. All (IsAskedWithin shape) l in
-    let within = subst A first dealt.within in
-    (All-head (IsAskedWithin shape) asked more within, All-tail (IsAskedWithin shape) asked more within)
+module _ {shape : Extent} {all rest : List Asked} {lanes : List Todo} (dealt : Dealt shape all rest lanes) where
+  -- the first of the asks that are left
+  module _ {asked : Asked} {more : List Asked} (first : rest ≡ asked ∷ more) where
+    pub first_within : IsAskedWithin shape asked
+    first_within = All-head (IsAskedWithin shape) asked more (rw first at dealt.within)
 
-pub dealt_more : (shape : Extent) (all rest more : List Asked) (asked : Asked) (lanes : List Todo) (next : Todo) → Dealt shape all rest lanes → rest ≡ asked ∷ more
-    → asked.core < length lanes → next.left ≡ (todo_of lanes asked.core).left ++ asked.work ∷ [] → next.work ≡ (todo_of lanes asked.core).work
-    → Dealt shape all more (slice_set lanes asked.core next)
-dealt_more shape all rest more asked lanes next dealt first has_lane left work =
-    let new : List Todo = slice_set lanes asked.core next in
-    let here : todo_of new asked.core ≡ next = get_or-set_same lanes asked.core next nothing_to_do has_lane in
-    let other : (k : ℕ) → (k ≡ asked.core → ⊥) → todo_of new k ≡ todo_of lanes k = λ k ne. get_or-set_other lanes asked.core k next nothing_to_do ne in
-    let before : (k : ℕ) → (todo_of lanes k).left ++ works_by (asked ∷ more) k ≡ works_by all k =
-    λ k. ap (λ (l : List Asked). (todo_of lanes k).left ++ works_by l k) (sym first) ∙ dealt.left k in
-    record {
-      cores = length-set lanes asked.core next ∙ dealt.cores;
-      left = λ core. elim (cases_eq core asked.core) [
-        | inl e ↦
-            (let own : works_by (asked ∷ more) core ≡ asked.work ∷ works_by more core = ap (λ (b : Bool). works (cond b (asked ∷ of core) (of core))) (eq-eqb asked.core core (sym e)) in
-            ap (λ j. (todo_of new j).left ++ works_by more core) e ∙ (ap (λ (t : Todo). t.left ++ works_by more core) here ∙ (ap (λ (l : List Work). l ++ works_by more core) left
-            ∙ (ap (λ j. ((todo_of lanes j).left ++ asked.work ∷ []) ++ works_by more core) (sym e) ∙ (append_assoc (todo_of lanes core).left (asked.work ∷ []) (works_by more core)
-            ∙ (ap (λ (l : List Work). (todo_of lanes core).left ++ l) (sym own) ∙ before core))))))
-        | inr ne ↦
-            (let none : works_by (asked ∷ more) core ≡ works_by more core = ap (λ (b : Bool). works (cond b (asked ∷ of core) (of core))) (ne_eqb asked.core core (λ e. ne (sym e))) in
-            ap (λ (t : Todo). t.left ++ works_by more core) (other core ne) ∙ (ap (λ (l : List Work). (todo_of lanes core).left ++ l) (sym none) ∙ before core))
-      ];
-      idle = λ core. elim (cases_eq core asked.core) [
-        | inl e ↦ ap (λ j. (todo_of new j).work) e ∙ (ap (λ (t : Todo). t.work) here ∙ (work ∙ dealt.idle asked.core))
-        | inr ne ↦ ap (λ (t : Todo). t.work) (other core ne) ∙ dealt.idle core
-      ];
-      counted =
-          (let one : length next.left ≡ length (todo_of lanes asked.core).left + 1 = ap (λ (l : List Work). length l) left ∙ length_push (todo_of lanes asked.core).left asked.work in
-          let set = sum_by-set (λ (t : Todo). length t.left) lanes asked.core next nothing_to_do has_lane in
-          let before : left_in lanes + length (asked ∷ more) ≡ length all = ap (λ (l : List Asked). left_in lanes + length l) (sym first) ∙ dealt.counted in
-          omega (arith, one, set, before));
-      within = (first_within shape all rest more asked lanes dealt first).1;
-    }
-  where
-    of : ℕ → List Asked
-    of core = filter (λ (a : Asked). a.core == core) more
+    pub has_lane : asked.core < length lanes
+    has_lane = let cores = dealt.cores in omega (arith, first_within.0)
 
--- all were dealt
-pub dealt_all : (shape : Extent) (all rest : List Asked) (lanes : List Todo) → Dealt shape all rest lanes → rest ≡ [] → ((core : ℕ) → (todo_of lanes core).left ≡ works_by all core) × (left_in lanes ≡ length all)
-dealt_all shape all rest lanes dealt none = (
-  λ core. sym (append-nil (todo_of lanes core).left) ∙ (ap (λ (l : List Asked). (todo_of lanes core).left ++ works_by l core) (sym none) ∙ dealt.left core),
-  (let long : left_in lanes + 0 ≡ length all = ap (λ (l : List Asked). left_in lanes + length l) (sym none) ∙ dealt.counted in omega (arith, long)),
-)
+    -- it was put last into its core's lane
+    pub dealt_more : (old next : Todo) → old ≡ get_or lanes asked.core old → next.left ≡ old.left ++ asked.work ∷ [] → next.work ≡ old.work → Dealt shape all more (slice_set lanes asked.core next)
+    dealt_more old next read left work =
+        let was : todo_of lanes asked.core ≡ old = get_or_default lanes asked.core nothing_to_do old has_lane ∙ sym read in
+        let here : todo_of (slice_set lanes asked.core next) asked.core ≡ next = get_or-set_same lanes asked.core next nothing_to_do has_lane in
+        let other : (k : ℕ) → k ≢ asked.core → todo_of (slice_set lanes asked.core next) k ≡ todo_of lanes k = λ k ne. get_or-set_other lanes asked.core k next nothing_to_do ne in
+        record {
+          cores = length-set lanes asked.core next ∙ dealt.cores;
+          left = λ core. elim (cases_eq core asked.core) [
+            | inl e ↦ rw (e, here, left, append_assoc) (rw (was, first, eq-eqb asked.core asked.core refl) at (dealt.left asked.core))
+            | inr ne ↦ rw (other core ne) (rw (first, ne_eqb asked.core core (λ e. ne (sym e))) at (dealt.left core))
+          ];
+          idle = λ core. elim (cases_eq core asked.core) [
+            | inl e ↦ rw (e, here, work, ← was) (dealt.idle asked.core)
+            | inr ne ↦ rw (other core ne) (dealt.idle core)
+          ];
+          counted =
+              (let one : length next.left ≡ length (todo_of lanes asked.core).left + 1 = rw (left, was) (length_push old.left asked.work) in
+              let set = sum_by-set (λ (t : Todo). length t.left) lanes asked.core next nothing_to_do has_lane in
+              let counts : left_in lanes + length (asked ∷ more) ≡ length all = rw first at dealt.counted in
+              omega (arith, set));
+          within = All-tail (IsAskedWithin shape) asked more (rw first at dealt.within);
+        }
+
+  -- all were dealt
+  pub dealt_all : rest ≡ [] → ((core : ℕ) → (todo_of lanes core).left ≡ works_by all core) × (left_in lanes ≡ length all)
+  dealt_all none = (λ core. rw (none, append-nil) at (dealt.left core), (let long : left_in lanes + 0 ≡ length all = rw none at dealt.counted in omega arith))
 
 -- what a core's rows ask for
 pub works_of_rows : (shape : Extent) (rows : List Row) (core : ℕ) → works_by (map (asked_of shape) rows) core ≡ works_of shape rows core
@@ -119,19 +96,12 @@ works_of_rows shape (row ∷ rows) core = go (row.core == core) (works_of_rows s
 -- what is asked for within a shape is within the largest
 pub in_largest : (shape : Extent) (asked : Asked) → IsWithinLimits shape → IsAskedWithin shape asked → IsAskedWithin largest asked
 in_largest shape asked limits within =
-    let core = within.0 in
-    let block = within.1 in
-    let word = within.2 in
-    let cores = limits.cores in
-    let blocks = limits.blocks in
-    let words = limits.words.1 in
-    (omega (arith, core, cores), omega (arith, block, blocks), omega (arith, word, words))
+    (omega (arith, within.0, limits.cores), omega (arith, within.1, limits.blocks), omega (arith, within.2, limits.words.1))
 
 -- asks of rows of the shape are of the shape
 pub asks_within : (shape : Extent) (rows : List Row) (asks : List Asked) → IsWithinLimits shape → All (IsRowWithin shape) rows → asks ≡ map (asked_of shape) rows → All (IsAskedWithin shape) asks
 asks_within shape rows asks limits within is =
-    let A : List Asked → Type 0 = λ l. All (IsAskedWithin shape) l in
-    subst A (sym is)
+    rw is
     (All-map (IsAskedWithin shape) (asked_of shape) rows
     (All-weaker (IsRowWithin shape) (λ r. IsAskedWithin shape (asked_of shape r)) (λ r h. (h.0, h.1, asked_within shape r.address r.op limits)) rows within))
 
@@ -139,19 +109,12 @@ asks_within shape rows asks limits within is =
 pub left_of_rows : (shape : Extent) (rows : List Row) (asks : List Asked) (lanes : List Todo) → asks ≡ map (asked_of shape) rows → ((core : ℕ) → (todo_of lanes core).left ≡ works_by asks core)
     → left_in lanes ≡ length asks → ((core : ℕ) → (todo_of lanes core).left ≡ works_of shape rows core) × (left_in lanes ≡ length rows)
 left_of_rows shape rows asks lanes is left counted =
-    (λ core. left core ∙ (ap (λ (l : List Asked). works_by l core) is ∙ works_of_rows shape rows core), counted ∙ (ap (λ (l : List Asked). length l) is ∙ length-map rows (asked_of shape)))
-
--- the block of a row's address
-pub block_is : (shape : Extent) (row : Row) → IsRowWithin shape row → (r : Option ℕ) (block : ℕ) → r ≡ block_at shape row.address → r ≡ Some block → block ≡ row.address / shape.block_bytes
-block_is shape row within r block at is =
-    let yes : ltb (row.address / shape.block_bytes) shape.blocks ≡ true = lt-ltb (row.address / shape.block_bytes) shape.blocks within.1 in
-    let some : block_at shape row.address ≡ Some (row.address / shape.block_bytes) = rw yes refl in
-    same_Some _ _ (sym is ∙ (at ∙ some))
+    (λ core. left core ∙ rw is (works_of_rows shape rows core), counted ∙ rw is (length-map rows (asked_of shape)))
 
 -- a word below the shape's is there
 word_there : (shape : Extent) (word : ℕ) (asking : Op) → IsWithinLimits shape → word < shape.words → HasWord shape word asking
-word_there shape word op.Load limits few = let most = limits.words.1 in (few, omega (arith, few, most))
-word_there shape word (op.Store stored) limits few = let most = limits.words.1 in (few, omega (arith, few, most))
+word_there shape word op.Load limits few = (few, omega (arith, limits.words.1))
+word_there shape word (op.Store stored) limits few = (few, omega (arith, limits.words.1))
 word_there shape word op.Evict limits few = tt
 
 -- each work is of a block and a word that there are
@@ -169,37 +132,30 @@ pub record Counted (cores : List ℕ) (n : ℕ) : Type 0 where
   pub within : All (λ core. core < n) cores
   pub all : (core : ℕ) → core < n → Contains cores core
 
-pub counted_none : Counted [] 0
-counted_none = record { within = λ k d lt. absurd (omega arith); all = λ core lt. absurd (omega arith) }
-
 pub counted_more : (cores : List ℕ) (n : ℕ) → Counted cores n → Counted (cores ++ n ∷ []) (n + 1)
 counted_more cores n counted = record {
   within = All-push (λ core. core < n + 1) cores n (All-weaker (λ core. core < n) (λ core. core < n + 1) (λ core lt. omega arith) cores counted.within) (omega arith);
   all = λ core lt. elim (cases_eq core n) [
-    | inl e ↦ (let P : ℕ → Type 0 = λ x. Contains (cores ++ n ∷ []) x in subst P (sym e) (Contains-push cores n))
+    | inl e ↦ rw e (Contains-push cores n)
     | inr ne ↦ Contains-append_left cores (n ∷ []) core (counted.all core (omega (arith, ne)))
   ];
 }
 
 -- a driver is fit at its start
-pub fit_new : TurnLaws → (protocol : Protocol) (shape : Extent) (asks : List Asked) (lanes : List Todo) (turns : List ℕ) → IsWithinLimits shape → All (IsAskedWithin shape) asks
+pub fit_new : (protocol : Protocol) (shape : Extent) (asks : List Asked) (lanes : List Todo) (turns : List ℕ) → IsWithinLimits shape → All (IsAskedWithin shape) asks
     → length lanes ≡ shape.cores → ((core : ℕ) → (todo_of lanes core).left ≡ works_by asks core) → ((core : ℕ) → (todo_of lanes core).work ≡ None)
     → All (λ core. core < shape.cores) turns → ((core : ℕ) → core < shape.cores → Contains turns core) → IsFit (reset protocol shape) lanes turns
-fit_new rule protocol shape asks lanes turns limits within cores left idle few all =
-    let start = rule.starts_well protocol shape (lanes_under_way lanes) in
+fit_new protocol shape asks lanes turns limits within cores left idle few all =
+    let start = turn_rule.starts_well protocol shape (lanes_under_way lanes) in
     record {
       cores = cores;
-      within = λ core.
-          (let L : List Work → Type 0 = λ l. All (IsWorkWithin (reset protocol shape)) l in
-          let W : Option Work → Type 0 = λ o. IfSome o (IsWorkWithin (reset protocol shape)) in
-          record { left = subst L (sym (left core)) (works_within protocol shape asks core limits within); work = subst W (sym (idle core)) tt });
+      within = λ core. record { left = rw (left core) (works_within protocol shape asks core limits within); work = rw (idle core) tt };
       serving = start.1;
       kept = start.0;
       few = few;
       busy = λ core. elim (cases_lt core shape.cores) [
         | inl lt ↦ inl (all core lt)
         | inr ge ↦
-            (let past : todo_of lanes core ≡ nothing_to_do = get_or_past lanes core nothing_to_do (omega arith) in
-            inr (ap (λ (t : Todo). t.left) past, ap (λ (t : Todo). t.work) past))
+            (let past : todo_of lanes core ≡ nothing_to_do = get_or_past lanes core nothing_to_do (omega arith) in inr (rw past (refl, refl)))
       ];
     }

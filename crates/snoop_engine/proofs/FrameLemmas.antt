@@ -1,23 +1,16 @@
 -- Frames: as a run, and one after another.
-use Rattle.std.proofs.Common.{◌≡◌, List, [], ◌∷◌, ◌++◌, refl, ap, subst, ◌∙◌}
-use Rattle.std.specs.Prelude.{Result}
-use Rattle.snoop_trace.specs.declared.step.Step.{Step}
-use Rattle.snoop_model.specs.declared.replies.Reply.{Reply}
-use Rattle.snoop_model.specs.declared.replies.Refused.{Refused}
-use Rattle.snoop_model.specs.Pictures.Situation.{Situation, reset}
-use Rattle.snoop_model.specs.Runs.Run.{FirstRunFrom, GoesFirst}
+use Rattle.std.proofs.Common.{◌≡◌, List, [], ◌∷◌, ◌++◌, refl, ap, ◌∙◌, Result}
+use Rattle.snoop_engine.proofs.Common.{Step, Reply, Refused, Situation, reset, FirstRunFrom}
 use Rattle.snoop_engine.specs.Frames.{Frame, FramesAreTheRun, FramesFrom, outcomes_of, steps_of}
 use Rattle.snoop_engine.proofs.TakenLemmas.{goes_alike}
 
 -- frames are a run
 frames_run : (frames : List Frame) (old new : Situation) → FramesFrom old frames new → FirstRunFrom old (steps_of frames) (outcomes_of frames) new
 frames_run [] old new run = run
-frames_run (f ∷ fs) old new run =
-    (f.after, (subst (λ (s : Situation). GoesFirst s f.step f.outcome f.after) run.0.before run.0.goes, frames_run fs f.after new run.1))
+frames_run (f ∷ fs) old new run = (f.after, (rw run.0.before at run.0.goes, frames_run fs f.after new run.1))
 
 pub are_the_run : FramesAreTheRun
-are_the_run protocol shape steps frames final are =
-    subst (λ (l : List Step). FirstRunFrom (reset protocol shape) l (outcomes_of frames) final) are.whole (frames_run frames (reset protocol shape) final are.run)
+are_the_run protocol shape steps frames final are = rw are.whole at (frames_run frames (reset protocol shape) final are.run)
 
 -- a run has its frames
 pub framed : (steps : List Step) (outcomes : List (Result Reply Refused)) (old new : Situation) → FirstRunFrom old steps outcomes new → (frames : List Frame) × ((steps_of frames ≡ steps) × FramesFrom old frames new)
@@ -31,7 +24,7 @@ framed (s ∷ ss) (o ∷ os) old new run =
 
 -- frames, and then frames from where they led
 pub frames_on : (first rest : List Frame) (old middle new : Situation) → FramesFrom old first middle → FramesFrom middle rest new → FramesFrom old (first ++ rest) new
-frames_on [] rest old middle new run later = subst (λ (s : Situation). FramesFrom s rest new) run later
+frames_on [] rest old middle new run later = rw run at later
 frames_on (f ∷ fs) rest old middle new run later = (run.0, frames_on fs rest f.after middle new run.1 later)
 
 -- frames keep the protocol and the shape

@@ -1,39 +1,20 @@
 -- A driver that serves rows one after another: what its steps need, and what they keep.
-use Rattle.std.proofs.Common.{◌≡◌, ◌≢◌, ℕ, ◌<◌, ◌/◌, Bool, true, false, cond, Option, Some, None, List, [], ◌∷◌, refl, sym, ◌∙◌, ap, subst}
-use Rattle.std.specs.Prelude.{◌==◌, All, IfNone, IfSome}
+use Rattle.std.proofs.Common.{◌≡◌, ℕ, ◌/◌, Bool, true, false, cond, Option, Some, None, List, [], ◌∷◌, refl, sym, ◌∙◌, ◌==◌, IfNone, IfSome, lt-ltb, subst}
+use Rattle.snoop_engine.proofs.Common.{All-head, All-tail, Extent, IsRowWithin, word_asked, Op, Row, Step, Ask, Respond, Item, Request, waiting_request, Open, Reply, FirstMove, Situation}
+use Rattle.snoop_engine.proofs.Common.{picture_of, state_of, IsQuiet, IsUnderWay, turn_of, turn_rule}
 use Rattle.std.proofs.lemmas.Bool.{eq-eqb, ne_eqb}
-use Rattle.std.proofs.lemmas.List.Elements.{All-head, All-tail}
-use Rattle.snoop_trace.specs.Extent.{Extent, IsWithinLimits}
-use Rattle.snoop_trace.specs.Grammar.{IsRowWithin, word_asked}
-use Rattle.snoop_trace.specs.Words.{HasWord}
-use Rattle.snoop_trace.specs.declared.step.Op.{Op}
-use Rattle.snoop_trace.specs.declared.step.Row.{Row}
-use Rattle.snoop_trace.specs.declared.step.Step.{Step}
-use Rattle.snoop_trace.specs.declared.step.Step.TheVariants.{Ask, Respond}
+use Rattle.snoop_trace.specs.Grammar.{block_at}
 use Rattle.snoop_trace.proofs.WordPlaces.{word_there}
-use Rattle.snoop_history.specs.declared.items.Item.{Item}
-use Rattle.snoop_rules.specs.declared.names.Request.{Request}
-use Rattle.snoop_rules.specs.Waits.{waiting_request}
-use Rattle.snoop_bus.specs.Traffic.{Open}
-use Rattle.snoop_model.specs.declared.replies.Reply.{Reply}
-use Rattle.snoop_model.specs.Moves.Move.{FirstMove}
-use Rattle.snoop_model.specs.Pictures.Situation.{Situation, picture_of, state_of}
-use Rattle.snoop_model.specs.Turns.Quiet.{IsQuiet}
-use Rattle.snoop_model.specs.Turns.Serving.{IsUnderWay}
-use Rattle.snoop_model.specs.Turns.Turn.{step_under_way, turn_of}
-use Rattle.snoop_model.proofs.Turns.Laws.{turn_rule}
+use Rattle.snoop_model.specs.Turns.Turn.{step_under_way}
 use Rattle.snoop_engine.specs.InOrder.{InOrder, IsInOrder, TakesUpNext, row_under_way}
 use Rattle.snoop_engine.specs.UnderWay.{ServesOnly, nothing, only}
 use Rattle.snoop_engine.specs.Round.{IsEnabled}
-use Rattle.snoop_engine.specs.Serial.{is_ask}
+use Rattle.snoop_engine.specs.Serial.{ask_for, is_ask}
 use Rattle.snoop_engine.proofs.TakenLemmas.{same_shape}
 
 -- a core whose block is under way
 here : (core block : ℕ) → only core block core ≡ Some block
-here core block = ap (λ (b : Bool). cond {A = Option ℕ} b (Some block) None) (eq-eqb core core refl)
-
-away : (core block other : ℕ) → other ≢ core → nothing other ≡ only core block other
-away core block other ne = ap (λ (b : Bool). cond {A = Option ℕ} b (Some block) None) (sym (ne_eqb other core ne))
+here core block = rw (eq-eqb core core refl)
 
 -- a step of work under way is no Ask
 abbrev pub AsksNothing : Step → Type 0
@@ -70,79 +51,74 @@ serves_any s some serves = record {
 pub at_rest : (s : Situation) → ServesOnly nothing s → IsQuiet s
 at_rest s serves = turn_rule.comes_to_rest s serves.serving serves.kept
 
-module _ (s : Situation) (row : Row) (limits : IsWithinLimits s.shape) (within : IsRowWithin s.shape row) (block word : ℕ)
-    (is_block : block ≡ row.address / s.shape.block_bytes) (is_word : word ≡ word_asked s.shape row.address row.op) where
-  block_there : block < s.shape.blocks
-  block_there = rw is_block within.1
+-- a row that is under way
+module _ {s : Situation} {left : List Row} {row : Row} (fit : IsInOrder s left (Some row)) where
+  abbrev block : ℕ
+  block = row.address / s.shape.block_bytes
 
-  has_word : HasWord s.shape word row.op
-  has_word = rw is_word (word_there s.shape row.address row.op limits)
+  abbrev word : ℕ
+  word = word_asked s.shape row.address row.op
 
-  module _ (serves : ServesOnly (row_under_way s.shape (Some row)) s) where
-    on_block : ServesOnly (only row.core block) s
-    on_block = rw is_block serves
+  pub goes_on_enabled : (r : Option Step) → r ≡ turn_of s row.core block word row.op true → IfSome r (IsEnabled s)
+  goes_on_enabled None is = tt
+  goes_on_enabled (Some step) is =
+      turn_rule.never_refused s (only row.core block) row.core block word row.op true step fit.serves.serving fit.serves.kept
+      fit.begun.0 fit.begun.1 (word_there s.shape row.address row.op fit.limits) (here row.core block) (sym is)
 
-    pub goes_on_enabled : (r : Option Step) → r ≡ turn_of s row.core block word row.op true → IfSome r (IsEnabled s)
-    goes_on_enabled None is = tt
-    goes_on_enabled (Some step) is =
-        turn_rule.never_refused s (only row.core block) row.core block word row.op true step on_block.serving on_block.kept within.0 block_there has_word (here row.core block) (sym is)
+  pub over_now : (r : Option Step) → r ≡ turn_of s row.core block word row.op true → IfNone r (ServesOnly nothing s)
+  over_now (Some step) is = tt
+  over_now None is = record {
+    kept = fit.serves.kept;
+    serving = turn_rule.ends s (only row.core block) nothing row.core block word row.op fit.serves.serving fit.serves.kept (here row.core block) (sym is) (λ other ne. rw (ne_eqb other row.core ne));
+  }
 
-    pub over_now : (r : Option Step) → r ≡ turn_of s row.core block word row.op true → IfNone r (ServesOnly nothing s)
-    over_now None is = record {
-      kept = serves.kept;
-      serving = turn_rule.ends s (only row.core block) nothing row.core block word row.op on_block.serving serves.kept (here row.core block) (sym is) (away row.core block);
-    }
-    over_now (Some step) is = tt
+-- the row that was left first may be under way before it is asked
+module _ {s : Situation} {left : List Row} {old : Option Row} (fit : IsInOrder s left old) (serves : ServesOnly nothing s) (row : Row) (rest : List Row) (first : left ≡ row ∷ rest) where
+  pub begun_fit : IsInOrder s rest (Some row)
+  begun_fit = record {
+    limits = fit.limits;
+    within = All-tail (IsRowWithin s.shape) row rest (rw first at fit.within);
+    begun = All-head (IsRowWithin s.shape) row rest (rw first at fit.within);
+    serves = serves_any s (row_under_way s.shape (Some row)) serves;
+  }
 
-  pub begun_under_way : IsUnderWay (row_under_way s.shape (Some row)) (Ask row.core block word row.op)
-  begun_under_way = rw is_block (here row.core (row.address / s.shape.block_bytes))
+  pub begun_under_way : IsUnderWay (row_under_way s.shape (Some row)) (ask_for s.shape row)
+  begun_under_way = here row.core (row.address / s.shape.block_bytes)
 
-  pub begun_enabled : ServesOnly nothing s → IsEnabled s (Ask row.core block word row.op)
-  begun_enabled serves =
-      turn_rule.never_refused s nothing row.core block word row.op false (Ask row.core block word row.op) serves.serving serves.kept within.0 block_there has_word refl refl
+  pub begun_enabled : IsEnabled s (ask_for s.shape row)
+  begun_enabled =
+      turn_rule.never_refused s nothing row.core (row.address / s.shape.block_bytes) (word_asked s.shape row.address row.op) row.op false (ask_for s.shape row) serves.serving serves.kept
+      begun_fit.begun.0 begun_fit.begun.1 (word_there s.shape row.address row.op fit.limits) refl refl
 
-  pub begun_takes_up : (left rest : List Row) (old : Option Row) → ServesOnly nothing s → left ≡ row ∷ rest
-      → TakesUpNext (record { situation = s; left = left; row = old }) (Ask row.core block word row.op) rest
-  begun_takes_up left rest old serves first = record { first = row ∷ []; left = first; asked = rw (is_block, is_word); rest = λ asks. at_rest s serves }
+  pub begun_takes_up : TakesUpNext (record { situation = s; left = left; row = old }) (ask_for s.shape row) rest
+  begun_takes_up = record { first = row ∷ []; left = first; asked = refl; rest = λ asks. at_rest s serves }
 
--- the first row that is left, and the others
-pub begun_within : (s : Situation) (left rest : List Row) (row : Row) → left ≡ row ∷ rest → All (IsRowWithin s.shape) left → IsRowWithin s.shape row × All (IsRowWithin s.shape) rest
-begun_within s left rest row first within =
-    let all = rw first at within in
-    (All-head (IsRowWithin s.shape) row rest all, All-tail (IsRowWithin s.shape) row rest all)
+-- the block of a row's address
+pub block_is : (shape : Extent) (row : Row) → IsRowWithin shape row → (found : Option ℕ) (block : ℕ) → found ≡ block_at shape row.address → found ≡ Some block → block ≡ row.address / shape.block_bytes
+block_is shape row within found block at is =
+    let there : block_at shape row.address ≡ Some (row.address / shape.block_bytes) = rw (lt-ltb (row.address / shape.block_bytes) shape.blocks within.1) in
+    cc
 
--- a row may be under way before it is asked
-pub begun_fit : (s : Situation) (left rest : List Row) (row : Row) (old : Option Row) → IsInOrder s left old → ServesOnly nothing s → left ≡ row ∷ rest
-    → IsInOrder s rest (Some row)
-begun_fit s left rest row old fit serves first =
-    let within = begun_within s left rest row first fit.within in
-    record { limits = fit.limits; within = within.1; begun = within.0; serves = serves_any s (row_under_way s.shape (Some row)) serves }
-
-pub none_and : {X : Type 0} (r : Option X) (P Q : Type 0) → Q → IfNone r P → IfNone r (P × Q)
-none_and None P Q q p = (p, q)
-none_and (Some x) P Q q p = tt
+-- its Ask, by the block and the word that the shape answers
+pub asks_row : (shape : Extent) (row : Row) → IsRowWithin shape row → (found : Option ℕ) (block word : ℕ) → found ≡ block_at shape row.address → found ≡ Some block → word ≡ word_asked shape row.address row.op
+    → Ask row.core block word row.op ≡ ask_for shape row
+asks_row shape row within found block word at is its = rw (block_is shape row within found block at is, its)
 
 -- a step that asks nothing takes up nothing
 pub asks_nothing_more : (old : InOrder) (step : Step) → is_ask step ≡ false → TakesUpNext old step old.left
-asks_nothing_more old step none = record {
-  first = [];
-  left = refl;
-  asked = ap (λ (b : Bool). cond b (step ∷ []) []) none;
-  rest = λ asks. absurd (clash (sym none ∙ asks));
-}
-  where
-    clash : false ≡ true → ⊥
-    clash e = cc
+asks_nothing_more old step none = record { first = []; left = refl; asked = rw none; rest = λ asks. let clash : false ≡ true = sym none ∙ asks in cc }
 
 -- a move keeps what holds between steps
-pub in_order_moves : (s t : Situation) (left : List Row) (row : Option Row) (step : Step) (answer : Reply) (entry : Option Item) → IsInOrder s left row → IsUnderWay (row_under_way s.shape row) step
+pub in_order_moves : {s : Situation} {left : List Row} {row : Option Row} → IsInOrder s left row → (t : Situation) (step : Step) (answer : Reply) (entry : Option Item) → IsUnderWay (row_under_way s.shape row) step
     → FirstMove s step answer t entry → IsInOrder t left row
-in_order_moves s t left row step answer entry fit its move =
+in_order_moves {s} {left} {row} fit t step answer entry its move =
     let e : t.shape ≡ s.shape = same_shape s t step answer entry move in
-    let serving = turn_rule.serves_on s t (row_under_way s.shape row) (row_under_way s.shape row) step answer entry fit.serves.serving move (λ k b h. h) its in
     record {
-      limits = subst IsWithinLimits (sym e) fit.limits;
-      within = subst (λ (x : Extent). All (IsRowWithin x) left) (sym e) fit.within;
-      begun = subst (λ (x : Extent). IfSome row (IsRowWithin x)) (sym e) fit.begun;
-      serves = subst (λ (x : Extent). ServesOnly (row_under_way x row) t) (sym e) (record { kept = turn_rule.keeps_well s t step answer entry fit.serves.kept move; serving = serving });
+      limits = rw e fit.limits;
+      within = rw e fit.within;
+      begun = rw e fit.begun;
+      serves = subst (λ (x : Extent). ServesOnly (row_under_way x row) t) (sym e) (record {
+        kept = turn_rule.keeps_well s t step answer entry fit.serves.kept move;
+        serving = turn_rule.serves_on s t (row_under_way s.shape row) (row_under_way s.shape row) step answer entry fit.serves.serving move (λ k b h. h) its;
+      });
     }

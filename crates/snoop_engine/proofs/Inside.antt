@@ -1,8 +1,7 @@
 -- What a getter answers that answers inside a shape alone.
-use Rattle.std.proofs.Common.{◌≡◌, ℕ, ◌<◌, Bool, Option, Some, None, true, refl, sym, ap, ◌∙◌, arith}
-use Rattle.std.specs.Prelude.{◌&&◌, IfSome, IsSome, is_some, nat_lt, option_map, if◌then◌else◌}
-use Rattle.std.proofs.lemmas.Bool.Decides.{nat_tests}
-use Rattle.snoop_bus.specs.Traffic.{Open}
+use Rattle.std.proofs.Common.{◌≡◌, ℕ, ◌<◌, Bool, Option, Some, None, true, false, cond, refl, sym, ap, ◌∙◌, arith, ◌&&◌, IfSome, IsSome, is_some, nat_lt, option_map, if◌then◌else◌}
+use Rattle.snoop_engine.proofs.Common.{nat_tests, same_Some, CacheState, Open, Situation, state_of}
+use Rattle.snoop_engine.specs.Taken.{state_at}
 
 pub inside_one : {A : Type 0} (r v : Option A) (n b : ℕ) → (b < n → r ≡ v) → IfSome r (λ _. b < n) → r ≡ (if nat_lt b n then v else None)
 inside_one None v n b inside outside = grind (arith, nat_tests, inside)
@@ -21,3 +20,11 @@ inside_three (Some x) v l m n a b c inside outside = grind (arith, nat_tests, in
 pub is_opened : (transaction : Option Open) (requestor : Option ℕ) (named : Bool) → named ≡ is_some requestor → requestor ≡ option_map (λ opened. opened.core) transaction → named ≡ true → IsSome transaction
 is_opened (Some opened) requestor named e is t = refl
 is_opened None requestor named e is t = sym (e ∙ ap is_some is) ∙ t
+
+-- a state that is found is the core's
+pub state_there : (s : Situation) (core block : ℕ) (state : CacheState) → state_at s core block ≡ Some state → state_of s core block ≡ state
+state_there s core block state = go (nat_lt core s.shape.cores && nat_lt block s.shape.blocks)
+  where
+    go : (there : Bool) → cond {A = Option CacheState} there (Some (state_of s core block)) None ≡ Some state → state_of s core block ≡ state
+    go true e = same_Some _ _ e
+    go false e = cc

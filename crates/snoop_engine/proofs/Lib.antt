@@ -1,3 +1,4 @@
+pub mod Common
 pub mod TakenLemmas
 pub mod AskerLemmas
 pub mod Driving
@@ -5,10 +6,8 @@ pub mod Fewer
 pub mod Rounds
 pub mod Asking
 pub mod Dealing
-pub mod Journeys
 pub mod WrittenLemmas
 pub mod Packing
-pub mod SerialLemmas
 pub mod FrameLemmas
 pub mod StatedLemmas
 pub mod RangeLemmas
@@ -23,5 +22,4 @@ pub mod CourseLemmas
 pub mod InOrderLemmas
 pub mod NowLemmas
 pub mod Completing
-pub mod WidthLemmas
 pub mod NumberedLemmas

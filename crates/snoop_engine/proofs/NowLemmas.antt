@@ -1,36 +1,20 @@
 -- What a core's line says nothing of: values in a state that may not be read, a place where no request waits.
-use Rattle.std.proofs.Common.{◌≡◌, ℕ, ◌+◌, Bool, true, false, cond, Option, Some, None, List, [], ◌∷◌, ◌++◌, length, refl, sym, ◌∙◌, ap, arith}
-use Rattle.std.specs.Prelude.{◌&&◌, ◌==◌, count_by, is_some, nat_lt, not, option_map}
-use Rattle.std.specs.List.{flat_map, position_or_len, range_with_len}
+use Rattle.std.proofs.Common.{◌≡◌, ℕ, ◌+◌, Bool, true, false, cond, Option, Some, None, List, [], ◌∷◌, length, refl, sym, ap, arith, ◌&&◌, ◌==◌, count_by, is_some, nat_lt, not, option_map, flat_map}
+use Rattle.snoop_engine.proofs.Common.{range_with_len, sum_by-cons, word_at, CacheState, waiting_request, queue_of, held_by, Situation, picture_of, state_of, keeps}
+use Rattle.std.specs.List.{position_or_len}
 use Rattle.std.proofs.lemmas.Bool.{le-ltb}
-use Rattle.std.proofs.lemmas.List.Sums.{sum_by-cons}
-use Rattle.snoop_trace.specs.Words.{word_at}
-use Rattle.snoop_rules.specs.declared.names.CacheState.{CacheState}
-use Rattle.snoop_rules.specs.Waits.{waiting_request}
-use Rattle.snoop_bus.specs.Queues.{queue_of}
 use Rattle.snoop_model.specs.Pictures.InQueue.{IsInQueue}
-use Rattle.snoop_model.specs.Pictures.Picture.{held_by}
-use Rattle.snoop_model.specs.Pictures.Situation.{Situation, picture_of, state_of}
-use Rattle.snoop_model.specs.Pictures.Proper.{keeps}
-use Rattle.snoop_model.proofs.Lists.Facts.{one_if}
-use Rattle.snoop_engine.specs.States.{kept_at, kept_text, number_field, place_text, value_text}
+use Rattle.snoop_engine.specs.States.{kept_at, kept_text, place_text, value_text}
 use Rattle.snoop_engine.specs.Taken.{state_at}
-
--- a state that is there is the core's
-state_is : (s : Situation) (core block : ℕ) (state : CacheState) → Some state ≡ state_at s core block → state ≡ state_of s core block
-state_is s core block state = of_test (nat_lt core s.shape.cores && nat_lt block s.shape.blocks)
-  where
-    of_test : (within : Bool) → Some state ≡ cond {A = Option CacheState} within (Some (state_of s core block)) None → state ≡ state_of s core block
-    of_test true e = cc
-    of_test false e = cc
+use Rattle.snoop_engine.proofs.Inside.{state_there}
 
 no_texts : (f : ℕ → List ℕ) → ((k : ℕ) → f k ≡ []) → (ks : List ℕ) → flat_map f ks ≡ []
 no_texts f none [] = refl
-no_texts f none (k ∷ ks) = ap (λ (t : List ℕ). t ++ flat_map f ks) (none k) ∙ no_texts f none ks
+no_texts f none (k ∷ ks) = rw (none k) (no_texts f none ks)
 
 pub none_kept : (s : Situation) (core block : ℕ) (state : CacheState) → Some state ≡ state_at s core block → is_some (held_by (picture_of s block) core).kept ≡ keeps (state_of s core block) → keeps state ≡ false → kept_text s core block ≡ []
 none_kept s core block state at kept unread =
-    let hidden : is_some (held_by (picture_of s block) core).kept ≡ false = kept ∙ (ap keeps (sym (state_is s core block state at)) ∙ unread) in
+    let hidden : is_some (held_by (picture_of s block) core).kept ≡ false = rw (kept, state_there s core block state (sym at)) unread in
     no_texts (λ word. value_text word (kept_at s core block word)) (λ word. ap (value_text word) (nothing_at word hidden)) (range_with_len 0 s.shape.words)
   where
     of_kept : (kept : Option (List ℕ)) (within : Bool) (word : ℕ) → is_some kept ≡ false → cond {A = Option ℕ} within (option_map (λ ws. word_at ws word) kept) None ≡ None
@@ -52,9 +36,7 @@ none_before block (b ∷ bs) none = of_test (λ (rest : count_by (λ k. k == blo
 
 pub none_placed : (s : Situation) (core block : ℕ) (state : CacheState) → Some state ≡ state_at s core block → IsInQueue s core block → is_some (waiting_request state) ≡ false → place_text s core block ≡ []
 none_placed s core block state at queued still =
-    let idle : is_some (waiting_request (state_of s core block)) ≡ false = ap (λ (x : CacheState). is_some (waiting_request x)) (sym (state_is s core block state at)) ∙ still in
-    let none : count_by (λ b. b == block) (queue_of s.queues core) ≡ 0 = queued ∙ ap one_if idle in
-    let past : position_or_len (λ b. b == block) (queue_of s.queues core) ≡ length (queue_of s.queues core) = none_before block (queue_of s.queues core) none in
-    let after : nat_lt (position_or_len (λ b. b == block) (queue_of s.queues core)) (length (queue_of s.queues core)) ≡ false =
-    le-ltb (position_or_len (λ b. b == block) (queue_of s.queues core)) (length (queue_of s.queues core)) (omega (arith, past)) in
-    ap (λ (b : Bool). number_field (option_map (λ older. older + 1) (cond b (Some (position_or_len (λ k. k == block) (queue_of s.queues core))) None))) after
+    let idle : is_some (waiting_request (state_of s core block)) ≡ false = rw (state_there s core block state (sym at)) still in
+    let past = none_before block (queue_of s.queues core) (rw idle at queued) in
+    let after = le-ltb (position_or_len (λ b. b == block) (queue_of s.queues core)) (length (queue_of s.queues core)) (omega (arith, past)) in
+    rw after

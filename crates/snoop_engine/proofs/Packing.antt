@@ -1,9 +1,6 @@
 -- Packed steps, and one more.
-use Rattle.std.proofs.Common.{◌≡◌, ℕ, zero, suc, ◌+◌, ◌≤◌, List, [], ◌∷◌, ◌++◌, length, length-append, drop, slice_index_or, refl, ap, ◌∙◌, arith}
+use Rattle.std.proofs.Common.{◌≡◌, ℕ, zero, suc, ◌+◌, ◌≤◌, List, [], ◌∷◌, ◌++◌, length, length-append, drop, slice_index_or, refl, arith}
 use Rattle.std.proofs.lemmas.List.{length-drop}
-use Rattle.snoop_trace.specs.declared.step.Op.TheVariants as op
-use Rattle.snoop_trace.specs.declared.step.Step.{Step}
-use Rattle.snoop_trace.specs.declared.step.Step.TheVariants.{Ask}
 use Rattle.snoop_engine.specs.declared.packed.Kind.{Kind}
 use Rattle.snoop_engine.specs.declared.packed.Kind.TheVariants as kind
 use Rattle.snoop_engine.specs.declared.packed.Head.{Head}
@@ -32,12 +29,10 @@ few_values _ = omega arith
 -- a head's step is the same with more words and values after its own
 step_on : (k : Kind) (h : Head) (ws mw vs mv : List ℕ) → worded_by k ≤ length ws → stored_by k ≤ length vs
     → step_by k h (slice_index_or (ws ++ mw) 0 0) (slice_index_or (vs ++ mv) 0 0) ≡ step_by k h (slice_index_or ws 0 0) (slice_index_or vs 0 0)
-step_on kind.Store h ws mw vs mv w v = ap (λ (x : ℕ). Ask h.core h.block 0 (op.Store x)) (first_on vs mv v)
-step_on kind.LoadOfWord h ws mw vs mv w v = ap (λ (x : ℕ). Ask h.core h.block x op.Load) (first_on ws mw w)
-step_on kind.StoreOfWord h ws mw vs mv w v =
-    ap (λ (x : ℕ). Ask h.core h.block x (op.Store (slice_index_or (vs ++ mv) 0 0))) (first_on ws mw w)
-    ∙ ap (λ (x : ℕ). Ask h.core h.block (slice_index_or ws 0 0) (op.Store x)) (first_on vs mv v)
-step_on kind.EvictOfWord h ws mw vs mv w v = ap (λ (x : ℕ). Ask h.core h.block x op.Evict) (first_on ws mw w)
+step_on kind.Store h ws mw vs mv w v = rw (first_on vs mv v)
+step_on kind.LoadOfWord h ws mw vs mv w v = rw (first_on ws mw w)
+step_on kind.StoreOfWord h ws mw vs mv w v = rw (first_on ws mw w, first_on vs mv v)
+step_on kind.EvictOfWord h ws mw vs mv w v = rw (first_on ws mw w)
 step_on _ h ws mw vs mv w v = refl
 
 worded_more : (hs : List Head) (h : Head) → worded_in (hs ++ h ∷ []) ≡ worded_in hs + worded_by h.kind
@@ -49,41 +44,29 @@ stored_more [] h = omega arith
 stored_more (k ∷ ks) h = let more = stored_more ks h in omega arith
 
 -- a head at the end, with its word and what it stores
-steps_more : (hs : List Head) (ws vs : List ℕ) (h : Head) (mw mv : List ℕ) → worded_in hs ≡ length ws → stored_in hs ≡ length vs
+pub steps_more : (hs : List Head) (ws vs : List ℕ) (h : Head) (mw mv : List ℕ) → worded_in hs ≡ length ws → stored_in hs ≡ length vs
     → steps_in (hs ++ h ∷ []) (ws ++ mw) (vs ++ mv) ≡ steps_in hs ws vs ++ step_of_head h (slice_index_or mw 0 0) (slice_index_or mv 0 0) ∷ []
 steps_more [] [] [] h mw mv e f = refl
 steps_more [] (w ∷ ws) vs h mw mv e f = absurd (omega arith)
 steps_more [] [] (v ∷ vs) h mw mv e f = absurd (omega arith)
 steps_more (k ∷ ks) ws vs h mw mv e f =
-    let n : ℕ = worded_by k.kind in
-    let m : ℕ = stored_by k.kind in
     let w : worded_by k.kind ≤ length ws = omega (arith, e) in
     let v : stored_by k.kind ≤ length vs = omega (arith, f) in
     let rest_w : worded_in ks ≡ length (drop (worded_by k.kind) ws) = omega (arith, e, w, length-drop (worded_by k.kind) ws) in
     let rest_v : stored_in ks ≡ length (drop (stored_by k.kind) vs) = omega (arith, f, v, length-drop (stored_by k.kind) vs) in
-    let here : Step = step_of_head k (slice_index_or ws 0 0) (slice_index_or vs 0 0) in
-    ap (λ (s : Step). s ∷ steps_in (ks ++ h ∷ []) (drop n (ws ++ mw)) (drop m (vs ++ mv))) (step_on k.kind k ws mw vs mv w v)
-    ∙ ap (λ (l : List ℕ). here ∷ steps_in (ks ++ h ∷ []) l (drop m (vs ++ mv))) (dropped_on (worded_by k.kind) ws mw (few_words k.kind) w)
-    ∙ ap (λ (l : List ℕ). here ∷ steps_in (ks ++ h ∷ []) (drop n ws ++ mw) l) (dropped_on (stored_by k.kind) vs mv (few_values k.kind) v)
-    ∙ ap (λ (t : List Step). here ∷ t) (steps_more ks (drop n ws) (drop m vs) h mw mv rest_w rest_v)
+    rw (
+      step_on k.kind k ws mw vs mv w v,
+      dropped_on (worded_by k.kind) ws mw (few_words k.kind) w,
+      dropped_on (stored_by k.kind) vs mv (few_values k.kind) v,
+      steps_more ks (drop (worded_by k.kind) ws) (drop (stored_by k.kind) vs) h mw mv rest_w rest_v,
+    )
 
--- the same of a queue's parts, before and after
-pub words_after : (hs hs2 hs3 : List Head) (ws ws2 more : List ℕ) (h : Head) → hs2 ≡ hs → hs3 ≡ hs2 ++ h ∷ [] → ws2 ≡ ws ++ more
-    → worded_by h.kind ≡ length more → worded_in hs ≡ length ws → worded_in hs3 ≡ length ws2
-words_after hs hs2 hs3 ws ws2 more h same heads words one e =
-    rw (heads, same, words) (let a = worded_more hs h in let b = length-append ws more in omega arith)
+-- as many words and values stand in a queue as its heads have
+pub worded_after : (hs : List Head) (ws more : List ℕ) (h : Head) → worded_by h.kind ≡ length more → worded_in hs ≡ length ws → worded_in (hs ++ h ∷ []) ≡ length (ws ++ more)
+worded_after hs ws more h one e = omega (arith, worded_more hs h, length-append ws more)
 
-pub values_after : (hs hs2 hs3 : List Head) (vs vs2 more : List ℕ) (h : Head) → hs2 ≡ hs → hs3 ≡ hs2 ++ h ∷ [] → vs2 ≡ vs ++ more
-    → stored_by h.kind ≡ length more → stored_in hs ≡ length vs → stored_in hs3 ≡ length vs2
-values_after hs hs2 hs3 vs vs2 more h same heads values one e =
-    rw (heads, same, values) (let a = stored_more hs h in let b = length-append vs more in omega arith)
-
-pub steps_after : (hs hs2 hs3 : List Head) (ws ws2 mw vs vs2 mv : List ℕ) (h : Head) (step : Step) (old : List Step) → hs2 ≡ hs → hs3 ≡ hs2 ++ h ∷ []
-    → ws2 ≡ ws ++ mw → vs2 ≡ vs ++ mv → step_of_head h (slice_index_or mw 0 0) (slice_index_or mv 0 0) ≡ step
-    → worded_in hs ≡ length ws → stored_in hs ≡ length vs → steps_in hs ws vs ≡ old → steps_in hs3 ws2 vs2 ≡ old ++ step ∷ []
-steps_after hs hs2 hs3 ws ws2 mw vs vs2 mv h step old same heads words values is e f view =
-    rw (heads, same, words, values)
-    (steps_more hs ws vs h mw mv e f ∙ ap (λ (s : Step). steps_in hs ws vs ++ s ∷ []) is ∙ ap (λ (steps : List Step). steps ++ step ∷ []) view)
+pub stored_after : (hs : List Head) (vs more : List ℕ) (h : Head) → stored_by h.kind ≡ length more → stored_in hs ≡ length vs → stored_in (hs ++ h ∷ []) ≡ length (vs ++ more)
+stored_after hs vs more h one e = omega (arith, stored_more hs h, length-append vs more)
 
 -- there is a step for each head
 pub steps_counted : (hs : List Head) (ws vs : List ℕ) → length (steps_in hs ws vs) ≡ length hs

@@ -1,81 +1,70 @@
 -- What a round gives, turn by turn.
-use Rattle.std.proofs.Common.{◌≡◌, ◌≢◌, ℕ, ◌<◌, Option, Some, None, sym, ◌∙◌, ap, subst, inl, inr, arith, List, [], ◌∷◌, ◌++◌, take, drop}
-use Rattle.std.specs.Prelude.{All, Contains, IfNone, slice_get}
-use Rattle.std.proofs.lemmas.Bool.{cases_eq}
+use Rattle.std.proofs.Common.{◌≡◌, ◌≢◌, ℕ, ◌<◌, Option, Some, None, refl, IsOk, sym, ◌∙◌, ap, inl, inr, arith, List, [], ◌∷◌, ◌++◌, take, drop, Contains, IfNone, slice_get}
+use Rattle.snoop_engine.proofs.Common.{All-nil, cases_eq, All-append, Contains-append_cases, Contains-append_left, Contains-append_right, Step, Situation, IsQuiet, IsUnderWay, turn_rule}
 use Rattle.std.proofs.lemmas.List.{take-append-drop}
-use Rattle.std.proofs.lemmas.List.Elements.{All-append, All-take, All-drop, Contains-append_cases, Contains-append_left, Contains-append_right}
-use Rattle.snoop_trace.specs.declared.step.Step.{Step}
-use Rattle.snoop_model.specs.Pictures.Situation.{Situation}
-use Rattle.snoop_model.specs.Turns.Quiet.{IsQuiet}
-use Rattle.snoop_model.specs.Turns.Serving.{IsServing, IsUnderWay}
-use Rattle.snoop_model.specs.Turns.TurnLaws.{TurnLaws}
+use Rattle.std.proofs.lemmas.List.Elements.{All-take, All-drop}
+use Rattle.snoop_model.specs.Turns.Serving.{IsServing}
 use Rattle.snoop_engine.specs.Todo.{Todo, todo_of, lanes_under_way, block_of_work}
-use Rattle.snoop_engine.specs.Round.{Progress, IsFit, IsIdle, IsUnasked, IsDone, IsEnabled, TakesUp, Finds}
+use Rattle.snoop_engine.specs.Journey.{IsAtTheEnd}
+use Rattle.snoop_engine.specs.Round.{Progress, IsFit, IsIdle, IsUnasked, IsEnabled, TakesUp, Finds}
 
--- the turns may come in another order
-pub fit_reordered : (s : Situation) (lanes : List Todo) (old new : List ℕ) → IsFit s lanes old → All (λ core. core < s.shape.cores) new → ((core : ℕ) → Contains old core → Contains new core) → IsFit s lanes new
-fit_reordered s lanes old new fit few there = record {
-  cores = fit.cores;
-  within = fit.within;
-  serving = fit.serving;
-  kept = fit.kept;
-  few = few;
-  busy = λ core. elim (fit.busy core) [ inl h ↦ inl (there core h) | inr idle ↦ inr idle ];
-}
+module _ {s : Situation} {lanes : List Todo} {turns : List ℕ} (fit : IsFit s lanes turns) where
+  -- the first turn may come last
+  pub fit_rotated : IsFit s lanes (drop 1 turns ++ take 1 turns)
+  fit_rotated =
+      let P : ℕ → Type 0 = λ core. core < s.shape.cores in
+      record {
+        cores = fit.cores;
+        within = fit.within;
+        serving = fit.serving;
+        kept = fit.kept;
+        few = All-append P (drop 1 turns) (take 1 turns) (All-drop P 1 turns fit.few) (All-take P 1 turns fit.few);
+        busy = λ core. elim (fit.busy core) [
+          | inl there ↦ inl (elim (Contains-append_cases (take 1 turns) (drop 1 turns) core (rw (take-append-drop 1 turns) there)) [
+            | inl first ↦ Contains-append_right (drop 1 turns) (take 1 turns) core first
+            | inr later ↦ Contains-append_left (drop 1 turns) (take 1 turns) core later
+          ])
+          | inr idle ↦ inr idle
+        ];
+      }
 
-pub fit_rotated : (s : Situation) (lanes : List Todo) (turns : List ℕ) → IsFit s lanes turns → IsFit s lanes (drop 1 turns ++ take 1 turns)
-fit_rotated s lanes turns fit =
-    let P : ℕ → Type 0 = λ core. core < s.shape.cores in
-    fit_reordered s lanes turns (drop 1 turns ++ take 1 turns) fit
-    (All-append P (drop 1 turns) (take 1 turns) (All-drop P 1 turns fit.few) (All-take P 1 turns fit.few))
-    (λ core h. (let Q : List ℕ → Type 0 = λ l. Contains l core in
-    elim (Contains-append_cases (take 1 turns) (drop 1 turns) core (subst Q (sym (take-append-drop 1 turns)) h)) [
-      | inl first ↦ Contains-append_right (drop 1 turns) (take 1 turns) core first
-      | inr later ↦ Contains-append_left (drop 1 turns) (take 1 turns) core later
-    ]))
+  -- without a turn each core is idle, and the machine is quiet
+  pub all_done : (r : Option ℕ) → r ≡ slice_get turns 0 → IfNone r (((core : ℕ) → (todo_of lanes core).left ≡ []) × IsQuiet s)
+  all_done (Some first) is = tt
+  all_done None is =
+      let idle : (core : ℕ) → IsIdle (todo_of lanes core) = λ core. elim (fit.busy core) [ inl there ↦ absurd (none_left turns (sym is) core there) | inr h ↦ h ] in
+      let none : (core : ℕ) → lanes_under_way lanes core ≡ None = λ core. ap block_of_work (idle core).1 in
+      let serving : IsServing (λ core. None) s = record {
+        waits = λ core i d lt. sym (none core) ∙ fit.serving.waits core i d lt;
+        opened = λ block transaction open_here. sym (none transaction.core) ∙ fit.serving.opened block transaction open_here;
+      } in
+      (λ core. (idle core).0, turn_rule.comes_to_rest s serving fit.kept)
+    where
+      none_left : (turns : List ℕ) → slice_get turns 0 ≡ None → (core : ℕ) → Contains turns core → ⊥
+      none_left [] h core there = let lt = there.1 in absurd (omega arith)
+      none_left (x ∷ xs) h core there = cc
 
-none_left : (turns : List ℕ) → slice_get turns 0 ≡ None → (core : ℕ) → Contains turns core → ⊥
-none_left [] h core there = let lt = there.1 in absurd (omega arith)
-none_left (x ∷ xs) h core there = cc
-
--- without a turn each core is idle, and the machine is quiet
-pub all_done : TurnLaws → (s : Situation) (lanes : List Todo) (turns : List ℕ) → IsFit s lanes turns → (r : Option ℕ) → r ≡ slice_get turns 0
-    → IfNone r (((core : ℕ) → (todo_of lanes core).left ≡ []) × IsQuiet s)
-all_done rule s lanes turns fit (Some first) is = tt
-all_done rule s lanes turns fit None is =
-    let idle : (core : ℕ) → IsIdle (todo_of lanes core) = λ core. elim (fit.busy core) [ inl there ↦ absurd (none_left turns (sym is) core there) | inr h ↦ h ] in
-    let none : (core : ℕ) → lanes_under_way lanes core ≡ None = λ core. ap block_of_work (idle core).1 in
-    let serving : IsServing (λ core. None) s = record {
-      waits = λ core i d lt. sym (none core) ∙ fit.serving.waits core i d lt;
-      opened = λ block transaction open_here. sym (none transaction.core) ∙ fit.serving.opened block transaction open_here;
-    } in
-    (λ core. (idle core).0, rule.comes_to_rest s serving fit.kept)
-
-module _ (start loop : Progress) (so_far : IsUnasked start loop) where
+module _ {start loop : Progress} (so_far : IsUnasked start loop) where
   -- a turn without a step asks nothing
   pub still_unasked : (core : ℕ) (mid new : Progress) → mid.situation ≡ loop.situation → ((k : ℕ) → k ≢ core → todo_of mid.lanes k ≡ todo_of loop.lanes k)
       → ((todo_of loop.lanes core).left ≡ []) × IsIdle (todo_of mid.lanes core) → new.situation ≡ mid.situation → new.lanes ≡ mid.lanes → IsUnasked start new
-  still_unasked core mid new same others idle same_too lanes =
-      let L : List Todo → Type 0 = λ l. (k : ℕ) → (todo_of l k).left ≡ (todo_of start.lanes k).left in
-      let left : (k : ℕ) → (todo_of mid.lanes k).left ≡ (todo_of start.lanes k).left = λ k. elim (cases_eq k core) [
-        | inl e ↦
-            (let P : ℕ → Type 0 = λ j. (todo_of mid.lanes j).left ≡ (todo_of loop.lanes j).left in
-            subst P (sym e) (idle.1.0 ∙ sym idle.0) ∙ so_far.left k)
-        | inr ne ↦ ap (λ (t : Todo). t.left) (others k ne) ∙ so_far.left k
-      ] in
-      record { situation = same_too ∙ (same ∙ so_far.situation); left = subst L (sym lanes) left }
+  still_unasked core mid new same others idle same_too lanes = record {
+    situation = same_too ∙ (same ∙ so_far.situation);
+    left = λ k. rw lanes (elim (cases_eq k core) [
+      | inl e ↦ rw (e, idle.1.0) (sym idle.0 ∙ so_far.left core)
+      | inr ne ↦ rw (others k ne) (so_far.left k)
+    ]);
+  }
 
   -- a turn with a step finds it
   pub found_on : (mid passed : Progress) (step : Step) → mid.situation ≡ loop.situation → TakesUp loop.lanes step mid.lanes → IsUnderWay (lanes_under_way mid.lanes) step → IsEnabled mid.situation step
       → passed.situation ≡ mid.situation → passed.lanes ≡ mid.lanes → Finds start step passed
-  found_on mid passed step same takes its enabled same_too lanes =
-      let taken : TakesUp start.lanes step mid.lanes = λ core. sym (so_far.left core) ∙ takes core in
-      record {
-        situation = same_too ∙ (same ∙ so_far.situation);
-        takes_up = subst (λ (l : List Todo). TakesUp start.lanes step l) (sym lanes) taken;
-        under_way = subst (λ (l : List Todo). IsUnderWay (lanes_under_way l) step) (sym lanes) its;
-        enabled = subst (λ (s : Situation). IsEnabled s step) (sym same_too) enabled;
-      }
+  found_on mid passed step same takes its enabled same_too lanes = record {
+    situation = same_too ∙ (same ∙ so_far.situation);
+    takes_up = rw lanes (λ core. sym (so_far.left core) ∙ takes core);
+    under_way = rw lanes its;
+    enabled = rw same_too enabled;
+  }
 
-  pub done_now : ((core : ℕ) → (todo_of loop.lanes core).left ≡ []) × IsQuiet loop.situation → IsDone start loop
-  done_now done = record { situation = so_far.situation; left = λ core. sym (so_far.left core) ∙ done.0 core; quiet = done.1 }
+  pub done_now : ((core : ℕ) → (todo_of loop.lanes core).left ≡ []) × IsQuiet loop.situation → IsAtTheEnd start [] [] start.situation
+  done_now done = record { run = refl; taken = All-nil IsOk; asked = λ core. sym (so_far.left core) ∙ done.0 core; quiet = rw so_far.situation at done.1; few = omega arith }

@@ -1,18 +1,9 @@
 -- The frames that a view was shown: what was written of them, or stands in the chunk.
-use Rattle.std.proofs.Common.{◌≡◌, ℕ, ◌+◌, List, [], ◌∷◌, ◌++◌, length, length-append, Option, refl, sym, ap, subst, ◌∙◌, append_assoc, append-nil, arith}
-use Rattle.std.specs.Prelude.{Result, Ok, Err}
-use Rattle.std.specs.Io.KnownBytes.{Appends}
-use Rattle.snoop_trace.specs.Extent.{Extent}
-use Rattle.snoop_trace.specs.Output.{AppendsFront, Gathers, Spills}
-use Rattle.snoop_trace.specs.declared.step.Step.{Step}
-use Rattle.snoop_trace.specs.declared.protocol.Protocol.{Protocol}
-use Rattle.snoop_trace.specs.declared.fault.WriteFault.{WriteFault}
-use Rattle.snoop_trace.proofs.GathersLemmas.{gathers_cut, gathers_done, gathers_more, gathers_spilled, gathers_stop}
-use Rattle.snoop_trace.proofs.OutputLemmas.{appends_none, appends_none_of}
-use Rattle.snoop_model.specs.declared.replies.Reply.{Reply}
-use Rattle.snoop_model.specs.declared.replies.Refused.{Refused}
-use Rattle.snoop_model.specs.Pictures.Situation.{Situation, reset}
-use Rattle.snoop_model.specs.Runs.Run.{GoesFirst, RunsGoOn, TheRun}
+use Rattle.std.proofs.Common.{◌≡◌, ℕ, ◌+◌, List, [], ◌∷◌, ◌++◌, length, length-append, Option, refl, sym, ap, ◌∙◌, append_assoc, append-nil, arith, Result, Ok, Err, subst}
+use Rattle.snoop_engine.proofs.Common.{Appends, Extent, AppendsFront, Gathers, Spills, Step, Protocol, WriteFault, gathers_cut, gathers_done, gathers_more, gathers_spilled, gathers_stop}
+use Rattle.snoop_engine.proofs.Common.{appends_none_of, Reply, Refused, Situation, reset, GoesFirst, RunsGoOn, TheRun}
+use Rattle.snoop_trace.specs.declared.fault.WriteFault.TheVariants as write
+use Rattle.snoop_trace.proofs.OutputLemmas.{appends_none}
 use Rattle.snoop_engine.specs.Courses.{CanEnd, LeadsToEndWith, Leading, LeadsOn}
 use Rattle.snoop_engine.specs.Fault.{fault_of_write}
 use Rattle.snoop_engine.specs.Frames.{AreFrames, Frame, FramesFrom}
@@ -27,7 +18,6 @@ use Rattle.snoop_engine.specs.declared.seen.Seen.{Seen}
 use Rattle.snoop_engine.proofs.TrueLines.{lines_fit}
 use Rattle.snoop_engine.proofs.CourseLemmas.{Along, along_more, along_none, ends_here, ends_on}
 use Rattle.snoop_engine.proofs.FrameLemmas.{are_the_run, framed, frames_keep, frames_on, steps_of_on}
-use Rattle.snoop_engine.proofs.WrittenLemmas.{write_faults}
 
 -- what is shown of more frames comes after what is shown of the first
 pub shown_on : (shows : List Frame → Frame → List ℕ) (before first rest : List Frame) → shown shows before (first ++ rest) ≡ shown shows before first ++ shown shows (before ++ first) rest
@@ -195,8 +185,8 @@ module _ {protocol : Protocol} {shape : Extent} {heading : Protocol → Extent �
 -- a failed write, or out of memory, after the whole text was read
 pub simulates_view_front : (protocol : Protocol) (shape : Extent) (input : Input) (text : List Frame → Situation → List ℕ) (bytes : Option (List ℕ)) (steps : List Step) (fault : WriteFault) (result : Result (Unit {0}) SimFault) (old new : Option (List ℕ))
     → result ≡ Err (fault_of_write fault) → GivesSteps protocol shape input bytes steps → BeginsToShow protocol shape text steps old new → SimulatesView protocol shape input text bytes result old new
-simulates_view_front protocol shape input text bytes steps cause result old new e gives begins =
-    write_faults (λ r. SimulatesView protocol shape input text bytes r old new) cause result e (steps, (gives, begins)) (steps, (gives, begins))
+simulates_view_front protocol shape input text bytes steps write.Write result old new e gives begins = rw e (steps, (gives, begins))
+simulates_view_front protocol shape input text bytes steps write.NoMemory result old new e gives begins = rw e (steps, (gives, begins))
 
 -- another definition of the same text
 module _ (protocol : Protocol) (shape : Extent) (one other : List Frame → Situation → List ℕ)

@@ -1,17 +1,12 @@
 -- The states of frames, as a view writes them.
-use Rattle.std.proofs.Common.{◌≡◌, ℕ, ◌+◌, Bool, true, false, cond, List, [], ◌++◌, length, sym, ap, ◌∙◌, append-nil}
-use Rattle.std.specs.Prelude.{Option}
-use Rattle.std.specs.List.{flat_map}
-use Rattle.snoop_trace.specs.Extent.{Extent}
-use Rattle.snoop_model.specs.Pictures.Situation.{Situation}
+use Rattle.std.proofs.Common.{◌≡◌, ℕ, ◌+◌, true, false, List, [], ◌++◌, length, ap, ◌∙◌, append-nil, flat_map}
+use Rattle.snoop_engine.proofs.Common.{Extent, Situation}
 use Rattle.snoop_engine.specs.Frames.{Frame}
 use Rattle.snoop_engine.specs.Chosen.{Chosen, is_shown}
-use Rattle.snoop_engine.specs.States.{frame_text, header_text, shown_text, states_text, step_fields, taken_text}
-use Rattle.snoop_engine.specs.Taken.{lines_of_step}
-use Rattle.snoop_engine.specs.Views.{IsNextSeen, block_of_step, frame_seen, shown, view_text}
+use Rattle.snoop_engine.specs.States.{header_text, shown_text, states_text, step_fields, taken_text}
+use Rattle.snoop_engine.specs.Views.{IsNextSeen, frame_seen, shown, view_text}
 use Rattle.snoop_engine.specs.declared.seen.Seen.{Seen}
 use Rattle.snoop_engine.proofs.ViewLemmas.{shown_numbered}
-use Rattle.snoop_engine.specs.declared.taken.Taken.{Taken}
 
 pub states_view : (shape : Extent) (choice : Chosen) (frames : List Frame) (final : Situation)
     → view_text header_text (λ (fs : List Frame) (f : Frame). shown_text shape choice (1 + length fs) f) (λ (fs : List Frame) (s : Situation). []) frames final ≡ states_text shape choice frames
@@ -21,15 +16,9 @@ states_view shape choice frames final =
 
 -- what is written of a step that is seen
 module _ (choice : Chosen) (frames : List Frame) (before : Situation) (seen : Seen) (after : Situation) (next : IsNextSeen after.protocol after.shape frames before seen after) where
-  is_same : is_shown choice seen.block seen.number ≡ is_shown choice (block_of_step before seen.step) (1 + length frames)
-  is_same = ap (λ (b : Option ℕ). is_shown choice b seen.number) next.block ∙ ap (is_shown choice (block_of_step before seen.step)) next.number
-
   pub text_shown : is_shown choice seen.block seen.number ≡ true
       → flat_map (λ taken. step_fields after.shape seen.number seen.step seen.outcome ++ taken_text after taken) seen.lines.now ≡ shown_text after.shape choice (1 + length frames) (frame_seen before seen after)
-  text_shown here =
-      ap (λ (l : List Taken). flat_map (λ taken. step_fields after.shape seen.number seen.step seen.outcome ++ taken_text after taken) l) next.lines
-      ∙ ap (λ (n : ℕ). flat_map (λ taken. step_fields after.shape n seen.step seen.outcome ++ taken_text after taken) (lines_of_step before seen.step seen.outcome)) next.number
-      ∙ ap (λ (b : Bool). cond b (frame_text after.shape (1 + length frames) (frame_seen before seen after)) []) (sym (sym is_same ∙ here))
+  text_shown here = rw (next.lines, next.number, rw (next.block, next.number) at here)
 
   pub text_hidden : is_shown choice seen.block seen.number ≡ false → [] ≡ shown_text after.shape choice (1 + length frames) (frame_seen before seen after)
-  text_hidden other = ap (λ (b : Bool). cond b (frame_text after.shape (1 + length frames) (frame_seen before seen after)) []) (sym (sym is_same ∙ other))
+  text_hidden other = rw (rw (next.block, next.number) at other)

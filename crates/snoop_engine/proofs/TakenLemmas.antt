@@ -1,16 +1,6 @@
--- The lines of the steps so far: written, or in the chunk.
-use Rattle.std.proofs.Common.{◌≡◌, ℕ, List, [], ◌∷◌, ◌++◌, Option, refl, sym, ap, ◌∙◌, append_assoc}
-use Rattle.std.specs.Prelude.{Result, Ok, Err}
-use Rattle.std.proofs.lemmas.List.{append-nil}
-use Rattle.snoop_trace.specs.Extent.{Extent}
-use Rattle.snoop_trace.specs.declared.step.Step.{Step}
-use Rattle.snoop_model.specs.declared.replies.Reply.{Reply}
-use Rattle.snoop_model.specs.declared.replies.Refused.{Refused}
-use Rattle.snoop_history.specs.declared.items.Item.{Item}
-use Rattle.snoop_model.specs.Pictures.Situation.{Situation}
-use Rattle.snoop_model.specs.Moves.Move.{FirstMove}
-use Rattle.snoop_engine.specs.Line.{line_text, line_texts}
-use Rattle.snoop_model.specs.Runs.Run.{FirstRunFrom, GoesFirst}
+-- Steps and runs: what they keep, and one step more.
+use Rattle.std.proofs.Common.{◌≡◌, List, [], ◌∷◌, ◌++◌, Option, refl, ◌∙◌, Result, Ok, Err}
+use Rattle.snoop_engine.proofs.Common.{Step, Reply, Refused, Item, Situation, FirstMove, FirstRunFrom, GoesFirst}
 use Rattle.snoop_model.proofs.Runs.Along as along
 use Rattle.snoop_model.proofs.Runs.Shape.{IsAlike, move_stays, same_alike}
 
@@ -32,13 +22,3 @@ run_shape steps outcomes old new =
 pub run_more : (steps : List Step) (outcomes : List (Result Reply Refused)) (old middle new : Situation) (step : Step) (outcome : Result Reply Refused)
     → FirstRunFrom old steps outcomes middle → GoesFirst middle step outcome new → FirstRunFrom old (steps ++ step ∷ []) (outcomes ++ outcome ∷ []) new
 run_more = along.run_more GoesFirst
-
--- one more line
-pub line_texts_more : (shape : Extent) (steps : List Step) (outcomes : List (Result Reply Refused)) (old new : Situation) (step : Step) (outcome : Result Reply Refused)
-    → FirstRunFrom old steps outcomes new → line_texts shape (steps ++ step ∷ []) (outcomes ++ outcome ∷ []) ≡ line_texts shape steps outcomes ++ line_text shape step outcome
-line_texts_more shape [] [] old new step outcome all = append-nil (line_text shape step outcome)
-line_texts_more shape [] (o ∷ os) old new step outcome all = absurd all
-line_texts_more shape (s ∷ ss) [] old new step outcome all = absurd all
-line_texts_more shape (s ∷ ss) (o ∷ os) old new step outcome all =
-    ap (λ (t : List ℕ). line_text shape s o ++ t) (line_texts_more shape ss os all.0 new step outcome all.1.1)
-    ∙ sym (append_assoc (line_text shape s o) (line_texts shape ss os) (line_text shape step outcome))

@@ -1,18 +1,12 @@
 -- Counters, one of which goes up.
-use Rattle.std.proofs.Common.{◌≡◌, ℕ, ◌+◌, ◌*◌, ◌<◌, Bool, true, false, ◌&&◌, List, [], ◌∷◌, ◌++◌, cond, filter, length, length-append, get_or, set, replicate, sym, ap, ◌∙◌, inl, inr, arith}
-use Rattle.std.specs.Prelude.{◌==◌, Some}
-use Rattle.std.proofs.lemmas.Bool.{cases_eq, eq-eqb}
-use Rattle.std.proofs.lemmas.Bool.Decides.{nat_tests}
-use Rattle.std.proofs.lemmas.Grind.{common_steps}
+use Rattle.std.proofs.Common.{◌≡◌, ℕ, ◌+◌, ◌*◌, ◌<◌, Bool, true, false, ◌&&◌, List, [], ◌∷◌, ◌++◌, cond, filter, length, length-append, get_or, set, replicate, sym, ◌∙◌, inl, inr, arith, ◌==◌, Some}
+use Rattle.snoop_engine.proofs.Common.{cases_eq, nat_tests, common_steps, CacheState, CacheEvent, MemState, MemEvent}
+use Rattle.std.proofs.lemmas.Bool.{eq-eqb, ne_eqb}
 use Rattle.std.proofs.lemmas.List.{length-replicate, length-set, get_or-replicate, get_or-set_other, get_or-set_same}
 use Rattle.std.proofs.lemmas.List.Elements.{filter-append}
-use Rattle.snoop_rules.specs.declared.names.CacheState.{CacheState}
 use Rattle.snoop_rules.specs.declared.names.CacheState.TheVariants as state
-use Rattle.snoop_rules.specs.declared.names.CacheEvent.{CacheEvent}
 use Rattle.snoop_rules.specs.declared.names.CacheEvent.TheVariants as event
-use Rattle.snoop_rules.specs.declared.names.MemState.{MemState}
 use Rattle.snoop_rules.specs.declared.names.MemState.TheVariants as mem_state
-use Rattle.snoop_rules.specs.declared.names.MemEvent.{MemEvent}
 use Rattle.snoop_rules.specs.declared.names.MemEvent.TheVariants as mem_event
 use Rattle.snoop_history.specs.Totals.{capped}
 use Rattle.snoop_engine.specs.Numbers.{event_number, memory_event_number, memory_state_number, state_number}
@@ -54,9 +48,6 @@ tallies_none =
       memory = λ s e. get_or-replicate 203 (memory_place s e) none none (memory_below s e);
     }
 
-not_equal : (a b : ℕ) → (a ≡ b → ⊥) → (a == b) ≡ false
-not_equal a b ne = grind (arith, common_steps, nat_tests)
-
 -- two pairs of numbers are the same exactly if their places in rows of this width are
 same_pair_of_11 : (a b c d : ℕ) → b < 11 → d < 11 → (a == c && b == d) ≡ (a * 11 + b == c * 11 + d)
 same_pair_of_11 a b c d x y = grind (arith, common_steps, nat_tests)
@@ -72,61 +63,50 @@ module _ (p : Taken → Bool) (lines : List Taken) (line : Taken) where
 
   counted_more : (counters new : List ℕ) (place here : ℕ) → place < length counters → new ≡ set counters place (capped (get_or counters place 0 + 1))
       → p line ≡ (place == here) → get_or counters here 0 ≡ capped (length (filter p lines)) → get_or new here 0 ≡ capped (length (filter p (lines ++ line ∷ [])))
-  counted_more counters new place here lt is test before = elim (cases_eq place here) [
+  counted_more counters new place here lt is test before = elim (cases_eq here place) [
     | inl e ↦
-        let n = one_more true (test ∙ eq-eqb place here e) in
-        let old : get_or counters place 0 ≡ capped (length (filter p lines)) = ap (λ k. get_or counters k 0) e ∙ before in
-        let now : get_or new here 0 ≡ capped (get_or counters place 0 + 1) =
-        ap (λ l. get_or l here 0) is ∙ ap (λ k. get_or (set counters place (capped (get_or counters place 0 + 1))) k 0) (sym e) ∙ get_or-set_same counters place (capped (get_or counters place 0 + 1)) 0 lt in
-        omega (arith, n, old, now)
+        let n = one_more true (test ∙ eq-eqb place here (sym e)) in
+        let old : get_or counters place 0 ≡ capped (length (filter p lines)) = rw e at before in
+        rw (is, e, get_or-set_same counters place (capped (get_or counters place 0 + 1)) 0 lt) (omega (arith, n, old))
     | inr e ↦
-        let n = one_more false (test ∙ not_equal place here e) in
-        let now : get_or new here 0 ≡ get_or counters here 0 =
-        ap (λ l. get_or l here 0) is ∙ get_or-set_other counters place here (capped (get_or counters place 0 + 1)) 0 (λ q. e (sym q)) in
-        omega (arith, n, before, now)
+        let n = one_more false (test ∙ ne_eqb place here (λ q. e (sym q))) in
+        rw (is, get_or-set_other counters place here (capped (get_or counters place 0 + 1)) 0 e) (omega (arith, n, before))
   ]
 
--- a core's row is counted
+-- a line is counted at one place
+tallies_at : (lines : List Taken) (line : Taken) (place : ℕ) (counters new : List ℕ) → place < 203 → new ≡ set counters place (capped (get_or counters place 0 + 1))
+    → ((s : CacheState) (e : CacheEvent) → takes_row s e line ≡ (place == core_place s e)) → ((s : MemState) (e : MemEvent) → takes_memory_row s e line ≡ (place == memory_place s e))
+    → Tallies counters lines → Tallies new (lines ++ line ∷ [])
+tallies_at lines line place counters new below is core_line memory_line far =
+    let lt : place < length counters = (let long = far.long in omega arith) in
+    record {
+      long = rw is (length-set counters place (capped (get_or counters place 0 + 1)) ∙ far.long);
+      cores = λ s e. counted_more (takes_row s e) lines line counters new place (core_place s e) lt is (core_line s e) (far.cores s e);
+      memory = λ s e. counted_more (takes_memory_row s e) lines line counters new place (memory_place s e) lt is (memory_line s e) (far.memory s e);
+    }
+
+-- a core's row is counted, or one of memory's
 pub tallies_core : (lines : List Taken) (core block : ℕ) (met : CacheEvent) (at : CacheState) (counters new : List ℕ) → new ≡ set counters (core_place at met) (capped (get_or counters (core_place at met) 0 + 1))
     → Tallies counters lines → Tallies new (lines ++ Core core block (Some met) at ∷ [])
-tallies_core lines core block met at counters new is far =
-    let line : Taken = Core core block (Some met) at in
+tallies_core lines core block met at counters new is =
     let below = core_below at met in
-    let long = far.long in
-    let lt : core_place at met < length counters = omega arith in
-    record {
-      long = ap length is ∙ length-set counters (core_place at met) (capped (get_or counters (core_place at met) 0 + 1)) ∙ far.long;
-      cores = λ s e. counted_more (takes_row s e) lines line counters new (core_place at met) (core_place s e) lt is
-          (same_pair_of_11 (state_number at) (event_number met) (state_number s) (event_number e) (event_within met) (event_within e)) (far.cores s e);
-      memory = λ s e. counted_more (takes_memory_row s e) lines line counters new (core_place at met) (memory_place s e) lt is
-          (sym (not_equal (core_place at met) (memory_place s e) (λ q. omega arith))) (far.memory s e);
-    }
+    tallies_at lines (Core core block (Some met) at) (core_place at met) counters new (omega arith) is
+    (λ s e. same_pair_of_11 (state_number at) (event_number met) (state_number s) (event_number e) (event_within met) (event_within e))
+    (λ s e. sym (ne_eqb (core_place at met) (memory_place s e) (λ q. omega arith)))
 
--- a row of memory's is counted
 pub tallies_memory : (lines : List Taken) (block : ℕ) (met : MemEvent) (at : MemState) (counters new : List ℕ) → new ≡ set counters (memory_place at met) (capped (get_or counters (memory_place at met) 0 + 1))
     → Tallies counters lines → Tallies new (lines ++ Memory block met at ∷ [])
-tallies_memory lines block met at counters new is far =
-    let line : Taken = Memory block met at in
-    let below = memory_below at met in
-    let long = far.long in
-    let lt : memory_place at met < length counters = omega arith in
-    record {
-      long = ap length is ∙ length-set counters (memory_place at met) (capped (get_or counters (memory_place at met) 0 + 1)) ∙ far.long;
-      cores = λ s e. let other = core_below s e in counted_more (takes_row s e) lines line counters new (memory_place at met) (core_place s e) lt is
-          (sym (not_equal (memory_place at met) (core_place s e) (λ q. omega arith))) (far.cores s e);
-      memory = λ s e. counted_more (takes_memory_row s e) lines line counters new (memory_place at met) (memory_place s e) lt is
-          (same_pair_of_6 (memory_state_number at) (memory_event_number met) (memory_state_number s) (memory_event_number e) (memory_event_within met) (memory_event_within e)) (far.memory s e);
-    }
+tallies_memory lines block met at counters new is =
+    tallies_at lines (Memory block met at) (memory_place at met) counters new (memory_below at met) is
+    (λ s e. let other = core_below s e in sym (ne_eqb (memory_place at met) (core_place s e) (λ q. omega arith)))
+    (λ s e. same_pair_of_6 (memory_state_number at) (memory_event_number met) (memory_state_number s) (memory_event_number e) (memory_event_within met) (memory_event_within e))
 
 -- a line without a row is not counted
-not_counted : (p : Taken → Bool) (lines : List Taken) (line : Taken) → p line ≡ false → capped (length (filter p lines)) ≡ capped (length (filter p (lines ++ line ∷ [])))
-not_counted p lines line none = let n = one_more p lines line false none in omega (arith, n)
-
 pub tallies_more : (lines : List Taken) (line : Taken) (counters : List ℕ) → ((s : CacheState) (e : CacheEvent) → takes_row s e line ≡ false)
     → ((s : MemState) (e : MemEvent) → takes_memory_row s e line ≡ false)
     → Tallies counters lines → Tallies counters (lines ++ line ∷ [])
 tallies_more lines line counters no_row no_memory_row far = record {
   long = far.long;
-  cores = λ s e. far.cores s e ∙ not_counted (takes_row s e) lines line (no_row s e);
-  memory = λ s e. far.memory s e ∙ not_counted (takes_memory_row s e) lines line (no_memory_row s e);
+  cores = λ s e. (let n = one_more (takes_row s e) lines line false (no_row s e) in omega (arith, n, far.cores s e));
+  memory = λ s e. (let n = one_more (takes_memory_row s e) lines line false (no_memory_row s e) in omega (arith, n, far.memory s e));
 }

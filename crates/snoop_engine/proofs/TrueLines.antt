@@ -1,56 +1,30 @@
 -- Each line of the frames of a run fits its step.
-use Rattle.std.proofs.Common.{◌≡◌, ◌⊎◌, ℕ, ◌<◌, ◌+◌, Bool, true, false, zero, suc, List, [], ◌∷◌, length, Option, Some, None, refl, sym, ap, subst, ◌∙◌, inl, inr, arith}
-use Rattle.std.specs.Prelude.{◌≢◌, ◌&&◌, ◌||◌, All, IsSomeAnd, MatchBool, Result, Ok, Err, nat_lt, not, if◌then◌else◌}
-use Rattle.std.specs.List.{flat_map, range_with_len}
-use Rattle.std.specs.Option.{option_map_or}
+use Rattle.std.proofs.Common.{◌≡◌, ◌⊎◌, ℕ, ◌<◌, ◌+◌, Bool, true, false, zero, suc, List, [], ◌∷◌, length, Option, Some, None, refl, sym, ap, ◌∙◌, inl, inr, arith, ◌≢◌, ◌&&◌, ◌||◌, All, IsSomeAnd, MatchBool, Result, Ok, Err, nat_lt, not, if◌then◌else◌, flat_map, subst}
+use Rattle.snoop_engine.proofs.Common.{range_with_len, option_map_or, All-append, All-cons, All-nil, Extent, Protocol, Msi, Mesi, Op, Step, Ask, Order, Respond, CacheCell, CacheEvent}
+use Rattle.snoop_engine.proofs.Common.{CacheState, I, MemEvent, MemState, Request, PutM, arrival, arrival_at_memory, asked, at_memory, seen_by, takes_payload, Did, Item, Open, Reply}
+use Rattle.snoop_engine.proofs.Common.{Refused, BusTaken, Line, Picture, held_at, held_by, nothing_held, Situation, picture_of, reset, state_of, ConsultsCache, ConsultsMemory, ArrivesFor}
+use Rattle.snoop_engine.proofs.Common.{FillsRequestor, IsAbsent, Asks, IsWithin, Orders, Responds, TakesFirst, GoesFirst, Invariant}
 use denote.Enum.Bare.{same_true, sameb}
 use Rattle.std.proofs.lemmas.List.{get_or-set_same}
-use Rattle.std.proofs.lemmas.List.Elements.{All-append, All-cons, All-nil}
-use Rattle.snoop_trace.specs.Extent.{Extent}
-use Rattle.snoop_trace.specs.declared.protocol.Protocol.{Protocol}
-use Rattle.snoop_trace.specs.declared.protocol.Protocol.TheVariants.{Msi, Mesi}
-use Rattle.snoop_trace.specs.declared.step.Op.{Op}
 use Rattle.snoop_trace.specs.declared.step.Op.TheVariants as op
-use Rattle.snoop_trace.specs.declared.step.Step.{Step}
-use Rattle.snoop_trace.specs.declared.step.Step.TheVariants.{Ask, Order, Respond}
 use Rattle.snoop_rules.specs.declared.names.CacheAction.{CacheAction}
 use Rattle.snoop_rules.specs.declared.names.CacheAction.TheVariants as action
-use Rattle.snoop_rules.specs.declared.names.CacheCell.{CacheCell}
-use Rattle.snoop_rules.specs.declared.names.CacheEvent.{CacheEvent}
-use Rattle.snoop_rules.specs.declared.names.CacheState.{CacheState}
-use Rattle.snoop_rules.specs.declared.names.CacheState.TheVariants.{I}
 use Rattle.snoop_rules.specs.contracts.names.CacheState.{the_type}
 use Rattle.snoop_rules.specs.declared.names.MemAction.{MemAction}
 use Rattle.snoop_rules.specs.declared.names.MemAction.TheVariants as mem_action
-use Rattle.snoop_rules.specs.declared.names.MemEvent.{MemEvent}
-use Rattle.snoop_rules.specs.declared.names.MemState.{MemState}
-use Rattle.snoop_rules.specs.declared.names.Request.{Request}
-use Rattle.snoop_rules.specs.declared.names.Request.TheVariants.{PutM}
 use Rattle.snoop_rules.specs.Cell.{Cell}
 use Rattle.snoop_rules.specs.MemoryCell.{MemoryCell}
-use Rattle.snoop_rules.specs.Takers.{arrival, arrival_at_memory, asked, at_memory, seen_by, takes_payload}
 use Rattle.snoop_rules.proofs.Every.{all_protocols, all_states, all_events}
 use Rattle.snoop_rules.proofs.Rows.{each_row, each_row-at}
-use Rattle.snoop_history.specs.declared.items.Did.{Did}
-use Rattle.snoop_history.specs.declared.items.Item.{Item}
-use Rattle.snoop_bus.specs.Traffic.{Open}
-use Rattle.snoop_model.specs.declared.replies.Reply.{Reply}
-use Rattle.snoop_model.specs.declared.replies.Refused.{Refused}
-use Rattle.snoop_model.specs.declared.replies.Refused.TheVariants.{Stalled, NothingWaiting, BusTaken, NoTransaction}
-use Rattle.snoop_model.specs.Pictures.Lines.{Line}
-use Rattle.snoop_model.specs.Pictures.Picture.{Picture, held_at, held_by, nothing_held}
-use Rattle.snoop_model.specs.Pictures.Situation.{Situation, picture_of, reset, state_of}
-use Rattle.snoop_model.specs.Moves.LookUps.{ConsultsCache, ConsultsMemory}
-use Rattle.snoop_model.specs.Moves.Move.{ArrivesFor, FillsRequestor, IsAbsent, Asks, IsWithin, Orders, Responds, Settles, Takes, TakesFirst}
+use Rattle.snoop_model.specs.declared.replies.Refused.TheVariants.{Stalled, NothingWaiting, NoTransaction}
+use Rattle.snoop_model.specs.Moves.Move.{Settles, Takes}
 use Rattle.snoop_model.specs.Moves.Refuses.{Refuses}
-use Rattle.snoop_model.specs.Runs.Run.{GoesFirst}
-use Rattle.snoop_model.specs.Invariant.Invariant.{Invariant}
 use Rattle.snoop_model.proofs.Invariant.Runs.{reset_invariant}
 use Rattle.snoop_model.proofs.OneBlock.AfterMoves.{ask_line, order_here, respond_here}
 use Rattle.snoop_model.proofs.Queues.Moves.{keeps_well, starts_well}
 use Rattle.snoop_model.proofs.Runs.GoOn.{IsSteady, steady_on}
 use Rattle.snoop_engine.specs.Frames.{Frame, FramesFrom}
-use Rattle.snoop_engine.specs.Taken.{event_asked, lines_of_step, of_arrival, of_arrival_at_memory, of_ask, of_holder, of_memory, of_order, of_request, of_requestor, of_respond, of_waiting_memory, memory_at, refused_by, state_at, unless_i}
+use Rattle.snoop_engine.specs.Taken.{event_asked, lines_of_step, of_arrival, of_arrival_at_memory, of_ask, of_holder, of_memory, of_request, of_requestor, of_respond, of_waiting_memory, memory_at, refused_by, state_at, unless_i}
 use Rattle.snoop_engine.specs.TrueLines.{FitsStep, HasAllLines, ShowsRows, HasTakenRows}
 use Rattle.snoop_engine.proofs.AllLines.{asker_listed, cores_listed, memory_rows_listed}
 use Rattle.snoop_engine.specs.declared.taken.Taken.{Taken}
@@ -127,8 +101,7 @@ module _ (old new : Situation) (step : Step) (outcome : Result Reply Refused) wh
   asker_fits : (core block : ℕ) (asking : Op) (event : Option CacheEvent) → event_asked asking (state_of old core block) ≡ event
       → FitsStep here (Core core block event (state_of old core block)) → All (FitsStep here) (of_ask old core block asking)
   asker_fits core block asking event is line =
-      all_at (FitsStep here) old core block (λ before. Core core block (event_asked asking before) before ∷ [])
-      (all_one (FitsStep here) _ (subst (λ (e : Option CacheEvent). FitsStep here (Core core block e (state_of old core block))) (sym is) line))
+      all_at (FitsStep here) old core block (λ before. Core core block (event_asked asking before) before ∷ []) (all_one (FitsStep here) _ (rw is line))
 
   -- a line of no controller
   nobody_fits : (core block : Option ℕ) → All (FitsStep here) (Nobody core block ∷ [])
@@ -196,7 +169,7 @@ module _ (old new : Situation) (step : Step) (outcome : Result Reply Refused) wh
         ap (λ (p : Picture). (held_by p closing.core).state) now
         ∙ (ap (λ (l : List Line). (held_at l closing.core).state) f.held
         ∙ (ap (λ (l : Line). l.state) (get_or-set_same (picture_of old block).caches closing.core f.line nothing_held within) ∙ ap (λ (l : Line). l.state) f.fills.held)) in
-        subst (λ (e : Option CacheEvent). All (FitsStep here) (of_arrival old closing.core block e)) (sym f.fills.arrives)
+        rw f.fills.arrives
         (all_at (FitsStep here) old closing.core block (λ before. Core closing.core block (Some f.fills.event) before ∷ [])
         (all_one (FitsStep here) _ (row_fits closing.core f.fills.event f.fills.row.action f.fills.row.next f.fills.is_row is (looks f.fills.event (sym f.fills.arrives)))))
 
@@ -223,13 +196,11 @@ module _ (old new : Situation) (step : Step) (outcome : Result Reply Refused) wh
         let now : picture_of new block ≡ r.next = respond_here old block closing did new g within r in
         let core_in = (g.blocks block within).requestor_in closing r.opened in
         let long = g.shaped.row block within in
-        let s : MemState = (picture_of old block).memory.state in
-        let settled : Settles old.protocol closing.request closing.payload (picture_of old block).memory.state r.memory.act (picture_of new block).memory.state =
-        subst (λ (p : Picture). Settles old.protocol closing.request closing.payload (picture_of old block).memory.state r.memory.act p.memory.state) (sym now) r.memory.settled in
+        let settled : Settles old.protocol closing.request closing.payload (picture_of old block).memory.state r.memory.act (picture_of new block).memory.state = subst (λ (p : Picture). Settles old.protocol closing.request closing.payload (picture_of old block).memory.state r.memory.act p.memory.state) (sym now) r.memory.settled in
         All-append (FitsStep here) (of_requestor closing.request old block closing) (of_waiting_memory old block closing)
         (requestor_fits closing.request closing did r.next (omega arith) now r.requestor looks)
         (all_at_memory (FitsStep here) old block (λ before. if takes_payload closing.request before then of_arrival_at_memory old block (arrival_at_memory closing.payload) else [])
-        (settled_fits (takes_payload closing.request s) (arrival_at_memory closing.payload) r.memory.act settled memory_looks))
+        (settled_fits (takes_payload closing.request (picture_of old block).memory.state) (arrival_at_memory closing.payload) r.memory.act settled memory_looks))
 
 -- an Ask that is an event is looked up
 asker_looks : (s : Situation) (core block word : ℕ) (asking : Op) → event_asked asking (state_of s core block) ≡ Some (asked asking) → ConsultsCache s (Ask core block word asking) core block (Some (asked asking))
@@ -241,7 +212,7 @@ module _ (old new : Situation) where
   refused_fits (Ask core block word asking) (Stalled held) refuses same =
       let next = refuses.2.0 in
       asked_fits old new (Ask core block word asking) (Err (Stalled held)) block tt core asking action.Stall next refuses.2.1
-      (ap (λ (s : Situation). state_of s core block) same ∙ sym (stall_stays old.protocol (state_of old core block) (asked asking) next refuses.2.1)) (asker_looks old core block word asking)
+      (rw same (sym (stall_stays old.protocol (state_of old core block) (asked asking) next refuses.2.1))) (asker_looks old core block word asking)
   refused_fits (Order core) (BusTaken block) refuses same =
       all_at (FitsStep (here old new (Order core) (Err (BusTaken block)))) old core block (λ before. Core core block None before ∷ [])
       (all_one (FitsStep (here old new (Order core) (Err (BusTaken block)))) _ (idle_fits old new (Order core) (Err (BusTaken block)) core block same))
@@ -253,31 +224,20 @@ module _ (old new : Situation) where
 step_fits : (old new : Situation) (step : Step) (outcome : Result Reply Refused) → IsSteady old → GoesFirst old step outcome new → All (FitsStep (here old new step outcome)) (lines_of_step old step outcome)
 step_fits old new step (Err cause) steady goes = refused_fits old new step cause goes.0 goes.1
 step_fits old new (Ask core block word asking) (Ok answer) steady goes =
-    let m = goes.1 in
-    let P : ℕ → Type 0 = λ b. IsWithin old core b × (IsAbsent old core b asking answer new goes.0 ⊎ Asks old core b word asking answer new goes.0) in
-    let moved : P block = subst P (sym m.1.1.on_block) (m.1.1.within, m.1.1.moves) in
-    ask_fits old new (Ask core block word asking) (Ok answer) block tt core word asking answer goes.0 steady.0 moved.0 moved.1 (asker_looks old core block word asking)
+    let m = goes.1.1.1 in
+    ask_fits old new (Ask core block word asking) (Ok answer) block tt core word asking answer goes.0 steady.0 (rw m.on_block m.within) (rw m.on_block m.moves) (asker_looks old core block word asking)
 step_fits old new (Order core) (Ok answer) steady goes =
     let m = goes.1 in
-    let block = m.0 in
     let move = m.1.1 in
     let request : Request = move.request in
-    let frame : Frame = here old new (Order core) (Ok answer) in
-    let lines : All (FitsStep frame) (of_request old core block request) = order_fits old new (Order core) (Ok answer) block m.1.0 core request steady.0 move.within move.orders
-    (λ k. (request, (move.orders.ready, refl))) (request, (move.orders.ready, refl)) in
-    let waiting : All (FitsStep frame) (of_order old core block) = subst (λ (w : Option Request). All (FitsStep frame) (option_map_or (of_request old core block) w [])) (sym move.orders.ready.0) lines in
-    subst (λ (b : Option ℕ). All (FitsStep frame) (option_map_or (of_order old core) b [])) (sym m.1.0) waiting
+    rw (m.1.0, move.orders.ready.0) (order_fits old new (Order core) (Ok answer) m.0 m.1.0 core request steady.0 move.within move.orders
+    (λ k. (request, (move.orders.ready, refl))) (request, (move.orders.ready, refl)))
 step_fits old new (Respond block) (Ok answer) steady goes =
-    let m = goes.1 in
-    let move = m.1.1 in
+    let move = goes.1.1.1 in
     let closing : Open = move.closing in
-    let did : Option Did = move.did in
-    let frame : Frame = here old new (Respond block) (Ok answer) in
-    let P : ℕ → Type 0 = λ b. (b < old.shape.blocks) × Responds old b closing did new in
-    let moved : P block = subst P (sym move.on_block) (move.within, move.responds) in
-    subst (λ (t : Option Open). All (FitsStep frame) (option_map_or (of_respond old block) t [])) (sym moved.1.opened)
-    (respond_fits old new (Respond block) (Ok answer) block tt closing did steady.0 moved.0 moved.1
-    (λ other event comes. (closing, (refl, moved.1.opened, refl, other, comes))) (λ takes. (closing, (refl, moved.1.opened, takes, refl))))
+    let responds : Responds old block closing move.did new = rw move.on_block move.responds in
+    rw responds.opened (respond_fits old new (Respond block) (Ok answer) block tt closing move.did steady.0 (rw move.on_block move.within) responds
+    (λ other event comes. (closing, (refl, responds.opened, refl, other, comes))) (λ takes. (closing, (refl, responds.opened, takes, refl))))
 
 -- none is left out
 step_whole : (old new : Situation) (step : Step) (outcome : Result Reply Refused) → IsSteady old → GoesFirst old step outcome new → HasTakenRows outcome → HasAllLines (here old new step outcome)
@@ -297,7 +257,7 @@ step_whole old new step (Err cause) steady goes takes = absurd takes
 frames_show : (frames : List Frame) (old new : Situation) → IsSteady old → FramesFrom old frames new → All ShowsRows frames
 frames_show [] old new steady run = All-nil ShowsRows
 frames_show (f ∷ fs) old new steady run =
-    let from : IsSteady f.before = subst IsSteady (sym run.0.before) steady in
+    let from : IsSteady f.before = rw run.0.before steady in
     All-cons ShowsRows f fs (record { stays = (goes_alike f.before f.step f.outcome f.after run.0.goes).0; fit = step_fits f.before f.after f.step f.outcome from run.0.goes; all = step_whole f.before f.after f.step f.outcome from run.0.goes })
     (frames_show fs f.after new (steady_on keeps_well f.before f.step f.outcome f.after from run.0.goes) run.1)
 

@@ -1,24 +1,12 @@
 -- The lines of a course's steps, written or in the chunk, and then the report.
-use Rattle.std.proofs.Common.{◌≡◌, ℕ, List, [], ◌∷◌, ◌++◌, Option, Some, None, refl, sym, ap, ◌∙◌, append_assoc, inr}
-use Rattle.std.specs.Prelude.{Result, Ok, Err, IfSome}
-use Rattle.std.specs.Io.KnownBytes.{Appends}
+use Rattle.std.proofs.Common.{◌≡◌, ℕ, List, [], ◌∷◌, ◌++◌, Option, refl, sym, ap, ◌∙◌, append_assoc, ◌⊎◌, inl, inr, Result, Ok, Err, IsErrAnd}
+use Rattle.snoop_engine.proofs.Common.{Appends, Extent, AppendsFront, Gathers, Spills, WriteFault, Protocol, Row, Step, gathers_cut, gathers_done, gathers_more, gathers_spilled}
+use Rattle.snoop_engine.proofs.Common.{gathers_stop, appends_none_of, Item, Reply, Refused, Situation, reset, FirstRunFrom, GoesFirst, RunsGoOn, TheRun}
 use Rattle.std.proofs.lemmas.List.{append-nil}
-use Rattle.snoop_trace.specs.Extent.{Extent}
-use Rattle.snoop_trace.specs.Output.{AppendsFront, Gathers, Spills}
-use Rattle.snoop_trace.specs.Text.{rows_of}
-use Rattle.snoop_trace.specs.declared.fault.WriteFault.{WriteFault}
 use Rattle.snoop_trace.specs.declared.fault.WriteFault.TheVariants as write
-use Rattle.snoop_trace.specs.declared.protocol.Protocol.{Protocol}
-use Rattle.snoop_trace.specs.declared.step.Row.{Row}
-use Rattle.snoop_trace.specs.declared.step.Step.{Step}
-use Rattle.snoop_trace.proofs.GathersLemmas.{gathers_cut, gathers_done, gathers_more, gathers_none, gathers_spilled, gathers_stop}
-use Rattle.snoop_trace.proofs.OutputLemmas.{appends_more, appends_none_of, front_after}
-use Rattle.snoop_history.specs.declared.items.Item.{Item}
+use Rattle.snoop_trace.proofs.GathersLemmas.{gathers_none}
+use Rattle.snoop_trace.proofs.OutputLemmas.{appends_more, front_after}
 use Rattle.snoop_history.specs.Report.{report_of}
-use Rattle.snoop_model.specs.declared.replies.Reply.{Reply}
-use Rattle.snoop_model.specs.declared.replies.Refused.{Refused}
-use Rattle.snoop_model.specs.Pictures.Situation.{Situation, reset}
-use Rattle.snoop_model.specs.Runs.Run.{FirstRunFrom, GoesFirst, RunsGoOn, TheRun}
 use Rattle.snoop_engine.specs.Courses.{CanEnd, LeadsToEndWith, Leading, LeadsOn}
 use Rattle.snoop_engine.specs.Fault.{fault_of_write}
 use Rattle.snoop_engine.specs.InOrder.{EndsInOrder, InOrder}
@@ -26,13 +14,13 @@ use Rattle.snoop_engine.specs.Journey.{IsAtTheEnd, IsAtTheStart}
 use Rattle.snoop_engine.specs.Line.{line_text, line_texts}
 use Rattle.snoop_engine.specs.Round.{Progress}
 use Rattle.snoop_engine.specs.Simulated.{Begins}
-use Rattle.snoop_engine.specs.SimulatedRun.{BeginsRun, ReadsRows, ReportsRun}
+use Rattle.snoop_engine.specs.SimulatedRun.{BeginsRun, ReportsRun}
 use Rattle.snoop_engine.specs.SimulatedSerial.{BeginsSerial, ReportsSerial}
 use Rattle.snoop_engine.specs.Written.{run_text}
 use Rattle.snoop_engine.specs.declared.fault.SimFault.{SimFault}
 use Rattle.snoop_engine.specs.declared.fault.SimFault.TheVariants as fault
 use Rattle.snoop_engine.proofs.CourseLemmas.{Along, along_more, along_none, driver_served, ends_here, ends_on, in_order_served}
-use Rattle.snoop_engine.proofs.TakenLemmas.{line_texts_more, run_shape}
+use Rattle.snoop_engine.proofs.TakenLemmas.{run_shape}
 
 -- the lines of a run that goes on
 line_texts_on : (shape : Extent) (first rest : List Step) (outcomes more : List (Result Reply Refused)) (old new : Situation)
@@ -65,7 +53,7 @@ module _ {protocol : Protocol} {shape : Extent} {first now : Leading} {here : Si
   unfolding along_more
   writing_more next step outcome after grown goes on can_end e = record {
     along = along_more far.along next step outcome after goes on can_end;
-    lines = rw (line_texts_more shape far.along.steps far.along.outcomes (reset protocol shape) here step outcome far.along.run)
+    lines = rw (line_texts_on shape far.along.steps (step ∷ []) far.along.outcomes (outcome ∷ []) (reset protocol shape) here far.along.run, append-nil (line_text shape step outcome))
         (gathers_more a b chunk grown (line_texts shape far.along.steps far.along.outcomes) (line_text shape step outcome) far.lines e);
   }
 
@@ -120,15 +108,15 @@ begins_nothing go_on protocol shape steps a =
     record { outcomes = all.0; final = all.1.0; run = all.1.1; output = appends_none_of a (run_text shape steps all.0 all.1.0) }
 
 -- a driver at its end has served its rows
-module _ (protocol : Protocol) (shape : Extent) (rows : List Row) (start : Progress) (at : IsAtTheStart protocol shape rows start) (a b : Option (List ℕ)) where
-  pub reports_run : LeadsToEndWith (λ steps outcomes final. IsAtTheEnd start steps outcomes final) (λ steps outcomes final. Appends a b (run_text start.situation.shape steps outcomes final)) → ReportsRun protocol shape rows a b
+module _ {protocol : Protocol} {shape : Extent} {rows : List Row} {start : Progress} (at : IsAtTheStart protocol shape rows start) {a b : Option (List ℕ)} where
+  pub reports_run : LeadsToEndWith (IsAtTheEnd start) (λ steps outcomes final. Appends a b (run_text start.situation.shape steps outcomes final)) → ReportsRun protocol shape rows a b
   reports_run end =
-      let served = driver_served protocol shape rows start end.steps end.outcomes end.final at end.way in
+      let served = driver_served at end.way in
       record { steps = end.steps; outcomes = end.outcomes; final = end.final; run = served.0; serves = served.1; output = rw at.situation at end.holds }
 
-  pub begins_run : LeadsToEndWith (λ steps outcomes final. IsAtTheEnd start steps outcomes final) (λ steps outcomes final. AppendsFront a b (run_text start.situation.shape steps outcomes final)) → BeginsRun protocol shape rows a b
+  pub begins_run : LeadsToEndWith (IsAtTheEnd start) (λ steps outcomes final. AppendsFront a b (run_text start.situation.shape steps outcomes final)) → BeginsRun protocol shape rows a b
   begins_run end =
-      let served = driver_served protocol shape rows start end.steps end.outcomes end.final at end.way in
+      let served = driver_served at end.way in
       record {
         steps = end.steps;
         outcomes = end.outcomes;
@@ -140,15 +128,15 @@ module _ (protocol : Protocol) (shape : Extent) (rows : List Row) (start : Progr
       }
 
 -- and so has one that serves them one after another
-module _ (protocol : Protocol) (shape : Extent) (rows : List Row) (start : InOrder) (at : start.situation ≡ reset protocol shape) (left : start.left ≡ rows) (a b : Option (List ℕ)) where
-  pub reports_serial : LeadsToEndWith (λ steps outcomes final. EndsInOrder start steps outcomes final) (λ steps outcomes final. Appends a b (run_text start.situation.shape steps outcomes final)) → ReportsSerial protocol shape rows a b
+module _ {protocol : Protocol} {shape : Extent} {rows : List Row} {start : InOrder} (at : start.situation ≡ reset protocol shape) (left : start.left ≡ rows) {a b : Option (List ℕ)} where
+  pub reports_serial : LeadsToEndWith (EndsInOrder start) (λ steps outcomes final. Appends a b (run_text start.situation.shape steps outcomes final)) → ReportsSerial protocol shape rows a b
   reports_serial end =
-      let served = in_order_served protocol shape rows start end.steps end.outcomes end.final at left end.way in
+      let served = in_order_served at left end.way in
       record { steps = end.steps; outcomes = end.outcomes; final = end.final; run = served.0; serves = served.1; output = rw at at end.holds }
 
-  pub begins_serial : LeadsToEndWith (λ steps outcomes final. EndsInOrder start steps outcomes final) (λ steps outcomes final. AppendsFront a b (run_text start.situation.shape steps outcomes final)) → BeginsSerial protocol shape rows a b
+  pub begins_serial : LeadsToEndWith (EndsInOrder start) (λ steps outcomes final. AppendsFront a b (run_text start.situation.shape steps outcomes final)) → BeginsSerial protocol shape rows a b
   begins_serial end =
-      let served = in_order_served protocol shape rows start end.steps end.outcomes end.final at left end.way in
+      let served = in_order_served at left end.way in
       record {
         steps = end.steps;
         outcomes = end.outcomes;
@@ -163,14 +151,8 @@ module _ (protocol : Protocol) (shape : Extent) (rows : List Row) (start : InOrd
         output = inr (served.1, rw at at end.holds);
       }
 
--- a failed write, or out of memory, after the whole text was read
-pub write_faults : (P : Result (Unit {0}) SimFault → Type 0) (cause : WriteFault) (result : Result (Unit {0}) SimFault) → result ≡ Err (fault_of_write cause)
-    → P (Err fault.Write) → P (Err fault.NoMemory) → P result
-write_faults P write.Write result e failed full = rw e failed
-write_faults P write.NoMemory result e failed full = rw e full
-
--- the rows of a text are read where what they ask for is
-pub rows_read : (shape : Extent) (input : Option (List ℕ)) (rows : List Row) → IfSome input (λ bytes. rows_of shape bytes ≡ Ok rows)
-    → ReadsRows shape input (Ok rows)
-rows_read shape None rows given = tt
-rows_read shape (Some bytes) rows given = given
+-- a failed write, or out of memory: what a fault of a write becomes
+pub write_faulted : (cause : WriteFault) (result : Result (Unit {0}) SimFault) → IsErrAnd result (λ made. made ≡ fault_of_write cause) → (result ≡ Err fault.Write) ⊎ (result ≡ Err fault.NoMemory)
+write_faulted write.Write (Err made) is = inl (ap (λ (f : SimFault). Err f) is)
+write_faulted write.NoMemory (Err made) is = inr (ap (λ (f : SimFault). Err f) is)
+write_faulted cause (Ok u) is = absurd is

@@ -9,7 +9,6 @@ use Rattle.snoop_model.specs.declared.replies.Refused.{Refused}
 use Rattle.snoop_model.specs.Pictures.Situation.{Situation}
 use Rattle.snoop_model.specs.Moves.Move.{FirstMove}
 use Rattle.snoop_model.specs.Moves.Refuses.{Refuses}
-use Rattle.snoop_model.specs.Turns.Quiet.{IsQuiet}
 use Rattle.snoop_model.specs.Turns.Serving.{IsServing, IsUnderWay, steps_owed}
 use Rattle.snoop_model.specs.Invariant.WellKept.{IsWellKept}
 use Rattle.snoop_trace.specs.declared.step.Work.{Work}
@@ -78,9 +77,3 @@ pub record Advances (old : Progress) (step : Step) (answer : Reply) (new : Progr
 pub record IsUnasked (old new : Progress) : Type 0 where
   pub situation : new.situation ≡ old.situation
   pub left : (core : ℕ) → (todo_of new.lanes core).left ≡ (todo_of old.lanes core).left
-
--- no row was left, and the machine is quiet
-pub record IsDone (old new : Progress) : Type 0 where
-  pub situation : new.situation ≡ old.situation
-  pub left : (core : ℕ) → (todo_of old.lanes core).left ≡ []
-  pub quiet : IsQuiet new.situation

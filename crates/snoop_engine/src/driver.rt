@@ -5,7 +5,8 @@ ghost use Rattle.snoop_model.specs.Turns.Quiet.{IsQuiet};
 ghost use Rattle.snoop_model.specs.Turns.Serving.{IsUnderWay};
 ghost use Rattle.snoop_engine.specs.Todo.{IsAskedWithin, todo_of, lanes_under_way, left_in, works_by};
 ghost use Rattle.snoop_engine.specs.Served.{ask_of};
-ghost use Rattle.snoop_engine.specs.Round.{TakesUp, Finds, IsIdle, IsOver, IsEnabled, IsDone};
+ghost use Rattle.snoop_engine.specs.Journey.{IsAtTheEnd};
+ghost use Rattle.snoop_engine.specs.Round.{TakesUp, Finds, IsIdle, IsOver, IsEnabled};
 
 use crate::asks::AskQueue;
 use crate::course::{Course, take_enabled};
@@ -144,7 +145,7 @@ impl Driver {
     fn next_step(&mut self) -> Option<Step>
         ensures machine { self.new.situation ≡ self.old.situation }
         ensures finds { IfSome result (λ step. Finds self.old step self.new) }
-        ensures done { IfNone result (IsDone self.old self.new) }
+        ensures done { IfNone result (IsAtTheEnd self.old [] [] self.old.situation) }
     {
         while let Some(core) = self.whose_turn() {
             if let Some(step) = self.turn(core) {
@@ -158,8 +159,7 @@ impl Driver {
 }
 
 impl Course for Driver {
-    ghost use Rattle.snoop_engine.specs.Journey.{IsAtTheEnd};
-    ghost use Rattle.snoop_engine.specs.Round.{Finds, remaining};
+    ghost use Rattle.snoop_engine.specs.Round.{remaining};
 
     ghost situation = { λ d. d.situation };
 

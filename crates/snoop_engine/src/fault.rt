@@ -14,6 +14,17 @@ pub enum SimFault {
     Write,
 }
 
+impl From<TextFault> for SimFault {
+    ghost use Rattle.std.specs.Prelude.{◌≡◌};
+    ghost use Rattle.snoop_engine.specs.declared.fault.SimFault.TheVariants.{Text};
+
+    ghost from_gives = { λ e r. r ≡ Text e };
+
+    fn from(fault: TextFault) -> Self {
+        SimFault::Text(fault)
+    }
+}
+
 impl From<WriteFault> for SimFault {
     ghost use Rattle.std.specs.Prelude.{◌≡◌};
     ghost use Rattle.snoop_engine.specs.Fault.{fault_of_write};

@@ -37,7 +37,7 @@ pub fn simulate_run<R: Source, W: Sink>(
     ensures read_blamed { BlamesReader (R.failed reader.old) (R.failed reader.new) (result ≡ Err (SimFault.Text text_fault.Read)) }
     ensures blamed { BlamesWriter (W.failed writer.old) (W.failed writer.new) (result ≡ Err SimFault.Write) }
 {
-    let mut driver = read_driver(alloc, reader, protocol, shape).map_err(SimFault::Text)?;
+    let mut driver = read_driver(alloc, reader, protocol, shape)?;
     write_lines(alloc, writer, &mut driver)?;
     Ok(())
 }

@@ -35,7 +35,7 @@ pub fn simulate_serial<R: Source, W: Sink>(
     ensures read_blamed { BlamesReader (R.failed reader.old) (R.failed reader.new) (result ≡ Err (SimFault.Text text_fault.Read)) }
     ensures blamed { BlamesWriter (W.failed writer.old) (W.failed writer.new) (result ≡ Err SimFault.Write) }
 {
-    let rows = read_rows(alloc, reader, shape).map_err(SimFault::Text)?;
+    let rows = read_rows(alloc, reader, shape)?;
     let Ok(mut driver) = SerialDriver::new(alloc, protocol, shape, &rows) else {
         return Err(SimFault::Text(TextFault::NoMemory));
     };

@@ -1,10 +1,9 @@
 //! The driver of rows that are served one after another.
 ghost use Rattle.std.specs.Prelude.{◌≡◌, [], All, IfOk, IfNone, IfSome, false};
 ghost use Rattle.snoop_model.specs.Pictures.Situation.{reset};
-ghost use Rattle.snoop_model.specs.Turns.Quiet.{IsQuiet};
 ghost use Rattle.snoop_model.specs.Turns.Serving.{IsUnderWay};
 ghost use Rattle.snoop_trace.specs.Grammar.{IsRowWithin};
-ghost use Rattle.snoop_engine.specs.InOrder.{TakesUpNext, row_under_way};
+ghost use Rattle.snoop_engine.specs.InOrder.{EndsInOrder, TakesUpNext, row_under_way};
 ghost use Rattle.snoop_engine.specs.UnderWay.{ServesOnly, nothing};
 ghost use Rattle.snoop_engine.specs.Round.{IsEnabled};
 ghost use Rattle.snoop_engine.specs.Serial.{is_ask};
@@ -100,7 +99,7 @@ impl<'a> SerialDriver<'a> {
         ensures takes_up { IfSome result (λ step. TakesUpNext self.old step self.new.left) }
         ensures under_way { IfSome result (IsUnderWay (row_under_way self.new.situation.shape self.new.row)) }
         ensures enabled { IfSome result (IsEnabled self.new.situation) }
-        ensures done { IfNone result ((self.old.left ≡ []) × IsQuiet self.old.situation) }
+        ensures done { IfNone result (EndsInOrder self.old [] [] self.old.situation) }
     {
         if let Some(step) = self.continued() {
             return Some(step);
@@ -110,7 +109,7 @@ impl<'a> SerialDriver<'a> {
 }
 
 impl<'a> Course for SerialDriver<'a> {
-    ghost use Rattle.snoop_engine.specs.InOrder.{EndsInOrder, FindsInOrder, remaining_in_order};
+    ghost use Rattle.snoop_engine.specs.InOrder.{FindsInOrder, remaining_in_order};
 
     ghost situation = { λ d. d.situation };
 

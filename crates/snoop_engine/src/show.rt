@@ -71,9 +71,7 @@ fn view_steps<R: Source, W: Sink, V: View>(
     ensures read_blamed { BlamesReader (R.failed reader.old) (R.failed reader.new) (result ≡ Err (SimFault.Text text_fault.Read)) }
     ensures blamed { BlamesWriter (W.failed writer.old) (W.failed writer.new) (result ≡ Err SimFault.Write) }
 {
-    let script = gather_steps(alloc, reader, protocol, shape, StepQueue::new(alloc)).map_err(
-        SimFault::Text,
-    )?;
+    let script = gather_steps(alloc, reader, protocol, shape, StepQueue::new(alloc))?;
     show_script(alloc, writer, protocol, shape, script, view)?;
     Ok(())
 }
@@ -94,7 +92,7 @@ fn view_rows<R: Source, W: Sink, V: View>(
     ensures read_blamed { BlamesReader (R.failed reader.old) (R.failed reader.new) (result ≡ Err (SimFault.Text text_fault.Read)) }
     ensures blamed { BlamesWriter (W.failed writer.old) (W.failed writer.new) (result ≡ Err SimFault.Write) }
 {
-    let mut driver = read_driver(alloc, reader, protocol, shape).map_err(SimFault::Text)?;
+    let mut driver = read_driver(alloc, reader, protocol, shape)?;
     show(alloc, writer, &mut driver, view)?;
     Ok(())
 }
@@ -115,7 +113,7 @@ fn view_serial_rows<R: Source, W: Sink, V: View>(
     ensures read_blamed { BlamesReader (R.failed reader.old) (R.failed reader.new) (result ≡ Err (SimFault.Text text_fault.Read)) }
     ensures blamed { BlamesWriter (W.failed writer.old) (W.failed writer.new) (result ≡ Err SimFault.Write) }
 {
-    let rows = read_rows(alloc, reader, shape).map_err(SimFault::Text)?;
+    let rows = read_rows(alloc, reader, shape)?;
     let Ok(mut driver) = SerialDriver::new(alloc, protocol, shape, &rows) else {
         return Err(SimFault::Text(TextFault::NoMemory));
     };

@@ -36,9 +36,7 @@ pub fn simulate_steps<R: Source, W: Sink>(
     ensures read_blamed { BlamesReader (R.failed reader.old) (R.failed reader.new) (result ≡ Err (SimFault.Text text_fault.Read)) }
     ensures blamed { BlamesWriter (W.failed writer.old) (W.failed writer.new) (result ≡ Err SimFault.Write) }
 {
-    let steps = gather_steps(alloc, reader, protocol, shape, StepQueue::new(alloc)).map_err(
-        SimFault::Text,
-    )?;
+    let steps = gather_steps(alloc, reader, protocol, shape, StepQueue::new(alloc))?;
     write_output(alloc, writer, protocol, shape, steps)?;
     Ok(())
 }

@@ -31,6 +31,7 @@ fn memory_place(state: MemState, event: MemEvent) -> usize
 
 impl Tally {
     /// Nothing is counted yet.
+    #[tactic(auto, using(crate::proofs::TallyLemmas::tallies_none))]
     pub(crate) fn new() -> Self
         ensures { Tallies result.counters [] }
     {

@@ -1,9 +1,7 @@
-use Rattle.std.specs.List.{flat_map}
-use Rattle.snoop_rules.specs.declared.names.CacheState.TheVariants.{I}
-use Rattle.snoop_rules.specs.TableOrder.{cache_events, cache_states}
+use Rattle.std.proofs.Common.{flat_map}
+use Rattle.snoop_engine.proofs.Common.{I, cache_events, cache_states, piece_more, pieces_all}
 use Rattle.snoop_engine.specs.Counts.{cache_count_at, cache_counts}
 use Rattle.snoop_engine.specs.Tallies.{counts_in}
-use Rattle.snoop_rules.proofs.TextLemmas.{piece_more, pieces_all}
 use Rattle.snoop_engine.proofs.counts_text.push_cache_counts.Goals as goal
 
 pub loop-state-preserved : goal.loop-state-preserved

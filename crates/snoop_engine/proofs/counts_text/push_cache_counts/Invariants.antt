@@ -1,6 +1,5 @@
-use Rattle.std.proofs.Common.{◌≡◌, ◌++◌, take}
-use Rattle.std.specs.List.{flat_map}
-use Rattle.snoop_rules.specs.TableOrder.{cache_events, cache_states}
+use Rattle.std.proofs.Common.{◌≡◌, ◌++◌, take, flat_map}
+use Rattle.snoop_engine.proofs.Common.{cache_events, cache_states}
 use Rattle.snoop_engine.specs.Counts.{cache_count_at}
 use Rattle.snoop_engine.specs.Tallies.{counts_in}
 use Rattle.snoop_engine.proofs.counts_text.push_cache_counts.Given as goal

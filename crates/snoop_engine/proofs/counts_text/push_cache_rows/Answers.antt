@@ -1,15 +1,10 @@
+use Rattle.snoop_engine.proofs.Common.{cache_events, piece_more}
 use Rattle.snoop_rules.specs.declared.names.CacheEvent.TheVariants.{Load}
-use Rattle.snoop_rules.specs.TableOrder.{cache_events}
 use Rattle.snoop_engine.specs.Counts.{cache_count_at}
 use Rattle.snoop_engine.specs.Tallies.{counts_in}
-use Rattle.snoop_rules.proofs.TextLemmas.{piece_more, pieces_all}
 use Rattle.snoop_engine.proofs.counts_text.push_cache_rows.Goals as goal
 
 pub loop-event-preserved : goal.loop-event-preserved
 loop-event-preserved c =
     piece_more (cache_count_at c.args.protocol (counts_in c.args.tally.now.counters) c.args.state) cache_events c.loop-event.event-index Load c.args.out.now.items c.loop-event.out.items c.push_cache_row.new.out.items
     c.loop-event-test.true c.loop-event.invariant c.in_ok-push_cache_row.ensures
-
-pub returns : goal.returns
-returns c =
-    pieces_all (cache_count_at c.args.protocol (counts_in c.args.tally.now.counters) c.args.state) cache_events c.loop-event.event-index c.args.out.now.items c.loop-event.out.items c.loop-event-test.false c.loop-event.invariant

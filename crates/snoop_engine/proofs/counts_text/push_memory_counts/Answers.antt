@@ -1,9 +1,8 @@
-use Rattle.std.specs.List.{flat_map}
+use Rattle.std.proofs.Common.{flat_map}
+use Rattle.snoop_engine.proofs.Common.{memory_events, memory_states, piece_more, pieces_all}
 use Rattle.snoop_rules.specs.declared.names.MemState.TheVariants.{IorS}
-use Rattle.snoop_rules.specs.TableOrder.{memory_events, memory_states}
 use Rattle.snoop_engine.specs.Counts.{memory_count_at, memory_counts}
 use Rattle.snoop_engine.specs.Tallies.{memory_counts_in}
-use Rattle.snoop_rules.proofs.TextLemmas.{piece_more, pieces_all}
 use Rattle.snoop_engine.proofs.counts_text.push_memory_counts.Goals as goal
 
 pub loop-state-preserved : goal.loop-state-preserved

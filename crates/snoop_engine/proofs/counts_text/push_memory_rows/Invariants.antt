@@ -1,6 +1,5 @@
-use Rattle.std.proofs.Common.{◌≡◌, ◌++◌, take}
-use Rattle.std.specs.List.{flat_map}
-use Rattle.snoop_rules.specs.TableOrder.{memory_events}
+use Rattle.std.proofs.Common.{◌≡◌, ◌++◌, take, flat_map}
+use Rattle.snoop_engine.proofs.Common.{memory_events}
 use Rattle.snoop_engine.specs.Counts.{memory_count_at}
 use Rattle.snoop_engine.specs.Tallies.{memory_counts_in}
 use Rattle.snoop_engine.proofs.counts_text.push_memory_rows.Given as goal

@@ -1,7 +1,5 @@
-use Rattle.std.proofs.Common.{List}
-use Rattle.std.specs.Prelude.{Result}
-use Rattle.snoop_model.specs.declared.replies.Reply.{Reply}
-use Rattle.snoop_model.specs.declared.replies.Refused.{Refused}
+use Rattle.std.proofs.Common.{List, Result}
+use Rattle.snoop_engine.proofs.Common.{Reply, Refused}
 use Rattle.snoop_engine.proofs.CourseLemmas.{LeadsFrom}
 use Rattle.snoop_engine.proofs.gather.gather.Given as goal
 

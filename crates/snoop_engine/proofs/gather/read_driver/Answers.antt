@@ -1,5 +1,4 @@
 use Rattle.snoop_engine.proofs.Dealing.{asks_within, left_of_rows}
-use Rattle.snoop_engine.proofs.WrittenLemmas.{rows_read}
 use Rattle.snoop_engine.proofs.gather.read_driver.Goals as goal
 
 pub new-requires-2 : goal.new-requires-2
@@ -10,6 +9,6 @@ new-requires-2 g c =
 pub returns-clause-rows : goal.returns-clause-rows
 returns-clause-rows g c =
     let asked = c.in_ok-asks.ensures.read in
-    let driver = c.in_ok-new.field-0 in
-    let dealt = left_of_rows c.args.shape asked.rows c.in_ok-asks.asks driver.lanes asked.asks c.in_ok-new.ensures.left c.in_ok-new.ensures.all in
-    (asked.rows, (rows_read c.args.shape (g.R.Read.remaining c.args.reader.now) asked.rows asked.given, record { situation = c.in_ok-new.ensures.situation; left = dealt.0; all = dealt.1 }))
+    let driver = c.in_ok-new.ensures in
+    let dealt = left_of_rows c.args.shape asked.rows c.in_ok-asks.asks c.in_ok-new.field-0.lanes asked.asks driver.left driver.all in
+    (asked.rows, (asked.given, record { situation = driver.situation; left = dealt.0; all = dealt.1 }))

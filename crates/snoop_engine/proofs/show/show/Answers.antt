@@ -1,8 +1,5 @@
-use Rattle.std.proofs.Common.{ap, ◌∙◌, [], sym, subst}
-use Rattle.snoop_trace.proofs.OutputLemmas.{on_err}
-use Rattle.snoop_trace.specs.Extent.{Extent}
-use Rattle.snoop_model.specs.Pictures.Situation.{Situation}
-use Rattle.snoop_engine.specs.Askers.{AreAskers}
+use Rattle.std.proofs.Common.{◌∙◌, [], sym}
+use Rattle.snoop_engine.proofs.Common.{on_err}
 use Rattle.snoop_engine.proofs.ShownLemmas.{ends_with_nothing, showing_cut, showing_cut_at_end, showing_done, showing_more, showing_none, showing_spilled, showing_stop}
 use Rattle.snoop_engine.proofs.show.show.Goals as goal
 
@@ -21,11 +18,11 @@ returns-in_err-begin-clause-front g c =
 pub loop-step-init : goal.loop-step-init
 loop-step-init g c =
     let s = g.C.Course.situation c.args.course.now in
-    let blocks = c.blocks-2.ensures.value ∙ ap (λ (x : Extent). x.blocks) (c.shape.ensures ∙ ap (λ (m : Situation). m.shape) c.machine.ensures) in (
+    let blocks = rw (c.shape.ensures, c.machine.ensures) at c.blocks-2.ensures.value in (
       showing_none s.protocol s.shape (g.V.View.heading c.args.view.now) (g.V.View.shows c.args.view.now) (λ p s frames. g.V.View.has_seen c.args.view.now p s frames c.begin.new.self) _ s _ _ _
           c.requires (c.can_end.ensures s.protocol s.shape [] [] c.requires) (rw c.machine-2.ensures at c.in_ok-begin.ensures.begins) c.new-chunk.ensures.items (rw c.machine-2.ensures at c.in_ok-begin.ensures.text),
       (λ none. none),
-      subst (λ (m : Situation). AreAskers m c.in_ok-askers.askers.sets) (sym c.requires) (c.in_ok-askers.ensures s.protocol s.shape (sym blocks)),
+      rw c.requires (c.in_ok-askers.ensures s.protocol s.shape (sym blocks)),
     )
 
 pub take_step-requires-clause-found : goal.take_step-requires-clause-found

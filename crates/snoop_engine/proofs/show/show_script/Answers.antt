@@ -1,4 +1,4 @@
-use Rattle.snoop_trace.proofs.OutputLemmas.{on_err}
+use Rattle.snoop_engine.proofs.Common.{on_err}
 use Rattle.snoop_engine.proofs.ShownLemmas.{begins_nothing}
 use Rattle.snoop_engine.proofs.show.show_script.Goals as goal
 

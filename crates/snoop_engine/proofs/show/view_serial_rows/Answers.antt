@@ -1,30 +1,21 @@
-use Rattle.std.proofs.Common.{rules, ◌≡◌, ◌∙◌, ap, Err, Ok}
-use Rattle.std.proofs.lemmas.Result.{err_from_is_err_and}
-use Rattle.snoop_engine.specs.declared.input.Input.TheVariants as input
+use Rattle.std.proofs.Common.{inl, inr, ◌∙◌}
 use Rattle.snoop_engine.proofs.CourseLemmas.{in_order_serves}
-use Rattle.snoop_engine.proofs.ShownLemmas.{simulates_view_front}
+use Rattle.snoop_engine.proofs.WrittenLemmas.{write_faulted}
 use Rattle.snoop_engine.proofs.show.view_serial_rows.Goals as goal
 
 pub returns-in_err-show-clause-does : goal.returns-in_err-show-clause-does
 returns-in_err-show-clause-does g c =
-    let a = c.map_err.ensures.cases in
-    let b = c.in_ok-rows.was in
-    let is : c.read_rows.result ≡ Ok c.in_ok-rows.rows = search rules in
-    let read = rw is at c.read_rows.ensures.read in
+    let rows = c.in_ok-rows.rows.items in
     let begun = c.in_err-show.ensures.front in
-    let serves = in_order_serves c.args.protocol c.args.shape c.in_ok-rows.rows.items c.in-Ok.driver begun.steps begun.outcomes begun.final
-    c.in-Ok.ensures.situation (c.in-Ok.ensures.left ∙ c.deref.ensures.value) begun.way in
-    let p = err_from_is_err_and c.from_residual-in_err-show.result c.from_residual-in_err-show.ensures.1 in
-    simulates_view_front c.args.protocol c.args.shape input.SerialRows _ (g.R.Read.remaining c.args.reader.now) begun.steps c.in_err-show.field-0.0 _ _ _
-    (p.1 ∙ ap (λ f. Err f) p.2) (c.in_ok-rows.rows.items, (read, serves)) (rw c.in-Ok.ensures.situation at begun.holds)
+    let serves = in_order_serves c.in-Ok.ensures.situation (c.in-Ok.ensures.left ∙ c.deref.ensures.value) begun.way in
+    let begins = rw c.in-Ok.ensures.situation at begun.holds in
+    elim (write_faulted c.in_err-show.field-0.0 _ c.from_residual-in_err-show.ensures.1) [
+      | inl e ↦ rw e (begun.steps, ((rows, (c.in_ok-rows.ensures.read, serves)), begins))
+      | inr e ↦ rw e (begun.steps, ((rows, (c.in_ok-rows.ensures.read, serves)), begins))
+    ]
 
 pub returns-clause-does : goal.returns-clause-does
 returns-clause-does g c =
-    let a = c.map_err.ensures.cases in
-    let b = c.in_ok-rows.was in
-    let is : c.read_rows.result ≡ Ok c.in_ok-rows.rows = search rules in
-    let read = rw is at c.read_rows.ensures.read in
     let all = c.in_ok-show.ensures.ok in
-    let serves = in_order_serves c.args.protocol c.args.shape c.in_ok-rows.rows.items c.in-Ok.driver all.steps all.outcomes all.final
-    c.in-Ok.ensures.situation (c.in-Ok.ensures.left ∙ c.deref.ensures.value) all.way in
-    (all.steps, ((c.in_ok-rows.rows.items, (read, serves)), rw c.in-Ok.ensures.situation at all.holds))
+    let serves = in_order_serves c.in-Ok.ensures.situation (c.in-Ok.ensures.left ∙ c.deref.ensures.value) all.way in
+    (all.steps, ((c.in_ok-rows.rows.items, (c.in_ok-rows.ensures.read, serves)), rw c.in-Ok.ensures.situation at all.holds))

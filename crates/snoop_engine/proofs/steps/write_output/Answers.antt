@@ -1,4 +1,4 @@
-use Rattle.snoop_trace.proofs.OutputLemmas.{on_err}
+use Rattle.snoop_engine.proofs.Common.{on_err}
 use Rattle.snoop_engine.proofs.WrittenLemmas.{begins_nothing}
 use Rattle.snoop_engine.proofs.steps.write_output.Goals as goal
 

@@ -1,6 +1,4 @@
-use Rattle.std.proofs.Common.{◌≡◌, ◌++◌, ℕ, ◌≤◌, false, List, ap, sym, ◌∙◌, append-nil, arith}
-use Rattle.std.specs.List.{flat_map, range_with_len}
-use Rattle.snoop_blocks.specs.CoreSet.{has}
+use Rattle.std.proofs.Common.{ℕ, List, sym, append-nil, arith}
 use Rattle.snoop_engine.specs.Taken.{of_holder}
 use Rattle.snoop_engine.specs.declared.taken.Taken.{Taken}
 use Rattle.snoop_engine.proofs.AskerLemmas.{no_line_in_i, no_line_past}
@@ -14,13 +12,10 @@ pub loop-core-preserved : goal.loop-core-preserved
 loop-core-preserved c =
     let s = c.args.machine.now.situation in
     let found = c.in-Some.ensures.some in
-    let from : ℕ = c.loop-core.from in
-    let core : ℕ = c.in-Some.core in
     let f : ℕ → List Taken = of_holder s c.args.requestor c.args.block c.args.request in
-    let between : flat_map f (range_with_len 0 core) ≡ flat_map f (range_with_len 0 from) =
-    range_stops f from core found.0 (λ k up below. no_line_in_i s c.args.requestor c.args.block c.args.request k (c.loop-core.invariant.1 k (found.3 k up below))) in (
-      range_piece f core c.args.lines.now.items c.loop-core.lines.items c.add_holder.new.lines.items
-          (c.loop-core.invariant.0 ∙ ap (λ (t : List Taken). c.args.lines.now.items ++ t) (sym between)) c.in_ok-add_holder.ensures.lines,
+    let idle = λ (k : ℕ). no_line_in_i s c.args.requestor c.args.block c.args.request k in
+    let between = range_stops f c.loop-core.from c.in-Some.core found.0 (λ k up below. idle k (c.loop-core.invariant.1 k (found.3 k up below))) in (
+      range_piece f c.in-Some.core c.args.lines.now.items c.loop-core.lines.items c.add_holder.new.lines.items (rw between c.loop-core.invariant.0) c.in_ok-add_holder.ensures.lines,
       c.add_holder.ensures.others c.loop-core.invariant.1,
       omega arith,
     )
@@ -28,14 +23,11 @@ loop-core-preserved c =
 pub returns-clause-lines : goal.returns-clause-lines
 returns-clause-lines c =
     let s = c.args.machine.now.situation in
-    let from : ℕ = c.loop-core.from in
-    let f : ℕ → List Taken = of_holder s c.args.requestor c.args.block c.args.request in
-    let none : (k : ℕ) → from ≤ k → has c.loop-core.cores k ≡ false = rw c.in_default.is at c.next.ensures.none in
-    c.loop-core.invariant.0
-    ∙ ap (λ (t : List Taken). c.args.lines.now.items ++ t)
-    (range_same f from s.shape.cores
+    let none = rw c.in_default.is at c.next.ensures.none in
+    let same = range_same (of_holder s c.args.requestor c.args.block c.args.request) c.loop-core.from s.shape.cores
     (λ k up. no_line_in_i s c.args.requestor c.args.block c.args.request k (c.loop-core.invariant.1 k (none k up)))
-    (λ k up. no_line_past s c.args.requestor c.args.block c.args.request k up))
+    (λ k up. no_line_past s c.args.requestor c.args.block c.args.request k up) in
+    rw (← same) c.loop-core.invariant.0
 
 pub returns-clause-askers : goal.returns-clause-askers
 returns-clause-askers c = c.leave.ensures c.args.machine.now.situation c.requires c.loop-core.invariant.1

@@ -1,7 +1,5 @@
 use Rattle.std.proofs.Common.{◌≡◌, ◌<◌, ap, ◌∙◌, arith}
-use Rattle.snoop_trace.specs.Extent.{Extent}
-use Rattle.snoop_model.specs.declared.replies.Refused.TheVariants.{BusTaken}
-use Rattle.snoop_model.specs.Pictures.Situation.{picture_of}
+use Rattle.snoop_engine.proofs.Common.{Extent, BusTaken, picture_of}
 use Rattle.snoop_engine.proofs.Inside.{is_opened}
 use Rattle.snoop_engine.proofs.taken.is_bus_taken.Goals as goal
 

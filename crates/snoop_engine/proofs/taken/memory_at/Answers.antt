@@ -1,5 +1,5 @@
-use Rattle.std.specs.Prelude.{Some}
-use Rattle.snoop_model.specs.Pictures.Situation.{picture_of}
+use Rattle.std.proofs.Common.{Some}
+use Rattle.snoop_engine.proofs.Common.{picture_of}
 use Rattle.snoop_engine.proofs.Inside.{inside_one}
 use Rattle.snoop_engine.proofs.taken.memory_at.Goals as goal
 

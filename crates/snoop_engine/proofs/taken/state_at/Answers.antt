@@ -1,5 +1,5 @@
-use Rattle.std.specs.Prelude.{Some}
-use Rattle.snoop_model.specs.Pictures.Situation.{state_of}
+use Rattle.std.proofs.Common.{Some}
+use Rattle.snoop_engine.proofs.Common.{state_of}
 use Rattle.snoop_engine.proofs.Inside.{inside_two}
 use Rattle.snoop_engine.proofs.taken.state_at.Goals as goal
 

@@ -1,6 +1,3 @@
-use Rattle.std.proofs.Common.{◌≤◌, ◌∙◌, ap, subst}
-use Rattle.snoop_trace.specs.Extent.{Extent}
-use Rattle.snoop_model.specs.Pictures.Situation.{Situation}
 use Rattle.snoop_engine.specs.Askers.{AreAskers}
 use Rattle.snoop_engine.proofs.taken.take_step.Goals as goal
 use Rattle.snoop_engine.proofs.taken.take_step.Goals.{then-not-is_bus_taken+in_ok-add_taken, else-not-is_bus_taken}
@@ -12,5 +9,4 @@ returns-in-Ok-clause-askers g c =
       | then-not-is_bus_taken+in_ok-add_taken w ↦ rw w.askers-is (rw c.machine-machine.ensures at w.add_taken.ensures.askers)
       | else-not-is_bus_taken w ↦ rw w.askers-is c.requires.askers
     ] in
-    let shape = c.shape.ensures ∙ ap (λ (m : Situation). m.shape) c.machine-machine.ensures in
-    c.follow.ensures s (g.C.Course.situation c.take.new.self) _ are (subst (λ (e : Extent). e.cores ≤ 256) shape c.within_limits.ensures.cores.1) (rw c.in-Ok.is at c.in_ok-outcome.ensures.goes)
+    c.follow.ensures s (g.C.Course.situation c.take.new.self) _ are (rw (c.shape.ensures, c.machine-machine.ensures) at c.within_limits.ensures.cores.1) (rw c.in-Ok.is at c.in_ok-outcome.ensures.goes)

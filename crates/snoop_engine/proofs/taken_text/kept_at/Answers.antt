@@ -1,7 +1,5 @@
-use Rattle.std.specs.Prelude.{option_map}
-use Rattle.snoop_trace.specs.Words.{word_at}
-use Rattle.snoop_model.specs.Pictures.Picture.{held_by}
-use Rattle.snoop_model.specs.Pictures.Situation.{picture_of}
+use Rattle.std.proofs.Common.{option_map}
+use Rattle.snoop_engine.proofs.Common.{word_at, held_by, picture_of}
 use Rattle.snoop_engine.proofs.Inside.{inside_three}
 use Rattle.snoop_engine.proofs.taken_text.kept_at.Goals as goal
 

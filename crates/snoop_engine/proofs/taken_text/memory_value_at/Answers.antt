@@ -1,6 +1,5 @@
-use Rattle.std.specs.Prelude.{Some}
-use Rattle.snoop_trace.specs.Words.{word_at}
-use Rattle.snoop_model.specs.Pictures.Situation.{picture_of}
+use Rattle.std.proofs.Common.{Some}
+use Rattle.snoop_engine.proofs.Common.{word_at, picture_of}
 use Rattle.snoop_engine.proofs.Inside.{inside_two}
 use Rattle.snoop_engine.proofs.taken_text.memory_value_at.Goals as goal
 

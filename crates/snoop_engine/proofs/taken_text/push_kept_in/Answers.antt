@@ -1,5 +1,5 @@
-use Rattle.std.proofs.Common.{rules, ◌≡◌, ◌++◌, List, ℕ, false, sym, ap, ◌∙◌, append-nil}
-use Rattle.snoop_model.specs.Pictures.Proper.{keeps}
+use Rattle.std.proofs.Common.{rules, ◌≡◌, false, sym, ◌∙◌, append-nil}
+use Rattle.snoop_engine.proofs.Common.{keeps}
 use Rattle.snoop_engine.proofs.NowLemmas.{none_kept}
 use Rattle.snoop_engine.proofs.taken_text.push_kept_in.Goals as goal
 
@@ -7,5 +7,4 @@ pub returns-in-Some : goal.returns-in-Some
 returns-in-Some c =
     let s = c.args.machine.now.situation in
     let hidden : keeps c.in-Some.state ≡ false = (let a = c.keeps.ensures in let b = c.if-not-keeps.true in search rules) in
-    let none = none_kept s c.args.core c.args.block c.in-Some.state (sym c.in-Some.is ∙ c.requires) (c.coherent.ensures.kept_where_readable c.args.core c.args.block) hidden in
-    sym (append-nil c.args.out.now.items) ∙ ap (λ (l : List ℕ). c.args.out.now.items ++ l) (sym none)
+    rw (none_kept s c.args.core c.args.block c.in-Some.state (sym c.in-Some.is ∙ c.requires) (c.coherent.ensures.kept_where_readable c.args.core c.args.block) hidden) (sym (append-nil c.args.out.now.items))

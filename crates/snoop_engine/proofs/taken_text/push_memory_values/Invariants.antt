@@ -1,5 +1,5 @@
-use Rattle.std.proofs.Common.{◌≡◌, ◌++◌}
-use Rattle.std.specs.List.{flat_map, range_with_len}
+use Rattle.std.proofs.Common.{◌≡◌, ◌++◌, flat_map}
+use Rattle.snoop_engine.proofs.Common.{range_with_len}
 use Rattle.snoop_engine.specs.States.{memory_value_at, value_text}
 use Rattle.snoop_engine.proofs.taken_text.push_memory_values.Given as goal
 

@@ -1,6 +1,5 @@
-use Rattle.std.proofs.Common.{rules, ◌≡◌, ◌++◌, List, ℕ, false, sym, ap, ◌∙◌, append-nil}
-use Rattle.std.specs.Prelude.{is_some}
-use Rattle.snoop_rules.specs.Waits.{waiting_request}
+use Rattle.std.proofs.Common.{rules, ◌≡◌, false, sym, ◌∙◌, append-nil, is_some}
+use Rattle.snoop_engine.proofs.Common.{waiting_request}
 use Rattle.snoop_engine.proofs.NowLemmas.{none_placed}
 use Rattle.snoop_engine.proofs.taken_text.push_place_in.Goals as goal
 
@@ -8,5 +7,4 @@ pub returns-in-Some : goal.returns-in-Some
 returns-in-Some c =
     let s = c.args.machine.now.situation in
     let idle : is_some (waiting_request c.in-Some.state) ≡ false = (let a = c.waits.ensures in let b = c.if-not-waits.true in search rules) in
-    let none = none_placed s c.args.core c.args.block c.in-Some.state (sym c.in-Some.is ∙ c.requires) (c.coherent.ensures.coherent.queued c.args.core c.args.block) idle in
-    sym (append-nil c.args.out.now.items) ∙ ap (λ (l : List ℕ). c.args.out.now.items ++ l) (sym none)
+    rw (none_placed s c.args.core c.args.block c.in-Some.state (sym c.in-Some.is ∙ c.requires) (c.coherent.ensures.coherent.queued c.args.core c.args.block) idle) (sym (append-nil c.args.out.now.items))

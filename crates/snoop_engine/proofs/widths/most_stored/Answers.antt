@@ -1,19 +1,19 @@
-use Rattle.std.proofs.Common.{◌≡◌, ℕ, ◌+◌, List, max, ap, sym, ◌∙◌, take, get_or}
-use Rattle.std.proofs.lemmas.List.{take_all, take_more}
-use Rattle.snoop_trace.specs.declared.step.Step.{Step}
-use Rattle.snoop_trace.specs.declared.step.Step.TheVariants.{Ask}
+use Rattle.std.proofs.Common.{◌≡◌, ◌++◌, ◌∷◌, [], List, max, sym, ap, ◌∙◌, take, arith}
+use Rattle.snoop_engine.proofs.Common.{take_more, Step, Ask}
+use Rattle.std.proofs.lemmas.List.{take_all}
 use Rattle.snoop_trace.specs.declared.step.Op.TheVariants.{Load}
 use Rattle.snoop_engine.specs.Widths.{most_stored, stored}
-use Rattle.snoop_engine.proofs.WidthLemmas.{most_more}
 use Rattle.snoop_engine.proofs.widths.most_stored.Goals as goal
+
+-- one step more
+most_more : (steps : List Step) (step : Step) → most_stored (steps ++ step ∷ []) ≡ max (most_stored steps) (stored step)
+most_more [] step = omega arith
+most_more (first ∷ steps) step = rw (most_more steps step) (omega arith)
 
 pub loop-step-preserved : goal.loop-step-preserved
 loop-step-preserved c =
-    let steps : List Step = c.args.steps.now in
-    let i : ℕ = c.loop-step.step-index in
-    let here : Step = get_or steps i (Ask 0 0 0 Load) in
-    let more : most_stored (take (i + 1) steps) ≡ max (most_stored (take i steps)) (stored here) = ap most_stored (take_more steps i (Ask 0 0 0 Load) c.loop-step-test.true) ∙ most_more (take i steps) here in
-    c.larger-most.ensures ∙ ap (λ (n : ℕ). max n c.stored.result) c.loop-step.invariant ∙ ap (λ (n : ℕ). max (most_stored (take i steps)) n) c.stored.ensures ∙ sym more
+    let i = c.loop-step.step-index in
+    rw (c.larger-most.ensures, c.loop-step.invariant, c.stored.ensures, take_more c.args.steps.now i (Ask 0 0 0 Load) c.loop-step-test.true) (sym (most_more (take i c.args.steps.now) _))
 
 pub returns : goal.returns
 returns c = c.loop-step.invariant ∙ ap most_stored (take_all c.loop-step.step-index c.args.steps.now c.loop-step-test.false)

@@ -1,7 +1,5 @@
-use Rattle.std.proofs.Common.{◌≡◌, ◌++◌, codes}
-use Rattle.std.specs.Fmt.{decimal}
-use Rattle.std.specs.List.{flat_map, range_with_len}
-use Rattle.snoop_trace.specs.Words.{word_at}
+use Rattle.std.proofs.Common.{◌≡◌, ◌++◌, codes, decimal, flat_map}
+use Rattle.snoop_engine.proofs.Common.{range_with_len, word_at}
 use Rattle.snoop_engine.proofs.words.push_data.Given as goal
 
 -- the values so far

@@ -1,4 +1,3 @@
-use Rattle.std.proofs.Common.{ℕ, Option, ap, ◌++◌, ◌∙◌}
 use Rattle.snoop_engine.specs.States.{kept_at}
 use Rattle.snoop_engine.proofs.RangeLemmas.{range_piece}
 use Rattle.snoop_engine.specs.Words.{spaced}
@@ -6,5 +5,4 @@ use Rattle.snoop_engine.proofs.words.push_kept.Goals as goal
 
 pub loop-word-preserved : goal.loop-word-preserved
 loop-word-preserved c =
-    range_piece (λ word. spaced (kept_at c.args.machine.now.situation c.args.core c.args.block word)) c.loop-word.word c.args.out.now.items c.loop-word.out.items c.push_spaced.new.out.items
-    c.loop-word.invariant (c.in_ok-push_spaced.ensures ∙ ap (λ (v : Option ℕ). c.loop-word.out.items ++ spaced v) c.kept_at.ensures)
+    range_piece (λ word. spaced (kept_at c.args.machine.now.situation c.args.core c.args.block word)) c.loop-word.word _ _ _ c.loop-word.invariant (rw c.kept_at.ensures at c.in_ok-push_spaced.ensures)

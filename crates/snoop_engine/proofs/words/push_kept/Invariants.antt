@@ -1,5 +1,5 @@
-use Rattle.std.proofs.Common.{◌≡◌, ◌++◌}
-use Rattle.std.specs.List.{flat_map, range_with_len}
+use Rattle.std.proofs.Common.{◌≡◌, ◌++◌, flat_map}
+use Rattle.snoop_engine.proofs.Common.{range_with_len}
 use Rattle.snoop_engine.specs.States.{kept_at}
 use Rattle.snoop_engine.specs.Words.{spaced}
 use Rattle.snoop_engine.proofs.words.push_kept.Given as goal

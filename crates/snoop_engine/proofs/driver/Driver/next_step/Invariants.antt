@@ -1,4 +1,4 @@
-use Rattle.std.specs.Prelude.{length}
+use Rattle.std.proofs.Common.{length}
 use Rattle.snoop_engine.specs.Round.{IsUnasked}
 use Rattle.snoop_engine.proofs.driver.Driver.next_step.Given as goal
 

@@ -1,8 +1,5 @@
-use Rattle.std.proofs.Common.{subst}
-use Rattle.snoop_engine.specs.InOrder.{InOrder, IsInOrder}
 use Rattle.snoop_engine.proofs.Completing.{in_order_can_end}
 use Rattle.snoop_engine.proofs.serial_driver.SerialDriverCourse.can_end.Goals as goal
 
 pub returns : goal.returns
-returns c protocol shape steps outcomes =
-    in_order_can_end c.runs_go_on.ensures protocol shape c.args.self.now (subst (λ (d : InOrder). IsInOrder d.situation d.left d.row) c.self.view_is c.self.invariant) steps outcomes
+returns c protocol shape = in_order_can_end c.runs_go_on.ensures protocol shape c.args.self.now (rw (← c.self.view_is) c.self.invariant)
