@@ -1,4 +1,4 @@
--- The names of the crates below, and of std, that these proofs cite most, passed on from one place. Declares nothing.
+-- The names of the crates below, and of std, that proofs of the engine use most, passed on from one place.
 pub use Rattle.std.proofs.lemmas.Bool.{cases_eq, cases_lt}
 pub use Rattle.std.proofs.lemmas.Bool.Decides.{nat_tests}
 pub use Rattle.std.proofs.lemmas.Grind.{common_steps}

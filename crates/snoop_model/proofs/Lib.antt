@@ -1,4 +1,4 @@
-pub mod Words
+pub mod Common
 pub mod Lists
 pub mod Tables
 pub mod Lines

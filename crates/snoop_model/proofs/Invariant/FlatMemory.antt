@@ -5,7 +5,7 @@ use Rattle.std.proofs.lemmas.List.{append-nil, ext_get_or, length-set, get_or-se
 use Rattle.std.proofs.lemmas.List.FromFn.{length-map-range_with_len, get_or-map-range_with_len}
 use Rattle.std.proofs.lemmas.Bool.Decides.{eqb_tells}
 use Rattle.snoop_trace.specs.Words.{word_at}
-use Rattle.snoop_model.proofs.Words.{Op, Did, Item, next_did}
+use Rattle.snoop_model.proofs.Common.{Op, Did, Item, next_did}
 use Rattle.snoop_trace.specs.declared.step.Op.TheVariants as op
 use Rattle.snoop_history.specs.History.{operation_of, flat, flat_words, Legal, Follows, IsNext, last_or}
 use Rattle.snoop_history.proofs.Pushed.{flat-push, stored_in}

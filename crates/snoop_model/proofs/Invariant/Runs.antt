@@ -5,7 +5,7 @@ use Rattle.std.proofs.lemmas.Bool.{cases_lt}
 use Rattle.std.proofs.lemmas.List.{length-replicate, get_or-replicate, get_or_past}
 use Rattle.std.proofs.lemmas.List.Elements.{All-nil}
 use Rattle.std.specs.List.{range_with_len}
-use Rattle.snoop_model.proofs.Words.{Extent, Protocol, Step, Access, Reply, Refused, Line, Picture, first_memory, held_by, nothing_held, Situation, picture_of, reset, untouched, nothing_there, keeps, IsProper, IsWithin}
+use Rattle.snoop_model.proofs.Common.{Extent, Protocol, Step, Access, Reply, Refused, Line, Picture, first_memory, held_by, nothing_held, Situation, picture_of, reset, untouched, nothing_there, keeps, IsProper, IsWithin}
 use Rattle.snoop_trace.specs.Words.{IsWord, zero_words}
 use Rattle.snoop_history.specs.History.{flat, flat_words}
 use Rattle.snoop_trace.specs.declared.protocol.Protocol.TheVariants as protocol

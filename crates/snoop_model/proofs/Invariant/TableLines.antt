@@ -3,7 +3,7 @@ use Rattle.std.proofs.Common.{◌≡◌, ℕ, ◌<◌, Option, inl, inr, sym, �
 use Rattle.std.specs.Prelude.{IfSome}
 use Rattle.std.proofs.lemmas.Option.{same_Some}
 use Rattle.snoop_model.proofs.Lists.Facts.{if_some}
-use Rattle.snoop_model.proofs.Words.{Extent, Protocol, Step, Ask, Order, Respond, MemCell, Request, arrival_at_memory, takes_payload, Item, Reply, Picture, with_line, Situation, picture_of, with_picture, reset, MoveOn, Orders}
+use Rattle.snoop_model.proofs.Common.{Extent, Protocol, Step, Ask, Order, Respond, MemCell, Request, arrival_at_memory, takes_payload, Item, Reply, Picture, with_line, Situation, picture_of, with_picture, reset, MoveOn, Orders}
 use Rattle.snoop_model.specs.Pictures.Sends.{Sends}
 use Rattle.snoop_model.specs.Moves.SenderTable.{IsSenderLine, IsOpenByTable}
 use Rattle.snoop_model.specs.Invariant.Invariant.{Invariant}

@@ -2,7 +2,7 @@
 use Rattle.std.proofs.Common.{◌≡◌, ℕ, zero, suc, ◌-◌, ◌+◌, ◌<◌, ◌≤◌, length, Option, Some, None, sym, ◌∙◌, ap, subst, arith, inl, inr, ◌⊎◌}
 use Rattle.std.specs.Prelude.{⊤, ◌≢◌}
 use Rattle.std.proofs.lemmas.Bool.{cases_eq}
-use Rattle.snoop_model.proofs.Words.{Protocol, CacheState, CacheAction, MemState, MemAction, Request, Payload, Target, Cell, cell_of, MemoryCell, seen_by, at_memory, Picture, held_by}
+use Rattle.snoop_model.proofs.Common.{Protocol, CacheState, CacheAction, MemState, MemAction, Request, Payload, Target, Cell, cell_of, MemoryCell, seen_by, at_memory, Picture, held_by}
 use Rattle.snoop_rules.specs.declared.names.CacheAction.TheVariants as action
 use Rattle.snoop_rules.specs.declared.names.MemAction.TheVariants as mem_action
 use Rattle.snoop_model.specs.Pictures.Sends.{Sends}

@@ -3,7 +3,7 @@ use Rattle.std.proofs.Common.{◌≡◌, ℕ, ◌+◌, Bool, true, false, ◌&&�
 use Rattle.std.specs.Prelude.{option_to_list, count_by, ⊤, ◌==◌, option_map}
 use Rattle.std.proofs.lemmas.List.Sums.{sum_by-append}
 use Rattle.snoop_model.proofs.Once.Owed.{answers_are}
-use Rattle.snoop_model.proofs.Words.{Did, Item, Access, Protocol, Op, CacheState, CacheAction, Cell, asked, Reply, Line, IsProper, request_for, Takes, Performs, kept_waiting, is_load, next_did}
+use Rattle.snoop_model.proofs.Common.{Did, Item, Access, Protocol, Op, CacheState, CacheAction, Cell, asked, Reply, Line, IsProper, request_for, Takes, Performs, kept_waiting, is_load, next_did}
 use Rattle.snoop_history.specs.History.{answers_of}
 use Rattle.snoop_history.proofs.Pushed.{of_core}
 use Rattle.snoop_model.specs.Runs.Once.{same_access, did_access, did_it, same_op}

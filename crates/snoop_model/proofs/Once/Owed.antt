@@ -4,7 +4,7 @@ use Rattle.std.specs.Prelude.{option_to_list, count_by}
 use Rattle.std.specs.Option.{option_map_or}
 use Rattle.std.proofs.lemmas.List.Sums.{sum_by-append}
 use Rattle.std.proofs.lemmas.Bool.{cases_Bool}
-use Rattle.snoop_model.proofs.Words.{Step, Did, Item, Access, held_by, Situation, picture_of}
+use Rattle.snoop_model.proofs.Common.{Step, Did, Item, Access, held_by, Situation, picture_of}
 use Rattle.snoop_history.specs.History.{operation_of, answers_of, last_or}
 use Rattle.snoop_history.proofs.Pushed.{answers_of-push, of_core}
 use Rattle.snoop_model.specs.Runs.Once.{did_it, tally, waits_for, asks, same_access}

@@ -5,7 +5,7 @@ use Rattle.std.proofs.lemmas.Bool.{cases_lt, eq-eqb, ne_eqb}
 use Rattle.std.proofs.lemmas.List.{get_or-set_same, get_or-set_other, get_or_past}
 use Rattle.std.proofs.lemmas.List.Sums.{sum_by-cons}
 use Rattle.snoop_model.proofs.OneBlock.Facts.{by_core}
-use Rattle.snoop_model.proofs.Words.{Extent, Protocol, Op, Step, Ask, Order, Respond, CacheState, CacheAction, Request, Did, Item, Open, after_order, Access, Reply, Refused, Line, Picture, held_at, held_by, nothing_held, with_line, Situation, picture_of, reset, Takes, FillsRequestor, Asks, Orders, Responds, IsWithin, MoveOn, next_did, came_of, queues_after}
+use Rattle.snoop_model.proofs.Common.{Extent, Protocol, Op, Step, Ask, Order, Respond, CacheState, CacheAction, Request, Did, Item, Open, after_order, Access, Reply, Refused, Line, Picture, held_at, held_by, nothing_held, with_line, Situation, picture_of, reset, Takes, FillsRequestor, Asks, Orders, Responds, IsWithin, MoveOn, next_did, came_of, queues_after}
 use Rattle.snoop_trace.specs.declared.step.Op.TheVariants as op
 use Rattle.snoop_rules.specs.declared.names.CacheAction.TheVariants as action
 use Rattle.snoop_history.specs.declared.items.Item.TheVariants as item

@@ -2,7 +2,7 @@
 use Rattle.std.proofs.Common.{◌≡◌, ℕ, ◌<◌, List, ◌++◌, Option, Some, ap, sym, ◌∙◌, subst}
 use Rattle.std.specs.Prelude.{option_to_list}
 use Rattle.std.proofs.lemmas.List.{get_or-set_same}
-use Rattle.snoop_model.proofs.Words.{Op, Request, Did, Item, Open, after_order, Reply, Picture, held_by, nothing_held, with_line, Situation, picture_of, Asks, Orders, Responds, IsWithin, queues_after, came_of}
+use Rattle.snoop_model.proofs.Common.{Op, Request, Did, Item, Open, after_order, Reply, Picture, held_by, nothing_held, with_line, Situation, picture_of, Asks, Orders, Responds, IsWithin, queues_after, came_of}
 use Rattle.snoop_history.specs.declared.items.Item.TheVariants as item
 use Rattle.snoop_model.specs.Invariant.Invariant.{Invariant}
 use Rattle.snoop_model.proofs.OneBlock.OfBlocks.{in_pictures, picture_here}

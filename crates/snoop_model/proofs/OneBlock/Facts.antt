@@ -4,7 +4,7 @@ use Rattle.std.specs.Prelude.{is_some}
 use Rattle.std.proofs.lemmas.Bool.{and_parts, both_ways, cases_Bool, cases_eq, eqb-true, ne_eqb, not-true, or_right, cases_lt}
 use Rattle.std.proofs.Math.Bool.{and-false}
 use Rattle.std.proofs.lemmas.List.{get_or_past}
-use Rattle.snoop_model.proofs.Words.{Protocol, CacheState, Request, carries_value, Open, Line, Picture, held_by, held_at, nothing_held, keeps, moves_to}
+use Rattle.snoop_model.proofs.Common.{Protocol, CacheState, Request, carries_value, Open, Line, Picture, held_by, held_at, nothing_held, keeps, moves_to}
 use Rattle.snoop_history.specs.Totals.{is_put_m}
 use Rattle.snoop_model.specs.Invariant.Fits.{is_owner, is_sharer, is_clean, in_protocol, same, wait_fits, fits}
 use Rattle.snoop_model.specs.Invariant.Block.{BlockInvariant, talk_of, awaited, owns}

@@ -2,7 +2,7 @@
 use Rattle.std.proofs.Common.{◌≡◌, List, ℕ, true, cond, Option, Some, None}
 use Rattle.std.specs.Prelude.{⊤, slice_set}
 use Rattle.snoop_trace.specs.Words.{word_at}
-use Rattle.snoop_model.proofs.Words.{Did, Item}
+use Rattle.snoop_model.proofs.Common.{Did, Item}
 use Rattle.snoop_history.specs.History.{operation_of}
 
 abbrev pub did_in : Option Item → Option Did

@@ -5,7 +5,7 @@ use Rattle.std.specs.Option.{ForSome}
 use Rattle.std.proofs.lemmas.Bool.Decides.{eqb_tells}
 use Rattle.std.proofs.Math.Bool.{and-true, and-false}
 use Rattle.std.proofs.lemmas.Bool.{cases_eq, and_parts, cases_Bool, eq-eqb, ne_eqb, or_cases}
-use Rattle.snoop_model.proofs.Words.{Protocol, CacheEvent, CacheCell, MemCell, Request, Payload, cell_of, memory_cell_of, own, other, seen_by, at_memory, carries_value, waiting_request, Open, Line, Picture, held_by, Situation, picture_of, keeps, IsProper, moves_to, TakesRow, TakesRows, Orders}
+use Rattle.snoop_model.proofs.Common.{Protocol, CacheEvent, CacheCell, MemCell, Request, Payload, cell_of, memory_cell_of, own, other, seen_by, at_memory, carries_value, waiting_request, Open, Line, Picture, held_by, Situation, picture_of, keeps, IsProper, moves_to, TakesRow, TakesRows, Orders}
 use Rattle.snoop_rules.specs.declared.names.Payload.TheVariants as payload
 use Rattle.snoop_history.specs.Totals.{is_put_m, is_data}
 use Rattle.snoop_model.specs.Pictures.Sends.{Sends, value_sent}

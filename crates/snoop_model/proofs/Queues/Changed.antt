@@ -1,7 +1,7 @@
 -- A machine stays well kept where one block and the queues change as they should.
 use Rattle.std.proofs.Common.{◌≡◌, ◌≢◌, ℕ, ◌<◌, List, length, Some, ◌∙◌}
 use Rattle.std.specs.Prelude.{is_some, IsSome}
-use Rattle.snoop_model.proofs.Words.{CacheState, Request, waiting_request, Item, Open, queue_of, Access, Picture, held_by, Situation, picture_of, missed_request, awaited_request}
+use Rattle.snoop_model.proofs.Common.{CacheState, Request, waiting_request, Item, Open, queue_of, Access, Picture, held_by, Situation, picture_of, missed_request, awaited_request}
 use Rattle.snoop_model.specs.Invariant.WellKept.{IsWellKept}
 use Rattle.snoop_model.proofs.Lists.Facts.{one_if}
 use Rattle.snoop_model.proofs.Lists.QueueCounts.{times}

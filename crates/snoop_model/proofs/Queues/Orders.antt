@@ -4,7 +4,7 @@ use Rattle.std.specs.Prelude.{◌==◌, if◌then◌else◌, IsSome}
 use Rattle.std.proofs.lemmas.Bool.{cases_lt, eq-eqb, ne_eqb}
 use Rattle.std.proofs.lemmas.List.{length-set, get_or_past}
 use Rattle.snoop_model.proofs.OneBlock.Facts.{by_core, each_held}
-use Rattle.snoop_model.proofs.Words.{Protocol, Request, waiting_request, Open, after_order, queue_of, Access, Line, Picture, nothing_held, held_at, held_by, Situation, picture_of, awaited_request, missed_request, Orders, TakesRows, IsWithin}
+use Rattle.snoop_model.proofs.Common.{Protocol, Request, waiting_request, Open, after_order, queue_of, Access, Line, Picture, nothing_held, held_at, held_by, Situation, picture_of, awaited_request, missed_request, Orders, TakesRows, IsWithin}
 use Rattle.snoop_model.specs.Invariant.WellKept.{IsWellKept}
 use Rattle.snoop_model.proofs.Lists.QueueCounts.{times, ordered_own, ordered_others, ordered_elsewhere}
 use Rattle.snoop_model.proofs.Tables.Rows.{order_facts}

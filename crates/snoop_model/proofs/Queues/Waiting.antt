@@ -2,7 +2,7 @@
 use Rattle.std.proofs.Common.{◌≡◌, ℕ, List, [], ◌∷◌, Option, Some, None, refl, ap, ◌∙◌, arith}
 use Rattle.std.specs.Prelude.{Contains, is_some, slice_get}
 use Rattle.std.proofs.lemmas.Option.{same_Some}
-use Rattle.snoop_model.proofs.Words.{Request, waiting_request, queue_of, Situation, state_of, Waits, StandsFirst}
+use Rattle.snoop_model.proofs.Common.{Request, waiting_request, queue_of, Situation, state_of, Waits, StandsFirst}
 use Rattle.snoop_model.specs.Pictures.InQueue.{IsInQueue}
 use Rattle.snoop_model.specs.Moves.Refuses.{WaitsOnNone}
 use Rattle.snoop_model.proofs.Lists.Facts.{one_if}

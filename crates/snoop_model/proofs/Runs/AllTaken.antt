@@ -1,7 +1,7 @@
 -- Runs whose steps were all taken.
 use Rattle.std.proofs.Common.{◌≡◌, List, [], ◌∷◌, ◌++◌, map, refl, ap, sym, ◌∙◌, subst}
 use Rattle.std.specs.Prelude.{Result, Ok, Err, count_by}
-use Rattle.snoop_model.proofs.Words.{Step, Reply, Refused, Situation, reset}
+use Rattle.snoop_model.proofs.Common.{Step, Reply, Refused, Situation, reset}
 use Rattle.snoop_model.specs.declared.replies.Refused.TheVariants.{NoMemory}
 use Rattle.std.proofs.lemmas.List.{map-append}
 use Rattle.snoop_model.specs.Runs.Once.{asks, taken}

@@ -1,7 +1,7 @@
 -- What goes along a run, whatever is said of one step.
 use Rattle.std.proofs.Common.{List, [], ◌∷◌, ◌++◌, refl, ap, sym, subst}
 use Rattle.std.specs.Prelude.{Result}
-use Rattle.snoop_model.proofs.Words.{Step, Reply, Refused}
+use Rattle.snoop_model.proofs.Common.{Step, Reply, Refused}
 use Rattle.snoop_model.specs.Runs.Run.{RunBy}
 
 module _ {A : Type 0} (One : A → Step → Result Reply Refused → A → Type 0) where

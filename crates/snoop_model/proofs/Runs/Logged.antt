@@ -2,7 +2,7 @@
 use Rattle.std.proofs.Common.{◌≡◌, ◌++◌, Option, sym, ◌∙◌, ap, inl, inr}
 use Rattle.std.specs.Prelude.{option_to_list}
 use Rattle.std.proofs.lemmas.List.{append-nil}
-use Rattle.snoop_model.proofs.Words.{Step, Ask, Order, Respond, Item, Reply, Situation, FirstMove}
+use Rattle.snoop_model.proofs.Common.{Step, Ask, Order, Respond, Item, Reply, Situation, FirstMove}
 
 pub move-log : (old new : Situation) (step : Step) (answer : Reply) (added : Option Item) → FirstMove old step answer new added → new.log ≡ old.log ++ option_to_list added
 move-log old new (Ask core block word asking) answer added m = elim m.1.1.moves [

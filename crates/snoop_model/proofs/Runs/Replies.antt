@@ -1,7 +1,7 @@
 -- The reply of each move, and the item of a load that hits.
 use Rattle.std.proofs.Common.{◌≡◌, ℕ, true, ◌++◌, List, Option, Some, refl, ap, sym, ◌∙◌, subst, inl, inr}
 use Rattle.std.specs.Prelude.{option_to_list, Result, Ok, Err, IfOk, if◌then◌else◌}
-use Rattle.snoop_model.proofs.Words.{Protocol, Op, Step, Ask, Order, Respond, CacheState, CacheAction, Cell, asked, Item, Reply, Refused, Line, held_by, Situation, picture_of, request_for, FirstMove, Takes, Performs, is_load, next_did}
+use Rattle.snoop_model.proofs.Common.{Protocol, Op, Step, Ask, Order, Respond, CacheState, CacheAction, Cell, asked, Item, Reply, Refused, Line, held_by, Situation, picture_of, request_for, FirstMove, Takes, Performs, is_load, next_did}
 use Rattle.snoop_trace.specs.declared.step.Op.TheVariants as op
 use Rattle.snoop_rules.specs.declared.names.CacheAction.TheVariants as action
 use Rattle.snoop_history.specs.declared.items.Item.TheVariants as item

@@ -6,7 +6,7 @@ use Rattle.std.proofs.Math.Dec.{ltb}
 use Rattle.std.proofs.lemmas.Bool.{and_cases, and_parts, both_ways, cases_Bool, cases_lt, le-ltb, lt-ltb, ltb-false, ltb-true}
 use Rattle.std.proofs.lemmas.List.FromFn.{get_or-map-range_with_len, length-map-range_with_len}
 use Rattle.snoop_trace.specs.Words.{HasWord, zero_words}
-use Rattle.snoop_model.proofs.Words.{Protocol, Op, Step, Ask, Order, Respond, CacheState, CacheEvent, CacheAction, CacheCell, MemState, MemEvent, MemCell, Request, Payload, Cell, asked, seen_by, arrival, arrival_at_memory, takes_payload, Item, Open, queue_of, Access, Reply, Line, Picture, held_at, held_by, nothing_held, Situation, picture_of, state_of, CanOrder, StandsFirst, request_for, missed_request, IsProper, Hits, Takes, Orders, Responds, FillsRequestor, ArrivesFor, Performs, is_load, IsWithin}
+use Rattle.snoop_model.proofs.Common.{Protocol, Op, Step, Ask, Order, Respond, CacheState, CacheEvent, CacheAction, CacheCell, MemState, MemEvent, MemCell, Request, Payload, Cell, asked, seen_by, arrival, arrival_at_memory, takes_payload, Item, Open, queue_of, Access, Reply, Line, Picture, held_at, held_by, nothing_held, Situation, picture_of, state_of, CanOrder, StandsFirst, request_for, missed_request, IsProper, Hits, Takes, Orders, Responds, FillsRequestor, ArrivesFor, Performs, is_load, IsWithin}
 use Rattle.snoop_trace.specs.declared.step.Op.TheVariants as op
 use Rattle.snoop_rules.specs.declared.names.CacheEvent.TheVariants as event
 use Rattle.snoop_rules.specs.declared.names.CacheAction.TheVariants as action

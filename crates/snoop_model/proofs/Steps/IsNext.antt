@@ -6,7 +6,7 @@ use Rattle.std.proofs.Math.Dec.{ltb}
 use Rattle.std.proofs.lemmas.Bool.{and_from, and_left, and_right, cases_eq, false_from_ne_true, le-ltb, lt-ltb}
 use Rattle.std.proofs.lemmas.Bool.Decides.{Decides-and, Decides-ltb}
 use Rattle.std.proofs.lemmas.List.FromFn.{fill_by_all}
-use Rattle.snoop_model.proofs.Words.{Extent, Protocol, Op, Step, Ask, Order, Respond, CacheState, CacheAction, MemState, MemEvent, MemAction, Request, Payload, arrival_at_memory, takes_payload, Did, Item, Open, queue_of, Reply, Refused, Line, Picture, held_at, held_by, nothing_held, Situation, picture_of, Takes, FillsRequestor, ArrivesFor, Asks, Orders, Responds, IsAbsent, FirstMove, Performs, written}
+use Rattle.snoop_model.proofs.Common.{Extent, Protocol, Op, Step, Ask, Order, Respond, CacheState, CacheAction, MemState, MemEvent, MemAction, Request, Payload, arrival_at_memory, takes_payload, Did, Item, Open, queue_of, Reply, Refused, Line, Picture, held_at, held_by, nothing_held, Situation, picture_of, Takes, FillsRequestor, ArrivesFor, Asks, Orders, Responds, IsAbsent, FirstMove, Performs, written}
 use Rattle.snoop_trace.specs.Words.{HasWord, word_places}
 use Rattle.snoop_trace.specs.declared.step.Op.TheVariants as op
 use Rattle.snoop_rules.specs.declared.names.CacheAction.TheVariants as action

@@ -4,7 +4,7 @@ use Rattle.std.specs.Prelude.{Result, Ok, Err, is_some, option_to_list, unwrap_o
 use Rattle.std.specs.Option.{option_map_or}
 use Rattle.std.specs.List.{range_with_len}
 use Rattle.std.proofs.Math.Dec.{ltb}
-use Rattle.snoop_model.proofs.Words.{Extent, Protocol, Op, Step, Ask, Order, Respond, CacheState, CacheAction, MemState, MemEvent, MemAction, Request, cell_of, memory_cell_of, asked, seen_by, at_memory, arrival, arrival_at_memory, takes_payload, waiting_request, Did, Item, Open, queue_of, after_order, Access, Reply, Refused, Line, Picture, held_at, held_by, with_line, Situation, picture_of, with_picture, state_of, is_load, kept_waiting, next_did, moves_to, written, came_of, queues_after}
+use Rattle.snoop_model.proofs.Common.{Extent, Protocol, Op, Step, Ask, Order, Respond, CacheState, CacheAction, MemState, MemEvent, MemAction, Request, cell_of, memory_cell_of, asked, seen_by, at_memory, arrival, arrival_at_memory, takes_payload, waiting_request, Did, Item, Open, queue_of, after_order, Access, Reply, Refused, Line, Picture, held_at, held_by, with_line, Situation, picture_of, with_picture, state_of, is_load, kept_waiting, next_did, moves_to, written, came_of, queues_after}
 use Rattle.snoop_trace.specs.Words.{Data, word_at, word_places, zero_words}
 use Rattle.snoop_trace.specs.declared.step.Op.TheVariants as op
 use Rattle.snoop_rules.specs.declared.names.CacheAction.TheVariants as action

@@ -1,7 +1,7 @@
 -- Tests of the rows of an Ask, computed over the whole tables.
 use Rattle.std.proofs.Common.{◌≡◌, ◌&&◌, ◌||◌, Bool, true, false, not, Option, Some, refl}
 use Rattle.std.specs.Prelude.{is_some}
-use Rattle.snoop_model.proofs.Words.{Protocol, Op, CacheState, CacheEvent, CacheAction, CacheCell, Request, cell_of, asked}
+use Rattle.snoop_model.proofs.Common.{Protocol, Op, CacheState, CacheEvent, CacheAction, CacheCell, Request, cell_of, asked}
 use Rattle.snoop_rules.specs.declared.names.CacheState.TheVariants as state
 use Rattle.snoop_rules.specs.declared.names.CacheEvent.TheVariants as event
 use Rattle.snoop_rules.specs.declared.names.CacheAction.TheVariants as action

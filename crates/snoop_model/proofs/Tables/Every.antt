@@ -2,7 +2,7 @@
 use Rattle.std.proofs.Common.{◌≡◌, ◌&&◌, Bool, true, false, Option, Some, None, refl}
 use Rattle.std.specs.Prelude.{is_some}
 use Rattle.std.proofs.lemmas.Bool.{and_parts}
-use Rattle.snoop_model.proofs.Words.{Op, CacheEvent, Request, asked}
+use Rattle.snoop_model.proofs.Common.{Op, CacheEvent, Request, asked}
 use Rattle.snoop_trace.specs.declared.step.Op.TheVariants as op
 use Rattle.snoop_rules.specs.declared.names.CacheEvent.TheVariants as event
 use Rattle.snoop_rules.proofs.Every.{all_requests, all_requests-at, all_payloads, all_payloads-at}

@@ -1,6 +1,6 @@
 -- An Evict in I has no row.
 use Rattle.std.proofs.Common.{◌≡◌}
-use Rattle.snoop_model.proofs.Words.{Protocol, Op, CacheState, CacheAction, Cell, asked}
+use Rattle.snoop_model.proofs.Common.{Protocol, Op, CacheState, CacheAction, Cell, asked}
 use Rattle.snoop_trace.specs.declared.step.Op.TheVariants as op
 use Rattle.snoop_rules.specs.declared.names.CacheState.TheVariants.{I}
 

@@ -1,7 +1,7 @@
 -- Tests of the rows of an Order, computed over the whole tables.
 use Rattle.std.proofs.Common.{◌≡◌, ◌&&◌, ◌||◌, Bool, true, false, not, Option, Some, None, refl}
 use Rattle.std.specs.Prelude.{is_some}
-use Rattle.snoop_model.proofs.Words.{Protocol, CacheState, CacheCell, MemState, MemCell, Request, Payload, cell_of, memory_cell_of, own, other, at_memory, carries_value, waiting_request, keeps}
+use Rattle.snoop_model.proofs.Common.{Protocol, CacheState, CacheCell, MemState, MemCell, Request, Payload, cell_of, memory_cell_of, own, other, at_memory, carries_value, waiting_request, keeps}
 use Rattle.snoop_rules.specs.declared.names.Payload.TheVariants as payload
 use Rattle.snoop_rules.specs.WhoSends.{Memory, Requestor, Other}
 use Rattle.snoop_rules.proofs.Every.{all_protocols, all_protocols-at, all_states, all_states-at, all_memories, all_memories-at, all_requests, all_requests-at}

@@ -3,7 +3,7 @@ use Rattle.std.proofs.Common.{List, ◌≡◌, ℕ, Bool, true, false, not, ◌&
 use Rattle.std.proofs.Math.Bool.{and-true, and-false}
 use Rattle.std.proofs.lemmas.Bool.{and_parts}
 use Rattle.std.specs.Prelude.{is_some, option_map, ◌==◌, if◌then◌else◌}
-use Rattle.snoop_model.proofs.Words.{Protocol, Op, CacheState, CacheEvent, CacheAction, CacheCell, Request, Cell, asked, own, other, seen_by, waiting_request, Line, kept_on, keeps, request_for, missed_request, IsProper, moves_to, kept_waiting, is_load}
+use Rattle.snoop_model.proofs.Common.{Protocol, Op, CacheState, CacheEvent, CacheAction, CacheCell, Request, Cell, asked, own, other, seen_by, waiting_request, Line, kept_on, keeps, request_for, missed_request, IsProper, moves_to, kept_waiting, is_load}
 use Rattle.snoop_trace.specs.declared.step.Op.TheVariants as op
 use Rattle.snoop_rules.specs.declared.names.CacheState.TheVariants.{I, ImAd, IiA}
 use Rattle.snoop_rules.specs.declared.names.CacheEvent.TheVariants as event

@@ -1,7 +1,7 @@
 -- The table of senders as a test is the table of the definitions.
 use Rattle.std.proofs.Common.{◌≡◌, ℕ, Bool, true, false, cond, Option, Some, None, refl, arith}
 use Rattle.std.specs.Prelude.{Contains, IsSomeAnd}
-use Rattle.snoop_model.proofs.Words.{Protocol, MemState, MemEvent, MemAction, MemCell, Request, Payload, MemoryCell, memory_cell_of, arrival_at_memory, takes_payload, Picture, held_by}
+use Rattle.snoop_model.proofs.Common.{Protocol, MemState, MemEvent, MemAction, MemCell, Request, Payload, MemoryCell, memory_cell_of, arrival_at_memory, takes_payload, Picture, held_by}
 use Rattle.snoop_trace.specs.declared.protocol.Protocol.TheVariants as protocol
 use Rattle.snoop_rules.specs.declared.names.CacheState.TheVariants as state
 use Rattle.snoop_rules.specs.declared.names.MemState.TheVariants as mem

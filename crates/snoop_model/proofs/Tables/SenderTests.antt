@@ -1,6 +1,6 @@
 -- The table of senders as a test.
 use Rattle.std.proofs.Common.{◌≡◌, refl, Bool, true, false, cond, Option, Some, None}
-use Rattle.snoop_model.proofs.Words.{Protocol, MemState, MemEvent, MemCell, Request, Payload, memory_cell_of, arrival_at_memory, takes_payload}
+use Rattle.snoop_model.proofs.Common.{Protocol, MemState, MemEvent, MemCell, Request, Payload, memory_cell_of, arrival_at_memory, takes_payload}
 use Rattle.snoop_trace.specs.declared.protocol.Protocol.TheVariants as protocol
 use Rattle.snoop_rules.specs.declared.names.CacheState.TheVariants as state
 use Rattle.snoop_rules.specs.declared.names.MemState.TheVariants as mem

@@ -1,6 +1,6 @@
 -- Tests of the states and of the table of claims, computed over all of them.
 use Rattle.std.proofs.Common.{List, ◌≡◌, ◌&&◌, ◌||◌, ℕ, Bool, true, false, not, cond, Option, Some, None, refl}
-use Rattle.snoop_model.proofs.Words.{Protocol, CacheState, CacheAction, MemState, Request, carries_value, kept_on, keeps}
+use Rattle.snoop_model.proofs.Common.{Protocol, CacheState, CacheAction, MemState, Request, carries_value, kept_on, keeps}
 use Rattle.snoop_trace.specs.declared.protocol.Protocol.TheVariants.{Msi, Mesi}
 use Rattle.snoop_rules.specs.declared.names.CacheState.TheVariants as state
 use Rattle.snoop_rules.specs.declared.names.CacheAction.TheVariants as action

@@ -3,7 +3,7 @@ use Rattle.std.proofs.Common.{◌≡◌, ℕ, Bool, true, ◌||◌, Option, Some
 use Rattle.std.specs.Prelude.{is_some}
 use Rattle.std.proofs.lemmas.Bool.{cases_eq, eq-eqb, ne_eqb, or_cases}
 use Rattle.std.proofs.lemmas.Option.{same_Some}
-use Rattle.snoop_model.proofs.Words.{Protocol, Op, CacheState, CacheEvent, CacheAction, CacheCell, Request, Payload, Cell, asked, own, other, seen_by, arrival, missed_request, awaited_request}
+use Rattle.snoop_model.proofs.Common.{Protocol, Op, CacheState, CacheEvent, CacheAction, CacheCell, Request, Payload, Cell, asked, own, other, seen_by, arrival, missed_request, awaited_request}
 use Rattle.snoop_trace.specs.declared.step.Op.TheVariants as op
 use Rattle.snoop_rules.specs.declared.names.CacheState.TheVariants.{IsD}
 use Rattle.snoop_rules.specs.declared.names.CacheEvent.TheVariants as event

@@ -5,7 +5,7 @@ use Rattle.std.proofs.lemmas.Bool.{false≢true, cases_eq, eq-eqb}
 use Rattle.std.proofs.lemmas.Option.{cond_some, none-some, same_Some}
 use Rattle.std.proofs.lemmas.List.Elements.{All-contains, All-weaker, Contains-get_or}
 use Rattle.snoop_trace.specs.Words.{HasWord}
-use Rattle.snoop_model.proofs.Words.{Op, Step, Ask, Order, Respond, CacheAction, Request, asked, waiting_request, Open, queue_of, Refused, held_by, Picture, with_line, Situation, picture_of, state_of, Waits, nothing_there, queues_after}
+use Rattle.snoop_model.proofs.Common.{Op, Step, Ask, Order, Respond, CacheAction, Request, asked, waiting_request, Open, queue_of, Refused, held_by, Picture, with_line, Situation, picture_of, state_of, Waits, nothing_there, queues_after}
 use Rattle.snoop_rules.specs.declared.names.CacheAction.TheVariants as action
 use Rattle.snoop_model.specs.declared.replies.Refused.TheVariants.{NoCore, NoBlock, Stalled, NothingWaiting, BusTaken, NoTransaction}
 use Rattle.snoop_model.specs.Moves.Refuses.{Refuses}

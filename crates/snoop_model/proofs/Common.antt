@@ -1,4 +1,4 @@
--- The words that lemmas use most: of the tables, of pictures and situations, and of steps and what they answer.
+-- The names that lemmas of the model use most, passed on from one place.
 pub use Rattle.snoop_trace.specs.Extent.{Extent}
 pub use Rattle.snoop_trace.specs.declared.protocol.Protocol.{Protocol}
 pub use Rattle.snoop_trace.specs.declared.step.Op.{Op}
