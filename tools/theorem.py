@@ -38,7 +38,7 @@ NOTATION = [
     ("Option, None, Some", "nothing, or a value"),
     ("Result, Ok, Err", "an answer, or a refusal"),
     ("◌≡◌, ◌≢◌, ◌<◌, ◌≤◌", "equal, not equal, less, at most"),
-    ("◌⊎◌, ◌↔◌, ⊤", "or; exactly where; always true"),
+    ("◌⊎◌, ◌↔◌, ⊤", "or; if and only if; always true"),
     ("◌==◌, not, ◌&&◌, if◌then◌else◌, ◌+◌", "tests, and the sum"),
     ("IsTrue b, MatchBool b P Q", "the test b passes; P if it passes, else Q"),
     ("IsSome o, is_some o", "the option has a value, as a fact and as a test"),
@@ -77,9 +77,8 @@ request, a load of the block may hit, and reads what was there before the store.
 the order of one core's operations on different blocks, of time, nor that a request is ever ordered
 or answered: an operation that is not lost may wait for ever. Who sends a message is part of a move;
 the target that a row names is not looked at: memory takes the message of a PutM, and another's
-where its state waits for one (`takes_payload`). That a reply has the value that the history has
-stands in the moves below and in what every machine promises of a hit (`hit` of `Machine::step`),
-and in no clause here.
+where its state waits for one (`takes_payload`). No clause here says that a reply has the value that
+stands in the history: the moves below do, and of a hit so does `hit` of `Machine::step`.
 
 That the code takes such steps and no others is what `Machine::step` and `run_steps` promise
 (docs/PROVED.md), and why all this holds is in docs/COHERENCE.md. `tools/theorem.py --write` makes

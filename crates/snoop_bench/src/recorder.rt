@@ -77,7 +77,7 @@ impl Recorder {
         self.steps.as_slice()
     }
 
-    /// Every recorder is the run of its steps, and its machine is coherent. This does nothing: a proof calls it for what it ensures.
+    /// Every recorder's machine is where the run of its steps leads, and is coherent. This does nothing: a proof calls it for what it ensures.
     pub(crate) fn recorded(&self)
         ensures recorded { IsRecorded self.now }
         ensures safe { IsSafe self.now.situation }

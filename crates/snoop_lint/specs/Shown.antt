@@ -17,7 +17,7 @@ shown_byte byte =
 unfoldable pub labelled : List ℕ → ℕ → List ℕ
 labelled text number = text ++ decimal number
 
--- a number of things, in words
+-- a number and what it counts, with an s unless it is 1
 unfoldable pub counted : ℕ → List ℕ → List ℕ
 counted count thing = decimal count ++ codes " " ++ thing ++ (if count == 1 then [] else codes "s")
 

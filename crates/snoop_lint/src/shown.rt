@@ -85,7 +85,7 @@ fn push_not_shown(out: &mut Vec<u8>, count: usize) -> Result<(), NoMemory>
     }
 }
 
-/// Appends a number of things, in words.
+/// Appends a number and what it counts, with an s unless it is 1.
 #[tactic(auto, unfolding(crate::specs::Shown::counted))]
 pub(crate) fn push_counted(out: &mut Vec<u8>, count: u64, thing: &str) -> Result<(), NoMemory>
     ensures { OnOk result (out.new.items ≡ out.old.items ++ spec.counted count thing.now) }

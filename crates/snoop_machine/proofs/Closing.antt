@@ -18,7 +18,7 @@ use Rattle.snoop_model.specs.Moves.Move.{ArrivesFor, RespondMove, came_of, writt
 use Rattle.snoop_machine.specs.Following.{LosesLines}
 use Rattle.snoop_machine.specs.Lines.{Held, KeepsMapsRoom, LinesGo, row_of}
 use Rattle.snoop_machine.specs.PartsView.{Fields, standing, IsSound, IsWhole}
-use Rattle.snoop_machine.specs.Memory.{memory_at}
+use Rattle.snoop_machine.specs.Memory.{memory_line}
 use Rattle.snoop_machine.specs.Plan.{IsClosing}
 use Rattle.snoop_machine.proofs.Following.{follows-rows}
 use Rattle.snoop_machine.proofs.Soundness.{IsSound-close}
@@ -45,7 +45,7 @@ module _ {m : Fields} {now : Standing} {came : Came} {memory : MemCell} {closing
 
   -- memory's line of the block then
   abbrev pub settled : MemLine
-  settled = record { state = memory.next; value = written memory.action closing.value (memory_at m.memory came.block).value }
+  settled = record { state = memory.next; value = written memory.action closing.value (memory_line m.memory came.block).value }
 
   -- the parts then, with these lines, where this was performed
   abbrev pub closed : Held → Option Did → Fields

@@ -11,7 +11,7 @@ use Rattle.snoop_model.specs.Pictures.Lines.{Line}
 use Rattle.snoop_model.specs.Pictures.Proper.{IsProper}
 use Rattle.snoop_machine.specs.Holders.{HaveFollowed}
 use Rattle.snoop_machine.specs.Cache.{Contents, no_cache, line_or_nothing, line_in, blocks_of, KeepsMapRoom}
-use Rattle.snoop_machine.specs.Lines.{Held, AreLines, KeepsMapsRoom, WritesLine, held, held_by_block, gone, line_at, placed}
+use Rattle.snoop_machine.specs.Lines.{Held, AreLines, KeepsMapsRoom, WritesLine, held, held_by_block, gone, line_at, with_line_at}
 use Rattle.snoop_machine.proofs.EachPlace.{each_place}
 use Rattle.snoop_machine.proofs.MapRows.{rows-set, blocks-at, spare-at, length-blocks_of}
 use Rattle.snoop_machine.proofs.LineMaps.{IsMap, blocks_seen, spare_seen, maps-long, gone-none, gone-one, is_I}
@@ -65,12 +65,12 @@ module _ {caches : List Contents} {holders : List Holders} {now : Held} {core bl
   lines_after =
       AreLines-followed lines core new wrote.map.in_cores block line after wrote.map.in_blocks wrote.proper wrote.here elsewhere wrote.followed
 
-  rows_wrote : held_by_block (length after) (slice_set caches core new) ≡ placed now.rows core block line
+  rows_wrote : held_by_block (length after) (slice_set caches core new) ≡ with_line_at now.rows core block line
   rows_wrote =
       ap (λ (l : List Holders). held_by_block (length l) (slice_set caches core new)) wrote.followed.set
       ∙ (ap (λ (n : ℕ). held_by_block n (slice_set caches core new)) (length-set holders block wrote.followed.moved)
       ∙ (rows-set (length holders) caches core block new line wrote.map.in_blocks wrote.here elsewhere
-      ∙ ap (λ (h : Held). placed h.rows core block line) view))
+      ∙ ap (λ (h : Held). with_line_at h.rows core block line) view))
 
   -- the blocks that the maps have lines for now
   lines_set : map blocks_of (slice_set caches core new) ≡ slice_set now.lines core (blocks_of new)

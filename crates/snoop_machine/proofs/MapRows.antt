@@ -16,7 +16,7 @@ use Rattle.snoop_blocks.specs.CoreSet.{has}
 use Rattle.snoop_machine.specs.declared.holders.Holders.{Holders}
 use Rattle.snoop_machine.specs.Holders.{AreHolders, HaveMoved}
 use Rattle.snoop_machine.specs.Cache.{Contents, no_cache, line_in, blocks_of, lines_held}
-use Rattle.snoop_machine.specs.Lines.{held_by_block, line_at, placed}
+use Rattle.snoop_machine.specs.Lines.{held_by_block, line_at, with_line_at}
 use Rattle.snoop_machine.proofs.EachPlace.{each_place}
 
 length-rows : (blocks : ℕ) (caches : List Contents) → length (held_by_block blocks caches) ≡ blocks
@@ -46,7 +46,7 @@ row-set caches core block new line here = map-set (λ cache. line_in cache block
 
 pub rows-set : (blocks : ℕ) (caches : List Contents) (core block : ℕ) (new : Contents) (line : Line) → block < blocks
     → line_in new block ≡ line → ((b : ℕ) → nat_eq block b ≡ false → line_in new b ≡ line_in (slice_index_or caches core no_cache) b)
-    → held_by_block blocks (slice_set caches core new) ≡ placed (held_by_block blocks caches) core block line
+    → held_by_block blocks (slice_set caches core new) ≡ with_line_at (held_by_block blocks caches) core block line
 rows-set blocks caches core block new line inside here others =
     let rows = held_by_block blocks caches in
     let after = slice_set caches core new in

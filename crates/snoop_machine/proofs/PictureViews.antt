@@ -11,9 +11,9 @@ use Rattle.snoop_model.specs.Pictures.Lines.{Line}
 use Rattle.snoop_model.specs.Pictures.Picture.{Picture, held_by, with_line}
 use Rattle.snoop_model.specs.Pictures.Situation.{picture_of, state_of, nothing_there}
 use Rattle.snoop_machine.specs.Standing.{Standing}
-use Rattle.snoop_machine.specs.Lines.{line_at, row_of, placed}
+use Rattle.snoop_machine.specs.Lines.{line_at, row_of, with_line_at}
 use Rattle.snoop_machine.specs.PartsView.{Fields, standing, pictures_of, IsSized, IsWhole}
-use Rattle.snoop_machine.specs.Memory.{memory_at}
+use Rattle.snoop_machine.specs.Memory.{memory_line}
 
 pictures-get : (rows : List (List Line)) (states : List MemState) (values : List Data) (transactions : List (Option Open)) (block : ℕ)
     → length states ≡ length rows → length values ≡ length rows → length transactions ≡ length rows
@@ -50,7 +50,7 @@ pictures_of-replicate (suc n) row state value transaction = rw (pictures_of-repl
 
 -- the picture of a block, in these parts
 abbrev pub picture_in : Fields → ℕ → Picture
-picture_in m block = record { caches = row_of m.lines.rows block; memory = memory_at m.memory block; transaction = slice_index_or m.bus.transactions block None }
+picture_in m block = record { caches = row_of m.lines.rows block; memory = memory_line m.memory block; transaction = slice_index_or m.bus.transactions block None }
 
 -- what holds of the parts, of which callers see this
 module _ {count : ℕ} {m : Fields} (whole : IsWhole count m) {now : Standing} (view : standing m ≡ now) where
@@ -95,7 +95,7 @@ module _ {count : ℕ} {m : Fields} (whole : IsWhole count m) {now : Standing} (
       rw (d, e, f, h) (pictures-set m.lines.rows m.memory.states m.memory.words m.bus.transactions block next states_long values_long transactions_long)
 
   -- one line is written
-  pub line-written : (block : ℕ) (rows : List (List Line)) (core : ℕ) (line : Line) → rows ≡ placed m.lines.rows core block line
+  pub line-written : (block : ℕ) (rows : List (List Line)) (core : ℕ) (line : Line) → rows ≡ with_line_at m.lines.rows core block line
       → pictures_of rows m.memory.states m.memory.words m.bus.transactions
       ≡ slice_set (standing m).situation.pictures block (with_line (picture_in m block) core line)
   line-written block rows core line wrote =

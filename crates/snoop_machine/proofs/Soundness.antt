@@ -17,7 +17,7 @@ use Rattle.snoop_model.specs.Pictures.Proper.{IsProper}
 use Rattle.snoop_model.specs.Moves.Move.{TakesRows}
 use Rattle.snoop_model.proofs.Tables.Rows.{IsProper-order}
 use Rattle.snoop_model.proofs.Queues.Orders.{own_waits, others_wait}
-use Rattle.snoop_machine.specs.Lines.{row_of, line_at, placed}
+use Rattle.snoop_machine.specs.Lines.{row_of, line_at, with_line_at}
 use Rattle.snoop_machine.specs.PartsView.{requests_for, IsSound, WaitsAs}
 use Rattle.snoop_machine.proofs.EachPlace.{each_place}
 use Rattle.snoop_machine.proofs.Queues.{issued_own, issued_other, head_other, head_alone}
@@ -98,21 +98,21 @@ module _ {shape : Extent} {caches : List (List Line)} {bus : Traffic} (sound : I
         → WaitsAs block (waiting_of now core) line
         → ((k : ℕ) → k ≢ core → requests_for block (waiting_of now k).requests ≡ requests_for block (waiting_of bus k).requests)
         → ((k b : ℕ) → b ≢ block → requests_for b (waiting_of now k).requests ≡ requests_for b (waiting_of bus k).requests)
-        → IsSound shape (placed caches core block line) now
+        → IsSound shape (with_line_at caches core block line) now
     IsSound-placed now queues transactions opened own others elsewhere =
         IsSound-row now block (slice_set (row_of caches block) core line) in_blocks (length-set (row_of caches block) core line ∙ sound.row block in_blocks)
         (each_line (λ k its. IsProper its) proper (λ k ne. sound.proper k block)) queues transactions opened
         (each_line (λ k its. WaitsAs block (waiting_of now k) its) own (λ k ne. others k ne ∙ sound.waits k block)) elsewhere
 
     -- which waits as it did
-    pub IsSound-line : waiting_request line.state ≡ waiting_request (line_at caches core block).state → IsSound shape (placed caches core block line) bus
+    pub IsSound-line : waiting_request line.state ≡ waiting_request (line_at caches core block).state → IsSound shape (with_line_at caches core block line) bus
     IsSound-line same = IsSound-placed bus sound.queues sound.transactions sound.opened (rw same (sound.waits core block)) (λ k ne. refl) (λ k b ne. refl)
 
     -- for which the core issues a request: it did not wait on the block
     pub IsSound-issue : (now : Traffic) (request : Request) (room : ℕ)
         → now.queues ≡ slice_set bus.queues core (record { requests = (waiting_of bus core).requests ++ (request, block) ∷ []; room = room })
         → now.transactions ≡ bus.transactions → waiting_request (line_at caches core block).state ≡ None → waiting_request line.state ≡ Some request
-        → IsSound shape (placed caches core block line) now
+        → IsSound shape (with_line_at caches core block line) now
     IsSound-issue now request room wrote transactions idle waits =
         let queue : Waiting = record { requests = (waiting_of bus core).requests ++ (request, block) ∷ []; room = room } in
         IsSound-placed now (as_many now core queue in_cores wrote)

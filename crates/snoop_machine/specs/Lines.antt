@@ -24,9 +24,9 @@ row_of rows block = slice_index_or rows block []
 abbrev pub line_at : List (List Line) → ℕ → ℕ → Line
 line_at rows core block = held_at (row_of rows block) core
 
--- the rows with this line of the core in the block's row
-abbrev pub placed : List (List Line) → ℕ → ℕ → Line → List (List Line)
-placed rows core block line = slice_set rows block (slice_set (row_of rows block) core line)
+-- what each core holds, by block, with this line for the core and the block
+abbrev pub with_line_at : List (List Line) → ℕ → ℕ → Line → List (List Line)
+with_line_at rows core block line = slice_set rows block (slice_set (row_of rows block) core line)
 
 -- what callers see of the lines: what each core holds, by block and then by core; the blocks that each core's map has a line for; and for how many more it has room
 pub record Held : Type 0 where
@@ -79,9 +79,9 @@ abbrev pub LinesGo : ℕ → Held → Held → Type 0
 LinesGo block old new =
     (core : ℕ) → length (slice_index_or new.lines core []) + gone (line_at old.rows core block).state (line_at new.rows core block).state ≡ length (slice_index_or old.lines core [])
 
--- the core has this line of the block now; where it moved to I its map has one line less, and nothing else has changed
+-- the core has this line of the block now; where another state gave way to I, the core's map has one line less, and none for the block; all other lines are there as before, and no room for lines is lost
 pub record WritesLine (core block : ℕ) (line : Line) (old new : Held) : Type 0 where
-  pub rows : new.rows ≡ placed old.rows core block line
+  pub rows : new.rows ≡ with_line_at old.rows core block line
   pub stays : line.state ≢ I → new.lines ≡ old.lines
   pub taken : (line_at old.rows core block).state ≢ I → line.state ≡ I → is_among (slice_index_or new.lines core []) block ≡ false
   pub elsewhere : (b : ℕ) → nat_eq block b ≡ false → is_among (slice_index_or new.lines core []) b ≡ is_among (slice_index_or old.lines core []) b

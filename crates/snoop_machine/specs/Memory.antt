@@ -6,11 +6,11 @@ use Rattle.snoop_rules.specs.declared.names.MemState.{MemState}
 use Rattle.snoop_rules.specs.declared.names.MemState.TheVariants.{IorS}
 use Rattle.snoop_model.specs.Pictures.Lines.{MemLine}
 
--- its state and its words, by block
+-- memory's state and words, by block
 pub record MemTables : Type 0 where
   pub states : List MemState
   pub words : List Data
 
--- its line of a block
-abbrev pub memory_at : MemTables → ℕ → MemLine
-memory_at memory block = record { state = slice_index_or memory.states block IorS; value = slice_index_or memory.words block zero_words }
+-- memory's line of a block
+abbrev pub memory_line : MemTables → ℕ → MemLine
+memory_line memory block = record { state = slice_index_or memory.states block IorS; value = slice_index_or memory.words block zero_words }

@@ -70,7 +70,7 @@ standing m =
 abbrev pub requests_for : ℕ → List (Request × ℕ) → List Request
 requests_for block requests = map (λ r. r.0) (filter (λ r. r.1 == block) requests)
 
--- a queue has one request for the block, for which the line waits, or none where the line does not wait
+-- the queue has for this block the one request with which the line waits, or none where it waits with none
 abbrev pub WaitsAs : ℕ → Waiting → Line → Type 0
 WaitsAs block queue line = requests_for block queue.requests ≡ option_to_list (waiting_request line.state)
 

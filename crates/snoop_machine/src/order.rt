@@ -8,7 +8,7 @@ ghost use Rattle.snoop_model.specs.Moves.LookUps.{HasRow};
 ghost use Rattle.snoop_model.specs.Moves.SenderTable.{FollowsSenderTable};
 ghost use Rattle.snoop_model.specs.Moves.Move.{TakesMemRow, TakesRows};
 ghost use Rattle.snoop_machine.specs.Lines.{LinesGo, KeepsMapsRoom};
-ghost use Rattle.snoop_machine.specs.Memory.{memory_at};
+ghost use Rattle.snoop_machine.specs.Memory.{memory_line};
 
 use crate::lines::Lines;
 use crate::memory::Memory;
@@ -67,9 +67,9 @@ impl<B: Block> Lines<B> {
         requires block { block < length self.now.rows }
         requires waits { waiting_request (held_at (slice_index_or self.now.rows block []) requestor).state ≡ Some request }
         requires rows { (k : ℕ) → k < length (slice_index_or self.now.rows block []) → HasRow protocol (held_at (slice_index_or self.now.rows block []) k).state (seen_by k requestor request) }
-        requires line { FollowsSenderTable protocol (free_picture (slice_index_or self.now.rows block []) (memory_at memory.now block)) requestor request }
-        ensures sender { IsOnlySender protocol (free_picture (slice_index_or self.now.rows block []) (memory_at memory.now block)) requestor request result.from result.payload }
-        ensures memory { TakesMemRow protocol (at_memory request) (memory_at memory.now block).state result.memory }
+        requires line { FollowsSenderTable protocol (free_picture (slice_index_or self.now.rows block []) (memory_line memory.now block)) requestor request }
+        ensures sender { IsOnlySender protocol (free_picture (slice_index_or self.now.rows block []) (memory_line memory.now block)) requestor request result.from result.payload }
+        ensures memory { TakesMemRow protocol (at_memory request) (memory_line memory.now block).state result.memory }
     {
         let Some(row) = mem_cell(protocol, memory.state(block), event_at_memory(request)) else {
             unreachable!();

@@ -42,7 +42,7 @@ pub record IsCoherent (s : Situation) : Type 0 where
   pub opened : (block : ℕ) → IfSome (picture_of s block).transaction (λ transaction. (transaction.block ≡ block) × (transaction.core < s.shape.cores) × IfSome transaction.from (λ sender. sender < s.shape.cores))
   -- an operation waits exactly where one has missed: a load or a store, as the state says
   pub waiting : (core block : ℕ) → option_map (λ access. request_for access.op) (held_by (picture_of s block) core).waiting ≡ missed_request (state_of s core block)
-  -- a core waits for data exactly where the block's open transaction is its GetS or GetM
+  -- a core is in IS_D exactly where it is the requestor of the block's open GetS, and in IM_D or SM_D exactly where it is that of the block's open GetM
   pub awaited : (core block : ℕ) (request : Request) → (awaited_request (state_of s core block) ≡ Some request) ↔ (HasOpen s core block request × (request ≢ PutM))
   -- each core's queue has the blocks on which it waits to be ordered, each once
   pub queued : (core block : ℕ) → IsInQueue s core block

@@ -21,7 +21,7 @@ use Rattle.snoop_model.specs.Moves.LookUps.{HasRow, HasMemRow, ConsultsCache, Co
 use Rattle.snoop_model.specs.Pictures.OneWriter.{OneWriter}
 use Rattle.snoop_model.specs.Moves.SenderTable.{OrdersFollowSenderTable}
 use Rattle.snoop_model.specs.Invariant.Fits.{in_protocol, is_clean, is_owner, wait_fits, fits}
-use Rattle.snoop_model.specs.Invariant.Block.{BlockInvariant, awaited, owns, talk_of}
+use Rattle.snoop_model.specs.Invariant.Block.{BlockInvariant, own_open, owns, talk_of}
 use Rattle.snoop_model.specs.Invariant.Invariant.{Invariant}
 use Rattle.snoop_model.specs.Invariant.WellKept.{IsWellKept}
 use Rattle.snoop_model.proofs.Tables.AskTests
@@ -60,7 +60,7 @@ has_one_writer s g block core other writes apart =
     (λ within stores. each_line s g other block Idle
     (λ within_too.
     let good = g.blocks block within.1 in
-    let owning = (and_parts (owns good.owner core) (not (is_clean stores.0)) (ask_rule AskTests.ask_store_owns p good.claims.shared (owns good.owner core) (awaited picture.transaction core)
+    let owning = (and_parts (owns good.owner core) (not (is_clean stores.0)) (ask_rule AskTests.ask_store_owns p good.claims.shared (owns good.owner core) (own_open picture.transaction core)
     (held_by picture core).state (op.Store 0) (record { action = action.Hit; next = stores.0 }) (good.states core within.0) stores.1)).0 in
     let blind = one_writer p s.shape.cores (flat_words s.log block) picture good core other within_too.0 owning apart in
     let held = (held_by picture other).state in
@@ -111,7 +111,7 @@ nobody_owns p n value picture g idle (Some o) is =
     let s = (held_by picture o).state in
     let fit = g.states o (g.owner_in o is) in
     let owning : owns g.owner o ≡ true = rw is (eq-eqb o o refl) in
-    absurd (idle o (owner_stores p s (and_parts _ _ fit).0 (fits_is_owner p g.claims.shared (owns g.owner o) (awaited picture.transaction o) s fit ∙ owning)))
+    absurd (idle o (owner_stores p s (and_parts _ _ fit).0 (fits_is_owner p g.claims.shared (owns g.owner o) (own_open picture.transaction o) s fit ∙ owning)))
 
 no_data : (found : Option Open) → data_under_way found ≡ None → brings_data (talk_of found) ≡ false
 no_data None none = refl
@@ -170,8 +170,8 @@ data_awaited s g kept core block q = (
       let is = open_get.0.1 in
       let good = g.blocks block (opened_within s g block o is.0) in
       let there : core < s.shape.cores = rw (← is.1) (good.requestor_in o is.0) in
-      let its : awaited (picture_of s block).transaction core ≡ Some q = rw (is.0, is.1, eq-eqb core core refl, is.2) refl in
-      let fit = fits_waits s.protocol good.claims.shared (owns good.owner core) (awaited (picture_of s block).transaction core) (state_of s core block) (good.states core there) in
+      let its : own_open (picture_of s block).transaction core ≡ Some q = rw (is.0, is.1, eq-eqb core core refl, is.2) refl in
+      let fit = fits_waits s.protocol good.claims.shared (owns good.owner core) (own_open (picture_of s block).transaction core) (state_of s core block) (good.states core there) in
       open_awaits q (state_of s core block) open_get.1 (rw its at fit),
 )
 

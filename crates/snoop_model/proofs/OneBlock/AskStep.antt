@@ -9,7 +9,7 @@ use Rattle.snoop_model.proofs.Common.{Protocol, Op, CacheState, CacheAction, Cel
 use Rattle.snoop_trace.specs.declared.step.Op.TheVariants as op
 use Rattle.snoop_rules.specs.declared.names.CacheAction.TheVariants as action
 use Rattle.snoop_model.specs.Invariant.Fits.{is_clean, fits}
-use Rattle.snoop_model.specs.Invariant.Block.{BlockInvariant, awaited, owns}
+use Rattle.snoop_model.specs.Invariant.Block.{BlockInvariant, own_open, owns}
 use Rattle.snoop_model.proofs.OneBlock.Operation.{did_in, flat_after, IsLawful}
 use Rattle.snoop_model.proofs.OneBlock.Facts.{by_core, implied, Carried, carried_by, came_to, carried_kept, carried_same, owned_alone, one_writer, owner_owned, calm_carries}
 use Rattle.snoop_model.proofs.Tables.Rows.{hit_keeps, IsProper-issue, IsProper-hit, IsProper-drop}
@@ -96,14 +96,14 @@ module _ (s : Situation) (core block word : ℕ) (asking : Op) (answer : Reply) 
   took = rw here asks.taken
 
   -- a test of an Ask's row holds here
-  rule : (k : AskTests.AskQuestion) → AskTests.ask_test k s.protocol g.claims.shared (owns g.owner core) (awaited before.transaction core)
+  rule : (k : AskTests.AskQuestion) → AskTests.ask_test k s.protocol g.claims.shared (owns g.owner core) (own_open before.transaction core)
       (held_by before core).state (asked asking) asks.row ≡ true
-  rule k = ask_rule k s.protocol g.claims.shared (owns g.owner core) (awaited before.transaction core) (held_by before core).state asking asks.row
+  rule k = ask_rule k s.protocol g.claims.shared (owns g.owner core) (own_open before.transaction core) (held_by before core).state asking asks.row
       (g.states core asker_in) asks.is_row
 
   -- the states after an Ask
-  ask_states : (held_by after core).state ≡ asks.row.next → (d : ℕ) → d < n → fits s.protocol g.claims.shared (owns g.owner d) (awaited before.transaction d) (held_by after d).state ≡ true
-  ask_states state = by_core core (λ d. d < n → fits s.protocol g.claims.shared (owns g.owner d) (awaited before.transaction d) (held_by after d).state ≡ true)
+  ask_states : (held_by after core).state ≡ asks.row.next → (d : ℕ) → d < n → fits s.protocol g.claims.shared (owns g.owner d) (own_open before.transaction d) (held_by after d).state ≡ true
+  ask_states state = by_core core (λ d. d < n → fits s.protocol g.claims.shared (owns g.owner d) (own_open before.transaction d) (held_by after d).state ≡ true)
       (λ c_in. rw state (right_of (is_stall asks.row.action) _ (rule AskTests.ask_fits)
       (not_stall s.protocol flat asks.row.next s.log core block word (held_by before core) (held_by after core) answer entry (g.kept core asker_in) asks.row.action asking took)))
       (λ d apart d_in. rw (others d apart) (g.states d d_in))

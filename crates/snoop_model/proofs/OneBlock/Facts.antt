@@ -7,7 +7,7 @@ use Rattle.std.proofs.lemmas.List.{get_or_past}
 use Rattle.snoop_model.proofs.Common.{Protocol, CacheState, Request, carries_value, Open, Line, Picture, held_by, held_at, nothing_held, keeps, moves_to}
 use Rattle.snoop_history.specs.Totals.{is_put_m}
 use Rattle.snoop_model.specs.Invariant.Fits.{is_owner, is_sharer, is_clean, in_protocol, same, wait_fits, fits}
-use Rattle.snoop_model.specs.Invariant.Block.{BlockInvariant, talk_of, awaited, owns}
+use Rattle.snoop_model.specs.Invariant.Block.{BlockInvariant, talk_of, own_open, owns}
 use Rattle.snoop_model.proofs.Tables.Every.{same_is}
 use Rattle.snoop_model.proofs.Tables.StateTests.{alone_rule, calm_talk, carries, fits_calm, is_calm, kept_reader, owned_rule}
 
@@ -79,10 +79,10 @@ owned_alone p n flat picture g is_owned =
     let b = and_parts (not g.claims.fresh) (calm_talk (talk_of picture.transaction)) a.1 in
     record { unshared = not-true g.claims.shared a.0; unfresh = not-true g.claims.fresh b.0; calm = b.1 }
 
-pub put_calm : (o : Open) (d : ℕ) → is_put_m o.request ≡ true → is_calm (awaited (Some o) d) ≡ true
+pub put_calm : (o : Open) (d : ℕ) → is_put_m o.request ≡ true → is_calm (own_open (Some o) d) ≡ true
 put_calm o d h = elim (cases_Bool (eqb d o.core)) [ inl e ↦ rw e h | inr e ↦ rw e refl ]
 
-pub calm_wait : (t : Option Open) (d : ℕ) → calm_talk (talk_of t) ≡ true → is_calm (awaited t d) ≡ true
+pub calm_wait : (t : Option Open) (d : ℕ) → calm_talk (talk_of t) ≡ true → is_calm (own_open t d) ≡ true
 calm_wait None d h = refl
 calm_wait (Some o) d h = put_calm o d (and_parts (is_put_m o.request) (not (carries_value o.payload)) h).0
 
@@ -90,8 +90,8 @@ calm_wait (Some o) d h = put_calm o d (and_parts (is_put_m o.request) (not (carr
 pub others_blind : (p : Protocol) (n : ℕ) (flat : List ℕ) (picture : Picture) (g : BlockInvariant p n flat picture) → g.claims.owned ≡ true → (d : ℕ) → d < n → owns g.owner d ≡ false → keeps (held_by picture d).state ≡ false
 others_blind p n flat picture g is_owned d d_in not_owner =
     let a = owned_alone p n flat picture g is_owned in
-    let fit : fits p false false (awaited picture.transaction d) (held_by picture d).state ≡ true = rw (a.unshared, not_owner) at (g.states d d_in) in
-    alone_rule p (held_by picture d).state (fits_calm p false false (awaited picture.transaction d) (held_by picture d).state (calm_wait picture.transaction d a.calm) fit)
+    let fit : fits p false false (own_open picture.transaction d) (held_by picture d).state ≡ true = rw (a.unshared, not_owner) at (g.states d d_in) in
+    alone_rule p (held_by picture d).state (fits_calm p false false (own_open picture.transaction d) (held_by picture d).state (calm_wait picture.transaction d a.calm) fit)
 
 pub owner_is : (owner : Option ℕ) (d : ℕ) → owns owner d ≡ true → owner ≡ Some d
 owner_is None d h = cc

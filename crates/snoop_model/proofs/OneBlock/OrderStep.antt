@@ -11,7 +11,7 @@ use Rattle.snoop_history.specs.Totals.{is_put_m, is_data}
 use Rattle.snoop_model.specs.Pictures.Sends.{Sends, value_sent}
 use Rattle.snoop_model.proofs.Tables.SentBy.{sent_by, sent_by_memory, payload_from, sends_is}
 use Rattle.snoop_model.specs.Invariant.Fits.{Claims, claims_of, is_clean, same, fits}
-use Rattle.snoop_model.specs.Invariant.Block.{BlockInvariant, awaited, owns}
+use Rattle.snoop_model.specs.Invariant.Block.{BlockInvariant, own_open, owns}
 use Rattle.snoop_model.proofs.Tables.Every.{given_at, same_is, some_of}
 use Rattle.snoop_model.proofs.Tables.SenderTests.{some_and}
 use Rattle.snoop_model.proofs.OneBlock.Facts.{by_core, some_is, owns_owned, owns_apart, fits_is_owner, implied, Carried, came_to, carried_kept}
@@ -227,8 +227,8 @@ module _ (p : Protocol) (flat : List ℕ) (before : Picture) (c : ℕ) (q : Requ
         (λ d apart d_in. let x = other_cell d d_in in
         came_to (held_by before d) (held_by after d) x.0.next (other_after d d_in apart x.0 x.1) (other_of OrderTests.other_carries d d_in apart x.0 x.1))
 
-    order_states : (opened : Open) → opened.core ≡ c → opened.request ≡ q → (d : ℕ) → d < length before.caches → fits p l.next.shared (owns (next_owner q c l.good.owner) d) (awaited (Some opened) d) (held_by after d).state ≡ true
-    order_states opened is_core is_request = by_core c (λ d. d < length before.caches → fits p l.next.shared (owns (next_owner q c l.good.owner) d) (awaited (Some opened) d) (held_by after d).state ≡ true)
+    order_states : (opened : Open) → opened.core ≡ c → opened.request ≡ q → (d : ℕ) → d < length before.caches → fits p l.next.shared (owns (next_owner q c l.good.owner) d) (own_open (Some opened) d) (held_by after d).state ≡ true
+    order_states opened is_core is_request = by_core c (λ d. d < length before.caches → fits p l.next.shared (owns (next_owner q c l.good.owner) d) (own_open (Some opened) d) (held_by after d).state ≡ true)
         (λ c_in. rw (requestor_after, owns_next_self (is_put_m q) l.good.owner c, is_core, eq-eqb c c refl, is_request) (end_of OrderTests.requestor_fits))
         (λ d apart d_in. let x = other_cell d d_in in
         rw (other_after d d_in apart x.0 x.1, owns_next_other (is_put_m q) l.good.owner c d apart, is_core, ne_eqb d c apart) (other_of OrderTests.other_fits d d_in apart x.0 x.1))

@@ -9,7 +9,7 @@ use Rattle.snoop_history.specs.Totals.{is_put_m}
 use Rattle.snoop_model.specs.Pictures.Sends.{Sends, IsOnlySender}
 use Rattle.snoop_model.proofs.Tables.SentBy.{payload_from, sends_is, sends_row, memory_sends_row}
 use Rattle.snoop_model.specs.Invariant.Fits.{claims_of, in_protocol, fits}
-use Rattle.snoop_model.specs.Invariant.Block.{BlockInvariant, awaited, owns}
+use Rattle.snoop_model.specs.Invariant.Block.{BlockInvariant, own_open, owns}
 use Rattle.snoop_model.proofs.Tables.Every.{either-at, some_of, when_at}
 use Rattle.snoop_model.proofs.Tables.SenderTests.{follows_sender_table}
 use Rattle.snoop_model.proofs.OneBlock.Facts.{by_core, implied, owner_is, none_of}
@@ -115,7 +115,7 @@ fits_protocol p shared ow w s h = (and_parts _ _ h).0
 pub ask_possible : (p : Protocol) (n : ℕ) (flat : List ℕ) (before : Picture) (c : ℕ) (o : Op) → BlockInvariant p n flat before → c < n → is_idle_evict (held_by before c).state (asked o) ≡ false → (r : CacheCell) × (cell_of p (held_by before c).state (asked o) ≡ Some r)
 ask_possible p n flat before c o good c_in busy =
     let fit = good.states c c_in in
-    let h = when_at _ _ (fits_protocol p good.claims.shared (owns good.owner c) (awaited before.transaction c) (held_by before c).state fit) (ask_row p (held_by before c).state o) in
+    let h = when_at _ _ (fits_protocol p good.claims.shared (owns good.owner c) (own_open before.transaction c) (held_by before c).state fit) (ask_row p (held_by before c).state o) in
     some_of (cell_of p (held_by before c).state (asked o)) (right_of (is_idle_evict (held_by before c).state (asked o)) _ h busy)
 
 -- a Respond finds its rows
@@ -129,7 +129,7 @@ respond_possible p n flat before o good was_open =
     let s = (held_by before c).state in
     let ow = owns good.owner c in
     let is_claims : claims_of p before.memory.state (Some (o.request, o.payload)) ≡ Some good.claims = rw was_open at good.is_claims in
-    let waits : awaited before.transaction c ≡ Some o.request = rw (was_open, eq-eqb c c refl) refl in
+    let waits : own_open before.transaction c ≡ Some o.request = rw (was_open, eq-eqb c c refl) refl in
     let fit : fits p good.claims.shared ow (Some o.request) s ≡ true = rw waits at (good.states c (good.requestor_in o was_open)) in
     record {
       memory = λ h.

@@ -13,7 +13,7 @@ use Rattle.snoop_rules.specs.declared.names.Request.TheVariants as request
 use Rattle.snoop_rules.proofs.Every.{all_states-at}
 use Rattle.snoop_history.specs.Totals.{is_put_m, is_get_m}
 use Rattle.snoop_model.specs.Invariant.Fits.{Claims, claims_of, is_clean, fits}
-use Rattle.snoop_model.specs.Invariant.Block.{BlockInvariant, awaited, owns}
+use Rattle.snoop_model.specs.Invariant.Block.{BlockInvariant, own_open, owns}
 use Rattle.snoop_model.proofs.Tables.Every.{either-at, given, given_at, same_is, some_of, when_at}
 use Rattle.snoop_model.proofs.OneBlock.Operation.{flat_after, IsLawful}
 use Rattle.snoop_model.proofs.Tables.SenderTests.{after_respond, next_memory, next_of}
@@ -145,11 +145,11 @@ module _ (p : Protocol) (n : ℕ) (flat : List ℕ) (before : Picture) (caches :
   owned_after = same_is _ _ (tested_after RespondTests.gain_owned)
 
   -- a core that is not answered keeps its state, which fits the line after; and after a GetM it may not read
-  stays : (d : ℕ) → d < n → is_calm (awaited before.transaction d) ≡ true
+  stays : (d : ℕ) → d < n → is_calm (own_open before.transaction d) ≡ true
       → (fits p next.shared (owns g.owner d) None (held_by before d).state ≡ true) × (is_get_m o.request ≡ true → keeps (held_by before d).state ≡ false)
   stays d d_in calm =
       let s = (held_by before d).state in
-      let fit = fits_calm p g.claims.shared (owns g.owner d) (awaited before.transaction d) s calm (g.states d d_in) in
+      let fit = fits_calm p g.claims.shared (owns g.owner d) (own_open before.transaction d) s calm (g.states d d_in) in
       let here = when_at _ _ (owns_owned g.owner d g.claims.owned g.is_owned) (when_at _ _ fit (either-at _ (all_states-at _ (tested_after RespondTests.stays) s) (owns g.owner d))) in
       let parts = and_parts (fits p next.shared (owns g.owner d) None s) (not (is_get_m o.request) || not (keeps s)) here in
       (parts.0, λ get_m. not-true (keeps s) (implied (is_get_m o.request) (not (keeps s)) parts.1 get_m))
@@ -190,7 +190,7 @@ module _ (p : Protocol) (n : ℕ) (flat : List ℕ) (before : Picture) (caches :
     answered : RespondTests.answered_so p o.request o.payload g.claims next (owns g.owner c) fills.row ≡ true
     answered =
         let s = (held_by before c).state in
-        let waits : awaited before.transaction c ≡ Some o.request = rw (was_open, eq-eqb c c refl) refl in
+        let waits : own_open before.transaction c ≡ Some o.request = rw (was_open, eq-eqb c c refl) refl in
         let fit : fits p g.claims.shared (owns g.owner c) (Some o.request) s ≡ true = rw waits at (g.states c (g.requestor_in o was_open)) in
         let get : not (is_put_m o.request) ≡ true = rw no_put refl in
         let test = when_at _ _ get (tested_after RespondTests.arrival_fits) in
@@ -199,7 +199,7 @@ module _ (p : Protocol) (n : ℕ) (flat : List ℕ) (before : Picture) (caches :
     state_after : (held_by after c).state ≡ fills.row.next
     state_after = ap (λ (x : Line). x.state) fills.held
 
-    calm : (d : ℕ) → d ≢ c → is_calm (awaited before.transaction d) ≡ true
+    calm : (d : ℕ) → d ≢ c → is_calm (own_open before.transaction d) ≡ true
     calm d apart = rw (was_open, ne_eqb d c apart) refl
 
     respond_get : BlockInvariant p n (flat_after flat did) after × IsLawful flat did

@@ -16,10 +16,10 @@ abbrev pub talk_of : Option Open → Option Talk
 talk_of None = None
 talk_of (Some o) = Some (o.request, o.payload)
 
--- the request whose answer the core awaits
-abbrev pub awaited : Option Open → ℕ → Option Request
-awaited None d = None
-awaited (Some o) d = cond (d == o.core) (Some o.request) None
+-- the core's own request that is open, if any
+abbrev pub own_open : Option Open → ℕ → Option Request
+own_open None d = None
+own_open (Some o) d = cond (d == o.core) (Some o.request) None
 
 -- the core is the owner
 abbrev pub owns : Option ℕ → ℕ → Bool
@@ -33,7 +33,7 @@ pub record BlockInvariant (p : Protocol) (n : ℕ) (flat : Data) (picture : Pict
   pub owner : Option ℕ
   pub owner_in : (o : ℕ) → owner ≡ Some o → o < n
   pub is_owned : is_some owner ≡ claims.owned
-  pub states : (d : ℕ) → d < n → fits p claims.shared (owns owner d) (awaited picture.transaction d) (held_by picture d).state ≡ true
+  pub states : (d : ℕ) → d < n → fits p claims.shared (owns owner d) (own_open picture.transaction d) (held_by picture d).state ≡ true
   pub kept : (d : ℕ) → d < n → keeps (held_by picture d).state ≡ true → (held_by picture d).kept ≡ Some flat
   pub clean : (d : ℕ) → d < n → is_clean (held_by picture d).state ≡ true → picture.memory.value ≡ flat
   pub fresh : claims.fresh ≡ true → picture.memory.value ≡ flat

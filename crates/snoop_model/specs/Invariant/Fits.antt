@@ -86,7 +86,7 @@ is_clean state.E = true
 is_clean state.EiA = true
 is_clean _ = false
 
--- the state waits for data exactly where the core awaits the answer of its GetS or GetM
+-- the state waits for data exactly where the core's own open request is this GetS or GetM
 unfoldable pub wait_fits : Option Request → CacheState → Bool
 wait_fits (Some GetS) state.IsD = true
 wait_fits (Some GetS) _ = false

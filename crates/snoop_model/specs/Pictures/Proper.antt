@@ -1,5 +1,5 @@
 -- What a line holds in each state.
--- Source: this project's profile.
+-- Source: the states are those of chapter 7 of "A Primer on Memory Consistency and Cache Coherence", 2nd edition; the rest is this project's profile.
 use Rattle.std.specs.Prelude.{◌≡◌, Bool, true, false, Option, Some, None, is_some, option_map}
 use Rattle.snoop_trace.specs.declared.step.Op.{Op}
 use Rattle.snoop_trace.specs.declared.step.Op.TheVariants as op
@@ -36,7 +36,7 @@ missed_request SmAd = Some GetM
 missed_request SmD = Some GetM
 missed_request _ = None
 
--- the request whose data a core awaits in a state, once the request has been ordered
+-- the request, already ordered, whose data a core in this state waits for
 abbrev pub awaited_request : CacheState → Option Request
 awaited_request IsD = Some GetS
 awaited_request ImD = Some GetM

@@ -65,7 +65,7 @@ Waits s core block request = waiting_request (state_of s core block) ≡ Some re
 abbrev pub CanOrder : Situation → ℕ → ℕ → Request → Type 0
 CanOrder s core block request = Waits s core block request × ((picture_of s block).transaction ≡ None)
 
--- the block's open transaction is the core's, for this request
+-- the core is the requestor of the block's open transaction, which is for this request
 abbrev pub HasOpen : Situation → ℕ → ℕ → Request → Type 0
 HasOpen s core block request =
     (transaction : Open) × (((picture_of s block).transaction ≡ Some transaction) × (transaction.core ≡ core) × (transaction.request ≡ request))

@@ -12,10 +12,10 @@ use Rattle.snoop_machine.proofs.lines.Lines.sender.Given.{Over}
 use Rattle.snoop_machine.proofs.lines.Lines.sender.Goals as goal
 use Rattle.snoop_machine.proofs.lines.Lines.sender.Goals.{After-concerned-concerned, In-Some, In-Some-cache_cell, In-Some-next}
 use Rattle.snoop_machine.specs.Lines.{row_of}
-use Rattle.snoop_machine.specs.Memory.{memory_at}
+use Rattle.snoop_machine.specs.Memory.{memory_line}
 
 -- memory's row
-memory_row : (g : Over) (c : In-Some g) → MemoryCell c.args.protocol (memory_at c.args.memory.now c.args.block).state
+memory_row : (g : Over) (c : In-Some g) → MemoryCell c.args.protocol (memory_line c.args.memory.now c.args.block).state
     (at_memory c.args.request) c.in-Some.row.action c.in-Some.row.next
 memory_row g c =
     rw (c.event_at_memory.ensures, c.state.ensures) at c.in-Some.ensures.row
@@ -23,9 +23,9 @@ memory_row g c =
 -- who sends is the only one that does
 sends : (g : Over) (c : In-Some g) (from : Option ℕ) (payload : Payload)
     → Sends c.args.protocol
-    (free_picture (row_of c.args.self.now.rows c.args.block) (memory_at c.args.memory.now c.args.block)) c.args.requestor c.args.request from payload
+    (free_picture (row_of c.args.self.now.rows c.args.block) (memory_line c.args.memory.now c.args.block)) c.args.requestor c.args.request from payload
     → IsOnlySender c.args.protocol
-    (free_picture (row_of c.args.self.now.rows c.args.block) (memory_at c.args.memory.now c.args.block)) c.args.requestor c.args.request from payload
+    (free_picture (row_of c.args.self.now.rows c.args.block) (memory_line c.args.memory.now c.args.block)) c.args.requestor c.args.request from payload
 sends g c from payload sent = record { sends = sent; alone = λ other message h. c.requires.line.sent.alone other message h ∙ sym (c.requires.line.sent.alone from payload sent) }
 
 pub returns-in-Send-clause-sender : goal.returns-in-Send-clause-sender
@@ -70,7 +70,7 @@ returns-in-Send-action-clause-sender g c =
 pub loop-core-init : goal.loop-core-init
 loop-core-init g c =
     let d = (goal.at.loop-core-init g c).In-Some in
-    let held = memory_at c.args.memory.now c.args.block in
+    let held = memory_line c.args.memory.now c.args.block in
     let before = free_picture (row_of c.args.self.now.rows c.args.block) held in (
       Silent-none c.args.protocol before c.args.requestor c.args.request c.in-Some.row.action c.in-Some.row.next
           (memory_row g d) c.in_default-action.not-Send,
@@ -80,7 +80,7 @@ loop-core-init g c =
 pub loop-core-preserved : goal.loop-core-preserved
 loop-core-preserved g c =
     let d = (goal.at.loop-core-preserved g c).In-Some-cache_cell in
-    let before = free_picture (row_of c.args.self.now.rows c.args.block) (memory_at c.args.memory.now c.args.block) in
+    let before = free_picture (row_of c.args.self.now.rows c.args.block) (memory_line c.args.memory.now c.args.block) in
     let core = c.in-Some-next.core in
     let within : core < length (row_of c.args.self.now.rows c.args.block) = within_row g (goal.at.loop-core-preserved g c).In-Some-next in
     let silent = Silent-past c.args.protocol before c.args.requestor c.args.request c.loop-core.from core c.in-Some-next.ensures.some.0
@@ -94,7 +94,7 @@ loop-core-preserved g c =
 
 pub unreachable-requires-2 : goal.unreachable-requires-2
 unreachable-requires-2 g c =
-    let before = free_picture (row_of c.args.self.now.rows c.args.block) (memory_at c.args.memory.now c.args.block) in
+    let before = free_picture (row_of c.args.self.now.rows c.args.block) (memory_line c.args.memory.now c.args.block) in
     let silent = Silent-past c.args.protocol before c.args.requestor c.args.request c.loop-core.from (length (row_of c.args.self.now.rows c.args.block)) c.loop-core.invariant.1
     (λ k above below. Cell-passed (concerned g (goal.at.unreachable-requires-2 g c).After-concerned-concerned) c.args.protocol c.requires.rows k below
     (c.in_default-next.ensures.none k above))

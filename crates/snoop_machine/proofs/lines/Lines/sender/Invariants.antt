@@ -1,5 +1,5 @@
 use Rattle.std.proofs.Common.{◌≤◌, ◌-◌, length}
-use Rattle.snoop_machine.specs.Memory.{memory_at}
+use Rattle.snoop_machine.specs.Memory.{memory_line}
 use Rattle.snoop_model.specs.Pictures.Picture.{free_picture}
 use Rattle.snoop_model.proofs.Lines.TheSender.{SilentBelow}
 use Rattle.snoop_machine.proofs.lines.Lines.sender.Given as goal
@@ -7,7 +7,7 @@ use Rattle.snoop_machine.specs.Lines.{row_of}
 
 abbrev pub invariant-loop-core : goal.invariant-loop-core
 invariant-loop-core g l =
-    SilentBelow l.protocol (free_picture (row_of l.self.rows l.block) (memory_at l.fn.memory l.block)) l.requestor l.request l.from
+    SilentBelow l.protocol (free_picture (row_of l.self.rows l.block) (memory_line l.fn.memory l.block)) l.requestor l.request l.from
     × (l.from ≤ length (row_of l.self.rows l.block))
 
 abbrev pub decreases-loop-core : goal.decreases-loop-core

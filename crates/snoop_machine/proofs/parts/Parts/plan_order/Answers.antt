@@ -13,7 +13,7 @@ use Rattle.snoop_machine.proofs.Plans.{order-allowed}
 use Rattle.snoop_machine.specs.Plan.{IsPlan}
 use Rattle.snoop_machine.specs.PartsView.{Fields, standing, IsWhole}
 use Rattle.snoop_machine.specs.Lines.{row_of}
-use Rattle.snoop_machine.specs.Memory.{memory_at}
+use Rattle.snoop_machine.specs.Memory.{memory_line}
 use Rattle.snoop_machine.proofs.parts.Parts.plan_order.Given.{Over}
 use Rattle.snoop_machine.proofs.parts.Parts.plan_order.Goals as goal
 use Rattle.snoop_machine.proofs.parts.Parts.plan_order.Goals.{After-sender-from}
@@ -27,7 +27,7 @@ free_copied (Some found) transaction shown none = cc
 -- has this picture
 free_seen : {count : ℕ} {m : Fields} (whole : IsWhole count m) {now : Standing} (view : standing m ≡ now) (block : ℕ)
     → (picture_of now.situation block).transaction ≡ None
-    → free_picture (row_of m.lines.rows block) (memory_at m.memory block) ≡ picture_of now.situation block
+    → free_picture (row_of m.lines.rows block) (memory_line m.memory block) ≡ picture_of now.situation block
 free_seen whole view block free =
     let shown = seen whole view block in
     rw (shown, sym (ap (λ (x : Picture). x.transaction) shown) ∙ free)

@@ -14,7 +14,7 @@ use Rattle.snoop_model.specs.Pictures.Situation.{picture_of}
 use Rattle.snoop_machine.specs.Standing.{Standing}
 use Rattle.snoop_machine.specs.Lines.{row_of}
 use Rattle.snoop_machine.specs.PartsView.{Fields, fields, standing, pictures_of}
-use Rattle.snoop_machine.specs.Memory.{MemTables, memory_at}
+use Rattle.snoop_machine.specs.Memory.{MemTables, memory_line}
 use Rattle.snoop_trace.specs.Words.{zero_words}
 use Rattle.snoop_machine.proofs.Following.{follows-rows}
 use Rattle.snoop_machine.proofs.PictureViews.{seen, line_seen, picture-written, core_in, block_in, sized_on}
@@ -82,7 +82,7 @@ opened g c = record {
 
 -- memory's line now, and the block's picture
 abbrev memory_now : (g : Over) (c : After-start g) → MemLine
-memory_now g c = record { state = c.args.memory; value = (memory_at c.self.inside.memory c.args.block).value }
+memory_now g c = record { state = c.args.memory; value = (memory_line c.self.inside.memory c.args.block).value }
 
 abbrev next : (g : Over) (c : After-start g) → Picture
 next g c = record { caches = row_of c.take_rows.new.self.rows c.args.block; memory = memory_now g c; transaction = Some (opened g c) }
