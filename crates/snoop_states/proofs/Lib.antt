@@ -1,6 +1,4 @@
-pub mod HoldsLemmas
+pub mod EachLemmas
 pub mod RowLemmas
-pub mod ShownLemmas
+pub mod KeptLemmas
 pub mod TableLemmas
-pub mod SeenLemmas
-pub mod WholeLemmas

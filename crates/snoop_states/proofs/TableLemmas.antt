@@ -1,135 +1,131 @@
 -- The table of a block, when one frame more is seen.
-use Rattle.std.proofs.Common.{◌≡◌, ℕ, ◌+◌, ◌-◌, ◌<◌, ◌≤◌, true, false, List, [], ◌∷◌, ◌++◌, map, length, length-append, refl, sym, ap, ◌∙◌, append_assoc, append-nil, arith, codes, inl, inr}
-use Rattle.std.specs.Prelude.{◌&&◌, nat_lt}
-use Rattle.std.proofs.lemmas.Bool.{both_ways, cases_lt, false≢true, lt-ltb}
-use Rattle.std.proofs.lemmas.List.{map-append, take_all}
+use Rattle.std.proofs.Common.{◌≡◌, ℕ, ◌+◌, ◌-◌, ◌<◌, ◌≤◌, ◌==◌, ◌&&◌, Bool, true, false, if◌then◌else◌, Option, Some, None, List, [], ◌∷◌, ◌++◌, map, length, nat_le, nat_lt, refl, sym, ◌∙◌, append_assoc, append-nil, take_all, arith, codes, inl, inr, leb-true, lt-ltb, ne_eqb}
+use Rattle.std.specs.Option.{option_map_or}
+use Rattle.std.proofs.lemmas.Bool.{and_left, and_parts, and_right, both_ways, cases_lt, false≢true}
+use Rattle.std.proofs.lemmas.List.{length_push, map-append}
 use Rattle.snoop_trace.specs.Extent.{Extent}
 use Rattle.snoop_trace.specs.declared.protocol.Protocol.{Protocol}
 use Rattle.snoop_model.specs.Pictures.Situation.{Situation, reset}
+use Rattle.snoop_engine.specs.Chosen.{Chosen, is_chosen, is_in_range}
 use Rattle.snoop_engine.specs.Frames.{Frame}
 use Rattle.snoop_engine.specs.Line.{line_text}
 use Rattle.snoop_engine.specs.Numbered.{Numbered, led_to}
-use Rattle.snoop_engine.proofs.NumberedLemmas.{led_on}
+use Rattle.snoop_engine.specs.Views.{block_of_step}
+use Rattle.snoop_states.proofs.KeptLemmas.{kept_on, led_comes, led_stays, none_kept, not_before}
+use Rattle.snoop_engine.proofs.NumberedLemmas.{led_on, numbered}
 use Rattle.snoop_states.specs.declared.column.Column.{Column}
 use Rattle.snoop_states.specs.declared.widths.Widths.{Widths}
 use Rattle.snoop_states.specs.declared.table.Table.{Table}
 use Rattle.snoop_states.specs.Cells.{cell_text}
-use Rattle.snoop_engine.specs.Chosen.{Chosen, is_in_range}
-use Rattle.snoop_states.specs.Rows.{names_text}
-use Rattle.snoop_states.specs.Seen.{HasCells, HasRows, IsEmpty, IsRowMore, IsTable}
-use Rattle.snoop_states.specs.Tables.{first_row, first_shown, heading_text, is_of, rows_text, shown_of, table_text}
-use Rattle.snoop_states.proofs.ShownLemmas.{first_comes, first_stays, none_yet, rows_on, shown_on}
+use Rattle.snoop_states.specs.Rows.{cells_text, names_text}
+use Rattle.snoop_states.specs.Seen.{Grows, HasRows, IsEmpty, IsTable}
+use Rattle.snoop_states.specs.Tables.{first_row, first_shown, heading_text, is_of, rows_text, shown_block, shown_of, table_text}
 
-whole : (out a b c d e x y z u v : List ℕ) → x ≡ out ++ a → y ≡ x ++ b → z ≡ c ++ d → u ≡ y ++ z → v ≡ u ++ e → v ≡ out ++ ((((a ++ b) ++ c) ++ d) ++ e)
-whole out a b c d e x y z u v p q r s t =
-    t ∙ ap (λ l. l ++ e) (s ∙ ap (λ l. y ++ l) r ∙ ap (λ l. l ++ (c ++ d)) (q ∙ ap (λ l. l ++ b) p)) ∙ simp append_assoc
+-- one row more
+rows_on : (widths : Widths) (shape : Extent) (block : ℕ) (columns : List Column) (above : Situation) (ns : List Numbered) (n : Numbered)
+    → rows_text widths shape block columns above (ns ++ n ∷ []) ≡ rows_text widths shape block columns above ns
+    ++ (cells_text widths columns (cell_text (led_to above (map (λ m. m.frame) ns)) block) (cell_text n.frame.after block) n.number ++ line_text shape n.frame.step n.frame.outcome)
+rows_on widths shape block columns above [] n = append-nil _
+rows_on widths shape block columns above (m ∷ ms) n = rw (rows_on widths shape block columns m.frame.after ms n) (simp append_assoc)
 
-longer : (frames : List Frame) (frame : Frame) → length (frames ++ frame ∷ []) ≡ 1 + length frames
-longer frames frame = omega (arith, length-append frames (frame ∷ []))
+-- nothing is shown before the first step that is
+none_yet : (choice : Chosen) (block : ℕ) (frames : List Frame) → 1 + length frames ≤ choice.from → shown_of choice block frames ≡ []
+none_yet choice block frames few =
+    none_kept (λ n. is_in_range choice n.number && is_of block n.frame) choice.from 1 frames
+    (λ n low. and_left (is_in_range choice n.number) (is_of block n.frame) (not_before choice n.number low)) few
 
-module _ (widths : Widths) (choice : Chosen) (protocol : Protocol) (shape : Extent) (block : ℕ) (columns : List Column) (frames : List Frame) (frame : Frame) (table : Table)
+-- a step stands in the table of a block that is shown where its shown block is this one
+pub shown_in : (choice : Chosen) (frame : Frame) (number block : ℕ) (found : Option ℕ) → is_chosen choice.block block ≡ true → shown_block choice (block_of_step frame.before frame.step) number ≡ found
+    → (is_in_range choice number && is_of block frame) ≡ option_map_or (λ b. b == block) found false
+shown_in choice frame number block found chosen e = rw (← e) (by_block (block_of_step frame.before frame.step)) where
+  by_tests : (within shown : Bool) (b : ℕ) → (b ≡ block → shown ≡ true) → (within && (b == block)) ≡ option_map_or (λ n. n == block) (if shown && within then Some b else None) false
+  by_tests true true b h = refl
+  by_tests true false b h = ne_eqb b block (λ same. false≢true (h same))
+  by_tests false true b h = refl
+  by_tests false false b h = refl
+
+  by_block : (of : Option ℕ) → (is_in_range choice number && option_map_or (λ b. b == block) of false) ≡ option_map_or (λ b. b == block) (shown_block choice of number) false
+  by_block None = and_right (is_in_range choice number) false refl
+  by_block (Some b) = by_tests (is_in_range choice number) (is_chosen choice.block b) b (λ same. rw same chosen)
+
+-- the next step is the first one that is shown: the table has its first row
+pub table_starts : {widths : Widths} {choice : Chosen} {protocol : Protocol} {shape : Extent} {block : ℕ} {columns : List Column} {here : Situation} {table : Table} (frames : List Frame) (frame : Frame)
+    → choice.from ≡ 2 + length frames → frame.after ≡ here → HasRows widths choice shape block columns here [] table → IsTable widths choice protocol shape columns (frames ++ frame ∷ []) block table
+table_starts {choice = choice} {protocol = protocol} {shape = shape} {block = block} frames frame next after has =
+    let more = length_push frames frame in
+    record {
+      early = λ e. absurd (omega arith);
+      late = λ _. rw (led_comes (reset protocol shape) choice.from frames frame next ∙ after, none_yet choice block (frames ++ frame ∷ []) (omega arith)) has;
+    }
+
+module _ {widths : Widths} {choice : Chosen} {protocol : Protocol} {shape : Extent} {block : ℕ} {columns : List Column} {frames : List Frame} {table : Table} (frame : Frame)
     (so_far : IsTable widths choice protocol shape columns frames block table) where
-  -- the first step that is shown is still further on
-  pub table_waits : 2 + length frames < choice.from → IsTable widths choice protocol shape columns (frames ++ frame ∷ []) block table
-  table_waits h = record {
-    early = λ _. so_far.early (omega arith);
-    late = λ l. absurd (omega (arith, longer frames frame));
-  }
-
-  -- the next step is the first one that is shown: the table gets its first row
-  pub table_starts : (new : Table) → choice.from ≡ 2 + length frames → HasRows widths choice shape block columns frame.after [] new
-      → IsTable widths choice protocol shape columns (frames ++ frame ∷ []) block new
-  table_starts new h has = record {
-    early = λ e. absurd (omega (arith, longer frames frame));
-    late = λ _. rw (first_comes choice protocol shape frames frame h, none_yet choice block (frames ++ frame ∷ []) (omega (arith, longer frames frame))) has;
-  }
-
   -- the step is not shown
-  pub table_stays : choice.from ≤ 1 + length frames → (is_in_range choice (1 + length frames) && is_of block frame) ≡ false
+  pub table_stays : (choice.from ≡ 2 + length frames → ⊥) → (is_in_range choice (1 + length frames) && is_of block frame) ≡ false
       → IsTable widths choice protocol shape columns (frames ++ frame ∷ []) block table
-  table_stays h off = record {
-    early = λ e. absurd (omega (arith, longer frames frame));
-    late =
-        λ _. rw (first_stays choice protocol shape frames frame h, shown_on choice block frames frame (1 + length frames) refl, off, append-nil)
-        (so_far.late (omega arith));
-  }
+  table_stays other off =
+      let more = length_push frames frame in
+      record {
+        early = λ e. so_far.early (omega arith);
+        late = λ l. rw (led_stays (reset protocol shape) choice.from frames frame (omega arith), kept_on, off, append-nil) (so_far.late (omega arith));
+      }
 
   -- the step is shown: the table gets its row
-  pub table_grows : (new : Table) → choice.from ≤ 1 + length frames → (is_in_range choice (1 + length frames) && is_of block frame) ≡ true
-      → ((above : Column → List ℕ) → HasCells columns above table.cells.items
-      → IsRowMore widths columns above (cell_text frame.after block) (1 + length frames) (line_text shape frame.step frame.outcome) table new × (new.is_shown ≡ true))
-      → IsTable widths choice protocol shape columns (frames ++ frame ∷ []) block new
-  table_grows new h on more =
+  pub table_grows : {new : Table} → (is_in_range choice (1 + length frames) && is_of block frame) ≡ true
+      → Grows widths frame.after block (1 + length frames) (line_text shape frame.step frame.outcome) true table new → IsTable widths choice protocol shape columns (frames ++ frame ∷ []) block new
+  table_grows on grows =
+      let within = (and_parts (is_in_range choice (1 + length frames)) (is_of block frame) on).0 in
+      let late : choice.from ≤ 1 + length frames = leb-true choice.from (1 + length frames) (and_parts (nat_le choice.from (1 + length frames)) (nat_le (1 + length frames) choice.to) within).0 in
       let old : HasRows widths choice shape block columns (first_shown choice protocol shape frames) (shown_of choice block frames) table = so_far.late (omega arith) in
-      let start : Situation = first_shown choice protocol shape frames in
       let shown : List Numbered = shown_of choice block frames in
-      let one : Numbered = record { number = 1 + length frames; frame = frame } in
-      let last : led_to start (map (λ n. n.frame) (shown ++ one ∷ [])) ≡ frame.after =
-      ap (led_to start) (map-append (λ (n : Numbered). n.frame) shown (one ∷ [])) ∙ led_on start (map (λ n. n.frame) shown) frame in
-      let row = more (cell_text (led_to start (map (λ n. n.frame) shown)) block) old.cells in
-      let some : 0 < length (shown ++ one ∷ []) = omega (arith, length-append shown (one ∷ [])) in
+      let one : Numbered = numbered (1 + length frames) frame in
+      let row = grows columns (cell_text (led_to (first_shown choice protocol shape frames) (map (λ n. n.frame) shown)) block) old.cells in
       record {
-        early = λ e. absurd (omega (arith, longer frames frame));
-        late = λ _. rw (first_stays choice protocol shape frames frame h, shown_on choice block frames frame (1 + length frames) refl, on) (record {
-          cells = rw last row.0.cells;
-          rows =
-              row.0.rows ∙ rw (old.rows, rows_on widths shape block columns start shown one) (append_assoc (first_row widths choice block columns start) _ _);
-          is_shown = row.1 ∙ sym (lt-ltb 0 (length (shown ++ one ∷ [])) some);
+        early = λ e. absurd (omega (arith, length_push frames frame));
+        late = λ _. rw (led_stays (reset protocol shape) choice.from frames frame late, kept_on, on) (record {
+          cells = rw (map-append, led_on) row.cells;
+          rows = rw (row.rows, old.rows, rows_on widths shape block columns (first_shown choice protocol shape frames) shown one) (simp append_assoc);
+          is_shown = row.is_shown ∙ sym (lt-ltb 0 (length (shown ++ one ∷ [])) (omega (arith, length_push shown one)));
         });
       }
 
--- a table without a row of a step
-no_table : (widths : Widths) (choice : Chosen) (protocol : Protocol) (shape : Extent) (block : ℕ) (columns : List Column) (start : Situation) (shown : List Numbered)
-    → nat_lt 0 (length shown) ≡ false → [] ≡ table_text widths choice protocol shape block columns start shown
-no_table widths choice protocol shape block columns start [] h = refl
-no_table widths choice protocol shape block columns start (n ∷ ns) h = absurd (both_ways (nat_lt 0 (length (n ∷ ns))) h (lt-ltb 0 (length (n ∷ ns)) (omega arith)))
-
-some_table : (widths : Widths) (choice : Chosen) (protocol : Protocol) (shape : Extent) (block : ℕ) (columns : List Column) (start : Situation) (shown : List Numbered)
-    → nat_lt 0 (length shown) ≡ true
+-- the text of a table, by whether it has a row of a step
+text_of : (widths : Widths) (choice : Chosen) (protocol : Protocol) (shape : Extent) (block : ℕ) (columns : List Column) (start : Situation) (shown : List Numbered) (some : Bool)
+    → some ≡ nat_lt 0 (length shown)
     → table_text widths choice protocol shape block columns start shown
-    ≡ heading_text protocol shape block ++ names_text widths columns ++ first_row widths choice block columns start ++ rows_text widths shape block columns start shown ++ codes "\n"
-some_table widths choice protocol shape block columns start [] h = absurd (false≢true h)
-some_table widths choice protocol shape block columns start (n ∷ ns) h = refl
+    ≡ (if some then heading_text protocol shape block ++ names_text widths columns ++ first_row widths choice block columns start ++ rows_text widths shape block columns start shown ++ codes "\n" else [])
+text_of widths choice protocol shape block columns start [] some e = rw e refl
+text_of widths choice protocol shape block columns start (n ∷ ns) some e = rw (e, lt-ltb 0 (length (n ∷ ns)) (omega arith)) refl
 
-module _ (widths : Widths) (choice : Chosen) (protocol : Protocol) (shape : Extent) (block : ℕ) (columns : List Column) (frames : List Frame) (table : Table)
+module _ {widths : Widths} {choice : Chosen} {protocol : Protocol} {shape : Extent} {block : ℕ} {columns : List Column} {frames : List Frame} {table : Table}
     (so_far : IsTable widths choice protocol shape columns frames block table) where
-  late_if_shown : table.is_shown ≡ true → choice.from ≤ length frames + 1
-  late_if_shown on = elim (cases_lt (length frames + 1) choice.from) [
-    | inl early ↦ absurd (both_ways table.is_shown (so_far.early early).is_shown on)
-    | inr late ↦ late
-  ]
+  abbrev Text : List ℕ
+  Text = table_text widths choice protocol shape block columns (first_shown choice protocol shape frames) (shown_of choice block frames)
 
   -- nothing is written of a table without a row of a step
-  pub table_unshown : table.is_shown ≡ false → [] ≡ table_text widths choice protocol shape block columns (first_shown choice protocol shape frames) (shown_of choice block frames)
+  pub table_unshown : table.is_shown ≡ false → Text ≡ []
   table_unshown off = elim (cases_lt (length frames + 1) choice.from) [
-    | inl early ↦
-        let few : 1 + length frames ≤ choice.from = omega arith in
-        ap (λ (ns : List Numbered). table_text widths choice protocol shape block columns (first_shown choice protocol shape frames) ns) (sym (none_yet choice block frames few))
-    | inr late ↦
-        no_table widths choice protocol shape block columns (first_shown choice protocol shape frames) (shown_of choice block frames) (sym (so_far.late late).is_shown ∙ off)
+    | inl early ↦ rw (none_yet choice block frames (omega arith)) refl
+    | inr late ↦ text_of widths choice protocol shape block columns (first_shown choice protocol shape frames) (shown_of choice block frames) false (sym off ∙ (so_far.late late).is_shown)
   ]
 
-  -- a table with one
-  pub table_shown : (out headed named rows new : List ℕ) → table.is_shown ≡ true → headed ≡ out ++ heading_text protocol shape block
-      → ((text : Column → List ℕ) → HasCells columns text table.cells.items → named ≡ headed ++ names_text widths columns)
-      → rows ≡ named ++ table.rows.items → new ≡ rows ++ codes "\n"
-      → new ≡ out ++ table_text widths choice protocol shape block columns (first_shown choice protocol shape frames) (shown_of choice block frames)
-  table_shown out headed named rows new on e f g h =
-      let has : HasRows widths choice shape block columns (first_shown choice protocol shape frames) (shown_of choice block frames) table = so_far.late (late_if_shown on) in
-      let start : Situation = first_shown choice protocol shape frames in
-      let shown : List Numbered = shown_of choice block frames in
-      let all = f (cell_text (led_to start (map (λ n. n.frame) shown)) block) has.cells in
-      whole out (heading_text protocol shape block) (names_text widths columns) (first_row widths choice block columns start) (rows_text widths shape block columns start shown) (codes "\n")
-      headed named table.rows.items rows new e all has.rows g h
-      ∙ ap (λ (t : List ℕ). out ++ t) (sym (some_table widths choice protocol shape block columns start shown (sym has.is_shown ∙ on)))
+  -- a table with one has rows, and they are written
+  pub table_shown : table.is_shown ≡ true → HasRows widths choice shape block columns (first_shown choice protocol shape frames) (shown_of choice block frames) table
+      × (Text ≡ heading_text protocol shape block ++ names_text widths columns ++ table.rows.items ++ codes "\n")
+  table_shown on = elim (cases_lt (length frames + 1) choice.from) [
+    | inl early ↦ absurd (both_ways table.is_shown (so_far.early early).is_shown on)
+    | inr late ↦
+        let has = so_far.late late in
+        (has, rw (text_of widths choice protocol shape block columns (first_shown choice protocol shape frames) (shown_of choice block frames) true (sym on ∙ has.is_shown), has.rows) (simp append_assoc))
+  ]
 
 -- the tables at reset
-pub begun_at_reset : (widths : Widths) (choice : Chosen) (protocol : Protocol) (shape : Extent) (block : ℕ) (columns : List Column) (here : Situation) (table : Table)
+pub begun_at_reset : {widths : Widths} {choice : Chosen} {protocol : Protocol} {shape : Extent} {block : ℕ} {columns : List Column} {here : Situation} {table : Table}
     → choice.from ≡ 1 → here ≡ reset protocol shape → HasRows widths choice shape block columns here [] table → IsTable widths choice protocol shape columns [] block table
-begun_at_reset widths choice protocol shape block columns here table one at has =
+begun_at_reset {choice = choice} one at has =
     let frames : List Frame = [] in
     record { early = λ e. absurd (omega arith); late = λ _. rw (take_all (choice.from - 1) frames (omega arith), ← at) has }
 
-pub empty_at_reset : (widths : Widths) (choice : Chosen) (protocol : Protocol) (shape : Extent) (block : ℕ) (columns : List Column) (table : Table)
+pub empty_at_reset : {widths : Widths} {choice : Chosen} {protocol : Protocol} {shape : Extent} {block : ℕ} {columns : List Column} {table : Table}
     → 1 < choice.from → IsEmpty columns table → IsTable widths choice protocol shape columns [] block table
-empty_at_reset widths choice protocol shape block columns table far empty = record { early = λ _. empty; late = λ e. absurd (omega arith) }
+empty_at_reset far empty = record { early = λ _. empty; late = λ e. absurd (omega arith) }

@@ -1,10 +1,10 @@
 -- The marks of which cores ask for which blocks.
 -- Source: this project's profile.
 use Rattle.std.specs.Prelude.{◌≡◌, ◌<◌, ℕ, Bool, false, List, length, slice_get, slice_index_or}
-use Rattle.std.specs.List.{HoldsAt}
 use Rattle.std.specs.Option.{option_map_or}
 use Rattle.snoop_trace.specs.Extent.{Extent}
 use Rattle.snoop_states.specs.declared.asked.Marks.{Marks}
+use Rattle.snoop_states.specs.Each.{AreEach}
 
 -- the mark of a core; not set where there is none
 abbrev pub mark_of : Marks → ℕ → Bool
@@ -20,6 +20,5 @@ pub record HasMarks (cores : ℕ) (test : ℕ → Bool) (marks : Marks) : Type 0
   pub each : (core : ℕ) → core < cores → mark_of marks core ≡ test core
 
 -- marks for each block
-pub record AreMarks (shape : Extent) (test : ℕ → ℕ → Bool) (asked : List Marks) : Type 0 where
-  pub count : length asked ≡ shape.blocks
-  pub each : (block : ℕ) → block < shape.blocks → HoldsAt (HasMarks shape.cores (test block)) asked block
+abbrev pub AreMarks : Extent → (ℕ → ℕ → Bool) → List Marks → Type 0
+AreMarks shape test asked = AreEach shape.blocks (λ block marks. HasMarks shape.cores (test block) marks) asked

@@ -1,7 +1,6 @@
 -- What the tables of a run are while the run is seen.
 -- Source: this project's profile.
-use Rattle.std.specs.Prelude.{◌≡◌, ◌<◌, ◌≤◌, ℕ, ◌+◌, true, false, List, [], ◌++◌, length, map, nat_lt, slice_index_or, slice_set}
-use Rattle.std.specs.List.{HoldsAt}
+use Rattle.std.specs.Prelude.{◌≡◌, ◌<◌, ◌≤◌, ℕ, ◌+◌, Bool, true, false, List, [], ◌++◌, length, map, nat_lt}
 use Rattle.snoop_trace.specs.Extent.{Extent}
 use Rattle.snoop_trace.specs.declared.protocol.Protocol.{Protocol}
 use Rattle.snoop_model.specs.Pictures.Situation.{Situation}
@@ -12,6 +11,7 @@ use Rattle.snoop_states.specs.declared.widths.Widths.{Widths}
 use Rattle.snoop_states.specs.declared.table.Cell.{Cell}
 use Rattle.snoop_states.specs.declared.table.Table.{Table}
 use Rattle.snoop_states.specs.Cells.{cell_text}
+use Rattle.snoop_states.specs.Each.{AreEach}
 use Rattle.snoop_engine.specs.Chosen.{Chosen, is_chosen}
 use Rattle.snoop_states.specs.Rows.{cells_text}
 use Rattle.snoop_states.specs.Tables.{first_row, first_shown, rows_text, shown_of}
@@ -25,9 +25,10 @@ abbrev pub HasCells : List Column → (Column → List ℕ) → List Cell → Ty
 HasCells columns text cells = map pair cells ≡ map (λ column. (column, text column)) columns
 
 -- the table has one row more, with these cells below others, and then this text
-pub record IsRowMore (widths : Widths) (columns : List Column) (above cell : Column → List ℕ) (number : ℕ) (line : List ℕ) (old new : Table) : Type 0 where
+pub record IsRowMore (widths : Widths) (columns : List Column) (above cell : Column → List ℕ) (number : ℕ) (line : List ℕ) (shown : Bool) (old new : Table) : Type 0 where
   pub cells : HasCells columns cell new.cells.items
   pub rows : new.rows.items ≡ old.rows.items ++ (cells_text widths columns above cell number ++ line)
+  pub is_shown : new.is_shown ≡ shown
 
 -- a table without a row
 pub record IsEmpty (columns : List Column) (table : Table) : Type 0 where
@@ -47,26 +48,19 @@ pub record IsTable (widths : Widths) (choice : Chosen) (protocol : Protocol) (sh
   pub late : choice.from ≤ length frames + 1 → HasRows widths choice shape block columns (first_shown choice protocol shape frames) (shown_of choice block frames) table
 
 -- a table for each block of the shape, and of each that is shown this holds
-pub record AreTables (shape : Extent) (choice : Chosen) (P : ℕ → Table → Type 0) (tables : List Table) : Type 0 where
-  pub count : length tables ≡ shape.blocks
-  pub each : (block : ℕ) → block < shape.blocks → is_chosen choice.block block ≡ true → HoldsAt (P block) tables block
+abbrev pub AreTables : Extent → Chosen → (ℕ → Table → Type 0) → List Table → Type 0
+AreTables shape choice P tables = AreEach shape.blocks (λ block table. is_chosen choice.block block ≡ true → P block table) tables
 
--- the table of a block has the row of a step more, and the others are as they were
-pub record IsGrownAt (widths : Widths) (here : Situation) (block number : ℕ) (line : List ℕ) (old new : List Table) : Type 0 where
-  pub table : Table
-  pub rest : new ≡ slice_set old block table
-  pub grows : (d : Table) (columns : List Column) (above : Column → List ℕ) → HasCells columns above (slice_index_or old block d).cells.items
-      → IsRowMore widths columns above (cell_text here block) number line (slice_index_or old block d) table × (table.is_shown ≡ true)
+-- a table without a row gets its first row
+abbrev pub Starts : Widths → Chosen → Situation → ℕ → Table → Table → Type 0
+Starts widths choice here block old new = (columns : List Column) → IsEmpty columns old → HasRows widths choice here.shape block columns here [] new
 
--- the table of a block has its first row, and the others are as they were
-pub record IsStartedAt (widths : Widths) (choice : Chosen) (here : Situation) (block : ℕ) (old new : List Table) : Type 0 where
-  pub table : Table
-  pub rest : new ≡ slice_set old block table
-  pub starts : (d : Table) (columns : List Column) → IsEmpty columns (slice_index_or old block d) → HasRows widths choice here.shape block columns here [] table
+-- a table gets a row, whatever its columns are and what stands in them
+abbrev pub Grows : Widths → Situation → ℕ → ℕ → List ℕ → Bool → Table → Table → Type 0
+Grows widths here block number line shown old new =
+    (columns : List Column) (above : Column → List ℕ) → HasCells columns above old.cells.items → IsRowMore widths columns above (cell_text here block) number line shown old new
 
--- the tables of the first n blocks are begun, and those of the others have no row
-pub record HalfBegun (widths : Widths) (choice : Chosen) (here : Situation) (columns : ℕ → List Column) (n : ℕ) (tables : List Table) : Type 0 where
-  pub count : length tables ≡ here.shape.blocks
-  pub begun : (block : ℕ) → block < n → block < here.shape.blocks → is_chosen choice.block block ≡ true
-      → HoldsAt (HasRows widths choice here.shape block (columns block) here []) tables block
-  pub rest : (block : ℕ) → n ≤ block → block < here.shape.blocks → is_chosen choice.block block ≡ true → HoldsAt (IsEmpty (columns block)) tables block
+-- a table is begun, if it is one of the first n, and has no row, if it is not
+pub record IsHalfBegun (widths : Widths) (choice : Chosen) (here : Situation) (columns : List Column) (n block : ℕ) (table : Table) : Type 0 where
+  pub begun : block < n → HasRows widths choice here.shape block columns here [] table
+  pub rest : n ≤ block → IsEmpty columns table

@@ -1,11 +1,11 @@
 //! Which cores ask for which blocks.
-ghost use Rattle.std.specs.Prelude.{◌≡◌, ◌<◌, ◌||◌, ◌==◌, ◌++◌, ◌∷◌, [], ℕ, Bool, false, IfOk, OnOk, length};
+ghost use Rattle.std.specs.Prelude.{◌≡◌, ◌<◌, ◌||◌, ◌==◌, ◌++◌, ◌∷◌, [], ℕ, List, false, IfOk, OnOk, length};
 ghost use Rattle.std.specs.List.{filter, range_with_len};
 ghost use Rattle.snoop_trace.specs.Extent.{Extent};
+ghost use Rattle.snoop_trace.specs.declared.step.Step.{Step as Given};
 ghost use Rattle.snoop_states.specs.Asked.{AreMarks, HasMarks, mark_at, mark_of};
-ghost use Rattle.snoop_states.specs.Columns.{asks_for, is_asker};
+ghost use Rattle.snoop_states.specs.Columns.{is_asker};
 
-use crate::pieces::add_if;
 use snoop_trace::{NoMemory, Shape, Step};
 use std::alloc::Global;
 
@@ -68,7 +68,7 @@ fn no_marks(alloc: Global, shape: Shape) -> Result<Vec<Marks>, NoMemory>
 
 // Sets the mark of the core that asks in a step, if one does.
 fn mark(asked: &mut Vec<Marks>, step: Step)
-    ensures { (shape : Extent) (test : ℕ → ℕ → Bool) → AreMarks shape test asked.old.items → AreMarks shape (λ block core. test block core || asks_for block core step) asked.new.items }
+    ensures { (shape : Extent) (steps : List Given) → AreMarks shape (is_asker steps) asked.old.items → AreMarks shape (is_asker (steps ++ step ∷ [])) asked.new.items }
 {
     if let Step::Ask {
         core,
@@ -114,9 +114,12 @@ pub(crate) fn askers(
 ) -> Result<Vec<u32>, NoMemory>
     ensures { IfOk result (λ cores. cores.items ≡ filter (mark_at asked.now block) (range_with_len 0 shape.cores)) }
 {
-    let mut cores = Vec::new(alloc);
-    for core in 0..shape.cores() {
-        add_if(&mut cores, has_asked(asked, block, core), core)?;
+    let cores = shape.cores();
+    match (0..cores)
+        .filter(|core| has_asked(asked, block, *core))
+        .collect(alloc)
+    {
+        Ok(cores) => Ok(cores),
+        Err(_) => Err(NoMemory),
     }
-    Ok(cores)
 }

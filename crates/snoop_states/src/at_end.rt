@@ -4,7 +4,6 @@ ghost use Rattle.std.specs.Fmt.{decimal};
 ghost use Rattle.std.specs.List.{filter, flat_map, range_with_len};
 ghost use Rattle.snoop_states.specs.AtEnd.{end_text, is_open, is_waiting, listed, still_open_text, waiting_text};
 
-use crate::pieces::add_if;
 use snoop_engine::push_numbered;
 use snoop_machine::Machine;
 use snoop_trace::NoMemory;
@@ -29,22 +28,36 @@ fn is_open(machine: &Machine, block: u32) -> bool
 fn waiting_cores(alloc: Global, machine: &Machine) -> Result<Vec<u32>, NoMemory>
     ensures { IfOk result (λ cores. cores.items ≡ filter (is_waiting machine.now.situation) (range_with_len 0 machine.now.situation.shape.cores)) }
 {
-    let mut cores = Vec::new(alloc);
-    for core in 0..machine.shape().cores() {
-        add_if(&mut cores, is_waiting(machine, core), core)?;
+    let cores = machine.shape().cores();
+    match (0..cores)
+        .filter(|core| is_waiting(machine, *core))
+        .collect(alloc)
+    {
+        Ok(cores) => Ok(cores),
+        Err(_) => Err(NoMemory),
     }
-    Ok(cores)
 }
 
 // The blocks on which a transaction is open.
 fn open_blocks(alloc: Global, machine: &Machine) -> Result<Vec<u32>, NoMemory>
     ensures { IfOk result (λ blocks. blocks.items ≡ filter (is_open machine.now.situation) (range_with_len 0 machine.now.situation.shape.blocks)) }
 {
-    let mut blocks = Vec::new(alloc);
-    for block in 0..machine.shape().blocks() {
-        add_if(&mut blocks, is_open(machine, block), block)?;
+    let blocks = machine.shape().blocks();
+    match (0..blocks)
+        .filter(|block| is_open(machine, *block))
+        .collect(alloc)
+    {
+        Ok(blocks) => Ok(blocks),
+        Err(_) => Err(NoMemory),
     }
-    Ok(blocks)
+}
+
+// Appends a further number of a list.
+fn push_next(out: &mut Vec<u8>, word: &str, number: u32) -> Result<(), NoMemory>
+    ensures { OnOk result (out.new.items ≡ out.old.items ++ (codes ", " ++ word.now ++ decimal number)) }
+{
+    push_text(out, ", ")?;
+    push_numbered(out, word, number as u64)
 }
 
 // Appends further numbers of a list.
@@ -52,8 +65,7 @@ fn push_further(out: &mut Vec<u8>, word: &str, numbers: &[u32]) -> Result<(), No
     ensures { OnOk result (out.new.items ≡ out.old.items ++ flat_map (λ m. codes ", " ++ word.now ++ decimal m) numbers.now) }
 {
     for number in numbers {
-        push_text(out, ", ")?;
-        push_numbered(out, word, *number as u64)?;
+        push_next(out, word, *number)?;
     }
     Ok(())
 }
@@ -68,9 +80,9 @@ fn push_listed(
 ) -> Result<(), NoMemory>
     ensures { OnOk result (out.new.items ≡ out.old.items ++ listed none.now intro.now word.now numbers.now) }
 {
-    match numbers {
-        [] => push_text(out, none),
-        [first, further @ ..] => {
+    match numbers.split_first() {
+        None => push_text(out, none),
+        Some((first, further)) => {
             push_text(out, intro)?;
             push_numbered(out, word, *first as u64)?;
             push_further(out, word, further)

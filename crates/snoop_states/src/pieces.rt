@@ -1,5 +1,5 @@
 //! Pieces of texts, and texts that are filled up with blanks.
-ghost use Rattle.std.specs.Prelude.{◌≡◌, ◌++◌, ◌∷◌, [], if◌then◌else◌, IfOk, OnOk};
+ghost use Rattle.std.specs.Prelude.{◌≡◌, ◌++◌, IfOk, OnOk};
 ghost use Rattle.std.specs.Fmt.{decimal};
 ghost use Rattle.snoop_states.specs.Rows.{below, blanks, padded_text, to_the_right};
 
@@ -72,17 +72,4 @@ pub(crate) fn decimal_text(alloc: Global, number: u64) -> Result<Vec<u8>, NoMemo
     let mut text = Vec::new(alloc);
     push_decimal(&mut text, number)?;
     Ok(text)
-}
-
-/// Adds a number, if it is to be there.
-pub(crate) fn add_if(numbers: &mut Vec<u32>, is_there: bool, number: u32) -> Result<(), NoMemory>
-    ensures { OnOk result (numbers.new.items ≡ numbers.old.items ++ (if is_there then number ∷ [] else [])) }
-{
-    if !is_there {
-        return Ok(());
-    }
-    match numbers.push(number) {
-        Ok(()) => Ok(()),
-        Err(_) => Err(NoMemory),
-    }
 }

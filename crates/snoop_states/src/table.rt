@@ -1,5 +1,5 @@
 //! The table of one block, as far as the steps go.
-ghost use Rattle.std.specs.Prelude.{◌≡◌, ◌≤◌, ◌-◌, ◌++◌, ◌∷◌, [], List, ℕ, IfOk, OnOk, map, true};
+ghost use Rattle.std.specs.Prelude.{◌≡◌, ◌++◌, ◌∷◌, [], List, ℕ, IfOk, OnOk, map, true};
 ghost use Rattle.std.specs.List.{flat_map};
 ghost use Rattle.std.specs.Fmt.{decimal};
 ghost use Rattle.snoop_engine.specs.Frames.{Frame};
@@ -8,7 +8,7 @@ ghost use Rattle.snoop_states.specs.Cells.{cell_text};
 ghost use Rattle.snoop_engine.specs.Chosen.{Chosen};
 ghost use Rattle.snoop_states.specs.Columns.{column_name, width_of};
 ghost use Rattle.snoop_states.specs.Rows.{below, names_text, padded_text, to_the_right};
-ghost use Rattle.snoop_states.specs.Seen.{HasCells, HasRows, IsEmpty, IsRowMore, IsTable, pair};
+ghost use Rattle.snoop_states.specs.Seen.{Grows, HasCells, IsEmpty, IsTable, Starts, pair};
 ghost use Rattle.snoop_states.specs.Tables.{first_line, first_shown, shown_of, table_text};
 ghost use Rattle.snoop_states.specs.declared.column.Column.{Column};
 ghost use Rattle.snoop_states.specs.declared.column.Column.TheVariants.{Bus, Core, Memory};
@@ -18,7 +18,7 @@ use crate::column::{Column, name_of, width_of};
 use crate::heading::push_heading;
 use crate::pieces::{decimal_text, push_below, push_bytes, push_padded, push_to_the_right};
 use crate::widths::Widths;
-use snoop_engine::push_line;
+use snoop_engine::{Choice, push_line};
 use snoop_machine::{Machine, Refused, Reply};
 use snoop_trace::streams::push_text;
 use snoop_trace::{NoMemory, Step};
@@ -164,27 +164,25 @@ impl Table {
         block: u32,
         number: u64,
     ) -> Result<(), NoMemory>
-        ensures { (columns : List Column) (above : Column → List ℕ) → HasCells columns above self.old.cells.items
-            → OnOk result (IsRowMore widths columns above (cell_text machine.now.situation block) number [] self.old self.new × (self.new.is_shown ≡ self.old.is_shown)) }
+        ensures { OnOk result (Grows widths machine.now.situation block number [] self.old.is_shown self.old self.new) }
     {
         push_number(alloc, &mut self.rows, widths, number)?;
         self.cells = push_cells(alloc, &mut self.rows, widths, machine, block, &self.cells)?;
         Ok(())
     }
 
-    /// Appends the first row: the block before the step of this number.
+    /// Appends the first row: the block before the first step that is shown.
     pub(crate) fn start(
         &mut self,
         alloc: Global,
         widths: Widths,
         machine: &Machine,
         block: u32,
-        from: u64,
+        choice: Choice,
     ) -> Result<(), NoMemory>
-        requires { 1 ≤ from }
-        ensures { (choice : Chosen) (columns : List Column) → choice.from ≡ from → IsEmpty columns self.old
-            → OnOk result (HasRows widths choice machine.now.situation.shape block columns machine.now.situation [] self.new) }
+        ensures { OnOk result (Starts widths choice machine.now.situation block self.old self.new) }
     {
+        let from = choice.from();
         self.push_row(alloc, widths, machine, block, from - 1)?;
         push_text(&mut self.rows, first_line(from))
     }
@@ -200,8 +198,7 @@ impl Table {
         step: Step,
         outcome: Result<Reply, Refused>,
     ) -> Result<(), NoMemory>
-        ensures { (columns : List Column) (above : Column → List ℕ) → HasCells columns above self.old.cells.items
-            → OnOk result (IsRowMore widths columns above (cell_text machine.now.situation block) number (line_text machine.now.situation.shape step outcome) self.old self.new × (self.new.is_shown ≡ true)) }
+        ensures { OnOk result (Grows widths machine.now.situation block number (line_text machine.now.situation.shape step outcome) true self.old self.new) }
     {
         self.push_row(alloc, widths, machine, block, number)?;
         push_line(&mut self.rows, machine.shape(), step, outcome)?;

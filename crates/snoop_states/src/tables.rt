@@ -1,16 +1,16 @@
 //! The view of a run as tables, one for each block.
-ghost use Rattle.std.specs.Prelude.{◌≡◌, ◌+◌, ◌<◌, ◌≤◌, ◌++◌, ◌∷◌, [], ℕ, List, IfOk, OnOk, length};
+ghost use Rattle.std.specs.Prelude.{◌≡◌, ◌+◌, ◌<◌, ◌++◌, ◌∷◌, [], ℕ, List, IfOk, OnOk, length};
 ghost use Rattle.std.specs.List.{flat_map, range_with_len};
 ghost use Rattle.snoop_trace.specs.declared.protocol.Protocol.{Protocol};
 ghost use Rattle.snoop_model.specs.Pictures.Situation.{reset};
 ghost use Rattle.snoop_engine.specs.Frames.{Frame};
-ghost use Rattle.snoop_engine.specs.Line.{line_text};
 ghost use Rattle.snoop_engine.specs.Views.{block_of_step};
 ghost use Rattle.snoop_states.specs.Asked.{mark_at};
 ghost use Rattle.snoop_engine.specs.Chosen.{Chosen};
 ghost use Rattle.snoop_states.specs.Tables.{shown_block};
 ghost use Rattle.snoop_states.specs.Columns.{columns_for};
-ghost use Rattle.snoop_states.specs.Seen.{AreTables, HalfBegun, HasRows, IsEmpty, IsGrownAt, IsStartedAt, IsTable};
+ghost use Rattle.snoop_states.specs.Each.{AreEach};
+ghost use Rattle.snoop_states.specs.Seen.{AreTables, HasRows, IsEmpty, IsHalfBegun, IsTable};
 ghost use Rattle.snoop_states.specs.Views.{HasSeen, IsFor, columns_in};
 ghost use Rattle.snoop_states.specs.Whole.{block_table, tables_text};
 ghost use Rattle.snoop_states.specs.declared.column.Column.{Column};
@@ -76,32 +76,13 @@ fn empty_table(alloc: Global, shape: Shape, asked: &[Marks], block: u32) -> Resu
 
 // A table without a row for each block.
 fn empty_tables(alloc: Global, shape: Shape, asked: &[Marks]) -> Result<Vec<Table>, NoMemory>
-    ensures { (choice : Chosen) → IfOk result (λ tables. AreTables shape choice (λ block. IsEmpty (columns_for shape (mark_at asked.now block))) tables.items) }
+    ensures { IfOk result (λ tables. AreEach shape.blocks (λ block. IsEmpty (columns_for shape (mark_at asked.now block))) tables.items) }
 {
     let mut tables = Vec::new(alloc);
     for block in 0..shape.blocks() {
         add(&mut tables, empty_table(alloc, shape, asked, block)?)?;
     }
     Ok(tables)
-}
-
-// Begins the table of a block.
-fn start_at(
-    alloc: Global,
-    choice: Choice,
-    widths: Widths,
-    tables: &mut Vec<Table>,
-    machine: &Machine,
-    block: u32,
-) -> Result<(), NoMemory>
-    ensures { block < length tables.old.items → OnOk result (IsStartedAt widths choice machine.now.situation block tables.old.items tables.new.items) }
-{
-    let at = block as usize;
-    if at < tables.len() {
-        tables[at].start(alloc, widths, machine, block, choice.from())
-    } else {
-        Ok(())
-    }
 }
 
 // Begins the table of a block, if it is shown.
@@ -113,11 +94,17 @@ fn start_table(
     machine: &Machine,
     block: u32,
 ) -> Result<(), NoMemory>
-    ensures { (columns : ℕ → List Column) → HalfBegun widths choice machine.now.situation columns block tables.old.items → block < machine.now.situation.shape.blocks
-        → OnOk result (HalfBegun widths choice machine.now.situation columns (block + 1) tables.new.items) }
+    ensures { (columns : ℕ → List Column) → AreTables machine.now.situation.shape choice (λ b. IsHalfBegun widths choice machine.now.situation (columns b) block b) tables.old.items
+        → block < machine.now.situation.shape.blocks
+        → OnOk result (AreTables machine.now.situation.shape choice (λ b. IsHalfBegun widths choice machine.now.situation (columns b) (block + 1) b) tables.new.items) }
 {
     if choice.has_block(block) {
-        start_at(alloc, choice, widths, tables, machine, block)
+        let at = block as usize;
+        if at < tables.len() {
+            tables[at].start(alloc, widths, machine, block, choice)
+        } else {
+            Ok(())
+        }
     } else {
         Ok(())
     }
@@ -161,30 +148,6 @@ fn begin_tables(
     }
 }
 
-// Shows a step in the table of its block.
-fn show_at(
-    alloc: Global,
-    choice: Choice,
-    widths: Widths,
-    tables: &mut Vec<Table>,
-    machine: &Machine,
-    block: u32,
-    number: u64,
-    step: Step,
-    outcome: Result<Reply, Refused>,
-) -> Result<(), NoMemory>
-    ensures inside { block < length tables.old.items
-        → OnOk result (IsGrownAt widths machine.now.situation block number (line_text machine.now.situation.shape step outcome) tables.old.items tables.new.items) }
-    ensures outside { length tables.old.items ≤ block → OnOk result (tables.new.items ≡ tables.old.items) }
-{
-    let at = block as usize;
-    if at < tables.len() {
-        tables[at].push_step(alloc, widths, machine, block, number, step, outcome)
-    } else {
-        Ok(())
-    }
-}
-
 // The block in whose table a step stands, if any.
 fn shown_block(choice: Choice, of: Option<u32>, number: u64) -> Option<u32>
     ensures { result ≡ shown_block choice of number }
@@ -219,13 +182,17 @@ fn show_step(
         → OnOk result (AreTables machine.now.situation.shape choice (λ block. IsTable widths choice protocol machine.now.situation.shape (columns block) (frames ++ frame ∷ []) block) tables.new.items) }
 {
     if number == choice.from() - 1 {
-        start_tables(alloc, choice, widths, tables, machine)
-    } else {
-        match shown_block(choice, of, number) {
-            None => Ok(()),
-            Some(block) => show_at(
-                alloc, choice, widths, tables, machine, block, number, step, outcome,
-            ),
+        return start_tables(alloc, choice, widths, tables, machine);
+    }
+    match shown_block(choice, of, number) {
+        None => Ok(()),
+        Some(block) => {
+            let at = block as usize;
+            if at < tables.len() {
+                tables[at].push_step(alloc, widths, machine, block, number, step, outcome)
+            } else {
+                Ok(())
+            }
         }
     }
 }

@@ -1,8 +1,8 @@
-use Rattle.std.proofs.Common.{◌≡◌, ◌<◌, ℕ, false, length}
-use Rattle.std.specs.List.{HoldsAt}
+use Rattle.std.proofs.Common.{false}
 use Rattle.snoop_states.specs.Asked.{HasMarks}
+use Rattle.snoop_states.specs.Each.{AreEach}
 use Rattle.snoop_states.proofs.asked.no_marks.Given as goal
 
 -- the marks so far
 abbrev pub invariant-loop : goal.invariant-loop
-invariant-loop l = (length l.asked.items ≡ l.counter) × ((k : ℕ) → k < l.counter → HoldsAt (HasMarks l.shape.cores (λ core. false)) l.asked.items k)
+invariant-loop l = AreEach l.counter (λ block marks. HasMarks l.shape.cores (λ core. false) marks) l.asked.items

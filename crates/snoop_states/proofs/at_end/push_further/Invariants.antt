@@ -1,6 +1,4 @@
-use Rattle.std.proofs.Common.{◌≡◌, ◌++◌, codes, take}
-use Rattle.std.specs.Fmt.{decimal}
-use Rattle.std.specs.List.{flat_map}
+use Rattle.std.proofs.Common.{◌≡◌, ◌++◌, codes, take, decimal, flat_map}
 use Rattle.snoop_states.proofs.at_end.push_further.Given as goal
 
 -- the numbers so far

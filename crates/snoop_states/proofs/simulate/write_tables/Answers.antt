@@ -1,25 +1,70 @@
-use Rattle.std.proofs.Common.{ℕ, List, []}
+use Rattle.std.proofs.Common.{◌≡◌, ℕ, zero, suc, ◌+◌, ◌<◌, ◌≤◌, Bool, Option, List, [], flat_map, refl, ◌∙◌, inl, inr, arith}
+use Rattle.std.specs.List.{range_with_len}
+use Rattle.std.proofs.lemmas.Option.{slice_get_cases}
 use Rattle.std.proofs.lemmas.Result.{on_err_weaker, on_ok_weaker}
+use Rattle.snoop_trace.specs.Extent.{Extent}
+use Rattle.snoop_trace.specs.declared.protocol.Protocol.{Protocol}
+use Rattle.snoop_trace.specs.declared.step.Step.{Step}
 use Rattle.snoop_trace.proofs.OutputLemmas.{on_err}
 use Rattle.snoop_model.specs.Pictures.Situation.{Situation}
-use Rattle.snoop_engine.specs.Frames.{Frame}
-use Rattle.snoop_engine.proofs.ShownLemmas.{begins_nothing, same_begun}
+use Rattle.snoop_engine.specs.Chosen.{Chosen}
+use Rattle.snoop_engine.specs.Frames.{AreFrames, Frame}
+use Rattle.snoop_engine.specs.Views.{view_text}
+use Rattle.snoop_engine.proofs.RangeLemmas.{filter_range}
+use Rattle.snoop_engine.specs.SimulatedView.{BeginsToShow, ShowsRun}
+use Rattle.snoop_engine.proofs.ShownLemmas.{begins_nothing}
 use Rattle.snoop_engine.proofs.ViewLemmas.{quiet_view}
-use Rattle.snoop_states.specs.Whole.{states_table_text}
-use Rattle.snoop_states.proofs.WholeLemmas.{begins_tables, shows_tables}
+use Rattle.snoop_states.specs.declared.asked.Marks.{Marks}
+use Rattle.snoop_states.specs.declared.tables.Tables.{Tables}
+use Rattle.snoop_states.specs.Asked.{AreMarks, mark_at}
+use Rattle.snoop_states.specs.Columns.{columns_of, is_asker}
+use Rattle.snoop_states.specs.Views.{IsFor, columns_in}
+use Rattle.snoop_states.specs.Whole.{block_table, states_table_text, tables_text}
+use Rattle.snoop_states.specs.Widths.{widths_of}
 use Rattle.snoop_states.proofs.simulate.write_tables.Goals as goal
+
+-- another definition of the text that is shown of the run
+module _ {protocol : Protocol} {shape : Extent} {steps : List Step} {one other : List Frame → Situation → List ℕ} {old new : Option (List ℕ)}
+    (same : (frames : List Frame) (final : Situation) → AreFrames protocol shape steps frames final → one frames final ≡ other frames final) where
+  shown_so : ShowsRun protocol shape one steps old new → ShowsRun protocol shape other steps old new
+  shown_so h = record { frames = h.frames; final = h.final; run = h.run; taken = h.taken; rows = h.rows; output = rw (← same h.frames h.final h.run) h.output }
+
+  begun_so : BeginsToShow protocol shape one steps old new → BeginsToShow protocol shape other steps old new
+  begun_so h = record { frames = h.frames; final = h.final; run = h.run; taken = h.taken; rows = h.rows; output = rw (← same h.frames h.final h.run) h.output }
+
+-- what is the same of each number of a range
+flat_same : (f g : ℕ → List ℕ) (a n : ℕ) → ((k : ℕ) → a ≤ k → k < a + n → f k ≡ g k) → flat_map f (range_with_len a n) ≡ flat_map g (range_with_len a n)
+flat_same f g a zero h = refl
+flat_same f g a (suc n) h = rw (h a (omega arith) (omega arith), flat_same f g (a + 1) n (λ k low high. h k (omega arith) (omega arith))) refl
+
+-- what the marks say inside the shape
+marks_tell : (shape : Extent) (test : ℕ → ℕ → Bool) (asked : List Marks) → AreMarks shape test asked → (block core : ℕ) → block < shape.blocks → core < shape.cores
+    → mark_at asked block core ≡ test block core
+marks_tell shape test asked are block core low inside = elim (slice_get_cases asked block).1 [
+  | inl found ↦ rw (found.2) ((rw found.3 at (are.each block low found.0)).each core inside)
+  | inr past ↦ absurd (omega (arith, past.0, are.count))
+]
+
+-- the text of the view that is for these steps is theirs
+text_same : {protocol : Protocol} {shape : Extent} {choice : Chosen} {steps : List Step} {view : Tables} → IsFor shape choice steps view
+    → (frames : List Frame) (final : Situation) → AreFrames protocol shape steps frames final
+    → view_text [] (λ fs f. []) (λ fs s. tables_text view.widths view.choice protocol shape (columns_in shape view) fs s) frames final ≡ states_table_text protocol shape choice frames final
+text_same {protocol = protocol} {shape = shape} {choice = choice} {steps = steps} {view = view} for_steps frames final are =
+    let columns : (block : ℕ) → block < shape.blocks → columns_in shape view block ≡ columns_of shape steps block = λ block low.
+    rw (filter_range (mark_at view.asked.items block) (is_asker steps block) 0 shape.cores
+    (λ core up inside. marks_tell shape (is_asker steps) view.asked.items for_steps.asked block core low (omega arith))) refl in
+    let same = flat_same (block_table (widths_of shape steps) choice protocol shape (columns_in shape view) frames)
+    (block_table (widths_of shape steps) choice protocol shape (columns_of shape steps) frames) 0 shape.blocks (λ block low high. rw (columns block (omega arith))) in
+    quiet_view (λ fs s. tables_text view.widths view.choice protocol shape (columns_in shape view) fs s) frames final ∙ rw (for_steps.widths, for_steps.choice, are.whole, same) refl
 
 pub returns-in_err-view-clause-front : goal.returns-in_err-view-clause-front
 returns-in_err-view-clause-front g c =
     let text : List Frame → Situation → List ℕ = states_table_text c.args.protocol c.args.shape c.args.choice in
-    let steps = c.args.steps.now in
-    on_err c.from_residual.result _ (same_begun c.args.protocol c.args.shape _ text (λ steps frames final are. quiet_view text frames final) steps _ _
-    (begins_nothing c.args.protocol c.args.shape [] (λ fs f. []) text steps c.runs_go_on.ensures (g.W.Write.contents c.args.writer.now)))
+    on_err c.from_residual.result _ (begun_so (λ frames final are. quiet_view text frames final)
+    (begins_nothing c.args.protocol c.args.shape [] (λ fs f. []) text c.args.steps.now c.runs_go_on.ensures (g.W.Write.contents c.args.writer.now)))
 
 pub returns-clause-ok : goal.returns-clause-ok
-returns-clause-ok g c =
-    on_ok_weaker c.show_steps.result (shows_tables c.args.protocol c.args.shape c.args.choice c.args.steps.now c.in_ok-view.view c.in_ok-view.ensures _ _) c.show_steps.ensures.ok
+returns-clause-ok g c = on_ok_weaker c.show_steps.result (shown_so (text_same c.in_ok-view.ensures)) c.show_steps.ensures.ok
 
 pub returns-clause-front : goal.returns-clause-front
-returns-clause-front g c =
-    on_err_weaker c.show_steps.result (begins_tables c.args.protocol c.args.shape c.args.choice c.args.steps.now c.in_ok-view.view c.in_ok-view.ensures _ _) c.show_steps.ensures.front
+returns-clause-front g c = on_err_weaker c.show_steps.result (begun_so (text_same c.in_ok-view.ensures)) c.show_steps.ensures.front

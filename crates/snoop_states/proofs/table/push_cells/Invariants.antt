@@ -1,5 +1,4 @@
-use Rattle.std.proofs.Common.{◌≡◌, ◌++◌, map, take}
-use Rattle.std.specs.List.{flat_map}
+use Rattle.std.proofs.Common.{◌≡◌, ◌++◌, map, take, flat_map}
 use Rattle.snoop_states.specs.Cells.{cell_text}
 use Rattle.snoop_states.specs.Columns.{width_of}
 use Rattle.snoop_states.specs.Rows.{below, padded_text}

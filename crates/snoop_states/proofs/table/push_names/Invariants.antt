@@ -1,5 +1,4 @@
-use Rattle.std.proofs.Common.{◌≡◌, ◌++◌, take}
-use Rattle.std.specs.List.{flat_map}
+use Rattle.std.proofs.Common.{◌≡◌, ◌++◌, take, flat_map}
 use Rattle.snoop_states.specs.Columns.{column_name, width_of}
 use Rattle.snoop_states.specs.Rows.{padded_text}
 use Rattle.snoop_states.proofs.table.push_names.Given as goal

@@ -1,38 +1,47 @@
-use Rattle.std.proofs.Common.{◌≡◌, ◌+◌, ◌<◌, ◌≤◌, length, inl, inr, sym, arith}
-use Rattle.std.proofs.lemmas.Bool.{cases_lt}
+use Rattle.std.proofs.Common.{◌≡◌, ◌+◌, ◌<◌, true, Some, length, get_or, refl, sym, ◌∙◌, arith, eq-eqb, ne_eqb}
 use Rattle.std.proofs.lemmas.Result.{on_ok_weaker}
-use Rattle.snoop_states.proofs.SeenLemmas.{all_begun, all_stay, none_begun, none_grows, one_grows}
+use Rattle.snoop_engine.specs.Line.{line_text}
+use Rattle.snoop_states.specs.Seen.{Grows}
+use Rattle.snoop_states.proofs.EachLemmas.{each_mapped, each_set}
+use Rattle.snoop_states.proofs.TableLemmas.{shown_in, table_grows, table_starts, table_stays}
 use Rattle.snoop_states.proofs.tables.show_step.Goals as goal
 
 pub returns-then-number-from : goal.returns-then-number-from
 returns-then-number-from c protocol columns frames frame after step outcome counted of are =
-    let shape = c.args.machine.now.situation.shape in
-    let old = c.args.tables.now.items in
     let first : c.args.choice.from ≡ 2 + length frames = omega (arith, c.from.ensures.value, c.from.ensures.within) in
     on_ok_weaker c.start_tables.result
-    (λ begun. all_begun c.args.widths c.args.choice protocol shape columns frames frame old are c.start_tables.new.tables.items first (rw after begun))
-    (c.start_tables.ensures columns (none_begun c.args.widths c.args.choice protocol shape columns frames frame old are first))
+    (λ begun. each_mapped begun (λ block table low has chosen. table_starts frames frame first after (has chosen)))
+    (c.start_tables.ensures columns (each_mapped are (λ block table low is chosen. (is chosen).early (omega arith))))
 
 pub returns-in-None : goal.returns-in-None
 returns-in-None c protocol columns frames frame after step outcome counted of are =
-    all_stay c.args.widths c.args.choice protocol c.args.machine.now.situation.shape columns frames frame c.args.tables.now.items are
-    (λ e. omega (arith, c.from.ensures.value, c.from.ensures.within, c.if-number-from.false)) (rw (of, counted) at (sym c.in-None.ensures))
+    let other : c.args.choice.from ≡ 2 + length frames → ⊥ = λ e. omega (arith, c.from.ensures.value, c.from.ensures.within, c.if-number-from.false) in
+    let none = rw (of, counted) at (sym c.in-None.ensures) in
+    each_mapped are (λ block table low is chosen. table_stays frame (is chosen) other (shown_in c.args.choice frame (1 + length frames) block _ chosen none))
 
-pub returns-in-Some : goal.returns-in-Some
-returns-in-Some c protocol columns frames frame after step outcome counted of are =
-    let shape = c.args.machine.now.situation.shape in
+pub returns-then-at-len : goal.returns-then-at-len
+returns-then-at-len c protocol columns frames frame after step outcome counted of are =
     let block = c.in-Some.block in
-    let old = c.args.tables.now.items in
-    let here = rw (of, counted) at (sym c.in-Some.ensures) in
-    elim (cases_lt block shape.blocks) [
-      | inl low ↦
-          let there : block < length old = omega (arith, are.count) in
-          on_ok_weaker c.show_at.result
-          (λ grown. one_grows c.args.widths c.args.choice protocol shape columns frames frame old are c.show_at.new.tables.items block here low
-          (rw (after, step, outcome, ← counted) grown))
-          (c.show_at.ensures.inside there)
-      | inr high ↦
-          let past : length old ≤ block = omega (arith, are.count) in
-          on_ok_weaker c.show_at.result (λ same. rw same (none_grows c.args.widths c.args.choice protocol shape columns frames frame old are block here high))
-          (c.show_at.ensures.outside past)
-    ]
+    let was = c.index_mut.result.now in
+    let same : was ≡ get_or c.args.tables.now.items block was = c.index_mut.ensures.value in
+    let low : block < c.args.machine.now.situation.shape.blocks = omega (arith, are.count) in
+    let other : c.args.choice.from ≡ 2 + length frames → ⊥ = λ e. omega (arith, c.from.ensures.value, c.from.ensures.within, c.if-number-from.false) in
+    let some = rw (of, counted) at (sym c.in-Some.ensures) in
+    let shape = c.args.machine.now.situation.shape in
+    let now = c.push_step.new.self in
+    let grown : Grows c.args.widths frame.after block (1 + length frames) (line_text shape frame.step frame.outcome) true was now → Grows c.args.widths frame.after block (1 + length frames) (line_text shape frame.step frame.outcome) true was now = λ g. g in
+    on_ok_weaker c.push_step.result
+    (λ grows. each_set are block c.push_step.new.self low
+    (λ chosen. table_grows frame ((rw (← same) at (are.each block low was)) chosen)
+    (shown_in c.args.choice frame (1 + length frames) block (Some block) chosen some ∙ eq-eqb block block refl) (grown (rw (after, step, outcome, ← counted) grows)))
+    (λ k table apart is chosen. table_stays frame (is chosen) other
+    (shown_in c.args.choice frame (1 + length frames) k (Some block) chosen some ∙ ne_eqb block k (λ e. apart (sym e)))))
+    c.push_step.ensures
+
+pub returns-else-at-len : goal.returns-else-at-len
+returns-else-at-len c protocol columns frames frame after step outcome counted of are =
+    let block = c.in-Some.block in
+    let other : c.args.choice.from ≡ 2 + length frames → ⊥ = λ e. omega (arith, c.from.ensures.value, c.from.ensures.within, c.if-number-from.false) in
+    let some = rw (of, counted) at (sym c.in-Some.ensures) in
+    each_mapped are (λ k table low is chosen. table_stays frame (is chosen) other
+    (shown_in c.args.choice frame (1 + length frames) k (Some block) chosen some ∙ ne_eqb block k (λ e. absurd (omega (arith, are.count)))))

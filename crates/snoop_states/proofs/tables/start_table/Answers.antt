@@ -1,16 +1,29 @@
-use Rattle.std.proofs.Common.{◌<◌, length, sym, ◌∙◌, arith}
+use Rattle.std.proofs.Common.{◌≡◌, get_or, sym, ◌∙◌, inl, inr, arith}
+use Rattle.std.proofs.lemmas.Bool.{both_ways, cases_eq}
 use Rattle.std.proofs.lemmas.Result.{on_ok_weaker}
-use Rattle.snoop_states.proofs.SeenLemmas.{half_more, half_skips}
+use Rattle.snoop_states.proofs.EachLemmas.{each_mapped, each_set}
 use Rattle.snoop_states.proofs.tables.start_table.Goals as goal
-
-pub returns-then-has_block : goal.returns-then-has_block
-returns-then-has_block c columns half low =
-    let here : c.args.block < length c.args.tables.now.items = omega (arith, half.count) in
-    on_ok_weaker c.start_at.result
-    (λ started. half_more c.args.widths c.args.choice c.args.machine.now.situation columns c.args.block c.args.tables.now.items c.start_at.new.tables.items
-    (sym c.has_block.ensures ∙ c.if-has_block.true) low half started)
-    (c.start_at.ensures here)
 
 pub returns-else-has_block : goal.returns-else-has_block
 returns-else-has_block c columns half low =
-    half_skips c.args.widths c.args.choice c.args.machine.now.situation columns c.args.block c.args.tables.now.items (sym c.has_block.ensures ∙ c.if-has_block.false) half
+    each_mapped half (λ k table inside is chosen. record {
+      begun = λ below. elim (cases_eq k c.args.block) [
+        | inl same ↦ absurd (both_ways _ (sym c.has_block.ensures ∙ c.if-has_block.false) (rw same at chosen))
+        | inr apart ↦ (is chosen).begun (omega arith)
+      ];
+      rest = λ high. (is chosen).rest (omega arith);
+    })
+
+pub returns-then-at-len : goal.returns-then-at-len
+returns-then-at-len c columns half low =
+    let block = c.args.block in
+    let was = c.index_mut.result.now in
+    let same : was ≡ get_or c.args.tables.now.items block was = c.index_mut.ensures.value in
+    on_ok_weaker c.start.result
+    (λ starts. each_set half block c.start.new.self low
+    (λ chosen. record {
+      begun = λ _. starts (columns block) (((rw (← same) at (half.each block low was)) chosen).rest (omega arith));
+      rest = λ high. absurd (omega arith);
+    })
+    (λ k table apart is chosen. record { begun = λ below. (is chosen).begun (omega arith); rest = λ high. (is chosen).rest (omega arith) }))
+    c.start.ensures

@@ -1,9 +1,9 @@
 use Rattle.std.proofs.Common.{◌<◌, ◌≤◌, arith}
-use Rattle.snoop_states.proofs.SeenLemmas.{half_done, half_none}
+use Rattle.snoop_states.proofs.EachLemmas.{each_mapped}
 use Rattle.snoop_states.proofs.tables.start_tables.Goals as goal
 
 pub loop-block-init : goal.loop-block-init
-loop-block-init c columns are = half_none c.args.widths c.args.choice c.args.machine.now.situation columns c.args.tables.now.items are
+loop-block-init c columns are = each_mapped are (λ block table low is chosen. record { begun = λ below. absurd (omega arith); rest = λ _. is chosen })
 
 pub loop-block-preserved : goal.loop-block-preserved
 loop-block-preserved c columns are =
@@ -12,6 +12,5 @@ loop-block-preserved c columns are =
 
 pub returns : goal.returns
 returns c columns are =
-    let s = c.args.machine.now.situation in
-    let all : s.shape.blocks ≤ c.loop-block.block = omega (arith, rw c.shape.ensures at c.blocks-block-end.ensures.value) in
-    half_done c.args.widths c.args.choice s columns c.loop-block.block c.loop-block.tables.items all (c.loop-block.invariant columns are)
+    let all : c.args.machine.now.situation.shape.blocks ≤ c.loop-block.block = omega (arith, rw c.shape.ensures at c.blocks-block-end.ensures.value) in
+    each_mapped (c.loop-block.invariant columns are) (λ block table low is chosen. (is chosen).begun (omega arith))

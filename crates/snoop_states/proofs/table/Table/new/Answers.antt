@@ -1,11 +1,11 @@
 use Rattle.std.proofs.Common.{refl, append_assoc}
 use Rattle.std.proofs.lemmas.List.{map-append}
-use Rattle.snoop_states.proofs.RowLemmas.{map_map}
+use Rattle.std.proofs.lemmas.Simd.{map-map}
 use Rattle.snoop_states.proofs.table.Table.new.Goals as goal
 
 pub returns : goal.returns
 returns c = record {
-  cells = rw (c.in_ok-add_column-2.ensures, c.in_ok-add_column.ensures, c.in_ok-cells.ensures, map-append, map_map) (simp append_assoc);
+  cells = rw (c.in_ok-add_column-2.ensures, c.in_ok-add_column.ensures, c.in_ok-cells.ensures, map-append, map-map) (simp append_assoc);
   rows = c.new.ensures.items;
   is_shown = refl;
 }

@@ -3,12 +3,14 @@ use Rattle.std.proofs.lemmas.Result.{on_ok_weaker}
 use Rattle.snoop_states.proofs.table.Table.start.Goals as goal
 
 pub returns : goal.returns
-returns c choice columns e empty =
+returns c =
+    on_ok_weaker c.push_text.result (λ last columns empty.
     let row = c.in_ok-push_row.ensures columns (λ column. []) empty.cells in
-    on_ok_weaker c.push_text.result
-    (λ last. rw e (record {
-      cells = row.0.cells;
-      rows = last ∙ ap (λ (t : List ℕ). c.push_row.new.self.rows.items ++ t) c.first_line.ensures ∙ rw (row.0.rows, empty.rows, append-nil, append-nil);
-      is_shown = row.1 ∙ empty.is_shown;
-    }))
+    record {
+      cells = row.cells;
+      rows =
+          last ∙ ap (λ (t : List ℕ). c.push_row.new.self.rows.items ++ t) c.first_line.ensures
+          ∙ rw (row.rows, empty.rows, c.from-from.ensures.value, append-nil, append-nil);
+      is_shown = row.is_shown ∙ empty.is_shown;
+    })
     c.push_text.ensures.ok
