@@ -1,4 +1,3 @@
-pub mod PanelLemmas
+pub mod RangeLemmas
 pub mod DrawnLemmas
-pub mod EdgeLemmas
-pub mod UnaskedLemmas
+pub mod PanelLemmas

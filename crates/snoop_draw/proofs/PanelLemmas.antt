@@ -1,26 +1,14 @@
 -- Panels, their columns, and the table of who asks for what.
-use Rattle.std.proofs.Common.{◌≡◌, ℕ, ◌+◌, ◌*◌, ◌<◌, Bool, true, false, cond, List, [], ◌∷◌, ◌++◌, length, get_or, set, refl, sym, ap, ◌∙◌, arith, inl, inr}
-use Rattle.std.specs.Prelude.{◌&&◌, ◌||◌, ◌==◌}
-use Rattle.std.specs.List.{filter, range_with_len}
+use Rattle.std.proofs.Common.{◌≡◌, ℕ, ◌+◌, ◌*◌, ◌<◌, ◌&&◌, ◌==◌, Bool, true, false, List, [], ◌∷◌, ◌++◌, length, get_or, set, refl, sym, ◌∙◌, arith, inl, inr, get_or-set_other, get_or-set_same, length-set}
+use Rattle.std.proofs.Math.Bool.{or-false}
 use Rattle.std.proofs.lemmas.Bool.{and_parts, cases_eq, eq-eqb, eqb-true, false_from_ne_true, or_right}
-use Rattle.std.proofs.lemmas.List.{get_or-set_other, get_or-set_same, length-set}
-use Rattle.std.proofs.lemmas.List.Elements.{filter-append}
 use Rattle.std.proofs.lemmas.List.Folds.{list_any-append}
 use Rattle.std.proofs.lemmas.Nat.{mul-add-lt, same_from_place}
 use Rattle.snoop_trace.specs.Extent.{Extent}
 use Rattle.snoop_trace.specs.declared.step.Op.{Op}
 use Rattle.snoop_trace.specs.declared.step.Step.{Step}
 use Rattle.snoop_trace.specs.declared.step.Step.TheVariants.{Ask}
-use Rattle.snoop_engine.proofs.RangeLemmas.{more_from_zero}
 use Rattle.snoop_draw.specs.Panels.{IsAskedTable, asks_somewhere, is_ask_for}
-
--- one number more is picked, or is not
-pub picked_more : (p : ℕ → Bool) (n : ℕ) → filter p (range_with_len 0 (n + 1)) ≡ filter p (range_with_len 0 n) ++ cond (p n) (n ∷ []) []
-picked_more p n = ap (filter p) (more_from_zero n) ∙ filter-append p (range_with_len 0 n) (n ∷ [])
-
-or_nothing : (x y : Bool) → y ≡ false → (x || y) ≡ x
-or_nothing true y e = refl
-or_nothing false y e = e
 
 -- the entry of any pair after an Ask
 entry : (shape : Extent) (steps : List Step) (table : List Bool) (block core word : ℕ) (op : Op) → core < shape.cores
@@ -38,8 +26,7 @@ entry shape steps table block core word op hc is inside b c low high =
           false_from_ne_true _ (λ it.
           let both = and_parts (block == b) (core == c) it in
           apart (sym (λ i. eqb-true block b both.0 i * shape.cores + eqb-true core c both.1 i))) in
-          get_or-set_other table (block * shape.cores + core) (b * shape.cores + c) true false apart ∙ is.entries b c low high
-          ∙ sym (or_nothing (asks_somewhere steps b c) _ (ap (λ (x : Bool). x || false) never))
+          rw (get_or-set_other table (block * shape.cores + core) (b * shape.cores + c) true false apart, is.entries b c low high, never, or-false) refl
     ])
 
 -- an Ask within the shape

@@ -88,6 +88,7 @@ pub(crate) fn push_mark(out: &mut Vec<u8>, charset: Charset, mark: Mark) -> Resu
 }
 
 /// Appends the mark so many times.
+#[tactic(auto, using(crate::proofs::RangeLemmas::pieces_more))]
 pub(crate) fn push_marks(
     out: &mut Vec<u8>,
     charset: Charset,

@@ -1,5 +1,4 @@
-use Rattle.std.proofs.Common.{◌≡◌, ◌++◌, take}
-use Rattle.std.specs.List.{flat_map}
+use Rattle.std.proofs.Common.{◌≡◌, ◌++◌, take, flat_map}
 use Rattle.snoop_draw.specs.Drawings.{panel_seen}
 use Rattle.snoop_draw.proofs.drawing.push_panels_seen.Given as goal
 

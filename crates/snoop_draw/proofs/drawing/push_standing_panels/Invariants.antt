@@ -1,6 +1,4 @@
-use Rattle.std.proofs.Common.{◌≡◌, ◌++◌, take}
-use Rattle.std.specs.List.{flat_map}
-use Rattle.std.specs.Prelude.{[]}
+use Rattle.std.proofs.Common.{◌≡◌, ◌++◌, take, flat_map, []}
 use Rattle.snoop_draw.specs.Rows.{panel_text}
 use Rattle.snoop_draw.specs.declared.event.Event.TheVariants.{Before}
 use Rattle.snoop_draw.proofs.drawing.push_standing_panels.Given as goal

@@ -1,5 +1,4 @@
-use Rattle.std.proofs.Common.{◌≡◌, ◌++◌, take}
-use Rattle.std.specs.List.{flat_map}
+use Rattle.std.proofs.Common.{◌≡◌, ◌++◌, take, flat_map}
 use Rattle.snoop_draw.specs.Headings.{title_line}
 use Rattle.snoop_draw.proofs.heading.push_titles.Given as goal
 

@@ -1,5 +1,4 @@
-use Rattle.std.proofs.Common.{◌≡◌, ◌++◌, take}
-use Rattle.std.specs.List.{flat_map}
+use Rattle.std.proofs.Common.{◌≡◌, ◌++◌, take, flat_map}
 use Rattle.snoop_draw.specs.Rows.{core_text}
 use Rattle.snoop_draw.proofs.row.push_cores.Given as goal
 

@@ -1,29 +1,46 @@
-use Rattle.std.proofs.Common.{◌∙◌, ap, refl, inr}
-use Rattle.snoop_draw.specs.Panels.{panels_for}
-use Rattle.snoop_draw.proofs.DrawnLemmas.{begun_by, drawn_by}
+use Rattle.std.proofs.Common.{◌≡◌, ◌+◌, List, [], length, refl, inr}
+use Rattle.snoop_trace.specs.Extent.{Extent}
+use Rattle.snoop_trace.specs.declared.protocol.Protocol.{Protocol}
+use Rattle.snoop_trace.specs.declared.step.Step.{Step}
+use Rattle.snoop_model.specs.Pictures.Situation.{Situation}
+use Rattle.snoop_engine.specs.Chosen.{Chosen}
+use Rattle.snoop_engine.specs.Frames.{AreFrames, Frame}
+use Rattle.snoop_engine.specs.Views.{view_text}
+use Rattle.snoop_engine.proofs.ViewLemmas.{shown_numbered}
+use Rattle.snoop_draw.proofs.DrawnLemmas.{begun_so, shown_so}
+use Rattle.snoop_draw.specs.declared.marks.Charset.{Charset}
+use Rattle.snoop_draw.specs.declared.widths.Widths.{Widths}
+use Rattle.snoop_draw.specs.Drawings.{Sheet, beginning_text, rows_at, sheet_for}
+use Rattle.snoop_draw.specs.Headings.{legend_text}
+use Rattle.snoop_draw.specs.Panels.{Panel, panels_for}
+use Rattle.snoop_draw.specs.Simulated.{drawing}
+use Rattle.snoop_draw.specs.Widths.{widths_for}
 use Rattle.snoop_draw.proofs.simulate.draw_steps.Goals as goal
+
+-- the view of the sheet that is made for these steps writes their drawing
+whole_text : {protocol : Protocol} {shape : Extent} {charset : Charset} {choice : Chosen} {steps : List Step} {sheet : Sheet} {widths : Widths} {panels : List Panel}
+    → sheet ≡ record { style = record { charset = charset; widths = widths }; panels = panels; choice = choice }
+    → widths ≡ widths_for shape steps → panels ≡ panels_for shape steps choice.block
+    → (frames : List Frame) (final : Situation) → AreFrames protocol shape steps frames final
+    → view_text (beginning_text sheet protocol shape) (λ seen frame. rows_at sheet shape (1 + length seen) frame) (λ frames final. legend_text sheet.style.charset) frames final
+    ≡ drawing protocol shape charset choice frames final
+whole_text {shape = shape} {charset = charset} {choice = choice} {steps = steps} made wide paneled frames final are =
+    rw (made, wide, paneled, are.whole, shown_numbered (rows_at (sheet_for shape charset choice steps) shape) [] frames) refl
 
 pub returns-in-Ok-show_steps-clause-does : goal.returns-in-Ok-show_steps-clause-does
 returns-in-Ok-show_steps-clause-does g c =
-    let a = c.args in
-    let paneled = c.in-Ok.ensures ∙ ap (panels_for a.shape a.steps.now) c.block.ensures in (
-      rw (c.deref.ensures.value ∙ paneled) at (c.if-not-is_small.ensures.0 refl),
-      drawn_by a.protocol a.shape a.charset a.choice a.steps.now _ _ _ c.new-drawing.ensures c.in-Ok-widths_for.ensures paneled
-          _ _ c.in-Ok-show_steps.ensures.ok,
+    let paneled = rw c.block.ensures at c.in-Ok.ensures in (
+      rw (c.deref.ensures.value, paneled) at (c.if-not-is_small.ensures.0 refl),
+      shown_so _ _ _ _ _ (whole_text c.new-drawing.ensures c.in-Ok-widths_for.ensures paneled) _ _ c.in-Ok-show_steps.ensures.ok,
     )
 
 pub returns-in-Err-NoMemory-clause-does : goal.returns-in-Err-NoMemory-clause-does
 returns-in-Err-NoMemory-clause-does g c =
-    let a = c.args in
-    let paneled = c.in-Ok.ensures ∙ ap (panels_for a.shape a.steps.now) c.block.ensures in
-    inr (begun_by a.protocol a.shape a.charset a.choice a.steps.now _ _ _ c.new-drawing.ensures c.in-Ok-widths_for.ensures paneled
-    _ _ c.in-Err-NoMemory.ensures.front)
+    inr (begun_so _ _ _ _ _ (whole_text c.new-drawing.ensures c.in-Ok-widths_for.ensures (rw c.block.ensures at c.in-Ok.ensures)) _ _ c.in-Err-NoMemory.ensures.front)
 
 pub returns-clause-does : goal.returns-clause-does
 returns-clause-does g c =
-    let a = c.args in
-    let paneled = c.in-Ok.ensures ∙ ap (panels_for a.shape a.steps.now) c.block.ensures in (
-      rw (c.deref.ensures.value ∙ paneled) at (c.if-not-is_small.ensures.0 refl),
-      begun_by a.protocol a.shape a.charset a.choice a.steps.now _ _ _ c.new-drawing.ensures c.in-Ok-widths_for.ensures paneled
-          _ _ c.in-Err-Write.ensures.front,
+    let paneled = rw c.block.ensures at c.in-Ok.ensures in (
+      rw (c.deref.ensures.value, paneled) at (c.if-not-is_small.ensures.0 refl),
+      begun_so _ _ _ _ _ (whole_text c.new-drawing.ensures c.in-Ok-widths_for.ensures paneled) _ _ c.in-Err-Write.ensures.front,
     )
