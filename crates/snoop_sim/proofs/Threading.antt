@@ -27,12 +27,15 @@ use Rattle.snoop_cores.specs.declared.stop.Stop.TheVariants.{Fault}
 use Rattle.snoop_cores.specs.Seats.{AreSeats, IsNew, Seating}
 use Rattle.snoop_cores.specs.Rows.{AnswersRows, Leaves, Grows, FailsOn, IsRefused, IsServed, RanTo, RefusesRows, rows_of_core}
 use Rattle.snoop_cores.specs.Joined.{IsJoined}
-use Rattle.snoop_cores.proofs.Joining.{no_seat}
 use Rattle.snoop_engine.specs.SimulatedRun.{ReadsRows}
 use Rattle.snoop_sim.specs.Threaded.{SimulatesThreads, Threaded}
 use Rattle.snoop_sim.specs.ThreadsFault.{IsOfThreads, IsOfFirstStop}
 use Rattle.snoop_sim.specs.declared.fault.ThreadsFault.{ThreadsFault}
 use Rattle.snoop_sim.specs.declared.fault.ThreadsFault.TheVariants as threads
+
+-- what stands where there is no seat
+abbrev no_seat : Seating
+no_seat = record { core = 0; shape = record { cores = 0; blocks = 0; block_bytes = 0; words = 0 }; seen = []; answers = []; pending = None; strange = None; stop = None }
 
 -- a seat that did nothing before has done its rows: its answers, which are its core's operations, are theirs
 answered_rows : (shape : Extent) (rows : List Row) (core : ℕ) (s t : Seating) (log : List Item) → IsNew core shape s → Grows (rows_of_core s.core rows) s t
