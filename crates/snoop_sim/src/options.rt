@@ -1,5 +1,5 @@
 //! The command line: its words and what they ask for.
-ghost use Rattle.std.specs.Prelude.{◌≡◌, ◌^◌, [], IfErr, IfOk, Ok, false, is_some, map, string_bytes, true};
+ghost use Rattle.std.specs.Prelude.{◌≡◌, ◌≢◌, ◌^◌, [], IfErr, IfOk, Ok, codes, false, is_some, map, string_bytes, true};
 ghost use Rattle.clap.specs.Words.{App, app_of, first_of, found_of, one_of, rows_of, subcommand_rows_of};
 ghost use Rattle.snoop_sim.specs.Asked.{AsksFor, HasNoEngine, HasNoTask, HasTask, IsTaskOf, BeginsNothing};
 ghost use Rattle.snoop_sim.specs.CommandLine.{Describes, DescribesOption, IsCounts, IsDraw, IsGroupings, IsKinds, IsLayouts, IsLint, IsLocal, IsProtocols, IsRun, IsSimulation, IsSnoop, IsStates, IsSteps, IsTable, IsThemes, IsThreads, IsView, Names, choice_rules, flag_rule, form_rule, grouping_rule, kind_rule, layout_rule, number_rule, optional_rule, protocol_rule, theme_rule, top_app, with_rules};
@@ -106,13 +106,23 @@ fn task_of(matches: &ArgMatches) -> Result<Task, Failure>
             which_in(options),
             layout_in(options),
         )),
-        Some((name, options)) => simulation_of(name, options, shape_in(options)?),
+        Some((name, options)) => simulation_of(name, options),
         None => Err(Failure::NoCommand),
     }
 }
 
-/// The simulation that a command other than `table` asks for, on a machine of this shape.
-fn simulation_of(name: &str, options: &ArgMatches, shape: Shape) -> Result<Task, Failure>
+/// The simulation that a command other than `table` asks for.
+fn simulation_of(name: &str, options: &ArgMatches) -> Result<Task, Failure>
+    requires { name.now ≢ codes "table" }
+    ensures ok { IfOk result (IsTaskOf (name.now, rows_of (found_of options.now))) }
+    ensures err { IfErr result (HasNoTask (Some (name.now, rows_of (found_of options.now)))) }
+{
+    let shape = shape_in(options)?;
+    task_on(name, options, shape)
+}
+
+/// The task of a command other than `table` on a machine of this shape.
+fn task_on(name: &str, options: &ArgMatches, shape: Shape) -> Result<Task, Failure>
     requires { IsShapeOf (rows_of (found_of options.now)) (Ok shape) }
     ensures ok { IfOk result (IsTaskOf (name.now, rows_of (found_of options.now))) }
     ensures err { IfErr result (HasNoEngine name.now (rows_of (found_of options.now)) shape) }
