@@ -1,13 +1,7 @@
-use Rattle.std.proofs.Common.{◌+◌, ap}
+use Rattle.std.proofs.Common.{arith, lt-ltb}
 use Rattle.snoop_svg.proofs.drawing.Drawing.push_drawn.Goals as goal
 
-pub returns-clause-place : goal.returns-clause-place
-returns-clause-place c low = ap (λ n. n + 1) c.in_ok-push_placed.ensures.plan.1
-
-pub returns-clause-below : goal.returns-clause-below
-returns-clause-below c above low stands =
-    let below = c.in_ok-push_placed.ensures.below above stands in
-    record { number = below.number; cells = below.cells }
-
-pub returns-clause-shown : goal.returns-clause-shown
-returns-clause-shown c above low stands = c.in_ok-push_placed.ensures.text above stands
+pub returns-clause-row : goal.returns-clause-row
+returns-clause-row c above stands within =
+    let row = c.in_ok-push_placed.ensures.row above (stands (omega arith)) in
+    (omega arith, λ low. record { number = row.0.number; cells = row.0.cells }, rw (lt-ltb c.args.self.now.place c.args.self.now.plan.paper.shown (omega arith)) row.1)
