@@ -58,6 +58,14 @@ HEAD = """# The theorem
 
 {doc}
 
+The machine has one bus for all caches and memory. A request is ordered some time after it was
+issued, and a block has one open transaction at a time. A **situation** is all that is seen of it:
+of each block its **picture** (a line for each core, memory's, and the open transaction), each
+core's queue of requests, and the **log**, the history of what was performed. Flat memory is what
+the stores of a history leave. A core may load a block where its table has a hit for a load, and
+store where it has one for a store. The prover of the Rattle toolchain has checked the theorem, and
+docs/PROVED.md says what is trusted.
+
 ```rust
 {contract}
 ```
@@ -73,33 +81,41 @@ once, each by its row of the tables, and the block's transaction is open until i
 
 The history has operations in the order in which they are performed, at a hit or with the data that
 came. That need not be the order in which a core asked: while its store to a block waits for its
-request, a load of the block may hit, and reads what was there before the store. Nothing is said of
-the order of one core's operations on different blocks, of time, nor that a request is ever ordered
-or answered: an operation that is not lost may wait for ever. Who sends a message is part of a move;
-the target that a row names is not looked at: memory takes the message of a PutM, and another's
-where its state waits for one (`takes_payload`). No clause here says that a reply has the value that
-stands in the history: the moves below do, and of a hit so does `hit` of `Machine::step`.
+request or for data, a load of the block may hit, and reads what was there before the store. So a
+core that is to read its own store waits for it. Nothing is said of the order of one core's
+operations on different blocks, of time, nor that a request is ever ordered or answered: an
+operation that is not lost may wait for ever. But no machine gets stuck, out of memory aside: by
+`moves` an open transaction can be answered, and once none is open the head of any queue can be
+ordered.
 
-That the code takes such steps and no others is what `Machine::step` and `run_steps` promise
+What only the moves below say, and no clause: that a reply has the value that stands in the history
+(of a hit, `hit` of `Machine::step` says so too), what an eviction leaves, and which request an
+issue names. Who sends a message is part of a move; the target that a row names is not looked at:
+memory takes the message of every PutM, and that of another request where its state waits for one
+(`takes_payload`).
+
+That the code takes such steps and no others is proved of `Machine::step` and `run_steps`
 (docs/PROVED.md), and why all this holds is in docs/COHERENCE.md. `tools/theorem.py --write` makes
-this page of the sources, whose files say where each rule comes from.
+this page from the sources, whose files say where each rule comes from.
 
 ## How to read it
 
-The call `coherent` does nothing: what it ensures is a law. `pub` and `abbrev` may be passed over. A
-fact is spelled like a type (`OneWriter`), a function like a function (`flat`), and `f a b` is `f`
-of a and b. A definition begins with the types of its arguments and of what it is; `Type 0` says
-that it is a fact or a type. Below stands what it means, case by case, the first that fits, with `_`
-for any value. A record of facts holds where all of them do; a field that is no fact, as `done` of
-`IsSenderLine`, is a value that there is. `record s {{ .. }}` is s with these fields; with no `s`
-all of them stand there. `x.log` is a field. `{{A : Type 0}}` is a type that the other arguments
-tell. A member of a type may stand with a short name of its type before it, as `op.Load`,
-`state.ImAd`, `mem.IorS` or `reply.Hit`, and what it carries follows it in order, as in
+The function `coherent` does nothing: what it ensures is the theorem. `pub` and `abbrev` may be
+passed over. Names of facts and types are in CamelCase (`OneWriter`), those of functions in
+snake_case (`flat`), and `f a b` is `f` of a and b. A definition begins with the types of its
+arguments and of what it is; `Type 0` says that it is a fact or a type. Below stands what it means,
+case by case, the first that fits, with `_` for any value. A record of facts holds where all of them
+do; a field that is no fact, as `done` of `IsSenderLine`, is a value that has to exist.
+`record s {{ .. }}` is s with these fields; with no `s` all of them stand there. `x.log` is a field.
+`{{A : Type 0}}` is a type that follows from the other arguments. `declared.` stands before a type as
+the code declares it. A member of a type may stand with a short name of its type before it, as
+`op.Load`, `state.ImAd`, `mem.IorS` or `reply.Hit`, and what it carries follows it in order, as in
 `Ask core block word op`; `Nothing` is a controller's `None`. Each cache is a controller, and memory
-is one. A row is what a controller's table has for a state and an event; where it has none, the cell
-is impossible (an Evict in I asks no table). States are printed with underscores elsewhere: `ImAd`
-is IM_AD. A block is free where no transaction is open on it. The log is the history. What the
-types' comments say of texts is in docs/TEXTS.md.
+is one. A row is what a controller's table has for one state and one event; where it has none, the
+cell is impossible (an Evict in I asks no table). At an Order only a row's next state counts, and
+whether it sends. States are printed with underscores elsewhere: `ImAd` is IM_AD. A block is free
+where no transaction is open on it. The log is the history. What the types' comments say of texts is
+in docs/TEXTS.md.
 
 `(a, b)` is a pair. Between facts `A × B` is "A and B", between types it is their pairs;
 `(x : T) × P` "there is an x with P", `(x : T) → P` "P for every x", `A → B` "if A then B", `¬ A`
