@@ -5,7 +5,7 @@ ghost use Rattle.snoop_model.specs.declared.replies.Refused.{Refused};
 ghost use Rattle.snoop_model.specs.declared.replies.Reply.TheVariants.{Hit};
 ghost use Rattle.snoop_model.specs.Pictures.Situation.{Situation, reset};
 ghost use Rattle.snoop_model.specs.Moves.Refuses.{Refuses};
-ghost use Rattle.snoop_model.specs.Moves.Replies.{IsReplyTo, IsLoadHit};
+ghost use Rattle.snoop_model.specs.Moves.Replies.{IsReplyTo, Tells};
 ghost use Rattle.snoop_model.specs.Runs.Once.{OnceMore};
 ghost use Rattle.snoop_model.specs.Runs.Safe.{IsSafe};
 ghost use Rattle.snoop_machine.specs.Standing.{Standing};
@@ -91,7 +91,7 @@ impl Recorder {
         requires within { IsReadableStep self.old.situation.shape step }
         ensures takes { IfOk result (λ answer. TakesAndPublishes step answer self.old self.new) }
         ensures replied { IfOk result (λ answer. IsReplyTo step answer) }
-        ensures hit { IfOk result (λ answer. (value : ℕ) → answer ≡ Hit value → IsLoadHit step value self.old.situation.log self.new.situation.log) }
+        ensures told { IfOk result (λ answer. Tells self.old.situation.log step (Ok answer) self.new.situation.log) }
         ensures once { IfOk result (λ answer. OnceMore self.old.situation (step ∷ []) (Ok answer ∷ []) self.new.situation) }
         ensures stays { (self.new.situation.protocol ≡ self.old.situation.protocol) × (self.new.situation.shape ≡ self.old.situation.shape) }
         ensures err { OnErr result (self.new ≡ self.old) }

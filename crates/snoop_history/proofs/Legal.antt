@@ -1,14 +1,13 @@
 -- What a legal list and flat memory are after one more item.
 use Rattle.std.proofs.Common.{◌≡◌, ℕ, zero, suc, List, [], ◌∷◌, ◌++◌, take, Option, Some, None, ◌⊎◌, inl, inr, refl, ap, true, false, cond, map}
-use Rattle.std.specs.Prelude.{slice_get, filter, if◌then◌else◌}
-use Rattle.std.specs.List.{cons_option}
+use Rattle.std.specs.Prelude.{slice_get, filter, if◌then◌else◌, option_to_list}
 use Rattle.std.specs.Option.{option_map_or}
 use Rattle.std.proofs.lemmas.List.{map-append}
-use Rattle.std.proofs.lemmas.List.Elements.{filter-append, filter_map-append}
+use Rattle.std.proofs.lemmas.List.Elements.{filter-append}
 use Rattle.snoop_history.specs.declared.items.Item.{Item}
 use Rattle.snoop_history.specs.declared.items.Did.{Did}
-use Rattle.snoop_history.proofs.Pushed.{last_or-append}
-use Rattle.snoop_history.specs.History.{Legal, Follows, flat, stores, stored_values, operations, operation_of, is_store_to, last_or, IsNumbered}
+use Rattle.snoop_history.proofs.Pushed.{last_or-append, operations-push}
+use Rattle.snoop_history.specs.History.{Legal, Follows, flat, stores, operations, operation_of, is_store_to, last_or, IsNumbered}
 use Rattle.snoop_history.specs.Within.{IsItemWithin}
 use Rattle.snoop_history.specs.Kept.{IsKeptList}
 
@@ -54,9 +53,9 @@ pub legal-begins : (items rest : List Item) → Legal (items ++ rest) → Legal 
 legal-begins items rest legal k x at =
     let p = slice_get-front items rest k x at in rw (← p.1) (legal k x p.0)
 
--- the last value stored by one item, after another
+-- the last value stored by an operation, if there is one, after another
 flat-one : (before : ℕ) (block word : ℕ) (did : Option Did) →
-    last_or before (map (λ d. d.value) (filter (is_store_to block word) (cons_option did []))) ≡ option_map_or (λ d. if is_store_to block word d then d.value else before) did before
+    last_or before (map (λ d. d.value) (filter (is_store_to block word) (option_to_list did))) ≡ option_map_or (λ d. if is_store_to block word d then d.value else before) did before
 flat-one before block word None = refl
 flat-one before block word (Some d) =
     elim (is_store_to block word d) as (λ b. last_or before (map (λ d. d.value) (cond b (d ∷ []) [])) ≡ (if b then d.value else before)) [ true ↦ refl | false ↦ refl ]
@@ -64,9 +63,9 @@ flat-one before block word (Some d) =
 pub flat-grows : (items : List Item) (entry : Item) (block word : ℕ) → flat (items ++ entry ∷ []) block word ≡ stores entry block word (flat items block word)
 flat-grows items entry block word =
     rw (
-      filter_map-append operation_of items (entry ∷ []),
-      filter-append (is_store_to block word) (operations items) (cons_option (operation_of entry) []),
-      map-append (λ d. d.value) (filter (is_store_to block word) (operations items)) (filter (is_store_to block word) (cons_option (operation_of entry) [])),
-      last_or-append 0 (stored_values items block word) (map (λ d. d.value) (filter (is_store_to block word) (cons_option (operation_of entry) []))),
+      operations-push items entry,
+      filter-append (is_store_to block word) (operations items) (option_to_list (operation_of entry)),
+      map-append (λ d. d.value) (filter (is_store_to block word) (operations items)) (filter (is_store_to block word) (option_to_list (operation_of entry))),
+      last_or-append 0 (map (λ d. d.value) (filter (is_store_to block word) (operations items))) (map (λ d. d.value) (filter (is_store_to block word) (option_to_list (operation_of entry)))),
     )
     (flat-one (flat items block word) block word (operation_of entry))

@@ -6,7 +6,7 @@ use Rattle.std.proofs.lemmas.List.Elements.{filter-append, filter_map-append}
 use Rattle.snoop_history.specs.declared.items.Did.{Did}
 use Rattle.snoop_history.specs.declared.items.Item.{Item}
 use Rattle.snoop_history.specs.declared.items.Item.TheVariants as item
-use Rattle.snoop_history.specs.History.{operation_of, operations, answers_of, next_number, is_store_to, stored_values, last_or, flat, last_of}
+use Rattle.snoop_history.specs.History.{operation_of, operations, answers_of, next_number, last_or, last_of}
 use Rattle.snoop_history.specs.Totals.{how_many, totals_of, capped, capped_totals, performed, ordered, responded, is_get_s, is_get_m, is_put_m, is_data, is_no_data, is_no_data_e}
 use Rattle.snoop_history.specs.Journal.{counted, tallied}
 
@@ -37,17 +37,6 @@ last_of-push items entry core =
     ∙ (ap (last_or None) (map-append Some (answers_of items core) (of_core core (operation_of entry)))
     ∙ last_or-append None (map Some (answers_of items core)) (map Some (of_core core (operation_of entry))))
 
--- the value that an operation stores in the word of the block, if it does
-abbrev pub stored_in : ℕ → ℕ → Option Did → List ℕ
-stored_in block word op = map (λ did. did.value) (filter (is_store_to block word) (option_to_list op))
-
-pub flat-push : (items : List Item) (entry : Item) (block word : ℕ) → flat (items ++ entry ∷ []) block word ≡ last_or (flat items block word) (stored_in block word (operation_of entry))
-flat-push items entry block word =
-    ap (λ l. last_or 0 (map (λ did. did.value) (filter (is_store_to block word) l))) (operations-push items entry)
-    ∙ (ap (λ l. last_or 0 (map (λ did. did.value) l)) (filter-append (is_store_to block word) (operations items) (option_to_list (operation_of entry)))
-    ∙ (ap (last_or 0) (map-append (λ did. did.value) (filter (is_store_to block word) (operations items)) (filter (is_store_to block word) (option_to_list (operation_of entry))))
-    ∙ last_or-append 0 (stored_values items block word) (stored_in block word (operation_of entry))))
-
 -- one where something holds
 abbrev one_if : Bool → ℕ
 one_if true = 1
@@ -57,7 +46,7 @@ how_many-one : (test : Item → Bool) (entry : Item) (b : Bool) → test entry �
 how_many-one test entry true e = rw e
 how_many-one test entry false e = rw e
 
-length-filter-le : (test : Item → Bool) (items : List Item) → length (filter test items) ≤ length items
+length-filter-le : {A : Type 0} (test : A → Bool) (items : List A) → length (filter test items) ≤ length items
 length-filter-le test [] = omega arith
 length-filter-le test (x ∷ xs) =
     let rest = length-filter-le test xs in
@@ -94,12 +83,6 @@ capped_totals-push items entry =
       step (responded (λ came. is_put_m came.request && is_no_data came.payload)),
     )
 
-length-filter_did : (test : Did → Bool) (dids : List Did) → length (filter test dids) ≤ length dids
-length-filter_did test [] = omega arith
-length-filter_did test (x ∷ xs) =
-    let rest = length-filter_did test xs in
-    elim (test x) as (λ b. length (cond b (x ∷ filter test xs) (filter test xs)) ≤ suc (length xs)) [ true ↦ omega (arith, rest) | false ↦ omega (arith, rest) ]
-
 length-operations : (items : List Item) → length (operations items) ≤ length items
 length-operations [] = omega arith
 length-operations (item.Did did ∷ xs) = omega (arith, length-operations xs)
@@ -108,7 +91,7 @@ length-operations (item.Came came None ∷ xs) = omega (arith, length-operations
 length-operations (item.Came came (Some did) ∷ xs) = omega (arith, length-operations xs)
 
 pub next_number_le : (items : List Item) (core : ℕ) → next_number items core ≤ length items
-next_number_le items core = omega (arith, length-filter_did (λ did. did.core == core) (operations items), length-operations items)
+next_number_le items core = omega (arith, length-filter-le (λ did. did.core == core) (operations items), length-operations items)
 
 -- a count below the largest u64 is not capped
 capped-few : (n : ℕ) → n < 2 ^ 64 → capped n ≡ n

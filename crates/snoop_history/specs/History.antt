@@ -30,10 +30,6 @@ next_number items core = length (answers_of items core)
 abbrev pub is_store_to : ℕ → ℕ → Did → Bool
 is_store_to block word did = not did.load && (did.block == block && did.word == word)
 
--- the values that were stored to the word of the block, in order
-abbrev pub stored_values : List Item → ℕ → ℕ → List ℕ
-stored_values items block word = map (λ did. did.value) (filter (is_store_to block word) (operations items))
-
 -- the last element of a list, or the one given where there is none
 abbrev pub last_or : {A : Type 0} → A → List A → A
 last_or value [] = value
@@ -41,7 +37,7 @@ last_or value (x ∷ xs) = last_or x xs
 
 -- flat memory: the value of the last store to the word of the block, 0 if there is none
 abbrev pub flat : List Item → ℕ → ℕ → ℕ
-flat items block word = last_or 0 (stored_values items block word)
+flat items block word = last_or 0 (map (λ did. did.value) (filter (is_store_to block word) (operations items)))
 
 -- the words of the block in flat memory
 abbrev pub flat_words : List Item → ℕ → Data

@@ -9,11 +9,13 @@ use Rattle.snoop_model.specs.declared.replies.Refused.TheVariants.{NoMemory}
 use Rattle.snoop_model.specs.Pictures.Situation.{Situation}
 use Rattle.snoop_model.specs.Moves.Move.{FirstMove}
 use Rattle.snoop_model.specs.Moves.Refuses.{RefusedFor}
+use Rattle.snoop_model.specs.Moves.Replies.{Tells}
 use Rattle.snoop_model.specs.Invariant.MachineKeeps.{MachineKeeps}
 use Rattle.snoop_model.specs.Runs.Run.{RunBy}
 use Rattle.snoop_model.proofs.Invariant.Safety.{move_keeps_all}
 use Rattle.snoop_model.proofs.Runs.Along.{kept_along}
 use Rattle.snoop_model.proofs.Runs.Logged.{move-log}
+use Rattle.snoop_model.proofs.Runs.Replies.{move_tells, refusal_tells}
 use Rattle.snoop_model.proofs.Runs.Shape.{IsAlike, alike_on, move_stays, same_alike}
 use Rattle.snoop_machine.specs.Standing.{Standing, KeepsRoom}
 use Rattle.snoop_machine.specs.Prepared.{IsFull, IsPrepared}
@@ -30,6 +32,11 @@ answers old new step (Err cause) taken refused full room lines = (refused.0, λ 
 pub step_stays : (old new : Standing) (step : Step) (outcome : Result Reply Refused) → Answers old step outcome new → IsAlike old.situation new.situation
 step_stays old new step (Ok answer) a = move_stays old.situation new.situation step answer a.0.0 a.0.1
 step_stays old new step (Err cause) a = same_alike old.situation new.situation (ap (λ (s : Standing). s.situation) a.2)
+
+-- a step's outcome tells what it adds to the history
+pub step_tells : (old new : Standing) (step : Step) (outcome : Result Reply Refused) → MachineKeeps old.situation → Answers old step outcome new → Tells old.situation.log step outcome new.situation.log
+step_tells old new step (Ok answer) keeps a = move_tells old.situation new.situation step answer a.0.0 keeps.inductive a.0.1
+step_tells old new step (Err cause) keeps a = refusal_tells step cause (ap (λ (s : Standing). s.situation.log) a.2)
 
 -- and so do steps in order
 pub steps_stay : (steps : List Step) (outcomes : List (Result Reply Refused)) (old new : Standing) → RunBy AnswersSafely old steps outcomes new → IsAlike old.situation new.situation

@@ -13,7 +13,7 @@ ghost use Rattle.snoop_model.specs.Pictures.Picture.{held_by};
 ghost use Rattle.snoop_model.specs.Pictures.Situation.{picture_of, reset, state_of, IsHead};
 ghost use Rattle.snoop_model.specs.Pictures.Proper.{keeps};
 ghost use Rattle.snoop_model.specs.Moves.Move.{FirstMove};
-ghost use Rattle.snoop_model.specs.Moves.Replies.{IsReplyTo, IsLoadHit};
+ghost use Rattle.snoop_model.specs.Moves.Replies.{IsReplyTo, Tells};
 ghost use Rattle.snoop_model.specs.Moves.Refuses.{Refuses, RefusedFor};
 ghost use Rattle.snoop_machine.specs.Standing.{KeepsRoom, line_count};
 ghost use Rattle.snoop_machine.specs.Holding.{HoldsOn, HasHeldLines};
@@ -101,7 +101,7 @@ impl Machine {
         // or refused, the machine is coherent, and a load or store stands once in its history or waits.
         ensures stays { (self.new.situation.protocol ≡ self.old.situation.protocol) × (self.new.situation.shape ≡ self.old.situation.shape) }
         ensures replied { IfOk result (λ reply. IsReplyTo step reply) }
-        ensures hit { IfOk result (λ reply. (value : ℕ) → reply ≡ Hit value → IsLoadHit step value self.old.situation.log self.new.situation.log) }
+        ensures told { Tells self.old.situation.log step result self.new.situation.log }
         ensures safe { IsSafe self.new.situation }
         ensures once { IfOk result (λ reply. OnceMore self.old.situation (step ∷ []) (Ok reply ∷ []) self.new.situation) }
     {

@@ -1,6 +1,6 @@
 -- Coherence: what holds after any steps that a machine at reset takes or refuses, in any order.
 -- Source: chapters 2 and 7 of "A Primer on Memory Consistency and Cache Coherence", 2nd edition; the rest is this project's profile.
-use Rattle.std.specs.Prelude.{◌≡◌, ◌≢◌, ◌↔◌, ◌<◌, ℕ, List, All, Option, Some, None, Result, IfSome, IsSome, option_map}
+use Rattle.std.specs.Prelude.{◌≡◌, ◌≢◌, ◌↔◌, ◌<◌, ℕ, List, [], All, Option, Some, None, Result, IfSome, IsSome, option_map}
 use Rattle.snoop_trace.specs.Extent.{Extent}
 use Rattle.snoop_trace.specs.Words.{IsWord}
 use Rattle.snoop_trace.specs.declared.step.Step.{Step}
@@ -20,6 +20,8 @@ use Rattle.snoop_model.specs.Pictures.InQueue.{IsInQueue}
 use Rattle.snoop_model.specs.Moves.Move.{IsWithin, Orders, FirstMove}
 use Rattle.snoop_model.specs.Moves.Refuses.{Refuses}
 use Rattle.snoop_model.specs.Moves.SenderTable.{IsSenderLine, IsOpenByTable}
+use Rattle.snoop_model.specs.Moves.Replies.{Tells}
+use Rattle.snoop_model.specs.Runs.Run.{RunBy}
 use Rattle.snoop_model.specs.Runs.Once.{Once}
 
 -- a coherent machine
@@ -63,3 +65,5 @@ pub record IsCoherentRun (protocol : Protocol) (shape : Extent) (steps : List St
   pub coherent : IsCoherent s
   -- each load and store whose Ask was taken stands once in the history, or waits
   pub once : Once steps outcomes s
+  -- the history is what the outcomes tell, step by step: a load's reply has the value that stands there
+  pub told : RunBy Tells [] steps outcomes s.log

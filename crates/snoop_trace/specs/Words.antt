@@ -20,7 +20,7 @@ word_at words word = slice_index_or words word 0
 
 -- the words of a block in which each is 0
 abbrev pub zero_words : Data
-zero_words = replicate 64 0
+zero_words = replicate word_places 0
 
 -- each word from this one on is 0
 abbrev pub AreZeroFrom : ℕ → Data → Type 0
@@ -28,11 +28,11 @@ AreZeroFrom count words = (word : ℕ) → count ≤ word → word_at words word
 
 -- the values of a block that has so many words: those that it doesn't have are 0
 abbrev pub padded : ℕ → List ℕ → Data
-padded n values = values ++ replicate (64 - n) 0
+padded n values = values ++ replicate (word_places - n) 0
 
 -- the words that a block has, of its values
 pub taken-padded : (n : ℕ) (values : List ℕ) → length values ≡ n → take n (padded n values) ≡ values
-taken-padded n values long = rw (← long) (take-append_seam values (replicate (64 - length values) 0))
+taken-padded n values long = rw (← long) (take-append_seam values (replicate (word_places - length values) 0))
 
 -- a word that blocks of the shape have: below their number of words, and one of the places for words
 abbrev pub IsWord : Extent → ℕ → Type 0

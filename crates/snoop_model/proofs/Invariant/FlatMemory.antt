@@ -1,14 +1,14 @@
 -- Flat memory and legality after a move's item.
-use Rattle.std.proofs.Common.{◌≡◌, ℕ, ◌<◌, length, arith, zero, suc, Bool, true, false, not, ◌&&◌, cond, eqb, List, [], ◌∷◌, ◌++◌, map, take, Option, Some, None, refl, ◌⊎◌, inl, inr, ap, sym, ◌∙◌, subst}
-use Rattle.std.specs.Prelude.{option_to_list, slice_get, slice_set, ⊤}
+use Rattle.std.proofs.Common.{◌≡◌, ℕ, ◌<◌, length, arith, Bool, true, false, not, ◌&&◌, cond, eqb, List, [], ◌∷◌, ◌++◌, map, Option, Some, None, refl, inl, inr, ap, sym, ◌∙◌, subst}
+use Rattle.std.specs.Prelude.{option_to_list, slice_set, ⊤}
 use Rattle.std.proofs.lemmas.List.{append-nil, ext_get_or, length-set, get_or-set_same, get_or-set_other}
 use Rattle.std.proofs.lemmas.List.FromFn.{length-map-range_with_len, get_or-map-range_with_len}
 use Rattle.std.proofs.lemmas.Bool.Decides.{eqb_tells}
 use Rattle.snoop_trace.specs.Words.{word_at}
 use Rattle.snoop_model.proofs.Common.{Op, Did, Item, next_did}
 use Rattle.snoop_trace.specs.declared.step.Op.TheVariants as op
-use Rattle.snoop_history.specs.History.{operation_of, flat, flat_words, Legal, Follows, IsNext, last_or}
-use Rattle.snoop_history.proofs.Pushed.{flat-push, stored_in}
+use Rattle.snoop_history.specs.History.{operation_of, flat, flat_words, Legal, Follows, IsNext}
+use Rattle.snoop_history.proofs.Legal.{flat-grows, legal-grows}
 use Rattle.snoop_model.proofs.OneBlock.Operation.{did_in, flat_after, IsLawful}
 use Rattle.snoop_model.proofs.Lists.Facts.{either_way}
 
@@ -18,11 +18,6 @@ length_words log block = length-map-range_with_len (flat log block) 0 64
 -- a word of a block in flat memory
 pub word_flat : (log : List Item) (block word : ℕ) → word < 64 → word_at (flat_words log block) word ≡ flat log block word
 word_flat log block word h = get_or-map-range_with_len (flat log block) 0 64 word word 0 h (omega arith)
-
--- the value that one operation leaves in a word
-stored_at : (value block word : ℕ) (did : Did) → last_or value (stored_in block word (Some did)) ≡ cond (not did.load && (eqb did.block block && eqb did.word word)) did.value value
-stored_at value block word did =
-    elim (not did.load && (eqb did.block block && eqb did.word word)) as (λ b. last_or value (map (λ (d : Did). d.value) (cond b (did ∷ []) [])) ≡ cond b did.value value) [ true ↦ refl | false ↦ refl ]
 
 -- the words after one operation, one by one
 set_at : (ws : List ℕ) (w v k : ℕ) → k < length ws → word_at (slice_set ws w v) k ≡ cond (eqb w k) v (word_at ws k)
@@ -53,7 +48,7 @@ words_pushed log entry b None performs block on =
     ext_get_or 0 (flat_words (log ++ entry ∷ []) b) (flat_words log b) (length_words (log ++ entry ∷ []) b ∙ sym (length_words log b))
     (λ k h.
     let inside : k < 64 = subst (λ (n : ℕ). k < n) (length_words (log ++ entry ∷ []) b) h in
-    let pushed : flat (log ++ entry ∷ []) b k ≡ flat log b k = rw performs at (flat-push log entry b k) in
+    let pushed : flat (log ++ entry ∷ []) b k ≡ flat log b k = rw performs at (flat-grows log entry b k) in
     word_flat (log ++ entry ∷ []) b k inside ∙ (pushed ∙ sym (word_flat log b k inside)))
     ∙ either_way (eqb block b) (flat_words log b)
 words_pushed log entry b (Some did) performs block on =
@@ -64,34 +59,17 @@ words_pushed log entry b (Some did) performs block on =
     (length_words (log ++ entry ∷ []) b ∙ sym (length_after ws did.load (eqb did.block b) did.word did.value ∙ length_words log b))
     (λ k h.
     let inside : k < 64 = subst (λ (n : ℕ). k < n) (length_words (log ++ entry ∷ []) b) h in
-    let pushed : flat (log ++ entry ∷ []) b k ≡ last_or (flat log b k) (stored_in b k (Some did)) = rw performs at (flat-push log entry b k) in
+    let pushed : flat (log ++ entry ∷ []) b k ≡ cond (not did.load && (eqb did.block b && eqb did.word k)) did.value (flat log b k) = rw performs at (flat-grows log entry b k) in
     word_flat (log ++ entry ∷ []) b k inside
     ∙ (pushed
-    ∙ (stored_at (flat log b k) b k did
     ∙ (ap (λ (x : ℕ). cond (not did.load && (eqb did.block b && eqb did.word k)) did.value x) (sym (word_flat log b k inside))
-    ∙ sym (after_at ws did.load (eqb did.block b) did.word did.value k (subst (λ (n : ℕ). k < n) (sym (length_words log b)) inside)))))) in
+    ∙ sym (after_at ws did.load (eqb did.block b) did.word did.value k (subst (λ (n : ℕ). k < n) (sym (length_words log b)) inside))))) in
     same ∙ ap (λ (x : ℕ). cond (eqb x b) (flat_after ws (Some did)) ws) on
 
 -- flat memory after a move on a block
 pub flat_logged : (log : List Item) (entry : Option Item) (block b : ℕ) → IsOn block (did_in entry) → flat_words (log ++ option_to_list entry) b ≡ cond (eqb block b) (flat_after (flat_words log b) (did_in entry)) (flat_words log b)
 flat_logged log None block b on = ap (λ (l : List Item). flat_words l b) (append-nil log) ∙ either_way (eqb block b) (flat_words log b)
 flat_logged log (Some entry) block b on = words_pushed log entry b (operation_of entry) refl block on
-
--- what stands at a place of a list with one more item
-pushed_at : (log : List Item) (entry : Item) (k : ℕ) (x : Item) → slice_get (log ++ entry ∷ []) k ≡ Some x → ((slice_get log k ≡ Some x) × (take k (log ++ entry ∷ []) ≡ take k log)) ⊎ ((entry ≡ x) × (take k (log ++ entry ∷ []) ≡ log))
-pushed_at [] entry zero x h = inr (cc, refl)
-pushed_at [] entry (suc k) x h = cc
-pushed_at (y ∷ log) entry zero x h = inl (h, refl)
-pushed_at (y ∷ log) entry (suc k) x h = elim (pushed_at log entry k x h) [
-  | inl p ↦ inl (p.0, ap (λ (l : List Item). y ∷ l) p.1)
-  | inr p ↦ inr (p.0, ap (λ (l : List Item). y ∷ l) p.1)
-]
-
-legal_push : (log : List Item) (entry : Item) → Legal log → Follows log entry → Legal (log ++ entry ∷ [])
-legal_push log entry legal follows k x h = elim (pushed_at log entry k x h) [
-  | inl p ↦ subst (λ (l : List Item). Follows l x) (sym p.1) (legal k x p.0)
-  | inr p ↦ subst (λ (l : List Item). Follows l x) (sym p.1) (subst (λ (y : Item). Follows log y) p.0 follows)
-]
 
 -- the move's item may come next, if there is one
 abbrev pub FollowsIn : List Item → Option Item → Type 0
@@ -100,7 +78,7 @@ FollowsIn log (Some entry) = Follows log entry
 
 pub legal_logged : (log : List Item) (entry : Option Item) → Legal log → FollowsIn log entry → Legal (log ++ option_to_list entry)
 legal_logged log None legal follows = subst Legal (sym (append-nil log)) legal
-legal_logged log (Some entry) legal follows = legal_push log entry legal follows
+legal_logged log (Some entry) legal follows = legal-grows log entry legal follows
 
 -- an operation on a word that there is, as it is performed, may come next, if its load gives the flat value
 pub next_lawful : (log : List Item) (core block word : ℕ) (asking : Op) (value : ℕ) (hit : Bool) → word < 64 → IsLawful (flat_words log block) (Some (next_did log core block word asking value hit)) → IsNext log (next_did log core block word asking value hit)

@@ -1,14 +1,16 @@
--- The reply of each move, and the item of a load that hits.
-use Rattle.std.proofs.Common.{◌≡◌, ℕ, true, ◌++◌, List, Option, Some, refl, ap, sym, ◌∙◌, subst, inl, inr}
+-- The reply of each move, and what it tells of the history.
+use Rattle.std.proofs.Common.{◌≡◌, ℕ, ◌++◌, List, [], ◌∷◌, Option, refl, ap, sym, subst, inl, inr}
+use Rattle.std.proofs.lemmas.List.{append-nil}
 use Rattle.std.specs.Prelude.{option_to_list, Result, Ok, Err, IfOk, if◌then◌else◌}
-use Rattle.snoop_model.proofs.Common.{Protocol, Op, Step, Ask, Order, Respond, CacheState, CacheAction, Cell, asked, Item, Reply, Refused, Line, held_by, Situation, picture_of, request_for, FirstMove, Takes, Performs, is_load, next_did}
+use Rattle.snoop_model.proofs.Common.{Protocol, Op, Step, Ask, Order, Respond, CacheState, CacheAction, Cell, asked, Item, Reply, Refused, Line, held_by, Situation, picture_of, request_for, FirstMove, Takes, Performs, is_load}
 use Rattle.snoop_trace.specs.declared.step.Op.TheVariants as op
 use Rattle.snoop_rules.specs.declared.names.CacheAction.TheVariants as action
-use Rattle.snoop_history.specs.declared.items.Item.TheVariants as item
 use Rattle.snoop_model.specs.declared.replies.Reply.TheVariants as reply
-use Rattle.snoop_model.specs.Moves.Replies.{IsReplyTo, IsLoadHit}
+use Rattle.snoop_model.specs.Moves.Replies.{IsReplyTo, Tells}
+use Rattle.snoop_model.specs.Runs.Run.{Goes, RunBy, RunFrom}
 use Rattle.snoop_model.proofs.Tables.Rows.{issue_serves, drop_evicts}
-use Rattle.snoop_model.proofs.Runs.Logged.{move-log}
+use Rattle.snoop_model.specs.Invariant.Invariant.{Invariant}
+use Rattle.snoop_model.proofs.Invariant.Runs.{refusal_same, goes_keeps}
 
 issued_reply : (core block word : ℕ) (asking : Op) → IsReplyTo (Ask core block word asking) (reply.Issued (request_for asking))
 issued_reply core block word op.Load = tt
@@ -39,44 +41,52 @@ move_replies old new (Ask core on word asking) answer entry m = elim m.1.1.moves
 move_replies old new (Order core) answer entry m = subst (λ (r : Reply). IsReplyTo (Order core) r) (sym m.1.1.answered) tt
 move_replies old new (Respond on) answer entry m = subst (λ (r : Reply). IsReplyTo (Respond on) r) (sym m.1.1.answered) tt
 
--- an item that stands in the log of a load that hit
-hit_logs : (p : Protocol) (next : CacheState) (log : List Item) (core block word : ℕ) (asking : Op) (old new : Line) (value : ℕ) (entry : Option Item) (a : CacheAction)
-    → Takes a next log core block word asking old new (reply.Hit value) entry → (asking ≡ op.Load) × (entry ≡ Some (item.Did (next_did log core block word op.Load value true)))
-hit_logs p next log core block word op.Load old new value entry action.Hit t =
-    let same : value ≡ t.0 = (let e = t.1.1 in cc) in
-    (refl, t.1.2 ∙ ap (λ (v : ℕ). let r : Option Item = Some (item.Did (next_did log core block word op.Load v true)) in r) (sym same))
-hit_logs p next log core block word (op.Store v) old new value entry action.Hit t = let e = t.1.1 in cc
-hit_logs p next log core block word op.Evict old new value entry action.Hit t = absurd t.1.0.performed
-hit_logs p next log core block word asking old new value entry (action.Issue q) t = let e = t.1 in cc
-hit_logs p next log core block word asking old new value entry action.Drop t = let e = t.1 in cc
-hit_logs p next log core block word asking old new value entry _ t = absurd t
+-- what an Ask's row adds is what its reply tells
+module _ (next : CacheState) (log : List Item) (core block word : ℕ) (old new : Line) (answer : Reply) (entry : Option Item) where
+  taken_tells : (asking : Op) (a : CacheAction) → Takes a next log core block word asking old new answer entry → Tells log (Ask core block word asking) (Ok answer) (log ++ option_to_list entry)
+  taken_tells op.Load action.Hit t = rw (t.1.1, t.1.2) refl
+  taken_tells (op.Store v) action.Hit t = rw (t.1.1, t.1.2, t.1.0.performed.0) refl
+  taken_tells op.Evict action.Hit t = absurd t.1.0.performed
+  taken_tells op.Load (action.Issue q) t = rw (t.1, t.2) (append-nil log)
+  taken_tells (op.Store v) (action.Issue q) t = rw (t.1, t.2) (append-nil log)
+  taken_tells op.Evict (action.Issue q) t = rw t.2 (append-nil log)
+  taken_tells op.Load action.Drop t = rw (t.1, t.2) (append-nil log)
+  taken_tells (op.Store v) action.Drop t = rw (t.1, t.2) (append-nil log)
+  taken_tells op.Evict action.Drop t = rw t.2 (append-nil log)
+  taken_tells asking _ t = absurd t
 
-pub load_hit : (old new : Situation) (step : Step) (value : ℕ) (entry : Option Item) → FirstMove old step (reply.Hit value) new entry → IsLoadHit step value old.log new.log
-load_hit old new (Ask core on word asking) value entry m = elim m.1.1.moves [
-  | inl absent ↦ (let e = absent.2 in cc)
-  | inr a ↦
-      let h = hit_logs old.protocol a.row.next old.log core m.0 word asking (held_by (picture_of old m.0) core) a.held value entry a.row.action a.taken in
-      let grown : new.log ≡ old.log ++ option_to_list entry = move-log old new (Ask core on word asking) (reply.Hit value) entry m in
-      record {
-        core = core;
-        block = m.0;
-        word = word;
-        asked = ap (λ (b : ℕ). Ask core b word asking) m.1.1.on_block ∙ ap (λ (o : Op). Ask core m.0 word o) h.0;
-        logged = grown ∙ ap (λ (e : Option Item). old.log ++ option_to_list e) h.1;
-      }
+-- a refusal tells of nothing
+pub refusal_tells : {past log : List Item} (step : Step) (cause : Refused) → log ≡ past → Tells past step (Err cause) log
+refusal_tells (Ask core block word op.Load) cause same = same
+refusal_tells (Ask core block word (op.Store value)) cause same = same
+refusal_tells (Ask core block word op.Evict) cause same = same
+refusal_tells (Order core) cause same = same
+refusal_tells (Respond block) cause same = same
+
+-- what a step adds to the log is what its outcome tells
+pub goes_tells : (old : Situation) (step : Step) (outcome : Result Reply Refused) (new : Situation) → Invariant old → Goes old step outcome new → Tells old.log step outcome new.log
+goes_tells old (Ask core on word asking) (Ok answer) new g goes = elim goes.1.1.moves [
+  | inl absent ↦ rw (absent.0, absent.3) refl
+  | inr a ↦ rw a.after (subst (λ b. Tells old.log (Ask core b word asking) (Ok answer) (old.log ++ option_to_list goes.0)) (sym goes.1.1.on_block)
+      (taken_tells _ _ _ _ _ _ _ _ _ asking a.row.action a.taken))
 ]
-load_hit old new (Order core) value entry m = let e = m.1.1.answered in cc
-load_hit old new (Respond on) value entry m = let e = m.1.1.answered in cc
+goes_tells old (Order core) (Ok answer) new g goes = rw goes.1.1.answered (goes.1.0, ap (λ (s : Situation). s.log) goes.1.1.orders.after)
+goes_tells old (Respond on) (Ok answer) new g goes =
+    let m = goes.1.1 in
+    rw (m.answered, m.on_block, ← g.opened goes.1.0 m.closing m.responds.opened) (m.closing.core, (m.closing.request, ap (λ (s : Situation). s.log) m.responds.after))
+goes_tells old step (Err cause) new g goes = refusal_tells step cause (ap (λ (s : Situation). s.log) (refusal_same old step cause new goes))
+
+-- a run's history is what its outcomes tell
+pub run_tells : (steps : List Step) (outcomes : List (Result Reply Refused)) (old new : Situation) → Invariant old → RunFrom old steps outcomes new → RunBy Tells old.log steps outcomes new.log
+run_tells [] [] old new g run = ap (λ (s : Situation). s.log) run
+run_tells (step ∷ steps) (outcome ∷ outcomes) old new g run =
+    (run.0.log, (goes_tells old step outcome run.0 g run.1.0, run_tells steps outcomes run.0 new (goes_keeps old step outcome run.0 g run.1.0) run.1.1))
+run_tells _ _ old new g run = absurd run
 
 -- a step, taken or refused
 pub step_replies : (old new : Situation) (step : Step) (result : Result Reply Refused) → IfOk result (λ reply. (entry : Option Item) × FirstMove old step reply new entry) → IfOk result (λ reply. IsReplyTo step reply)
 step_replies old new step (Ok answer) taken = move_replies old new step answer taken.0 taken.1
 step_replies old new step (Err cause) taken = tt
 
--- a load that hits stands in the log
-abbrev pub LoadsHit : List Item → List Item → Step → Result Reply Refused → Type 0
-LoadsHit before after step result = IfOk result (λ answer. (value : ℕ) → answer ≡ reply.Hit value → IsLoadHit step value before after)
-
-pub step_hits : (old new : Situation) (step : Step) (result : Result Reply Refused) → IfOk result (λ reply. (entry : Option Item) × FirstMove old step reply new entry) → LoadsHit old.log new.log step result
-step_hits old new step (Ok answer) taken = λ value is. load_hit old new step value taken.0 (subst (λ (r : Reply). FirstMove old step r new taken.0) is taken.1)
-step_hits old new step (Err cause) taken = tt
+pub move_tells : (old new : Situation) (step : Step) (answer : Reply) (entry : Option Item) → Invariant old → FirstMove old step answer new entry → Tells old.log step (Ok answer) new.log
+move_tells old new step answer entry g m = goes_tells old step (Ok answer) new g (entry, (m.0, m.1.1))

@@ -1,4 +1,4 @@
--- What a line holds in each state.
+-- For what a core waits in each state, and what its line holds.
 -- Source: the states are those of chapter 7 of "A Primer on Memory Consistency and Cache Coherence", 2nd edition; the rest is this project's profile.
 use Rattle.std.specs.Prelude.{◌≡◌, Bool, true, false, Option, Some, None, is_some, option_map}
 use Rattle.snoop_trace.specs.declared.step.Op.{Op}

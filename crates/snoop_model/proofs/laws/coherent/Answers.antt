@@ -1,7 +1,9 @@
 -- Every run is coherent, by the invariant of every run.
 use Rattle.snoop_model.specs.Pictures.Situation.{reset}
+use Rattle.snoop_model.proofs.Invariant.Runs.{reset_invariant}
 use Rattle.snoop_model.proofs.Invariant.Safety.{is_coherent, reset_keeps, run_keeps_all}
 use Rattle.snoop_model.proofs.Once.Runs.{run_asked_once}
+use Rattle.snoop_model.proofs.Runs.Replies.{run_tells}
 use Rattle.snoop_model.proofs.Runs.Shape.{run_stays}
 use Rattle.snoop_model.proofs.laws.coherent.Goals as goal
 
@@ -12,4 +14,5 @@ returns c p shape steps outcomes new run =
       stays = run_stays steps outcomes (reset p shape) new run;
       coherent = is_coherent new keeps.inductive keeps.on_lines keeps.well_kept;
       once = run_asked_once p shape steps outcomes new run;
+      told = run_tells steps outcomes (reset p shape) new (reset_invariant p shape) run;
     }

@@ -1,8 +1,8 @@
 use Rattle.snoop_model.specs.Invariant.MachineKeeps.{MachineKeeps}
 use Rattle.snoop_model.proofs.Invariant.Safety.{is_safe}
 use Rattle.snoop_model.proofs.Invariant.Steps.{step_once}
-use Rattle.snoop_model.proofs.Runs.Replies.{step_replies, step_hits}
-use Rattle.snoop_machine.proofs.StepKeeps.{answers, step_keeps, step_stays}
+use Rattle.snoop_model.proofs.Runs.Replies.{step_replies}
+use Rattle.snoop_machine.proofs.StepKeeps.{answers, step_keeps, step_stays, step_tells}
 use Rattle.snoop_machine.specs.Runs.{Answers}
 use Rattle.snoop_machine.specs.AnyParts.{stand}
 use Rattle.snoop_machine.proofs.machine.Machine.step.Goals as goal
@@ -32,6 +32,6 @@ returns-clause-stays c =
 pub returns-clause-replied : goal.returns-clause-replied
 returns-clause-replied c = step_replies (stand c.self.inside.parts).situation (stand c.step.new.self).situation c.args.step c.step.result c.step.ensures.taken
 
-pub returns-clause-hit : goal.returns-clause-hit
-returns-clause-hit c =
-    rw c.self.view_is at (step_hits (stand c.self.inside.parts).situation (stand c.step.new.self).situation c.args.step c.step.result c.step.ensures.taken)
+pub returns-clause-told : goal.returns-clause-told
+returns-clause-told c =
+    rw c.self.view_is at (step_tells _ _ c.args.step c.step.result c.self.invariant (went (goal.at.returns-clause-told c).After-step))
