@@ -16,7 +16,7 @@ use Rattle.snoop_history.specs.History.{last_of}
 use Rattle.snoop_history.proofs.Pushed.{last_of-push}
 use Rattle.snoop_model.specs.declared.replies.Reply.{Reply}
 use Rattle.snoop_model.specs.declared.replies.Reply.TheVariants as reply
-use Rattle.snoop_model.specs.Moves.Replies.{IsReplyTo, IsLoadHit}
+use Rattle.snoop_model.specs.Moves.Replies.{IsReplyTo, Tells}
 use Rattle.snoop_model.specs.Pictures.Situation.{Situation, picture_of, state_of}
 use Rattle.snoop_model.specs.Moves.Move.{next_did}
 use Rattle.snoop_model.specs.Runs.Once.{did_it, did_access, same_op, same_access}
@@ -67,43 +67,54 @@ finishes rule {s} {works} {core} {work} f last is =
     by_op (op.Store v) ended = let d = ended (λ e. cc) in (d.0, (d.1, refl))
     by_op op.Evict ended = refl
 
--- a hit of a load is the core's last operation
-hit_ends : (s t : Situation) (core : ℕ) (work : Work) (value : ℕ) → IsLoadHit (Ask core work.block work.word work.op) value s.log t.log
-    → (did : Did) × EndsWith t core work did × (did.value ≡ value)
-hit_ends s t core work value h =
-    let asked = h.asked in
-    let load : work.op ≡ op.Load = cc in
-    let own : h.core ≡ core = cc in
-    let did = next_did s.log h.core h.block h.word op.Load value true in
-    let last : last_of t.log core ≡ Some did =
-    ap (λ (l : List Item). last_of l core) h.logged ∙ last_of-push s.log (item.Did did) core ∙ rw (eq-eqb h.core core own) refl in
-    (did, record { last = last; does = (cc, cc, rw load refl) }, refl)
+-- the operation that a hit performs
+module _ (past log : List Item) (core block word : ℕ) where
+  hit_did : Op → ℕ → Did
+  hit_did asking value = next_did past core block word asking value true
 
-no_evict : (core block word : ℕ) (asking : Op) → IsReplyTo (Ask core block word asking) reply.StoreHit → asking ≢ op.Evict
-no_evict core block word asking fits same = rw same at fits
+  told_load : (asking : Op) (value : ℕ) → IsReplyTo (Ask core block word asking) (reply.Hit value) → Tells past (Ask core block word asking) (Ok (reply.Hit value)) log
+      → IsOp asking (hit_did asking value) × (log ≡ past ++ item.Did (hit_did asking value) ∷ [])
+  told_load op.Load value fits told = (refl, told)
+  told_load (op.Store v) value fits told = absurd fits
+  told_load op.Evict value fits told = absurd fits
+
+  told_store : (asking : Op) → IsReplyTo (Ask core block word asking) reply.StoreHit → Tells past (Ask core block word asking) (Ok reply.StoreHit) log
+      → (value : ℕ) × (IsOp asking (hit_did asking value) × (log ≡ past ++ item.Did (hit_did asking value) ∷ []))
+  told_store op.Load fits told = absurd fits
+  told_store (op.Store v) fits told = (v, ((refl, refl), told))
+  told_store op.Evict fits told = absurd fits
+
+-- it is the core's last operation
+hit_ends : (s t : Situation) (core : ℕ) (work : Work) (value : ℕ)
+    → (let did = hit_did s.log t.log core work.block work.word work.op value in IsOp work.op did × (t.log ≡ s.log ++ item.Did did ∷ []) → EndsWith t core work did)
+hit_ends s t core work value h =
+    let did = hit_did s.log t.log core work.block work.word work.op value in
+    record {
+      last = ap (λ (l : List Item). last_of l core) h.1 ∙ last_of-push s.log (item.Did did) core ∙ rw (eq-eqb core core refl) refl;
+      does = (refl, refl, h.0);
+    }
 
 -- what an Ask answers, and the works after it
 pub asked_so : TurnLaws → (core : ℕ) (work : Work) (answer : Reply) (given : Turn) (p q : Locked) → AreUnderWay p.works p.situation
     → work_at p.works core ≡ None → IsInside core work p
     → Stepped p.situation q.situation (Ask core work.block work.word work.op) answer → IsReplyTo (Ask core work.block work.word work.op) answer
-    → ((value : ℕ) → answer ≡ reply.Hit value → IsLoadHit (Ask core work.block work.word work.op) value p.situation.log q.situation.log)
+    → Tells p.situation.log (Ask core work.block work.word work.op) (Ok answer) q.situation.log
     → given ≡ turn_asked answer → q.works ≡ works_asked answer p.works core work → Asked answer core work given p q
-asked_so rule core work (reply.Issued request) given p q u idle inside m fits hit e w = (e, w)
-asked_so rule core work reply.Gone given p q u idle inside m fits hit e w = (e, w)
-asked_so rule core work reply.Absent given p q u idle inside m fits hit e w = (e, w)
-asked_so rule core work (reply.Hit value) given p q u idle inside m fits hit e w = (e, hit_ends p.situation q.situation core work value (hit value refl), w)
-asked_so rule core work reply.StoreHit given p q u idle inside m fits hit e w =
-    let asked = asks_its core work (no_evict core work.block work.word work.op fits) in
-    let ask = Ask core work.block work.word work.op in
-    let owed = rule.owes p.situation q.situation ask reply.StoreHit m.entry m.move m.once core work.block (access_of work) (inr asked) in
-    let none = ended rule p.works core work u idle inside m (λ request x. cc) in
-    (e, ends_with q.situation core work (rule.closed_is_last q.situation core work.block work.word work.op (access_of work) m.kept owed none), w)
-asked_so rule core work (reply.Ordered request) given p q u idle inside m fits hit e w = absurd (not_ordered work.op fits)
+asked_so rule core work (reply.Issued request) given p q u idle inside m fits told e w = (e, w)
+asked_so rule core work reply.Gone given p q u idle inside m fits told e w = (e, w)
+asked_so rule core work reply.Absent given p q u idle inside m fits told e w = (e, w)
+asked_so rule core work (reply.Hit value) given p q u idle inside m fits told e w =
+    let does = told_load p.situation.log q.situation.log core work.block work.word work.op value fits told in
+    (e, (_, (hit_ends p.situation q.situation core work value does, refl)), w)
+asked_so rule core work reply.StoreHit given p q u idle inside m fits told e w =
+    let does = told_store p.situation.log q.situation.log core work.block work.word work.op fits told in
+    (e, (_, hit_ends p.situation q.situation core work does.0 does.1), w)
+asked_so rule core work (reply.Ordered request) given p q u idle inside m fits told e w = absurd (not_ordered work.op fits)
   where
     not_ordered : (asking : Op) → IsReplyTo (Ask core work.block work.word asking) (reply.Ordered request) → ⊥
     not_ordered op.Load f = f
     not_ordered _ f = f
-asked_so rule core work (reply.Came payload from did) given p q u idle inside m fits hit e w = absurd (not_came work.op fits)
+asked_so rule core work (reply.Came payload from did) given p q u idle inside m fits told e w = absurd (not_came work.op fits)
   where
     not_came : (asking : Op) → IsReplyTo (Ask core work.block work.word asking) (reply.Came payload from did) → ⊥
     not_came op.Load f = f

@@ -2,7 +2,6 @@
 ghost use Rattle.std.specs.Prelude.{◌≡◌, ◌<◌, ◌^◌, ℕ, [], ◌∷◌, ◌++◌, IfOk, OnOk, OnErr, Ok, Option, option_to_list};
 ghost use Rattle.snoop_trace.specs.Output.{IsReadableStep};
 ghost use Rattle.snoop_model.specs.declared.replies.Refused.{Refused};
-ghost use Rattle.snoop_model.specs.declared.replies.Reply.TheVariants.{Hit};
 ghost use Rattle.snoop_model.specs.Pictures.Situation.{Situation, reset};
 ghost use Rattle.snoop_model.specs.Moves.Refuses.{Refuses};
 ghost use Rattle.snoop_model.specs.Moves.Replies.{IsReplyTo, Tells};

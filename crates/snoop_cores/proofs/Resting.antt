@@ -10,6 +10,7 @@ use Rattle.snoop_trace.specs.declared.protocol.Protocol.{Protocol}
 use Rattle.snoop_bus.specs.Queues.{queue_of}
 use Rattle.snoop_history.specs.declared.items.Item.{Item}
 use Rattle.snoop_history.specs.History.{answers_of}
+use Rattle.snoop_model.proofs.Invariant.Safety.{well_kept_in}
 use Rattle.snoop_model.specs.declared.access.Access.{Access}
 use Rattle.snoop_model.specs.Pictures.Situation.{Situation}
 use Rattle.snoop_model.specs.Runs.Safe.{IsSafe}
@@ -69,4 +70,4 @@ joins b seats items steps kept safe rests tallied one_each free answered items_a
 })
   where
     quiet : IsQuiet b.situation
-    quiet = rests b.situation (serves_nothing b.works b.situation kept.places (λ core lt. (free core lt).0) kept.serving) safe.well_kept
+    quiet = rests b.situation (serves_nothing b.works b.situation kept.places (λ core lt. (free core lt).0) kept.serving) (well_kept_in _ safe)

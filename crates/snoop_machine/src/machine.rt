@@ -8,7 +8,6 @@ ghost use Rattle.snoop_history.specs.declared.items.Item.{Item};
 ghost use Rattle.snoop_history.specs.History.{flat};
 ghost use Rattle.snoop_model.specs.declared.replies.Refused.{Refused};
 ghost use Rattle.snoop_model.specs.declared.replies.Refused.TheVariants.{NoMemory as OutOfMemory};
-ghost use Rattle.snoop_model.specs.declared.replies.Reply.TheVariants.{Hit};
 ghost use Rattle.snoop_model.specs.Pictures.Picture.{held_by};
 ghost use Rattle.snoop_model.specs.Pictures.Situation.{picture_of, reset, state_of, IsHead};
 ghost use Rattle.snoop_model.specs.Pictures.Proper.{keeps};

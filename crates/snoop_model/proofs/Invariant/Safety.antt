@@ -1,5 +1,5 @@
 -- What every machine keeps makes it safe, and its steps keep it.
-use Rattle.std.proofs.Common.{ℕ, List, ◌<◌, ◌≤◌, arith, ap, Option, sym, ◌∙◌, subst, Some, None}
+use Rattle.std.proofs.Common.{ℕ, List, ◌<◌, ◌≤◌, arith, ap, Option, sym, ◌∙◌, subst, refl, Some, None}
 use Rattle.std.specs.Prelude.{◌≡◌, option_map, Result, Ok, Err, IfSome, is_some}
 use Rattle.std.proofs.lemmas.Option.{same_Some}
 use Rattle.snoop_model.proofs.Common.{Extent, Protocol, Step, Item, Reply, Refused, held_by, Situation, picture_of, state_of, reset, IsProper, keeps, MoveOn}
@@ -59,7 +59,16 @@ is_safe s keeps = record {
   coherent = is_coherent s keeps.inductive keeps.on_lines keeps.well_kept;
   finds_rows = finds_rows s keeps.inductive;
   kept_where_readable = λ core block. (all_proper s keeps.inductive core block).kept;
-  well_kept = keeps.well_kept;
+  shaped = keeps.well_kept.shaped;
+}
+
+-- what is safe is well kept
+pub well_kept_in : (s : Situation) → IsSafe s → IsWellKept s
+well_kept_in s safe = record {
+  shaped = safe.shaped;
+  queued = safe.coherent.queued;
+  awaits = λ core block request awaits. ((safe.coherent.awaited core block request).0 awaits).0;
+  operations = λ core block access waits. rw (← safe.coherent.waiting core block, waits) refl;
 }
 
 pub reset_keeps : (protocol : Protocol) (shape : Extent) → MachineKeeps (reset protocol shape)

@@ -1,6 +1,7 @@
 use Rattle.std.proofs.Common.{false, refl, sym, subst}
 use Rattle.snoop_trace.specs.Output.{IsReadableStep}
 use Rattle.snoop_trace.specs.declared.step.Step.TheVariants.{Ask}
+use Rattle.snoop_model.proofs.Invariant.Safety.{well_kept_in}
 use Rattle.snoop_bench.specs.Works.{works_under_way}
 use Rattle.snoop_bench.specs.Locked.{Locked}
 use Rattle.snoop_bench.proofs.Places.{its_block}
@@ -14,7 +15,7 @@ take-requires-clause-allowed g c =
     let work = c.args.work in
     let inside = rw (← c.self.view_is) at c.requires.inside in
     c.turns_are_served.ensures.never_refused c.self.inside.recorder.situation (works_under_way c.self.inside.works.items) c.args.core work.block work.word work.op false _
-    c.self.invariant.serving c.recorded.ensures.safe.well_kept inside.0 inside.1 inside.2 (its_block _ _ (rw (← c.self.view_is) at c.requires.idle)) refl
+    c.self.invariant.serving (well_kept_in _ c.recorded.ensures.safe) inside.0 inside.1 inside.2 (its_block _ _ (rw (← c.self.view_is) at c.requires.idle)) refl
 
 pub take-requires-clause-within : goal.take-requires-clause-within
 take-requires-clause-within g c =
@@ -26,12 +27,12 @@ invariant_of-self-2 g c =
     rw c.note.ensures
     (asked_keeps c.turns_are_served.ensures c.self.inside.works.items c.args.core c.args.work c.in_ok-reply.reply c.self.invariant
     (rw (← c.self.view_is) at c.requires.idle) (rw (← c.self.view_is) at c.requires.inside)
-    (stepped c.turns_are_served.ensures c.recorded.ensures.safe.well_kept c.in_ok-reply.ensures.takes c.in_ok-reply.ensures.once c.take.ensures.stays.1))
+    (stepped c.turns_are_served.ensures (well_kept_in _ c.recorded.ensures.safe) c.in_ok-reply.ensures.takes c.in_ok-reply.ensures.once c.take.ensures.stays.1))
 
 pub returns-clause-ok : goal.returns-clause-ok
 returns-clause-ok g c =
     let asked = asked_so c.turns_are_served.ensures c.args.core c.args.work c.in_ok-reply.reply c.asked.result _ _ c.self.invariant
     (rw (← c.self.view_is) at c.requires.idle) (rw (← c.self.view_is) at c.requires.inside)
-    (stepped c.turns_are_served.ensures c.recorded.ensures.safe.well_kept c.in_ok-reply.ensures.takes c.in_ok-reply.ensures.once c.take.ensures.stays.1)
-    c.in_ok-reply.ensures.replied c.in_ok-reply.ensures.hit c.asked.ensures c.note.ensures in
+    (stepped c.turns_are_served.ensures (well_kept_in _ c.recorded.ensures.safe) c.in_ok-reply.ensures.takes c.in_ok-reply.ensures.once c.take.ensures.stays.1)
+    c.in_ok-reply.ensures.replied c.in_ok-reply.ensures.told c.asked.ensures c.note.ensures in
     rw (← c.self.view_is) (c.in_ok-reply.reply, (c.in_ok-reply.ensures.takes, asked))

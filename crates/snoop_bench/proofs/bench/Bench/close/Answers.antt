@@ -1,11 +1,12 @@
 use Rattle.std.proofs.Common.{None, refl}
+use Rattle.snoop_model.proofs.Invariant.Safety.{well_kept_in}
 use Rattle.snoop_bench.proofs.Turning.{Facing, facing, over_keeps}
 use Rattle.snoop_bench.proofs.Outcomes.{finishes}
 use Rattle.snoop_bench.proofs.bench.Bench.close.Goals.{After-recorded}
 use Rattle.snoop_bench.proofs.bench.Bench.close.Goals as goal
 
 faces : (c : After-recorded) → Facing c.self.inside.recorder.situation c.self.inside.works.items c.args.core c.args.work None
-faces c = facing c.self.view_is c.args.core c.args.work c.self.invariant c.recorded.ensures.safe.well_kept c.requires.inside c.requires.its c.requires.closed
+faces c = facing c.self.view_is c.args.core c.args.work c.self.invariant (well_kept_in _ c.recorded.ensures.safe) c.requires.inside c.requires.its c.requires.closed
 
 pub invariant_of-self : goal.invariant_of-self
 invariant_of-self c = rw c.set_work.ensures (over_keeps c.turns_are_served.ensures (faces (goal.at.invariant_of-self c).After-recorded))

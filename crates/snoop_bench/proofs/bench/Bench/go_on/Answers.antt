@@ -1,6 +1,7 @@
 use Rattle.std.proofs.Common.{◌≡◌, ◌∙◌, Some, true, ap, refl, sym}
 use Rattle.std.specs.Prelude.{is_some}
 use Rattle.snoop_rules.specs.Waits.{waiting_request}
+use Rattle.snoop_model.proofs.Invariant.Safety.{well_kept_in}
 use Rattle.snoop_model.specs.Pictures.Situation.{state_of}
 use Rattle.snoop_bench.specs.Keeps.{locked}
 use Rattle.snoop_bench.specs.Locked.{Locked}
@@ -17,7 +18,7 @@ module _ (g : Over) (c : After-recorded g) where
   faces : Facing c.self.inside.recorder.situation c.self.inside.works.items c.args.core c.args.work (Some c.in-Some.step)
   faces =
       let same = c.machine-machine.ensures ∙ ap (λ (l : Locked). l.situation) c.self.view_is in
-      facing c.self.view_is c.args.core c.args.work c.self.invariant c.recorded.ensures.safe.well_kept c.requires.inside c.requires.its
+      facing c.self.view_is c.args.core c.args.work c.self.invariant (well_kept_in _ c.recorded.ensures.safe) c.requires.inside c.requires.its
       (rw same at (sym c.turn_step.ensures ∙ c.in-Some.is))
 
   waits : c.waits_on-waits.result ≡ is_some (waiting_request (state_of c.self.inside.recorder.situation c.args.core c.args.work.block))
@@ -37,7 +38,7 @@ take-requires-clause-within g c =
 pub invariant_of-self-then-waits : goal.invariant_of-self-then-waits
 invariant_of-self-then-waits g c =
     let d = (goal.at.invariant_of-self-then-waits g c).After-recorded in
-    let m = stepped c.turns_are_served.ensures c.recorded.ensures.safe.well_kept c.in_ok-take.ensures.takes c.in_ok-take.ensures.once c.take.ensures.stays.1 in
+    let m = stepped c.turns_are_served.ensures (well_kept_in _ c.recorded.ensures.safe) c.in_ok-take.ensures.takes c.in_ok-take.ensures.once c.take.ensures.stays.1 in
     serving_step c.turns_are_served.ensures m c.self.inside.works.items (faces g d).under (case g d)
 
 pub returns-then-waits-clause-ok : goal.returns-then-waits-clause-ok
@@ -50,13 +51,13 @@ returns-then-waits-clause-ok g c =
 pub invariant_of-self-2 : goal.invariant_of-self-2
 invariant_of-self-2 g c =
     let d = (goal.at.invariant_of-self-2 g c).After-recorded in
-    let m = stepped c.turns_are_served.ensures c.recorded.ensures.safe.well_kept c.in_ok-take.ensures.takes c.in_ok-take.ensures.once c.take.ensures.stays.1 in
+    let m = stepped c.turns_are_served.ensures (well_kept_in _ c.recorded.ensures.safe) c.in_ok-take.ensures.takes c.in_ok-take.ensures.once c.take.ensures.stays.1 in
     serving_step c.turns_are_served.ensures m c.self.inside.works.items (faces g d).under (case g d)
 
 pub close-requires-2-clause-closed : goal.close-requires-2-clause-closed
 close-requires-2-clause-closed g c =
     let d = (goal.at.close-requires-2-clause-closed g c).After-recorded in
-    let m = stepped c.turns_are_served.ensures c.recorded.ensures.safe.well_kept c.in_ok-take.ensures.takes c.in_ok-take.ensures.once c.take.ensures.stays.1 in
+    let m = stepped c.turns_are_served.ensures (well_kept_in _ c.recorded.ensures.safe) c.in_ok-take.ensures.takes c.in_ok-take.ensures.once c.take.ensures.stays.1 in
     (finished c.turns_are_served.ensures (rw c.if-waits.false at (case g d)) (faces g d) (sym c.if-waits.false ∙ waits g d) m).step_is
 
 pub returns-clause-ok : goal.returns-clause-ok

@@ -1,3 +1,4 @@
+use Rattle.snoop_model.proofs.Invariant.Safety.{well_kept_in}
 use Rattle.snoop_bench.specs.Works.{access_of}
 use Rattle.snoop_bench.proofs.Outcomes.{ends_with, closed_turn}
 use Rattle.snoop_bench.proofs.bench.Bench.kept.Goals as goal
@@ -14,6 +15,6 @@ returns-clause-kept c =
       serving = u.serving;
       closed = λ core work its isnt closed.
           ends_with s core work (c.turns_are_served.ensures.closed_is_last s core work.block work.word work.op (access_of work)
-          c.recorded.ensures.safe.well_kept (u.owed core work its isnt) (closed_turn s core work.block work.word work.op closed));
+          (well_kept_in _ c.recorded.ensures.safe) (u.owed core work its isnt) (closed_turn s core work.block work.word work.op closed));
       published = r.published;
     })
