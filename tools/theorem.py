@@ -88,10 +88,9 @@ operation that is not lost may wait for ever. But no machine gets stuck, out of 
 `moves` an open transaction can be answered, and once none is open the head of any queue can be
 ordered.
 
-What only the moves below say, and no clause: that a reply has the value that stands in the history
-(of a hit, `hit` of `Machine::step` says so too), what an eviction leaves, and which request an
-issue names. Who sends a message is part of a move; the target that a row names is not looked at:
-memory takes the message of every PutM, and that of another request where its state waits for one
+What only the moves below say, and no clause: what an eviction leaves, and which request an issue
+names. Who sends a message is part of a move; the target that a row names is not looked at: memory
+takes the message of every PutM, and that of another request where its state waits for one
 (`takes_payload`).
 
 That the code takes such steps and no others is proved of `Machine::step` and `run_steps`

@@ -1,10 +1,9 @@
 //! Which cores ask for which blocks.
-ghost use Rattle.std.specs.Prelude.{◌≡◌, ◌<◌, ◌||◌, ◌==◌, ◌++◌, ◌∷◌, [], ℕ, List, false, IfOk, OnOk, length};
+ghost use Rattle.std.specs.Prelude.{◌≡◌, ◌<◌, ◌||◌, ◌==◌, ◌++◌, ◌∷◌, [], ℕ, Bool, false, IfOk, OnOk, length};
 ghost use Rattle.std.specs.List.{filter, range_with_len};
 ghost use Rattle.snoop_trace.specs.Extent.{Extent};
-ghost use Rattle.snoop_trace.specs.declared.step.Step.{Step as Given};
 ghost use Rattle.snoop_states.specs.Asked.{AreMarks, HasMarks, mark_at, mark_of};
-ghost use Rattle.snoop_states.specs.Columns.{is_asker};
+ghost use Rattle.snoop_states.specs.Columns.{asks_for, is_asker};
 
 use snoop_trace::{NoMemory, Shape, Step};
 use std::alloc::Global;
@@ -68,7 +67,7 @@ fn no_marks(alloc: Global, shape: Shape) -> Result<Vec<Marks>, NoMemory>
 
 // Sets the mark of the core that asks in a step, if one does.
 fn mark(asked: &mut Vec<Marks>, step: Step)
-    ensures { (shape : Extent) (steps : List Given) → AreMarks shape (is_asker steps) asked.old.items → AreMarks shape (is_asker (steps ++ step ∷ [])) asked.new.items }
+    ensures { (shape : Extent) (test : ℕ → ℕ → Bool) → AreMarks shape test asked.old.items → AreMarks shape (λ block core. test block core || asks_for block core step) asked.new.items }
 {
     if let Step::Ask {
         core,

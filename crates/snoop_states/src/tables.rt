@@ -152,16 +152,7 @@ fn begin_tables(
 fn shown_block(choice: Choice, of: Option<u32>, number: u64) -> Option<u32>
     ensures { result ≡ shown_block choice of number }
 {
-    match of {
-        None => None,
-        Some(block) => {
-            if choice.has_block(block) && choice.has_number(number) {
-                Some(block)
-            } else {
-                None
-            }
-        }
-    }
+    of.filter(|block| choice.has_block(*block) && choice.has_number(number))
 }
 
 // Shows a step that is of this block, if of any.

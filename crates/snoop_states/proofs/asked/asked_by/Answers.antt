@@ -1,9 +1,15 @@
-use Rattle.std.proofs.Common.{take}
-use Rattle.std.proofs.lemmas.List.{take_more}
+use Rattle.std.proofs.Common.{ℕ, Bool, sym, subst, take}
+use Rattle.std.proofs.lemmas.List.Folds.{list_any_more}
 use Rattle.snoop_trace.specs.declared.step.Op.TheVariants.{Load}
 use Rattle.snoop_trace.specs.declared.step.Step.TheVariants.{Ask}
+use Rattle.snoop_states.specs.Asked.{AreMarks}
+use Rattle.snoop_states.specs.Columns.{asks_for, is_asker}
 use Rattle.snoop_states.proofs.asked.asked_by.Goals as goal
 
 pub loop-step-preserved : goal.loop-step-preserved
 loop-step-preserved c =
-    rw (take_more c.args.steps.now c.loop-step.step-index (Ask 0 0 0 Load) c.loop-step-test.true) (c.mark.ensures c.args.shape (take c.loop-step.step-index c.args.steps.now) c.loop-step.invariant)
+    let steps = c.args.steps.now in
+    let i = c.loop-step.step-index in
+    subst (λ (test : ℕ → ℕ → Bool). AreMarks c.args.shape test c.mark.new.asked.items)
+    (λ j block core. sym (list_any_more (asks_for block core) steps i (Ask 0 0 0 Load) c.loop-step-test.true) j)
+    (c.mark.ensures c.args.shape (is_asker (take i steps)) c.loop-step.invariant)
