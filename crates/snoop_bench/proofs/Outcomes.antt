@@ -1,6 +1,6 @@
 -- What a turn answers is the outcome of the work.
-use Rattle.std.proofs.Common.{◌≡◌, ◌≢◌, ℕ, ◌==◌, inr, Bool, true, false, List, Option, Some, None, nat_lt, refl, sym, ap, ◌∙◌}
-use Rattle.std.specs.Prelude.{if◌then◌else◌}
+use Rattle.std.proofs.Common.{◌≡◌, ◌≢◌, ℕ, ◌==◌, ◌++◌, Bool, true, false, List, [], ◌∷◌, Option, Some, None, nat_lt, refl, sym, ap, ◌∙◌}
+use Rattle.std.specs.Prelude.{if◌then◌else◌, Ok}
 use Rattle.std.proofs.lemmas.Bool.{lt-ltb, eq-eqb, eqb-true, ne_eqb, and_parts}
 use Rattle.snoop_trace.specs.declared.step.Op.{Op}
 use Rattle.snoop_trace.specs.declared.step.Op.TheVariants as op
@@ -37,7 +37,7 @@ use Rattle.snoop_bench.specs.Faults.{IsInside}
 use Rattle.snoop_bench.proofs.Cases.{IsCase}
 use Rattle.snoop_bench.proofs.Cases.IsCase.{ordering, helping, ending}
 use Rattle.snoop_bench.proofs.Waiting.{Stepped}
-use Rattle.snoop_bench.proofs.Turning.{Facing, ended, asks_its, same_op-is}
+use Rattle.snoop_bench.proofs.Turning.{Facing, ended, same_op-is}
 
 is_op : (did : Did) (load : Bool) → did.load ≡ load → IsOp (if load then op.Load else op.Store did.value) did
 is_op did true e = e
@@ -69,7 +69,7 @@ finishes rule {s} {works} {core} {work} f last is =
 
 -- the operation that a hit performs
 module _ (past log : List Item) (core block word : ℕ) where
-  hit_did : Op → ℕ → Did
+  abbrev hit_did : Op → ℕ → Did
   hit_did asking value = next_did past core block word asking value true
 
   told_load : (asking : Op) (value : ℕ) → IsReplyTo (Ask core block word asking) (reply.Hit value) → Tells past (Ask core block word asking) (Ok (reply.Hit value)) log
@@ -105,7 +105,7 @@ asked_so rule core work reply.Gone given p q u idle inside m fits told e w = (e,
 asked_so rule core work reply.Absent given p q u idle inside m fits told e w = (e, w)
 asked_so rule core work (reply.Hit value) given p q u idle inside m fits told e w =
     let does = told_load p.situation.log q.situation.log core work.block work.word work.op value fits told in
-    (e, (_, (hit_ends p.situation q.situation core work value does, refl)), w)
+    (e, (_, hit_ends p.situation q.situation core work value does, refl), w)
 asked_so rule core work reply.StoreHit given p q u idle inside m fits told e w =
     let does = told_store p.situation.log q.situation.log core work.block work.word work.op fits told in
     (e, (_, hit_ends p.situation q.situation core work does.0 does.1), w)
