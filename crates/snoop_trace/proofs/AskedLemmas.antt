@@ -1,5 +1,5 @@
 -- What the rows of a text ask for is what was read of it.
-use Rattle.std.proofs.Common.{◌≡◌, ◌/◌, ◌+◌, ℕ, List, [], ◌∷◌, map, inl, inr, refl, sym, ◌∙◌, subst}
+use Rattle.std.proofs.Common.{◌≡◌, ◌/◌, ◌+◌, ℕ, List, [], ◌∷◌, map, inl, inr, refl, rules, sym, ◌∙◌, subst}
 use Rattle.std.specs.Prelude.{All, Option, Some, None, Result, Ok, Err, IfOk, IfErr, IfSome, nat_lt}
 use Rattle.std.specs.Option.{ok_or}
 use Rattle.std.proofs.lemmas.Bool.{cases_Bool}
@@ -13,7 +13,7 @@ use Rattle.snoop_trace.specs.declared.fault.TextFault.{TextFault}
 use Rattle.snoop_trace.specs.declared.fault.TextFault.TheVariants.{BadKind, BadFields, BadNumber, NoCore, NoBlock, Read, NoMemory, OtherShape, BadVersion}
 use Rattle.snoop_trace.specs.declared.step.Asked.{Asked}
 use Rattle.snoop_trace.specs.declared.step.Row.{Row}
-use Rattle.snoop_trace.proofs.WithinLemmas.{core_of_asked, has_block, if_any, if_bind, said_row}
+use Rattle.snoop_trace.proofs.WithinLemmas.{block_there, core_of_row, if_bind, said_row}
 use Rattle.snoop_trace.proofs.WordPlaces.{asked_within as word_within}
 
 -- with a block, a row asks for it; without, both readings find the same fault
@@ -137,9 +137,7 @@ asked_refused shape (Some bytes) listed (Err fault) gives = known_fault shape by
 said_asked : (shape : Extent) (n : ℕ) (fs : List (List ℕ)) → IsWithinLimits shape → IfOk (asked_in shape n fs) (λ asked. IsStepWithin shape (step_of asked))
 unfolding asked_in
 said_asked shape n fs limits =
-    if_bind (ok_or (letter_of fs) (BadKind n)) _ _ _ (if_any (ok_or (letter_of fs) (BadKind n))) (λ letter yes.
-    if_bind (row_by_letter shape n letter fs) _ _ _ (core_of_asked shape n letter fs) (λ row has.
-    if_bind (block_in shape n row.address) _ _ _ (has_block shape n row.address) (λ block there. (has, there, word_within shape row.address row.op limits))))
+    search (rules, if_bind, core_of_row, block_there, word_within) depth 9
 
 pub asked_within : (shape : Extent) (asked : Asked) → IsWithinLimits shape → IsSaid (asked_in shape) asked → IsStepWithin shape (step_of asked)
 asked_within shape asked limits said =
