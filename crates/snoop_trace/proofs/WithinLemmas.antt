@@ -31,6 +31,9 @@ core_there shape n core c e = grind (arith, nat_tests)
 pub block_there : (shape : Extent) (n address block : ℕ) → block_in shape n address ≡ Ok block → block < shape.blocks
 block_there shape n address block e = grind (arith, nat_tests)
 
+pub block_is : (shape : Extent) (n address block : ℕ) → block_in shape n address ≡ Ok block → block ≡ address / shape.block_bytes
+block_is shape n address block e = grind (arith, nat_tests)
+
 address_there : (shape : Extent) (n address block : ℕ) → block_in shape n address ≡ Ok block → address / shape.block_bytes < shape.blocks
 address_there shape n address block e = grind (arith, nat_tests)
 
@@ -44,7 +47,7 @@ core_of_row shape n letter fs row e = IfOk-at_ok (λ (row : Row). row.core < sha
 
 pub said_row : (shape : Extent) (n : ℕ) (fs : List (List ℕ)) → IfOk (row_in shape n fs) (IsRowWithin shape)
 unfolding row_in
-said_row shape n fs = search (rules, if_bind, if_if, core_of_row, address_there) depth 9
+said_row shape n fs = search (rules, if_bind, core_of_row, address_there) depth 9
 
 pub rows_within : {X : Type 0} (shape : Extent) (items : X → List Row) (r : Result X TextFault) → IfOk r (λ x. All (IsSaid (row_in shape)) (items x)) → IfOk r (λ x. All (IsRowWithin shape) (items x))
 rows_within shape items r said =
