@@ -36,7 +36,7 @@ use Rattle.snoop_trace.specs.Records.{record_writer}
 use Rattle.snoop_trace.specs.declared.step.Op.TheVariants.{Load, Store, Evict}
 use Rattle.snoop_trace.specs.declared.step.Step.{Step}
 use Rattle.snoop_trace.specs.declared.step.Step.TheVariants.{Ask, Order, Respond}
-use Rattle.snoop_trace.proofs.CsvLemmas.{reached-shorter, records-ended, records-reached, records_second}
+use Rattle.snoop_trace.proofs.CsvLemmas.{reached-shorter, records-ended, records-reached, records_step}
 use Rattle.snoop_trace.proofs.PowerLemmas.{power_some}
 use Rattle.snoop_trace.proofs.WordPlaces.{address_back, address_before}
 
@@ -348,7 +348,7 @@ heading_and_more : (protocol : Protocol) (shape : Extent) (steps : List Step) �
     → records_of (text_of protocol shape steps) ≡ heading_row (heading_for protocol shape) ∷ records_left st.StartRecord (steps_text shape steps)
 heading_and_more protocol shape steps limits =
     ap (records default_config) (no_mark protocol shape steps)
-    ∙ records_second default_config (text_of protocol shape steps) (heading_row (heading_for protocol shape)) st.StartRecord (steps_text shape steps) (heading_first protocol shape steps limits)
+    ∙ records_step default_config st.StartRecord (text_of protocol shape steps) (heading_row (heading_for protocol shape), st.StartRecord, steps_text shape steps) (heading_first protocol shape steps limits)
 
 -- steps within the shape are read from their text
 pub all_read_again : (protocol : Protocol) (shape : Extent) (steps : List Step) → IsWithinLimits shape → All (IsReadableStep shape) steps
