@@ -1,5 +1,5 @@
 -- How the records of a text follow one another.
-use Rattle.std.proofs.Common.{◌≡◌, ◌≤◌, ◌<◌, ℕ, ◌+◌, List, [], ◌∷◌, ◌++◌, length, Option, Some, None, true, false, refl, sym, ◌∙◌, arith, ap, inl, inr, add-one}
+use Rattle.std.proofs.Common.{◌≡◌, ◌≤◌, ◌<◌, ℕ, ◌+◌, List, [], ◌∷◌, ◌++◌, length, Option, Some, None, true, false, refl, sym, ◌∙◌, arith, ap, inl, inr, add-one, rules}
 use Rattle.std.specs.Prelude.{zero, suc, Bool, if◌then◌else◌, ◌==◌, ◌&&◌}
 use Rattle.std.proofs.lemmas.Bool.{cases_Bool, false≢true}
 use Rattle.csv.specs.Machine.{Read, next_record, step, is_end, ends_at_end, fields_after, field_after, after_end, in_field, start_field, start_record, ends_with, is_byte, line_feed, carriage_return}
@@ -28,46 +28,23 @@ records-ended cfg zero s xs h = refl
 records-ended cfg (suc m) s xs h = rw h refl
 
 -- where a byte ends a record, none is begun
-abbrev Fresh : State × Action → Type 0
-Fresh p = is_end p.1 ≡ true → ends_at_end p.0 ≡ false
+record Fresh (p : State × Action) : Type 0 where
+  pub none : is_end p.1 ≡ true → ends_at_end p.0 ≡ false
 
 fresh-if : (b : Bool) (x y : State × Action) → Fresh x → Fresh y → Fresh (if b then x else y)
 fresh-if true x y p q = p
 fresh-if false x y p q = q
 
-fresh-end : (t : Terminator) (c : ℕ) → ends_at_end (after_end t c) ≡ false
-fresh-end term.CRLF c = elim (cases_Bool (c == carriage_return)) [ inl e ↦ rw e refl | inr e ↦ rw e refl ]
-fresh-end (term.Any t) c = refl
+fresh-on : (s : State) (a : Action) → is_end a ≡ false → Fresh (s, a)
+fresh-on s a on = record { none = λ end. absurd (false≢true (sym on ∙ end)) }
 
-fresh-in : (cfg : Config) (c : ℕ) → Fresh (in_field cfg c)
-fresh-in cfg c = fresh-if (c == cfg.delimiter) _ _ (λ e. absurd (false≢true e)) (fresh-if (ends_with cfg.terminator c) _ _ (λ e. fresh-end cfg.terminator c) (λ e. absurd (false≢true e)))
-
-fresh-field : (cfg : Config) (c : ℕ) → Fresh (start_field cfg c)
-fresh-field cfg c = fresh-if (cfg.quoting && (c == cfg.quote)) _ _ (λ e. absurd (false≢true e)) (fresh-in cfg c)
-
-fresh-record : (cfg : Config) (c : ℕ) → Fresh (start_record cfg c)
-fresh-record cfg c = fresh-if (ends_with cfg.terminator c) _ _ (λ e. absurd (false≢true e)) (fresh-if (is_byte cfg.comment c) _ _ (λ e. absurd (false≢true e)) (fresh-field cfg c))
-
-fresh-copy : (s : State) → Fresh (s, act.Copy)
-fresh-copy s e = absurd (false≢true e)
-
-fresh-skip : (s : State) → Fresh (s, act.Skip)
-fresh-skip s e = absurd (false≢true e)
+fresh-end : (t : Terminator) (c : ℕ) → Fresh (after_end t c, act.EndRecord)
+fresh-end term.CRLF c = elim (cases_Bool (c == carriage_return)) [ inl e ↦ rw e (record { none = λ _. refl }) | inr e ↦ rw e (record { none = λ _. refl }) ]
+fresh-end (term.Any t) c = record { none = λ _. refl }
 
 fresh-step : (cfg : Config) (s : State) (c : ℕ) → Fresh (step cfg s c)
-fresh-step cfg st.StartRecord c = fresh-record cfg c
-fresh-step cfg st.StartField c = fresh-field cfg c
-fresh-step cfg st.InField c = fresh-in cfg c
-fresh-step cfg st.InQuoted c =
-    fresh-if (cfg.quoting && (c == cfg.quote)) (st.AfterQuote, act.Skip) (if cfg.quoting && is_byte cfg.escape c then (st.InEscape, act.Skip) else (st.InQuoted, act.Copy))
-    (fresh-skip st.AfterQuote)
-    (fresh-if (cfg.quoting && is_byte cfg.escape c) (st.InEscape, act.Skip) (st.InQuoted, act.Copy) (fresh-skip st.InEscape) (fresh-copy st.InQuoted))
-fresh-step cfg st.InEscape c = fresh-copy st.InQuoted
-fresh-step cfg st.AfterQuote c =
-    fresh-if (cfg.quoting && cfg.double_quote && (c == cfg.quote)) (st.InQuoted, act.Copy) (in_field cfg c) (fresh-copy st.InQuoted) (fresh-in cfg c)
-fresh-step cfg st.InComment c =
-    fresh-if (c == line_feed) (st.StartRecord, act.Skip) (st.InComment, act.Skip) (fresh-skip st.StartRecord) (fresh-skip st.InComment)
-fresh-step cfg st.AfterCr c = fresh-if (c == line_feed) (st.StartRecord, act.Skip) (start_record cfg c) (fresh-skip st.StartRecord) (fresh-record cfg c)
+fresh-step cfg st.InEscape c = fresh-on st.InQuoted act.Copy refl
+fresh-step cfg s c = search (rules, fresh-if, fresh-on, fresh-end) depth 8
 
 -- what a read leaves: fewer bytes where it began at no record, and no record begun
 pub record Shorter (s : State) (xs : List ℕ) (p : Read) : Type 0 where
@@ -92,7 +69,7 @@ record-shorter cfg s fields field (c ∷ xs) p h =
       | inl e ↦
           let found = rw e at h in
           let is : p ≡ (fields_after (step cfg s c).1 fields field, (step cfg s c).0, xs) = cc in
-          rw is (record { less = λ n. omega arith; some = λ n. omega arith; most = omega arith; fresh = fresh-step cfg s c e })
+          rw is (record { less = λ n. omega arith; some = λ n. omega arith; most = omega arith; fresh = (fresh-step cfg s c).none e })
       | inr e ↦
           let found = rw e at h in
           let rest = record-shorter cfg (step cfg s c).0 (fields_after (step cfg s c).1 fields field) (field_after (step cfg s c).1 c field) xs p found in
