@@ -12,7 +12,3 @@ overflow_add-value c =
     let digit : c.in_ok-digit.digit < 10 = search rules in
     let small = few_digits c.loop-byte.value c.loop-byte.byte-index c.loop-byte.invariant.1 (omega (arith, c.requires)) in
     omega (arith, small, digit)
-
-pub returns : goal.returns
-returns c =
-    sym (c.loop-byte.invariant.0 ∙ numeral-end 10 c.loop-byte.value c.loop-byte.byte-index c.args.digits.now (omega arith) (omega arith))

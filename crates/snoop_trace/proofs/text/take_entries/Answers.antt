@@ -7,15 +7,6 @@ use Rattle.snoop_trace.specs.Progress.{IsSaid}
 use Rattle.snoop_trace.proofs.TextLemmas.{done, faulty, further, if_some}
 use Rattle.snoop_trace.proofs.text.take_entries.Goals as goal
 
-pub loop-i-init : goal.loop-i-init
-loop-i-init g c = (
-  c.requires.plain,
-  if_some (source_of g.R.Read.remaining c.args.text.now) _ (λ xs at. record { rest = xs; known = at; same = refl }),
-  c.requires.said,
-  inl refl,
-  refl,
-)
-
 pub returns-in-Ok-None-clause-read : goal.returns-in-Ok-None-clause-read
 returns-in-Ok-None-clause-read g c =
     let takes = rw (c.in-Ok-None.is, c.in-Ok-None.field-0-is) at c.next_entry.ensures.takes in
