@@ -45,7 +45,7 @@ use Rattle.snoop_trace.proofs.WordPlaces.{address_back, address_before}
 digit_plain : (c : ℕ) → digit_value c < 10 → needs_byte default_writer c ≡ false
 digit_plain c h = let r = digit_from_value c h in grind (arith, nat_tests)
 
-pub digits_plain : (ds : List ℕ) → AllDigits 10 ds → list_any (needs_byte default_writer) ds ≡ false
+digits_plain : (ds : List ℕ) → AllDigits 10 ds → list_any (needs_byte default_writer) ds ≡ false
 digits_plain [] h = refl
 digits_plain (c ∷ ds) h = rw (digit_plain c h.0, digits_plain ds h.1) refl
 
@@ -66,7 +66,7 @@ numeral_digits : (ds : List ℕ) (n : ℕ) → 0 < length ds → AllDigits 10 ds
 numeral_digits [] n some h v small = absurd (omega arith)
 numeral_digits (d ∷ ds) n some h v small = rw (digits_all (d ∷ ds) h, v, lt-ltb n (2 ^ 64) small) refl
 
-pub number_decimal : (n : ℕ) → n < 2 ^ 64 → number (decimal n) ≡ Some n
+number_decimal : (n : ℕ) → n < 2 ^ 64 → number (decimal n) ≡ Some n
 unfolding number
 number_decimal n h =
     let (digits, value) = decimal_is_IsNumeral n h in

@@ -77,7 +77,7 @@ record-shorter cfg s fields field (c ∷ xs) p h =
     ]
 
 -- so a text has no more records than bytes
-pub reached-shorter : (cfg : Config) (s : State) (xs : List ℕ) (rows : List (List (List ℕ))) (s2 : State) (ys : List ℕ)
+reached-shorter : (cfg : Config) (s : State) (xs : List ℕ) (rows : List (List (List ℕ))) (s2 : State) (ys : List ℕ)
     → ends_at_end s ≡ false → Reached cfg s xs rows s2 ys → length rows + length ys ≤ length xs
 unfolding Reached
 reached-shorter cfg s xs [] s2 ys e h = omega (arith, ap length h.1)
@@ -104,7 +104,7 @@ same_next f g None h = refl
 same_next f g (Some p) h = ap (λ (rest : List (List (List ℕ))). p.0 ∷ rest) (h p refl)
 
 -- where no record is begun, a bound above the bytes that are left gives the same records as any other
-pub records-same : (cfg : Config) (m n : ℕ) (s : State) (xs : List ℕ) → ends_at_end s ≡ false → length xs < m → length xs < n
+records-same : (cfg : Config) (m n : ℕ) (s : State) (xs : List ℕ) → ends_at_end s ≡ false → length xs < m → length xs < n
     → records_from cfg m s xs ≡ records_from cfg n s xs
 unfolding records_from
 records-same cfg zero n s xs fresh h k = absurd (omega arith)

@@ -21,7 +21,7 @@ pub batch_stop : (a b : Option (List ℕ)) (shape : Extent) (steps : List Step) 
 batch_stop a b shape steps i far = record { front = steps_text shape (take i steps); rest = steps_text shape (drop i steps); whole = lines_split shape steps i; appends = far }
 
 -- a batch of steps more
-pub batch_lines : (shape : Extent) (steps : List Step) (i j : ℕ) → i ≤ j → steps_text shape (take j steps) ≡ steps_text shape (take i steps) ++ steps_text shape (slice_range steps i j)
+batch_lines : (shape : Extent) (steps : List Step) (i j : ℕ) → i ≤ j → steps_text shape (take j steps) ≡ steps_text shape (take i steps) ++ steps_text shape (slice_range steps i j)
 batch_lines shape steps i j le =
     let sum : i + (j - i) ≡ j = omega (arith, le) in
     let split : take j steps ≡ take i steps ++ slice_range steps i j = rw sum at (take-add {A = Step} i (j - i) steps) in

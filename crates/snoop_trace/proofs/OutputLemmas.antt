@@ -3,7 +3,7 @@ use Rattle.std.proofs.Common.{◌≡◌, ℕ, ◌+◌, List, [], ◌∷◌, ◌+
 use Rattle.std.specs.Prelude.{◌-◌, zero, suc}
 use Rattle.std.specs.Io.KnownBytes.{Appends, Keeps}
 use Rattle.std.proofs.Math.Seq.{take-add}
-use Rattle.csv.proofs.WriteFacts.{appends-more, appends-none}
+use Rattle.csv.proofs.WriteFacts.{appends-more, appends-none, slice-end}
 use Rattle.std.proofs.lemmas.List.{length-drop, take-append-drop, take_all}
 use Rattle.std.specs.Prelude.{codes, Result, Ok, Err, OnErr}
 use Rattle.snoop_trace.specs.Extent.{Extent}
@@ -25,8 +25,7 @@ appends_same (Some xs) (Some ys) None x p q = absurd q
 pub took_more : (a b c : Option (List ℕ)) (text : List ℕ) (at n : ℕ) → Appends a b (take at text) → Appends b c (take n (take (length text - at) (drop at text)))
     → Appends a c (take (at + n) text)
 took_more a b c text at n p q =
-    let all = take_all (length text - at) (drop at text) (omega (arith, length-drop at text)) in
-    rw (take-add at n text) (appends_more a b c (take at text) (take n (drop at text)) p (rw all at q))
+    rw (take-add at n text) (appends_more a b c (take at text) (take n (drop at text)) p (rw (slice-end text at) at q))
 
 -- none was taken
 pub stopped : (a b c : Option (List ℕ)) (text : List ℕ) (at : ℕ) → Appends a b (take at text) → Keeps b c → AppendsFront a c text
@@ -52,8 +51,3 @@ front_cut a b x y f = record { front = f.front; rest = f.rest ++ y; whole = cc (
 pub front_after : (a b c : Option (List ℕ)) (x y : List ℕ) → Appends a b x → AppendsFront b c y → AppendsFront a c (x ++ y)
 front_after a b c x y p f =
     record { front = x ++ f.front; rest = f.rest; whole = cc (append_assoc x f.front f.rest); appends = appends_more a b c x f.front p f.appends }
-
--- a text of version 2: the line of its heading, and then those of its steps
-pub text_parts : (protocol : Protocol) (shape : Extent) (steps : List Step)
-    → text_of protocol shape steps ≡ (heading_text (heading_for protocol shape) ++ codes "\n") ++ steps_text shape steps
-text_parts protocol shape steps = simp append_assoc refl

@@ -25,17 +25,9 @@ names_if false r q p p2 = p2
 
 ruleset names = (names_bind, names_or, names_if)
 
-names_without_value : (shape : Extent) (n : ℕ) (op : Op) (fs : List (List ℕ)) → IfErr (without_value shape n op fs) NamesRecord
-unfolding without_value
-names_without_value shape n op fs = search names depth 12
-
-names_store : (shape : Extent) (n : ℕ) (fs : List (List ℕ)) → IfErr (store shape n fs) NamesRecord
-unfolding store
-names_store shape n fs = search names depth 12
-
 pub names_asked : (shape : Extent) (n letter : ℕ) (fs : List (List ℕ)) → IfErr (row_by_letter shape n letter fs) NamesRecord
-unfolding row_by_letter
-names_asked shape n letter fs = search (names, names_without_value, names_store)
+unfolding row_by_letter without_value store
+names_asked shape n letter fs = search names depth 16
 
 pub names_ask : (shape : Extent) (n letter : ℕ) (fs : List (List ℕ)) → IfErr (ask shape n letter fs) NamesRecord
 unfolding ask
@@ -48,10 +40,6 @@ names_order shape n fs = search names depth 12
 pub names_respond : (shape : Extent) (n : ℕ) (fs : List (List ℕ)) → IfErr (respond shape n fs) NamesRecord
 unfolding respond
 names_respond shape n fs = search names depth 12
-
--- what is answered as the grammar says names a record where the grammar's fault does
-pub names_as : {A : Type 0} (r said : Result A TextFault) → r ≡ said → IfErr said NamesRecord → IfErr r NamesRecord
-names_as r said e h = rw e h
 
 names_heading : (n : ℕ) (fs : List (List ℕ)) → IfErr (heading_in n fs) NamesRecord
 unfolding heading_in version_in

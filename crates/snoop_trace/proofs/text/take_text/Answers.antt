@@ -15,13 +15,13 @@ returns-in_default-clause-read g c =
 
 pub returns-then-not-branch-clause-read : goal.returns-then-not-branch-clause-read
 returns-then-not-branch-clause-read g c =
-    none_read g.R.Read.remaining c.args.text.now c.next_record.new.text (fields_of c.next_record.new.fields) (g.E.Entry.says c.args.shape) c.in-Some.heading c.args.heading
+    none_read g.R.Read.remaining c.args.text.now c.next_record.new.text (fields_of c.next_record.new.fields) (g.E.Entry.says c.args.shape) _ _
     c.in-Some.is c.requires.plain.config c.requires.begins _ (rw c.if-not-branch.true at c.in_ok-next_record.ensures.reads) c.requires.empty
 
 pub returns-in_err-read-clause-read : goal.returns-in_err-read-clause-read
 returns-in_err-read-clause-read g c =
     let p = err_from_is_err_and c.from_residual-in_err-read.result c.from_residual-in_err-read.ensures.1 in
-    first_refused g.R.Read.remaining c.args.text.now c.next_record.new.text (fields_of c.next_record.new.fields) (g.E.Entry.says c.args.shape) c.in-Some.heading c.args.heading
+    first_refused g.R.Read.remaining c.args.text.now c.next_record.new.text (fields_of c.next_record.new.fields) (g.E.Entry.says c.args.shape) _ _
     c.in-Some.is c.requires.plain.config c.requires.begins _ _ (rw c.if-not-branch.false at c.in_ok-next_record.ensures.reads) c.in_err-read.field-0.0 (rw p.2 at p.1)
     (rw (sym c.is_begun.ensures ∙ c.if-is_begun.true, sym c.read.ensures ∙ c.in_err-read.was) refl)
 
@@ -34,13 +34,13 @@ returns-in_err-read-clause-not_read g c =
 pub returns-in_err-from_record-clause-read : goal.returns-in_err-from_record-clause-read
 returns-in_err-from_record-clause-read g c =
     let p = err_from_is_err_and c.from_residual-in_err-from_record.result c.from_residual-in_err-from_record.ensures.1 in
-    first_refused g.R.Read.remaining c.args.text.now c.next_record.new.text (fields_of c.next_record.new.fields) (g.E.Entry.says c.args.shape) c.in-Some.heading c.args.heading
+    first_refused g.R.Read.remaining c.args.text.now c.next_record.new.text (fields_of c.next_record.new.fields) (g.E.Entry.says c.args.shape) _ _
     c.in-Some.is c.requires.plain.config c.requires.begins _ _ (rw c.if-not-branch.false at c.in_ok-next_record.ensures.reads) c.in_err-from_record.field-0.0 (rw p.2 at p.1)
     (rw (sym c.is_begun.ensures ∙ c.if-is_begun.false, sym c.from_record.ensures.entry ∙ c.in_err-from_record.was) refl)
 
 pub returns-clause-read : goal.returns-clause-read
 returns-clause-read g c =
-    first_taken g.R.Read.remaining c.args.text.now c.next_record.new.text (fields_of c.next_record.new.fields) (g.E.Entry.says c.args.shape) c.in-Some.heading c.args.heading
+    first_taken g.R.Read.remaining c.args.text.now c.next_record.new.text (fields_of c.next_record.new.fields) (g.E.Entry.says c.args.shape) _ _
     c.in-Some.is c.requires.plain.config c.requires.begins _ _ (rw c.if-not-branch.false at c.in_ok-next_record.ensures.reads) (g.C.Entries.listed c.if-is_begun.entries)
     (elim c.if-is_begun.branch [
       | then-is_begun+in_ok-read w ↦
