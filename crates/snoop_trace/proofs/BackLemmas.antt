@@ -1,6 +1,6 @@
 -- What is written is read again.
-use Rattle.std.proofs.Common.{◌≡◌, ◌≤◌, ◌<◌, ℕ, ◌+◌, ◌*◌, ◌^◌, List, [], ◌∷◌, ◌++◌, length, Some, None, true, false, refl, ◌∙◌, ap, arith, append_assoc, subst}
-use Rattle.std.specs.Prelude.{◌&&◌, ◌==◌, nat_lt, nat_eq, codes, Ok, Err, ◌/◌}
+use Rattle.std.proofs.Common.{◌≡◌, ◌≤◌, ◌<◌, ℕ, ◌+◌, ◌*◌, ◌^◌, List, [], ◌∷◌, ◌++◌, length, Some, true, false, refl, ◌∙◌, ap, arith, append_assoc, subst}
+use Rattle.std.specs.Prelude.{◌&&◌, nat_eq, codes, Ok, Err}
 use Rattle.std.specs.Char.{digit_value, is_digit}
 use Rattle.std.specs.Fmt.{decimal}
 use Rattle.std.specs.List.{All, AllByRecursion, list_all, list_any, starts_with}
@@ -8,20 +8,20 @@ use Rattle.std.specs.Str.Parse.{AllDigits, digits_value}
 use Rattle.std.proofs.lemmas.Fmt.{decimal_is_IsNumeral}
 use Rattle.std.proofs.lemmas.Str.Parse.{digit_from_value}
 use Rattle.std.proofs.lemmas.Bool.Decides.{nat_tests}
-use Rattle.std.proofs.lemmas.Bool.{and_parts, eq-eqb, eqb-true, false_from_ne_true, false≢true, lt-ltb, ne_eqb}
+use Rattle.std.proofs.lemmas.Bool.{and_parts, eq-eqb, eqb-true, false_from_ne_true, lt-ltb, ne_eqb}
 use Rattle.csv.specs.Writing.{default_writer, escaped, needs_byte, row_text, fields_text}
 use Rattle.csv.specs.Machine.{Read, next_record}
 use Rattle.csv.specs.Reading.{default_config}
 use Rattle.csv.specs.declared.parser.State.TheVariants as st
 use Rattle.csv.proofs.RoundTrip.{read-write}
-use Rattle.std.specs.Prelude.{map, ◌-◌}
+use Rattle.std.specs.Prelude.{map}
 use Rattle.std.proofs.lemmas.Bool.{and_left, and_right}
 use Rattle.std.proofs.Math.Nat.{mul-div_cancel}
 use Rattle.std.proofs.lemmas.List.{append-nil}
 use Rattle.std.proofs.lemmas.List.Elements.{recursion_from_All}
 use Rattle.std.proofs.lemmas.Nat.{mul-le}
 use Rattle.csv.specs.Writing.{is_blank, read_back}
-use Rattle.csv.specs.Reading.{Reached, records, strip_bom}
+use Rattle.csv.specs.Reading.{strip_bom}
 use Rattle.snoop_trace.specs.Grammar.{ask, row_by_letter, block_in, number, numeral, order, respond, step_in, store, without_value}
 use Rattle.snoop_trace.specs.Heading.{heading_as, heading_for, heading_in, heading_text, protocol_named, same_heading, same_protocol, version_in}
 use Rattle.snoop_trace.specs.Output.{IsReadableStep, address_of, step_text, steps_text, text_of, word_address}

@@ -1,8 +1,8 @@
 -- How the records of a text follow one another.
 use Rattle.std.proofs.Common.{◌≡◌, ◌≤◌, ◌<◌, ℕ, ◌+◌, List, [], ◌∷◌, ◌++◌, length, Option, Some, None, true, false, refl, sym, ◌∙◌, arith, ap, inl, inr, add-one, rules}
-use Rattle.std.specs.Prelude.{zero, suc, Bool, if◌then◌else◌, ◌==◌, ◌&&◌}
+use Rattle.std.specs.Prelude.{zero, suc, Bool, if◌then◌else◌, ◌==◌}
 use Rattle.std.proofs.lemmas.Bool.{cases_Bool, false≢true}
-use Rattle.csv.specs.Machine.{Read, next_record, step, is_end, ends_at_end, fields_after, field_after, after_end, in_field, start_field, start_record, ends_with, is_byte, line_feed, carriage_return}
+use Rattle.csv.specs.Machine.{Read, next_record, step, is_end, ends_at_end, fields_after, field_after, after_end, carriage_return}
 use Rattle.csv.specs.Reading.{Reached, records_from, records_next}
 use Rattle.csv.specs.declared.parser.Action.{Action}
 use Rattle.csv.specs.declared.parser.Action.TheVariants as act

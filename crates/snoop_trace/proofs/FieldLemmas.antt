@@ -1,6 +1,5 @@
 -- The fields of a record, by their number.
-use Rattle.std.proofs.Common.{◌≡◌, ◌<◌, ℕ, List, [], ◌∷◌, length, get_or, Some, None, ap, arith, refl}
-use Rattle.std.specs.Prelude.{zero, suc}
+use Rattle.std.proofs.Common.{◌≡◌, ℕ, List, [], ◌∷◌, length, get_or, Some, None, ap, arith, refl}
 use Rattle.csv.specs.Records.{field_at}
 pub use Rattle.csv.proofs.RecordFacts.{field-there as field_there}
 use Rattle.snoop_trace.specs.Grammar.{letter_of, one_of, three_of, two_of}

@@ -1,13 +1,13 @@
 -- The lines of steps: those that were written, and those to come.
-use Rattle.std.proofs.Common.{◌≡◌, ◌≤◌, ℕ, ◌+◌, List, [], ◌∷◌, ◌++◌, take, drop, Option, refl, sym, ap, arith, ◌∙◌, append_assoc}
-use Rattle.std.specs.Prelude.{◌-◌, codes}
+use Rattle.std.proofs.Common.{◌≡◌, ◌≤◌, ℕ, ◌+◌, List, ◌++◌, take, drop, Option, sym, ap, arith, ◌∙◌}
+use Rattle.std.specs.Prelude.{◌-◌}
 use Rattle.std.specs.Io.KnownBytes.{Appends}
 use Rattle.std.specs.List.{slice_range}
 use Rattle.std.proofs.Math.Seq.{take-add}
 use Rattle.std.proofs.lemmas.List.{take-append-drop}
 use Rattle.std.proofs.lemmas.List.Concat.{flat_map-append}
 use Rattle.snoop_trace.specs.Extent.{Extent}
-use Rattle.snoop_trace.specs.Output.{AppendsFront, step_text, steps_text}
+use Rattle.snoop_trace.specs.Output.{AppendsFront, steps_text}
 use Rattle.snoop_trace.specs.declared.step.Step.{Step}
 use Rattle.snoop_trace.proofs.OutputLemmas.{appends_more, front_after, front_cut}
 

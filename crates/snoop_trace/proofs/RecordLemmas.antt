@@ -1,14 +1,11 @@
 -- What is refused in a record names that record.
-use Rattle.std.specs.Prelude.{◌≡◌, Result, Ok, Err, IfErr, Bool, true, false, ℕ, List, Option, Some, None, if◌then◌else◌, ◌==◌, nat_lt}
+use Rattle.std.specs.Prelude.{Result, Ok, Err, IfErr, Bool, true, false, ℕ, List, Option, Some, None, if◌then◌else◌}
 use Rattle.std.specs.Option.{ok_or}
 use Rattle.snoop_trace.specs.Extent.{Extent}
-use Rattle.snoop_trace.specs.Grammar.{◌>>=◌, NamesRecord, ask, row_by_letter, block_at, block_in, core_in, number, number_in, one_of, order, respond, store, three_of, two_of, without_value}
-use Rattle.snoop_trace.specs.Heading.{five_of, heading_as, heading_in, protocol_in, protocol_named, same_heading, version_in, version_field}
+use Rattle.snoop_trace.specs.Grammar.{◌>>=◌, NamesRecord, ask, row_by_letter, order, respond, store, without_value}
+use Rattle.snoop_trace.specs.Heading.{heading_as, heading_in, version_in}
 use Rattle.snoop_trace.specs.declared.heading.Heading.{Heading}
-use Rattle.snoop_trace.specs.declared.step.Op.{Op}
-use Rattle.snoop_trace.specs.declared.step.Op.TheVariants.{Load, Evict}
 use Rattle.snoop_trace.specs.declared.fault.TextFault.{TextFault}
-use Rattle.snoop_trace.specs.declared.fault.TextFault.TheVariants.{BadKind, BadFields, BadNumber, BadVersion, NoCore, NoBlock, OtherShape}
 
 -- a reading whose faults name a record
 names_bind : {A B : Type 0} (r : Result A TextFault) (f : A → Result B TextFault) → IfErr r NamesRecord → ((x : A) → IfErr (f x) NamesRecord) → IfErr (r >>= f) NamesRecord

@@ -4,7 +4,7 @@ use Rattle.std.specs.Prelude.{Bool, Result, Ok, Err, IfErr, IfSome, if◌then◌
 use Rattle.std.proofs.lemmas.List.{append-nil}
 use Rattle.std.proofs.lemmas.Result.{IfErr-at_err}
 use Rattle.csv.specs.Machine.{next_record}
-use Rattle.csv.specs.Reading.{Reached, ReadRecord, default_config, reader_config, reader_state, records, records_from, source_of}
+use Rattle.csv.specs.Reading.{Reached, ReadRecord, default_config, reader_config, reader_state, records, source_of}
 use Rattle.csv.specs.declared.parser.State.{State}
 use Rattle.csv.specs.declared.parser.State.TheVariants as st
 use Rattle.csv.specs.declared.reader.Reader.{Reader}

@@ -1,18 +1,14 @@
 -- What a record says as a row or as a step is within the shape.
-use Rattle.std.proofs.Common.{◌≡◌, ◌<◌, ◌/◌, ℕ, List, true, false, inl, inr, refl, arith, rules}
-use Rattle.std.specs.Prelude.{All, Bool, Result, Ok, Err, IfOk, ⊤, ◌==◌, nat_lt, if◌then◌else◌}
-use Rattle.std.specs.Option.{ok_or}
+use Rattle.std.proofs.Common.{◌≡◌, ◌<◌, ◌/◌, ℕ, List, true, false, refl, arith, rules}
+use Rattle.std.specs.Prelude.{All, Bool, Result, Ok, Err, IfOk, if◌then◌else◌}
 use Rattle.std.proofs.lemmas.Bool.Decides.{nat_tests}
 use Rattle.std.proofs.lemmas.Result.{IfOk-at_ok, IfOk-weaker}
 use Rattle.std.proofs.lemmas.List.Elements.{All-weaker}
 use Rattle.snoop_trace.specs.Extent.{Extent, IsWithinLimits}
 use Rattle.snoop_trace.proofs.WordPlaces.{asked_within}
-use Rattle.snoop_trace.specs.Grammar.{◌>>=◌, IsRowWithin, IsStepWithin, ask, row_by_letter, block_in, core_in, letter_of, number_in, one_of, order, respond, row_in, step_in, store, three_of, two_of, without_value}
+use Rattle.snoop_trace.specs.Grammar.{◌>>=◌, IsRowWithin, IsStepWithin, ask, row_by_letter, block_in, core_in, order, respond, row_in, step_in, store, without_value}
 use Rattle.snoop_trace.specs.Progress.{IsSaid}
 use Rattle.snoop_trace.specs.declared.fault.TextFault.{TextFault}
-use Rattle.snoop_trace.specs.declared.fault.TextFault.TheVariants.{BadKind, BadFields}
-use Rattle.snoop_trace.specs.declared.step.Op.{Op}
-use Rattle.snoop_trace.specs.declared.step.Op.TheVariants.{Load, Evict}
 use Rattle.snoop_trace.specs.declared.step.Row.{Row}
 use Rattle.snoop_trace.specs.declared.step.Step.{Step}
 

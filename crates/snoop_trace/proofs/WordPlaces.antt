@@ -7,10 +7,10 @@ use Rattle.std.proofs.lemmas.Bool.{cases_lt}
 use Rattle.std.proofs.lemmas.Nat.{pow_pos, pow-add, div-mul-add}
 use Rattle.snoop_trace.specs.Extent.{Extent, IsWithinLimits}
 use Rattle.snoop_trace.specs.declared.step.Op.{Op}
-use Rattle.snoop_trace.specs.declared.step.Op.TheVariants.{Evict, Load}
+use Rattle.snoop_trace.specs.declared.step.Op.TheVariants.{Evict}
 use Rattle.snoop_trace.specs.Grammar.{word_asked, word_in_block}
 use Rattle.snoop_trace.specs.Output.{word_address}
-use Rattle.snoop_trace.specs.Words.{HasWord, word_places}
+use Rattle.snoop_trace.specs.Words.{HasWord}
 use Rattle.snoop_trace.proofs.PowerLemmas.{power_some}
 
 -- a power of two goes into a greater one

@@ -1,5 +1,5 @@
-use Rattle.std.proofs.Common.{◌<◌, arith, sym, ◌∙◌, rules}
-use Rattle.snoop_trace.proofs.NumeralLemmas.{few_digits, numeral-end}
+use Rattle.std.proofs.Common.{◌<◌, arith, rules}
+use Rattle.snoop_trace.proofs.NumeralLemmas.{few_digits}
 use Rattle.snoop_trace.proofs.record.decimal.Goals as goal
 
 pub overflow_mul-value : goal.overflow_mul-value

@@ -1,10 +1,10 @@
-use Rattle.std.proofs.Common.{◌≡◌, ◌+◌, ◌∷◌, ◌++◌, [], length, inl, inr, refl, arith}
+use Rattle.std.proofs.Common.{◌≡◌, ◌+◌, ◌∷◌, ◌++◌, [], length, inr, refl, arith}
 use Rattle.csv.specs.Reading.{reader_state, source_of}
 use Rattle.std.proofs.lemmas.List.{length-append}
 use Rattle.std.proofs.lemmas.List.Elements.{All-push}
 use Rattle.std.proofs.lemmas.Option.{IfSome_then}
 use Rattle.snoop_trace.specs.Progress.{IsSaid}
-use Rattle.snoop_trace.proofs.TextLemmas.{done, faulty, further, if_some}
+use Rattle.snoop_trace.proofs.TextLemmas.{done, faulty, further}
 use Rattle.snoop_trace.proofs.text.take_entries.Goals as goal
 
 pub returns-in-Ok-None-clause-read : goal.returns-in-Ok-None-clause-read

@@ -1,5 +1,4 @@
 use Rattle.std.proofs.Common.{length, drop, arith, ◌≤◌}
-use Rattle.std.specs.Prelude.{◌-◌}
 use Rattle.std.proofs.lemmas.List.{length-drop}
 use Rattle.csv.proofs.WriteFacts.{slice-end}
 use Rattle.snoop_trace.proofs.OutputLemmas.{stopped, took_more}
