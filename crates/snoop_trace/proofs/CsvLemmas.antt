@@ -107,12 +107,11 @@ same_next f g (Some p) h = ap (λ (rest : List (List (List ℕ))). p.0 ∷ rest)
 records-same : (cfg : Config) (m n : ℕ) (s : State) (xs : List ℕ) → ends_at_end s ≡ false → length xs < m → length xs < n
     → records_from cfg m s xs ≡ records_from cfg n s xs
 unfolding records_from
-records-same cfg zero n s xs fresh h k = absurd (omega arith)
-records-same cfg (suc m) zero s xs fresh h k = absurd (omega arith)
 records-same cfg (suc m) (suc n) s xs fresh h k =
     same_next (records_from cfg m) (records_from cfg n) (next_record cfg s [] [] xs) (λ p next.
     let short = record-shorter cfg s [] [] xs p next in
     records-same cfg m n p.1 p.2 short.fresh (omega (arith, short.less fresh)) (omega (arith, short.less fresh)))
+records-same _ _ _ s xs fresh h k = absurd (omega arith)
 
 -- the next record of a text, and the records that are left
 pub records_step : (cfg : Config) (s : State) (xs : List ℕ) (p : Read) → next_record cfg s [] [] xs ≡ Some p

@@ -31,7 +31,7 @@ pub if_some : {X : Type 0} (o : Option X) (P : X → Type 0) → ((x : X) → o 
 if_some None P f = tt
 if_some (Some x) P f = f x refl
 
--- a fault is answered with itself
+-- a fault that was said is answered
 gives_fault : {A X : Type 0} (view : X → List A) (named : TextFault) (said : Result (List A) TextFault) → said ≡ Err named → Gives view (Err named) said
 gives_fault view fault.Read said is = tt
 gives_fault view fault.NoMemory said is = tt
