@@ -1,8 +1,8 @@
 -- How the records of a text follow one another.
-use Rattle.std.proofs.Common.{◌≡◌, ◌≤◌, ◌<◌, ℕ, ◌+◌, List, [], ◌∷◌, ◌++◌, length, Option, Some, None, true, false, refl, sym, ◌∙◌, arith, ap, inl, inr}
-use Rattle.std.specs.Prelude.{zero, suc, Bool, if◌then◌else◌, ◌==◌, ◌&&◌}
+use Rattle.std.proofs.Common.{◌≡◌, ◌≤◌, ◌<◌, ℕ, ◌+◌, List, [], ◌∷◌, ◌++◌, length, Option, Some, None, true, false, refl, sym, ◌∙◌, arith, ap, inl, inr, add-one, rules}
+use Rattle.std.specs.Prelude.{zero, suc, Bool, if◌then◌else◌, ◌==◌}
 use Rattle.std.proofs.lemmas.Bool.{cases_Bool, false≢true}
-use Rattle.csv.specs.Machine.{Read, next_record, step, is_end, ends_at_end, fields_after, field_after, after_end, in_field, start_field, start_record, ends_with, is_byte, line_feed, carriage_return}
+use Rattle.csv.specs.Machine.{Read, next_record, step, is_end, ends_at_end, fields_after, field_after, after_end, carriage_return}
 use Rattle.csv.specs.Reading.{Reached, records_from, records_next}
 use Rattle.csv.specs.declared.parser.Action.{Action}
 use Rattle.csv.specs.declared.parser.Action.TheVariants as act
@@ -27,66 +27,29 @@ unfolding records_from
 records-ended cfg zero s xs h = refl
 records-ended cfg (suc m) s xs h = rw h refl
 
-pub records_first : (cfg : Config) (m : ℕ) (s : State) (xs : List ℕ) (r : Read) → next_record cfg s [] [] xs ≡ Some r → 0 < m
-    → (more : List (List (List ℕ))) × (records_from cfg m s xs ≡ r.0 ∷ more)
-unfolding records_from
-records_first cfg zero s xs r e h = absurd (omega arith)
-records_first cfg (suc m) s xs r e h = (records_from cfg m r.1 r.2, rw e refl)
-
--- one more row
-pub reached_more : (cfg : Config) (s : State) (xs : List ℕ) (rows : List (List (List ℕ))) (s1 : State) (ys : List ℕ) (f : List (List ℕ)) (s2 : State) (zs : List ℕ)
-    → Reached cfg s xs rows s1 ys → next_record cfg s1 [] [] ys ≡ Some (f, s2, zs) → Reached cfg s xs (rows ++ (f ∷ [])) s2 zs
-unfolding Reached
-reached_more cfg s xs [] s1 ys f s2 zs h e = ((f, s2, zs), rw (h.0, h.1) e, refl, (refl, refl))
-reached_more cfg s xs (r ∷ rows) s1 ys f s2 zs h e =
-    let (p, next, is, later) = h in
-    (p, next, is, reached_more cfg p.1 p.2 rows s1 ys f s2 zs later e)
-
 -- where a byte ends a record, none is begun
-abbrev Fresh : State × Action → Type 0
-Fresh p = is_end p.1 ≡ true → ends_at_end p.0 ≡ false
+record Fresh (p : State × Action) : Type 0 where
+  pub none : is_end p.1 ≡ true → ends_at_end p.0 ≡ false
 
 fresh-if : (b : Bool) (x y : State × Action) → Fresh x → Fresh y → Fresh (if b then x else y)
 fresh-if true x y p q = p
 fresh-if false x y p q = q
 
-fresh-end : (t : Terminator) (c : ℕ) → ends_at_end (after_end t c) ≡ false
-fresh-end term.CRLF c = elim (cases_Bool (c == carriage_return)) [ inl e ↦ rw e refl | inr e ↦ rw e refl ]
-fresh-end (term.Any t) c = refl
+fresh-on : (s : State) (a : Action) → is_end a ≡ false → Fresh (s, a)
+fresh-on s a on = record { none = λ end. absurd (false≢true (sym on ∙ end)) }
 
-fresh-in : (cfg : Config) (c : ℕ) → Fresh (in_field cfg c)
-fresh-in cfg c = fresh-if (c == cfg.delimiter) _ _ (λ e. absurd (false≢true e)) (fresh-if (ends_with cfg.terminator c) _ _ (λ e. fresh-end cfg.terminator c) (λ e. absurd (false≢true e)))
-
-fresh-field : (cfg : Config) (c : ℕ) → Fresh (start_field cfg c)
-fresh-field cfg c = fresh-if (cfg.quoting && (c == cfg.quote)) _ _ (λ e. absurd (false≢true e)) (fresh-in cfg c)
-
-fresh-record : (cfg : Config) (c : ℕ) → Fresh (start_record cfg c)
-fresh-record cfg c = fresh-if (ends_with cfg.terminator c) _ _ (λ e. absurd (false≢true e)) (fresh-if (is_byte cfg.comment c) _ _ (λ e. absurd (false≢true e)) (fresh-field cfg c))
-
-fresh-copy : (s : State) → Fresh (s, act.Copy)
-fresh-copy s e = absurd (false≢true e)
-
-fresh-skip : (s : State) → Fresh (s, act.Skip)
-fresh-skip s e = absurd (false≢true e)
+fresh-end : (t : Terminator) (c : ℕ) → Fresh (after_end t c, act.EndRecord)
+fresh-end term.CRLF c = elim (cases_Bool (c == carriage_return)) [ inl e ↦ rw e (record { none = λ _. refl }) | inr e ↦ rw e (record { none = λ _. refl }) ]
+fresh-end (term.Any t) c = record { none = λ _. refl }
 
 fresh-step : (cfg : Config) (s : State) (c : ℕ) → Fresh (step cfg s c)
-fresh-step cfg st.StartRecord c = fresh-record cfg c
-fresh-step cfg st.StartField c = fresh-field cfg c
-fresh-step cfg st.InField c = fresh-in cfg c
-fresh-step cfg st.InQuoted c =
-    fresh-if (cfg.quoting && (c == cfg.quote)) (st.AfterQuote, act.Skip) (if cfg.quoting && is_byte cfg.escape c then (st.InEscape, act.Skip) else (st.InQuoted, act.Copy))
-    (fresh-skip st.AfterQuote)
-    (fresh-if (cfg.quoting && is_byte cfg.escape c) (st.InEscape, act.Skip) (st.InQuoted, act.Copy) (fresh-skip st.InEscape) (fresh-copy st.InQuoted))
-fresh-step cfg st.InEscape c = fresh-copy st.InQuoted
-fresh-step cfg st.AfterQuote c =
-    fresh-if (cfg.quoting && cfg.double_quote && (c == cfg.quote)) (st.InQuoted, act.Copy) (in_field cfg c) (fresh-copy st.InQuoted) (fresh-in cfg c)
-fresh-step cfg st.InComment c =
-    fresh-if (c == line_feed) (st.StartRecord, act.Skip) (st.InComment, act.Skip) (fresh-skip st.StartRecord) (fresh-skip st.InComment)
-fresh-step cfg st.AfterCr c = fresh-if (c == line_feed) (st.StartRecord, act.Skip) (start_record cfg c) (fresh-skip st.StartRecord) (fresh-record cfg c)
+fresh-step cfg st.InEscape c = fresh-on st.InQuoted act.Copy refl
+fresh-step cfg s c = search (rules, fresh-if, fresh-on, fresh-end) depth 8
 
 -- what a read leaves: fewer bytes where it began at no record, and no record begun
 pub record Shorter (s : State) (xs : List ℕ) (p : Read) : Type 0 where
   pub less : ends_at_end s ≡ false → length p.2 < length xs
+  pub some : 0 < length xs → length p.2 < length xs
   pub most : length p.2 ≤ length xs
   pub fresh : ends_at_end p.1 ≡ false
 
@@ -98,7 +61,7 @@ record-shorter cfg s fields field [] p h =
       | inl e ↦
           let found = rw e at h in
           let is : p ≡ (fields ++ (field ∷ []), st.StartRecord, []) = cc in
-          rw is (record { less = λ n. absurd (false≢true (sym n ∙ e)); most = omega arith; fresh = refl })
+          rw is (record { less = λ n. absurd (false≢true (sym n ∙ e)); some = λ n. omega arith; most = omega arith; fresh = refl })
       | inr e ↦ let none = rw e at h in cc
     ]
 record-shorter cfg s fields field (c ∷ xs) p h =
@@ -106,15 +69,15 @@ record-shorter cfg s fields field (c ∷ xs) p h =
       | inl e ↦
           let found = rw e at h in
           let is : p ≡ (fields_after (step cfg s c).1 fields field, (step cfg s c).0, xs) = cc in
-          rw is (record { less = λ n. omega arith; most = omega arith; fresh = fresh-step cfg s c e })
+          rw is (record { less = λ n. omega arith; some = λ n. omega arith; most = omega arith; fresh = (fresh-step cfg s c).none e })
       | inr e ↦
           let found = rw e at h in
           let rest = record-shorter cfg (step cfg s c).0 (fields_after (step cfg s c).1 fields field) (field_after (step cfg s c).1 c field) xs p found in
-          record { less = λ n. omega (arith, rest.most); most = omega (arith, rest.most); fresh = rest.fresh }
+          record { less = λ n. omega (arith, rest.most); some = λ n. omega (arith, rest.most); most = omega (arith, rest.most); fresh = rest.fresh }
     ]
 
 -- so a text has no more records than bytes
-pub reached-shorter : (cfg : Config) (s : State) (xs : List ℕ) (rows : List (List (List ℕ))) (s2 : State) (ys : List ℕ)
+reached-shorter : (cfg : Config) (s : State) (xs : List ℕ) (rows : List (List (List ℕ))) (s2 : State) (ys : List ℕ)
     → ends_at_end s ≡ false → Reached cfg s xs rows s2 ys → length rows + length ys ≤ length xs
 unfolding Reached
 reached-shorter cfg s xs [] s2 ys e h = omega (arith, ap length h.1)
@@ -141,25 +104,24 @@ same_next f g None h = refl
 same_next f g (Some p) h = ap (λ (rest : List (List (List ℕ))). p.0 ∷ rest) (h p refl)
 
 -- where no record is begun, a bound above the bytes that are left gives the same records as any other
-pub records-same : (cfg : Config) (m n : ℕ) (s : State) (xs : List ℕ) → ends_at_end s ≡ false → length xs < m → length xs < n
+records-same : (cfg : Config) (m n : ℕ) (s : State) (xs : List ℕ) → ends_at_end s ≡ false → length xs < m → length xs < n
     → records_from cfg m s xs ≡ records_from cfg n s xs
 unfolding records_from
-records-same cfg zero n s xs fresh h k = absurd (omega arith)
-records-same cfg (suc m) zero s xs fresh h k = absurd (omega arith)
 records-same cfg (suc m) (suc n) s xs fresh h k =
     same_next (records_from cfg m) (records_from cfg n) (next_record cfg s [] [] xs) (λ p next.
     let short = record-shorter cfg s [] [] xs p next in
     records-same cfg m n p.1 p.2 short.fresh (omega (arith, short.less fresh)) (omega (arith, short.less fresh)))
+records-same _ _ _ s xs fresh h k = absurd (omega arith)
 
-reached_none : (cfg : Config) (xs : List ℕ) → Reached cfg st.StartRecord xs [] st.StartRecord xs
-unfolding Reached
-reached_none cfg xs = (refl, refl)
-
--- the first record of a text, and the records that are left
-pub records_second : (cfg : Config) (xs : List ℕ) (f : List (List ℕ)) (s : State) (ys : List ℕ) → next_record cfg st.StartRecord [] [] xs ≡ Some (f, s, ys)
-    → records_from cfg (length xs + 1) st.StartRecord xs ≡ f ∷ records_from cfg (length ys + 1) s ys
-records_second cfg xs f s ys next =
-    let short = record-shorter cfg st.StartRecord [] [] xs (f, s, ys) next in
-    let reached : Reached cfg st.StartRecord xs (f ∷ []) s ys = reached_more cfg st.StartRecord xs [] st.StartRecord xs f s ys (reached_none cfg xs) next in
-    records-reached cfg (length xs) st.StartRecord xs (f ∷ []) s ys reached (length xs + 1) (omega arith)
-    ∙ ap (λ (rest : List (List (List ℕ))). f ∷ rest) (records-same cfg (length xs) (length ys + 1) s ys short.fresh (omega (arith, short.less refl)) (omega arith))
+-- the next record of a text, and the records that are left
+pub records_step : (cfg : Config) (s : State) (xs : List ℕ) (p : Read) → next_record cfg s [] [] xs ≡ Some p
+    → records_from cfg (length xs + 1) s xs ≡ p.0 ∷ records_from cfg (length p.2 + 1) p.1 p.2
+unfolding records_from next_record
+records_step cfg s [] p next =
+    elim (cases_Bool (ends_at_end s)) [
+      | inl e ↦ let found = rw e at next in let is : p ≡ ([] ∷ [], st.StartRecord, []) = cc in rw (is, e) refl
+      | inr e ↦ let none = rw e at next in cc
+    ]
+records_step cfg s (c ∷ xs) p next =
+    let short = record-shorter cfg s [] [] (c ∷ xs) p next in
+    rw (add-one, next) (ap (λ (rest : List (List (List ℕ))). p.0 ∷ rest) (records-same cfg (length (c ∷ xs)) (length p.2 + 1) p.1 p.2 short.fresh (short.some (omega arith)) (omega arith)))

@@ -1,8 +1,8 @@
 -- What a writer holds, and then a chunk: how the text that they make grows, moves and is cut.
-use Rattle.std.proofs.Common.{◌≡◌, ℕ, List, [], ◌++◌, Option, sym, ap, ◌∙◌, append_assoc}
+use Rattle.std.proofs.Common.{◌≡◌, ℕ, List, [], ◌++◌, Option, sym, append_assoc}
 use Rattle.std.specs.Io.KnownBytes.{Appends}
 use Rattle.snoop_trace.specs.Output.{AppendsFront, Gathers, Spills}
-use Rattle.snoop_trace.proofs.OutputLemmas.{appends_more, appends_none}
+use Rattle.snoop_trace.proofs.OutputLemmas.{appends_more, appends_none, front_after, front_cut}
 
 -- nothing was gathered yet
 pub gathers_none : (a : Option (List ℕ)) (chunk : List ℕ) → chunk ≡ [] → Gathers a a chunk []
@@ -10,42 +10,20 @@ gathers_none a chunk e = record { front = []; appends = appends_none a; whole = 
 
 -- a piece was put at the end of the chunk
 pub gathers_more : (a b : Option (List ℕ)) (chunk grown text piece : List ℕ) → Gathers a b chunk text → grown ≡ chunk ++ piece → Gathers a b grown (text ++ piece)
-gathers_more a b chunk grown text piece far e =
-    record {
-      front = far.front;
-      appends = far.appends;
-      whole = ap (λ (t : List ℕ). t ++ piece) far.whole ∙ append_assoc far.front chunk piece ∙ ap (λ (t : List ℕ). far.front ++ t) (sym e);
-    }
+gathers_more a b chunk grown text piece far e = record { front = far.front; appends = far.appends; whole = cc (append_assoc far.front chunk piece) }
 
 -- a front of the chunk was written
 pub gathers_spilled : (a b c : Option (List ℕ)) (chunk left text : List ℕ) → Gathers a b chunk text → Spills b chunk c left → Gathers a c left text
 gathers_spilled a b c chunk left text far spills =
-    record {
-      front = far.front ++ spills.front;
-      appends = appends_more a b c far.front spills.front far.appends spills.appends;
-      whole = far.whole ∙ ap (λ (t : List ℕ). far.front ++ t) spills.whole ∙ sym (append_assoc far.front spills.front left);
-    }
+    record { front = far.front ++ spills.front; appends = appends_more a b c far.front spills.front far.appends spills.appends; whole = cc (append_assoc far.front spills.front left) }
 
 -- a stop before a write, whatever was still to come
 pub gathers_stop : (a b : Option (List ℕ)) (chunk text rest : List ℕ) → Gathers a b chunk text → AppendsFront a b (text ++ rest)
-gathers_stop a b chunk text rest far =
-    record {
-      front = far.front;
-      rest = chunk ++ rest;
-      whole = ap (λ (t : List ℕ). t ++ rest) far.whole ∙ append_assoc far.front chunk rest;
-      appends = far.appends;
-    }
+gathers_stop a b chunk text rest far = front_cut a b text rest (record { front = far.front; rest = chunk; whole = far.whole; appends = far.appends })
 
 -- a stop in a write of the chunk
 pub gathers_cut : (a b c : Option (List ℕ)) (chunk text rest : List ℕ) → Gathers a b chunk text → AppendsFront b c chunk → AppendsFront a c (text ++ rest)
-gathers_cut a b c chunk text rest far cut =
-    record {
-      front = far.front ++ cut.front;
-      rest = cut.rest ++ rest;
-      whole = ap (λ (t : List ℕ). t ++ rest) (far.whole ∙ ap (λ (t : List ℕ). far.front ++ t) cut.whole ∙ sym (append_assoc far.front cut.front cut.rest))
-          ∙ append_assoc (far.front ++ cut.front) cut.rest rest;
-      appends = appends_more a b c far.front cut.front far.appends cut.appends;
-    }
+gathers_cut a b c chunk text rest far cut = front_cut a c text rest (rw far.whole (front_after a b c far.front chunk far.appends cut))
 
 -- the chunk was written whole
 pub gathers_done : (a b c : Option (List ℕ)) (chunk text : List ℕ) → Gathers a b chunk text → Appends b c chunk → Appends a c text

@@ -1,29 +1,19 @@
 -- The lines of steps: those that were written, and those to come.
-use Rattle.std.proofs.Common.{◌≡◌, ◌≤◌, ℕ, ◌+◌, List, [], ◌∷◌, ◌++◌, take, drop, Option, refl, sym, ap, arith, ◌∙◌, append_assoc}
-use Rattle.std.specs.Prelude.{◌-◌, codes}
+use Rattle.std.proofs.Common.{◌≡◌, ◌≤◌, ℕ, ◌+◌, List, ◌++◌, take, drop, Option, sym, ap, arith, ◌∙◌}
+use Rattle.std.specs.Prelude.{◌-◌}
 use Rattle.std.specs.Io.KnownBytes.{Appends}
 use Rattle.std.specs.List.{slice_range}
 use Rattle.std.proofs.Math.Seq.{take-add}
-use Rattle.std.proofs.lemmas.List.{append-nil, take-append-drop}
+use Rattle.std.proofs.lemmas.List.{take-append-drop}
+use Rattle.std.proofs.lemmas.List.Concat.{flat_map-append}
 use Rattle.snoop_trace.specs.Extent.{Extent}
-use Rattle.snoop_trace.specs.Output.{AppendsFront, step_text, steps_text}
+use Rattle.snoop_trace.specs.Output.{AppendsFront, steps_text}
 use Rattle.snoop_trace.specs.declared.step.Step.{Step}
-use Rattle.snoop_trace.proofs.OutputLemmas.{appends_more}
-
-steps_text_append : (shape : Extent) (xs ys : List Step) → steps_text shape (xs ++ ys) ≡ steps_text shape xs ++ steps_text shape ys
-steps_text_append shape [] ys = refl
-steps_text_append shape (x ∷ xs) ys =
-    ap (λ (t : List ℕ). (step_text shape x ++ codes "\n") ++ t) (steps_text_append shape xs ys) ∙ sym (append_assoc (step_text shape x ++ codes "\n") (steps_text shape xs) (steps_text shape ys))
-
--- the lines of some steps, and then one more
-pub line_more : (shape : Extent) (steps : List Step) (i : ℕ) (s : Step) → take (i + 1) steps ≡ take i steps ++ (s ∷ [])
-    → steps_text shape (take (i + 1) steps) ≡ steps_text shape (take i steps) ++ (step_text shape s ++ codes "\n")
-line_more shape steps i s more =
-    ap (steps_text shape) more ∙ steps_text_append shape (take i steps) (s ∷ []) ∙ ap (λ (t : List ℕ). steps_text shape (take i steps) ++ t) (append-nil (step_text shape s ++ codes "\n"))
+use Rattle.snoop_trace.proofs.OutputLemmas.{appends_more, front_after, front_cut}
 
 -- the lines of the first steps, and then those to come
 lines_split : (shape : Extent) (steps : List Step) (i : ℕ) → steps_text shape steps ≡ steps_text shape (take i steps) ++ steps_text shape (drop i steps)
-lines_split shape steps i = ap (steps_text shape) (sym (take-append-drop i steps)) ∙ steps_text_append shape (take i steps) (drop i steps)
+lines_split shape steps i = ap (steps_text shape) (sym (take-append-drop i steps)) ∙ flat_map-append _ (take i steps) (drop i steps)
 
 -- a stop before a write
 pub batch_stop : (a b : Option (List ℕ)) (shape : Extent) (steps : List Step) (i : ℕ)
@@ -31,11 +21,11 @@ pub batch_stop : (a b : Option (List ℕ)) (shape : Extent) (steps : List Step) 
 batch_stop a b shape steps i far = record { front = steps_text shape (take i steps); rest = steps_text shape (drop i steps); whole = lines_split shape steps i; appends = far }
 
 -- a batch of steps more
-pub batch_lines : (shape : Extent) (steps : List Step) (i j : ℕ) → i ≤ j → steps_text shape (take j steps) ≡ steps_text shape (take i steps) ++ steps_text shape (slice_range steps i j)
+batch_lines : (shape : Extent) (steps : List Step) (i j : ℕ) → i ≤ j → steps_text shape (take j steps) ≡ steps_text shape (take i steps) ++ steps_text shape (slice_range steps i j)
 batch_lines shape steps i j le =
     let sum : i + (j - i) ≡ j = omega (arith, le) in
     let split : take j steps ≡ take i steps ++ slice_range steps i j = rw sum at (take-add {A = Step} i (j - i) steps) in
-    ap (steps_text shape) split ∙ steps_text_append shape (take i steps) (slice_range steps i j)
+    ap (steps_text shape) split ∙ flat_map-append _ (take i steps) (slice_range steps i j)
 
 -- a batch was written
 pub batch_more : (a b c : Option (List ℕ)) (shape : Extent) (steps : List Step) (i j : ℕ) → i ≤ j
@@ -46,11 +36,4 @@ batch_more a b c shape steps i j le far more = rw (batch_lines shape steps i j l
 pub batch_cut : (a b c : Option (List ℕ)) (shape : Extent) (steps : List Step) (i j : ℕ) → i ≤ j
     → Appends a b (steps_text shape (take i steps)) → AppendsFront b c (steps_text shape (slice_range steps i j)) → AppendsFront a c (steps_text shape steps)
 batch_cut a b c shape steps i j le far cut =
-    let before = steps_text shape (take i steps) in
-    record {
-      front = before ++ cut.front;
-      rest = cut.rest ++ steps_text shape (drop j steps);
-      whole = lines_split shape steps j ∙ ap (λ (t : List ℕ). t ++ steps_text shape (drop j steps)) (batch_lines shape steps i j le ∙ ap (λ (t : List ℕ). before ++ t) cut.whole ∙ sym (append_assoc before cut.front cut.rest))
-          ∙ append_assoc (before ++ cut.front) cut.rest (steps_text shape (drop j steps));
-      appends = appends_more a b c before cut.front far cut.appends;
-    }
+    rw (lines_split shape steps j, batch_lines shape steps i j le) (front_cut a c _ (steps_text shape (drop j steps)) (front_after a b c _ (steps_text shape (slice_range steps i j)) far cut))

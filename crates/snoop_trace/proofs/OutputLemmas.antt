@@ -1,38 +1,27 @@
 -- What a writer holds after several writes.
-use Rattle.std.proofs.Common.{◌≡◌, ℕ, ◌+◌, List, [], ◌∷◌, ◌++◌, length, take, drop, Option, Some, None, refl, sym, ap, ◌∙◌, arith, append_assoc}
-use Rattle.std.specs.Prelude.{◌-◌, zero, suc}
+use Rattle.std.proofs.Common.{ℕ, ◌+◌, List, [], ◌++◌, length, take, drop, Option, Some, None, refl, sym, ◌∙◌, append_assoc}
+use Rattle.std.specs.Prelude.{◌-◌}
 use Rattle.std.specs.Io.KnownBytes.{Appends, Keeps}
-use Rattle.std.proofs.lemmas.List.{append-nil, length-drop, take-append-drop, take_all}
-use Rattle.std.specs.Prelude.{codes, Result, Ok, Err, OnErr}
-use Rattle.snoop_trace.specs.Extent.{Extent}
-use Rattle.snoop_trace.specs.Heading.{heading_for, heading_text}
-use Rattle.snoop_trace.specs.Output.{AppendsFront, steps_text, text_of}
-use Rattle.snoop_trace.specs.declared.protocol.Protocol.{Protocol}
-use Rattle.snoop_trace.specs.declared.step.Step.{Step}
+use Rattle.std.proofs.Math.Seq.{take-add}
+use Rattle.csv.proofs.WriteFacts.{appends-more, appends-none, slice-end}
+use Rattle.std.proofs.lemmas.List.{take-append-drop}
+use Rattle.std.specs.Prelude.{Result, Ok, Err, OnErr}
+use Rattle.snoop_trace.specs.Output.{AppendsFront}
 
 pub appends_more : (a b c : Option (List ℕ)) (x y : List ℕ) → Appends a b x → Appends b c y → Appends a c (x ++ y)
-appends_more None b c x y p q = tt
-appends_more (Some xs) None c x y p q = absurd p
-appends_more (Some xs) (Some ys) None x y p q = absurd q
-appends_more (Some xs) (Some ys) (Some zs) x y p q = q ∙ ap (λ (s : List ℕ). s ++ y) p ∙ append_assoc xs x y
+appends_more = appends-more
 
-pub appends_same : (a b c : Option (List ℕ)) (x : List ℕ) → Appends a b x → Keeps b c → Appends a c x
+appends_same : (a b c : Option (List ℕ)) (x : List ℕ) → Appends a b x → Keeps b c → Appends a c x
 appends_same None b c x p q = tt
+appends_same (Some xs) (Some ys) (Some zs) x p q = q ∙ p
 appends_same (Some xs) None c x p q = absurd p
 appends_same (Some xs) (Some ys) None x p q = absurd q
-appends_same (Some xs) (Some ys) (Some zs) x p q = q ∙ p
-
-pub take_split : (at n : ℕ) (xs : List ℕ) → take (at + n) xs ≡ take at xs ++ take n (drop at xs)
-take_split zero n xs = let e : 0 + n ≡ n = omega arith in rw e refl
-take_split (suc at) n [] = take_all (suc at + n) [] (omega arith) ∙ sym (take_all n [] (omega arith))
-take_split (suc at) n (x ∷ xs) = let e : suc at + n ≡ suc (at + n) = omega arith in rw e (ap (λ (s : List ℕ). x ∷ s) (take_split at n xs))
 
 -- n more bytes were taken of those from `at` on
 pub took_more : (a b c : Option (List ℕ)) (text : List ℕ) (at n : ℕ) → Appends a b (take at text) → Appends b c (take n (take (length text - at) (drop at text)))
     → Appends a c (take (at + n) text)
 took_more a b c text at n p q =
-    let all = take_all (length text - at) (drop at text) (omega (arith, length-drop at text)) in
-    rw (take_split at n text) (appends_more a b c (take at text) (take n (drop at text)) p (rw all at q))
+    rw (take-add at n text) (appends_more a b c (take at text) (take n (drop at text)) p (rw (slice-end text at) at q))
 
 -- none was taken
 pub stopped : (a b c : Option (List ℕ)) (text : List ℕ) (at : ℕ) → Appends a b (take at text) → Keeps b c → AppendsFront a c text
@@ -40,8 +29,7 @@ stopped a b c text at p q =
     record { front = take at text; rest = drop at text; whole = sym (take-append-drop at text); appends = appends_same a b c (take at text) p q }
 
 pub appends_none : (a : Option (List ℕ)) → Appends a a []
-appends_none None = tt
-appends_none (Some xs) = sym (append-nil xs)
+appends_none = appends-none
 
 -- nothing was written of a text
 pub appends_none_of : (a : Option (List ℕ)) (text : List ℕ) → AppendsFront a a text
@@ -53,14 +41,9 @@ on_err (Err e) P p = p
 
 -- a beginning of a text is one of a longer text
 pub front_cut : (a b : Option (List ℕ)) (x y : List ℕ) → AppendsFront a b x → AppendsFront a b (x ++ y)
-front_cut a b x y f = record { front = f.front; rest = f.rest ++ y; whole = ap (λ (t : List ℕ). t ++ y) f.whole ∙ append_assoc f.front f.rest y; appends = f.appends }
+front_cut a b x y f = record { front = f.front; rest = f.rest ++ y; whole = cc (append_assoc f.front f.rest y); appends = f.appends }
 
 -- a text, and then a beginning of another
 pub front_after : (a b c : Option (List ℕ)) (x y : List ℕ) → Appends a b x → AppendsFront b c y → AppendsFront a c (x ++ y)
 front_after a b c x y p f =
-    record { front = x ++ f.front; rest = f.rest; whole = ap (λ (t : List ℕ). x ++ t) f.whole ∙ sym (append_assoc x f.front f.rest); appends = appends_more a b c x f.front p f.appends }
-
--- a text of version 2: the line of its heading, and then those of its steps
-pub text_parts : (protocol : Protocol) (shape : Extent) (steps : List Step)
-    → text_of protocol shape steps ≡ (heading_text (heading_for protocol shape) ++ codes "\n") ++ steps_text shape steps
-text_parts protocol shape steps = simp append_assoc refl
+    record { front = x ++ f.front; rest = f.rest; whole = cc (append_assoc x f.front f.rest); appends = appends_more a b c x f.front p f.appends }

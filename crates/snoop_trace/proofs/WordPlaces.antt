@@ -1,5 +1,5 @@
 -- Where the words of a block stand.
-use Rattle.std.proofs.Common.{◌≡◌, ◌≤◌, ◌<◌, ℕ, ◌+◌, ◌-◌, ◌*◌, ◌/◌, ◌%◌, ◌^◌, ◌⊎◌, sym, ap, ◌∙◌, subst, arith, inl, inr, suc}
+use Rattle.std.proofs.Common.{◌≡◌, ◌≤◌, ◌<◌, ℕ, ◌+◌, ◌-◌, ◌*◌, ◌/◌, ◌%◌, ◌^◌, ◌⊎◌, sym, ap, ◌∙◌, subst, arith, inl, inr, suc, refl}
 use Rattle.std.specs.Int.{IsPowerOfTwo}
 use Rattle.std.proofs.Math.Nat.{pow-suc, mul-div_cancel, mul-div_cancel_left, div-lt_iff_lt-mul, mod-lt, mod-eq_of_lt, mul-lt-mul_of_pos_right, mul-add-mod_self_right}
 use Rattle.std.proofs.Math.Pow.{pow_mono}
@@ -7,100 +7,72 @@ use Rattle.std.proofs.lemmas.Bool.{cases_lt}
 use Rattle.std.proofs.lemmas.Nat.{pow_pos, pow-add, div-mul-add}
 use Rattle.snoop_trace.specs.Extent.{Extent, IsWithinLimits}
 use Rattle.snoop_trace.specs.declared.step.Op.{Op}
-use Rattle.snoop_trace.specs.declared.step.Op.TheVariants.{Load, Store, Evict}
+use Rattle.snoop_trace.specs.declared.step.Op.TheVariants.{Evict}
 use Rattle.snoop_trace.specs.Grammar.{word_asked, word_in_block}
 use Rattle.snoop_trace.specs.Output.{word_address}
-use Rattle.snoop_trace.specs.Words.{HasWord, word_places}
+use Rattle.snoop_trace.specs.Words.{HasWord}
+use Rattle.snoop_trace.proofs.PowerLemmas.{power_some}
 
 -- a power of two goes into a greater one
-pub goes_into : (w b : ℕ) → IsPowerOfTwo w → IsPowerOfTwo b → w ≤ b → (k : ℕ) × ((0 < k) × (b ≡ w * k))
+goes_into : (w b : ℕ) → IsPowerOfTwo w → IsPowerOfTwo b → w ≤ b → (k : ℕ) × ((0 < k) × (b ≡ w * k))
 goes_into w b (i, e) (j, f) le = elim (cases_lt j i) [
   | inl less ↦
       let more : 2 ^ suc j ≤ 2 ^ i = pow_mono (omega (arith, less)) in
       absurd (omega (arith, more, le, e, f, pow-suc 2 j, pow_pos j))
   | inr high ↦
       let whole : i + (j - i) ≡ j = omega (arith, high) in
-      (2 ^ (j - i), (pow_pos (j - i), f ∙ (ap (λ (n : ℕ). 2 ^ n) (sym whole) ∙ (pow-add 2 i (j - i) ∙ ap (λ (n : ℕ). n * 2 ^ (j - i)) (sym e)))))
+      (2 ^ (j - i), (pow_pos (j - i), rw (f, e, ← pow-add 2 i (j - i), whole) refl))
 ]
 
--- the word of an address is one that the block has
-pub word_within : (shape : Extent) (address : ℕ) → IsPowerOfTwo shape.words → IsPowerOfTwo shape.block_bytes → shape.words ≤ shape.block_bytes → word_in_block shape address < shape.words
-word_within shape address some bytes le =
-    let (k, is) = goes_into shape.words shape.block_bytes some bytes le in
-    let words_some : 0 < shape.words = (let (i, e) = some in omega (arith, e, pow_pos i)) in
-    let bytes_some : 0 < shape.block_bytes = omega (arith, words_some, le) in
-    let size : shape.block_bytes / shape.words ≡ k = ap (λ (n : ℕ). n / shape.words) is.1 ∙ mul-div_cancel_left k words_some in
-    let rest : address % shape.block_bytes < shape.words * k = subst (λ (n : ℕ). address % shape.block_bytes < n) is.1 (mod-lt address bytes_some) in
-    subst (λ (n : ℕ). (address % shape.block_bytes) / n < shape.words) (sym size) ((div-lt_iff_lt-mul is.0).1 rest)
+module _ (shape : Extent) (some : IsPowerOfTwo shape.words) (bytes : IsPowerOfTwo shape.block_bytes) (le : shape.words ≤ shape.block_bytes) where
+  -- the bytes of a word
+  word_bytes : (0 < shape.block_bytes / shape.words) × (shape.block_bytes ≡ shape.words * (shape.block_bytes / shape.words))
+  word_bytes =
+      let (k, is) = goes_into shape.words shape.block_bytes some bytes le in
+      let size : shape.block_bytes / shape.words ≡ k = ap (λ (n : ℕ). n / shape.words) is.1 ∙ mul-div_cancel_left k (power_some shape.words some) in
+      rw size is
 
--- the bytes of a word
-word_bytes : (shape : Extent) → IsPowerOfTwo shape.words → IsPowerOfTwo shape.block_bytes → shape.words ≤ shape.block_bytes
-    → (0 < shape.block_bytes / shape.words) × (shape.block_bytes ≡ shape.words * (shape.block_bytes / shape.words))
-word_bytes shape some bytes le =
-    let (k, is) = goes_into shape.words shape.block_bytes some bytes le in
-    let words_some : 0 < shape.words = (let (i, e) = some in omega (arith, e, pow_pos i)) in
-    let size : shape.block_bytes / shape.words ≡ k = ap (λ (n : ℕ). n / shape.words) is.1 ∙ mul-div_cancel_left k words_some in
-    (subst (λ (n : ℕ). 0 < n) (sym size) is.0, is.1 ∙ ap (λ (n : ℕ). shape.words * n) (sym size))
+  -- the word of an address is one that the block has
+  pub word_within : (address : ℕ) → word_in_block shape address < shape.words
+  word_within address = (div-lt_iff_lt-mul word_bytes.0).1 (subst (λ (n : ℕ). address % shape.block_bytes < n) word_bytes.1 (mod-lt address (power_some shape.block_bytes bytes)))
 
--- a word begins within its block
-word_starts : (shape : Extent) (word : ℕ) → IsPowerOfTwo shape.words → IsPowerOfTwo shape.block_bytes → shape.words ≤ shape.block_bytes → word < shape.words
-    → word * (shape.block_bytes / shape.words) < shape.block_bytes
-word_starts shape word some bytes le inside =
-    let w = word_bytes shape some bytes le in
-    subst (λ (n : ℕ). word * (shape.block_bytes / shape.words) < n) (sym w.1) (mul-lt-mul_of_pos_right inside w.0)
+  module _ (block word : ℕ) (inside : word < shape.words) where
+    -- a word begins within its block
+    word_starts : word * (shape.block_bytes / shape.words) < shape.block_bytes
+    word_starts = subst (λ (n : ℕ). word * (shape.block_bytes / shape.words) < n) (sym word_bytes.1) (mul-lt-mul_of_pos_right inside word_bytes.0)
 
--- the address of a word is in its block
-pub block_back : (shape : Extent) (block word : ℕ) → IsPowerOfTwo shape.words → IsPowerOfTwo shape.block_bytes → shape.words ≤ shape.block_bytes → word < shape.words
-    → word_address shape block word / shape.block_bytes ≡ block
-block_back shape block word some bytes le inside =
-    div-mul-add block shape.block_bytes (word * (shape.block_bytes / shape.words)) (word_starts shape word some bytes le inside)
+    -- the address of a word is in its block
+    block_back : word_address shape block word / shape.block_bytes ≡ block
+    block_back = div-mul-add block shape.block_bytes (word * (shape.block_bytes / shape.words)) word_starts
 
--- the address of a word is that word's
-pub word_back : (shape : Extent) (block word : ℕ) → IsPowerOfTwo shape.words → IsPowerOfTwo shape.block_bytes → shape.words ≤ shape.block_bytes → word < shape.words
-    → word_in_block shape (word_address shape block word) ≡ word
-word_back shape block word some bytes le inside =
-    let size = shape.block_bytes / shape.words in
-    ap (λ (n : ℕ). n / size) (mul-add-mod_self_right block shape.block_bytes (word * size) ∙ mod-eq_of_lt (word_starts shape word some bytes le inside))
-    ∙ mul-div_cancel word (word_bytes shape some bytes le).0
+    -- the address of a word is that word's
+    word_back : word_in_block shape (word_address shape block word) ≡ word
+    word_back =
+        let size = shape.block_bytes / shape.words in
+        ap (λ (n : ℕ). n / size) (mul-add-mod_self_right block shape.block_bytes (word * size) ∙ mod-eq_of_lt word_starts) ∙ mul-div_cancel word word_bytes.0
 
 -- there are no more words than bytes
 pub words_fit : (words bytes : ℕ) → IsPowerOfTwo bytes → (words ≡ 1) ⊎ (8 * words ≤ bytes) → words ≤ bytes
-words_fit words bytes (k, e) (inl one) = omega (arith, one, e, pow_pos k)
-words_fit words bytes (k, e) (inr less) = omega (arith, less)
-
--- a shape within the limits has one word at least, and no more words than bytes
-pub words_of_shape : (shape : Extent) → IsWithinLimits shape → (0 < shape.words) × (shape.words ≤ shape.block_bytes)
-words_of_shape shape limits =
-    let (i, e) = limits.words.0 in
-    let some = pow_pos i in
-    (omega (arith, e, some), words_fit shape.words shape.block_bytes limits.block_bytes.0 limits.words.2)
-
--- no word that a block has lies past the places
-below_places : (shape : Extent) (word : ℕ) → IsWithinLimits shape → word < shape.words → word < word_places
-below_places shape word limits few = let most = limits.words.1 in omega (arith, few, most)
+words_fit words bytes power (inl one) = omega (arith, one, power_some bytes power)
+words_fit words bytes power (inr less) = omega (arith, less)
 
 -- the word that is asked for is one that the block has
 pub asked_within : (shape : Extent) (address : ℕ) (op : Op) → IsWithinLimits shape → word_asked shape address op < shape.words
-asked_within shape address Load limits = word_within shape address limits.words.0 limits.block_bytes.0 (words_of_shape shape limits).1
-asked_within shape address (Store value) limits = word_within shape address limits.words.0 limits.block_bytes.0 (words_of_shape shape limits).1
-asked_within shape address Evict limits = (words_of_shape shape limits).0
+asked_within shape address Evict limits = power_some shape.words limits.words.0
+asked_within shape address op limits = word_within shape limits.words.0 limits.block_bytes.0 (words_fit shape.words shape.block_bytes limits.block_bytes.0 limits.words.2) address
 
--- an operation may be of the word that is asked for
+-- an operation may be of the word that is asked for: no word that a block has lies past the places
 pub word_there : (shape : Extent) (address : ℕ) (op : Op) → IsWithinLimits shape → HasWord shape (word_asked shape address op) op
-word_there shape address Load limits = (asked_within shape address Load limits, below_places shape _ limits (asked_within shape address Load limits))
-word_there shape address (Store value) limits = (asked_within shape address (Store value) limits, below_places shape _ limits (asked_within shape address (Store value) limits))
 word_there shape address Evict limits = tt
+word_there shape address op limits = let few = asked_within shape address op limits in (few, omega (arith, few, limits.words.1))
 
--- a word's address is read as its block and its word
-pub address_back : (shape : Extent) (block word : ℕ) → IsWithinLimits shape → word < shape.words
-    → (word_address shape block word / shape.block_bytes ≡ block) × (word_in_block shape (word_address shape block word) ≡ word)
-address_back shape block word limits inside =
-    let le = (words_of_shape shape limits).1 in (
-      block_back shape block word limits.words.0 limits.block_bytes.0 le inside,
-      word_back shape block word limits.words.0 limits.block_bytes.0 le inside,
-    )
+-- a word's address is read as its block and its word, and lies before the end of its block
+module _ (shape : Extent) (block word : ℕ) (limits : IsWithinLimits shape) (inside : word < shape.words) where
+  fit : shape.words ≤ shape.block_bytes
+  fit = words_fit shape.words shape.block_bytes limits.block_bytes.0 limits.words.2
 
--- a word's address lies before the end of its block
-pub address_before : (shape : Extent) (block word : ℕ) → IsWithinLimits shape → word < shape.words → word_address shape block word < block * shape.block_bytes + shape.block_bytes
-address_before shape block word limits inside =
-    omega (arith, word_starts shape word limits.words.0 limits.block_bytes.0 (words_of_shape shape limits).1 inside)
+  pub address_back : (word_address shape block word / shape.block_bytes ≡ block) × (word_in_block shape (word_address shape block word) ≡ word)
+  address_back = (block_back shape limits.words.0 limits.block_bytes.0 fit block word inside, word_back shape limits.words.0 limits.block_bytes.0 fit block word inside)
+
+  pub address_before : word_address shape block word < block * shape.block_bytes + shape.block_bytes
+  address_before = omega (arith, word_starts shape limits.words.0 limits.block_bytes.0 fit block word inside)

@@ -30,6 +30,7 @@ const BATCH: usize = 1024;
 /// protocol and shape; for any other it answers `OtherShape`. After
 /// `Write` and `NoMemory` the writer holds a beginning of the text after what it held, the failed
 /// write's own bytes aside.
+#[tactic(auto, using(crate::proofs::BackLemmas::all_read_again, crate::proofs::BackLemmas::other_refused))]
 pub fn write_steps<W: Sink>(
     alloc: Global,
     writer: &mut W,

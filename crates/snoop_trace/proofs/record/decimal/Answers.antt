@@ -1,5 +1,5 @@
-use Rattle.std.proofs.Common.{◌<◌, arith, sym, ◌∙◌, rules}
-use Rattle.snoop_trace.proofs.NumeralLemmas.{few_digits, numeral-end}
+use Rattle.std.proofs.Common.{◌<◌, arith, rules}
+use Rattle.snoop_trace.proofs.NumeralLemmas.{few_digits}
 use Rattle.snoop_trace.proofs.record.decimal.Goals as goal
 
 pub overflow_mul-value : goal.overflow_mul-value
@@ -12,7 +12,3 @@ overflow_add-value c =
     let digit : c.in_ok-digit.digit < 10 = search rules in
     let small = few_digits c.loop-byte.value c.loop-byte.byte-index c.loop-byte.invariant.1 (omega (arith, c.requires)) in
     omega (arith, small, digit)
-
-pub returns : goal.returns
-returns c =
-    sym (c.loop-byte.invariant.0 ∙ numeral-end 10 c.loop-byte.value c.loop-byte.byte-index c.args.digits.now (omega arith) (omega arith))

@@ -1,9 +1,9 @@
-use Rattle.std.proofs.Common.{◌++◌, ◌∷◌, [], ap, sym, ◌∙◌}
+use Rattle.std.proofs.Common.{refl, sym, ◌∙◌}
 use Rattle.std.proofs.lemmas.Result.{err_from_is_err_and}
 use Rattle.csv.specs.Reading.{reader_state, source_of}
 use Rattle.csv.specs.Records.{fields_of}
 use Rattle.snoop_trace.proofs.RecordLemmas.{names_heading_as}
-use Rattle.snoop_trace.proofs.TextLemmas.{entry_refused, entry_taken, first_refused, first_taken, heading_refused, heading_taken, no_heading, none_read, not_failed}
+use Rattle.snoop_trace.proofs.TextLemmas.{first_refused, first_taken, no_heading, none_read, not_failed}
 use Rattle.snoop_trace.specs.Heading.{heading_as}
 use Rattle.snoop_trace.proofs.text.take_text.Goals as goal
 use Rattle.snoop_trace.proofs.text.take_text.Goals.{then-is_begun+in_ok-read, else-is_begun+in_ok-from_record+in_ok-append}
@@ -15,15 +15,15 @@ returns-in_default-clause-read g c =
 
 pub returns-then-not-branch-clause-read : goal.returns-then-not-branch-clause-read
 returns-then-not-branch-clause-read g c =
-    none_read g.R.Read.remaining c.args.text.now c.next_record.new.text (fields_of c.next_record.new.fields) (g.E.Entry.says c.args.shape) c.in-Some.heading c.args.heading (g.C.Entries.listed c.args.entries.now)
-    c.in-Some.is c.requires.plain.config c.requires.begins (rw c.if-not-branch.true at c.in_ok-next_record.ensures.reads) c.requires.empty
+    none_read g.R.Read.remaining c.args.text.now c.next_record.new.text (fields_of c.next_record.new.fields) (g.E.Entry.says c.args.shape) _ _
+    c.in-Some.is c.requires.plain.config c.requires.begins _ (rw c.if-not-branch.true at c.in_ok-next_record.ensures.reads) c.requires.empty
 
 pub returns-in_err-read-clause-read : goal.returns-in_err-read-clause-read
 returns-in_err-read-clause-read g c =
     let p = err_from_is_err_and c.from_residual-in_err-read.result c.from_residual-in_err-read.ensures.1 in
-    first_refused g.R.Read.remaining c.args.text.now c.next_record.new.text (fields_of c.next_record.new.fields) (g.E.Entry.says c.args.shape) c.args.heading _ c.from_residual-in_err-read.result c.in_err-read.field-0.0
-    c.requires.plain.config c.requires.begins (rw c.if-not-branch.false at c.in_ok-next_record.ensures.reads) (rw p.2 at p.1)
-    (heading_refused (g.E.Entry.says c.args.shape) c.in-Some.heading c.args.heading (fields_of c.next_record.new.fields) c.in_err-read.field-0.0 c.in-Some.is (sym c.is_begun.ensures ∙ c.if-is_begun.true) (sym c.read.ensures ∙ c.in_err-read.was))
+    first_refused g.R.Read.remaining c.args.text.now c.next_record.new.text (fields_of c.next_record.new.fields) (g.E.Entry.says c.args.shape) _ _
+    c.in-Some.is c.requires.plain.config c.requires.begins _ _ (rw c.if-not-branch.false at c.in_ok-next_record.ensures.reads) c.in_err-read.field-0.0 (rw p.2 at p.1)
+    (rw (sym c.is_begun.ensures ∙ c.if-is_begun.true, sym c.read.ensures ∙ c.in_err-read.was) refl)
 
 pub returns-in_err-read-clause-not_read : goal.returns-in_err-read-clause-not_read
 returns-in_err-read-clause-not_read g c =
@@ -34,23 +34,18 @@ returns-in_err-read-clause-not_read g c =
 pub returns-in_err-from_record-clause-read : goal.returns-in_err-from_record-clause-read
 returns-in_err-from_record-clause-read g c =
     let p = err_from_is_err_and c.from_residual-in_err-from_record.result c.from_residual-in_err-from_record.ensures.1 in
-    first_refused g.R.Read.remaining c.args.text.now c.next_record.new.text (fields_of c.next_record.new.fields) (g.E.Entry.says c.args.shape) c.args.heading _ c.from_residual-in_err-from_record.result c.in_err-from_record.field-0.0
-    c.requires.plain.config c.requires.begins (rw c.if-not-branch.false at c.in_ok-next_record.ensures.reads) (rw p.2 at p.1)
-    (entry_refused (g.E.Entry.says c.args.shape) c.in-Some.heading c.args.heading (fields_of c.next_record.new.fields) c.in_err-from_record.field-0.0 c.in-Some.is (sym c.is_begun.ensures ∙ c.if-is_begun.false) (sym c.from_record.ensures.entry ∙ c.in_err-from_record.was))
+    first_refused g.R.Read.remaining c.args.text.now c.next_record.new.text (fields_of c.next_record.new.fields) (g.E.Entry.says c.args.shape) _ _
+    c.in-Some.is c.requires.plain.config c.requires.begins _ _ (rw c.if-not-branch.false at c.in_ok-next_record.ensures.reads) c.in_err-from_record.field-0.0 (rw p.2 at p.1)
+    (rw (sym c.is_begun.ensures ∙ c.if-is_begun.false, sym c.from_record.ensures.entry ∙ c.in_err-from_record.was) refl)
 
 pub returns-clause-read : goal.returns-clause-read
 returns-clause-read g c =
-    let read = rw c.if-not-branch.false at c.in_ok-next_record.ensures.reads in
-    let fields = fields_of c.next_record.new.fields in
-    first_taken g.R.Read.remaining c.args.text.now c.next_record.new.text fields (g.E.Entry.says c.args.shape) c.args.heading _ c.take_entries-2.result (g.C.Entries.listed c.if-is_begun.entries)
-    c.requires.plain.config c.requires.begins read
+    first_taken g.R.Read.remaining c.args.text.now c.next_record.new.text (fields_of c.next_record.new.fields) (g.E.Entry.says c.args.shape) _ _
+    c.in-Some.is c.requires.plain.config c.requires.begins _ _ (rw c.if-not-branch.false at c.in_ok-next_record.ensures.reads) (g.C.Entries.listed c.if-is_begun.entries)
     (elim c.if-is_begun.branch [
       | then-is_begun+in_ok-read w ↦
-          heading_taken (g.E.Entry.says c.args.shape) c.in-Some.heading w.in_ok-read.field-0 c.args.heading (g.C.Entries.listed c.if-is_begun.entries) fields
-          c.in-Some.is (sym c.is_begun.ensures ∙ w.if-is_begun.true) (sym w.read.ensures ∙ w.in_ok-read.was) (ap g.C.Entries.listed w.entries-is ∙ c.requires.empty)
+          rw (w.entries-is, c.requires.empty, sym c.is_begun.ensures ∙ w.if-is_begun.true, sym w.read.ensures ∙ w.in_ok-read.was) refl
       | else-is_begun+in_ok-from_record+in_ok-append w ↦
-          entry_taken (g.E.Entry.says c.args.shape) c.in-Some.heading c.args.heading w.in_ok-from_record.field-0 (g.C.Entries.listed c.if-is_begun.entries) fields
-          c.in-Some.is (sym c.is_begun.ensures ∙ w.if-is_begun.false) (sym w.from_record.ensures.entry ∙ w.in_ok-from_record.was)
-          (ap g.C.Entries.listed w.entries-is ∙ w.in_ok-append.ensures.items ∙ ap (λ all. all ++ (w.in_ok-from_record.field-0 ∷ [])) c.requires.empty)
+          rw (w.entries-is, w.in_ok-append.ensures.items, c.requires.empty, sym c.is_begun.ensures ∙ w.if-is_begun.false, sym w.from_record.ensures.entry ∙ w.in_ok-from_record.was) refl
     ])
     c.take_entries-2.ensures.read

@@ -9,4 +9,4 @@ returns-clause-within c =
     let m = c.self.inside in
     let P : Extent → Type 0 = λ e. (c.args.address % m.block_bytes) / (m.block_bytes / m.words) < e.words in
     let w = c.self.invariant.words in
-    subst P c.self.view_is (word_within (extent m) c.args.address w.0 c.self.invariant.block_bytes.0 (words_fit m.words m.block_bytes c.self.invariant.block_bytes.0 w.2))
+    subst P c.self.view_is (word_within (extent m) w.0 c.self.invariant.block_bytes.0 (words_fit m.words m.block_bytes c.self.invariant.block_bytes.0 w.2) c.args.address)

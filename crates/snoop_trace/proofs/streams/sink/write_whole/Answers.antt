@@ -1,13 +1,12 @@
 use Rattle.std.proofs.Common.{length, drop, arith, ◌≤◌}
-use Rattle.std.specs.Prelude.{◌-◌}
-use Rattle.std.proofs.lemmas.List.{length-drop, take_all}
+use Rattle.std.proofs.lemmas.List.{length-drop}
+use Rattle.csv.proofs.WriteFacts.{slice-end}
 use Rattle.snoop_trace.proofs.OutputLemmas.{stopped, took_more}
 use Rattle.snoop_trace.proofs.streams.sink.write_whole.Goals as goal
 
 pub loop-at-preserved : goal.loop-at-preserved
 loop-at-preserved g c =
-    let all = take_all (length c.args.text.now - c.loop-at.at) (drop c.loop-at.at c.args.text.now) (omega (arith, length-drop c.loop-at.at c.args.text.now)) in
-    let bound : c.in-Ok.taken ≤ length (drop c.loop-at.at c.args.text.now) = rw all at c.in-Ok.ensures.bound in (
+    let bound : c.in-Ok.taken ≤ length (drop c.loop-at.at c.args.text.now) = rw (slice-end c.args.text.now c.loop-at.at) at c.in-Ok.ensures.bound in (
       omega (arith, length-drop c.loop-at.at c.args.text.now, bound, c.loop-at.invariant.0),
       took_more (g.W.Write.contents c.args.writer.now) (g.W.Write.contents c.loop-at.writer) (g.W.Write.contents c.put.new.self) c.args.text.now c.loop-at.at c.in-Ok.taken
           c.loop-at.invariant.1 c.in-Ok.ensures.bytes,
