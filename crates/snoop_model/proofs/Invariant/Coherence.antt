@@ -62,7 +62,7 @@ has_one_writer s g block core other writes apart =
     let good = g.blocks block within.1 in
     let owning = (and_parts (owns good.owner core) (not (is_clean stores.0)) (ask_rule AskTests.ask_store_owns p good.claims.shared (owns good.owner core) (own_open picture.transaction core)
     (held_by picture core).state (op.Store 0) (record { action = action.Hit; next = stores.0 }) (good.states core within.0) stores.1)).0 in
-    let blind = one_writer p s.shape.cores (flat_words s.log block) picture good core other within_too.0 owning apart in
+    let blind = one_writer good core owning other within_too.0 apart in
     let held = (held_by picture other).state in
     (λ h. both_ways _ blind (hit_keeps p held event.Load h.0 h.1).0, λ h. both_ways _ blind (hit_keeps p held event.Store h.0 h.1).0))
     (λ h. never_hits p event.Load h.0 h.1, λ h. never_hits p event.Store h.0 h.1))

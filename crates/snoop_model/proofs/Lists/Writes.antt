@@ -1,9 +1,9 @@
 -- What a write in one place does to a list of lists, and to sums over it.
-use Rattle.std.proofs.Common.{◌≡◌, ℕ, zero, suc, ◌+◌, ◌<◌, ◌≤◌, List, [], ◌∷◌, ◌++◌, length, filter, not, Bool, false, cond, Some, refl, sym, ◌∙◌, ap, subst, arith, inl, inr, ◌⊎◌, true}
+use Rattle.std.proofs.Common.{◌≡◌, ◌≢◌, ℕ, zero, suc, ◌+◌, ◌<◌, ◌≤◌, List, [], ◌∷◌, ◌++◌, length, filter, not, Bool, false, cond, Some, refl, sym, ◌∙◌, ap, subst, arith, inl, inr, ◌⊎◌, true}
 use Rattle.std.specs.Prelude.{slice_index_or, slice_set, slice_get, All, ◌==◌, sum_by, count_by}
-use Rattle.std.proofs.lemmas.Bool.{eq-eqb, cases_lt}
+use Rattle.std.proofs.lemmas.Bool.{eq-eqb, cases_eq, cases_lt}
 use Rattle.std.proofs.lemmas.Option.{none-some, same_Some}
-use Rattle.std.proofs.lemmas.List.{set_past, get_or_past, length_push}
+use Rattle.std.proofs.lemmas.List.{set_past, get_or_past, get_or-set_same, get_or-set_other, length_push}
 use Rattle.std.proofs.lemmas.List.Elements.{All-head, All-push, All-filter}
 use Rattle.std.proofs.lemmas.List.Sums.{sum_by-set, sum_by-cons, length-filter, count_by-le-length}
 use Rattle.snoop_bus.specs.Queues.{queue_of, after_issue, after_order}
@@ -16,6 +16,13 @@ set_cases (x ∷ xs) zero zero a d = inl (refl, refl)
 set_cases (x ∷ xs) zero (suc k) a d = inr refl
 set_cases (x ∷ xs) (suc i) zero a d = inr refl
 set_cases (x ∷ xs) (suc i) (suc k) a d = elim (set_cases xs i k a d) [ inl p ↦ inl (ap suc p.0, p.1) | inr e ↦ inr e ]
+
+-- what holds of the new value in its place, and of each other, holds of each then
+pub each_set : {A : Type 0} (xs : List A) (i : ℕ) (a d : A) (P : ℕ → A → Type 0) → i < length xs → P i a → ((k : ℕ) → k ≢ i → P k (slice_index_or xs k d)) → (k : ℕ) → P k (slice_index_or (slice_set xs i a) k d)
+each_set xs i a d P inside here others k = elim (cases_eq k i) [
+  | inl e ↦ rw (e, get_or-set_same xs i a d inside) here
+  | inr apart ↦ rw (get_or-set_other xs i k a d apart) (others k apart)
+]
 
 pub all_first : {A : Type 0} (P : A → Type 0) (xs : List A) (x : A) → All P xs → slice_get xs 0 ≡ Some x → P x
 all_first P [] x a h = cc
