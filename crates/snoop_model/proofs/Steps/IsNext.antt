@@ -98,7 +98,7 @@ orders_is s core block q new o =
     let caches = fill_by_all (line_after p before core q) o.next.caches (length before.caches) nothing_held o.taken.same_length
     (λ k below. (let row = o.taken.rows k below in row.2 ∙ rw row.1 refl)) in
     let next : o.next ≡ next_picture p before core q block =
-    same_picture _ _ _ _ _ _ caches (same_memory _ _ _ _ (o.memory.2 ∙ rw o.memory.1 refl) o.value)
+    same_picture caches (same_memory (o.memory.2 ∙ rw o.memory.1 refl) o.value)
     (o.opened ∙ rw (from, sends_is p before core q o.from o.payload o.sent.sends) refl) in
     rw (o.after, next) refl
 
@@ -126,7 +126,7 @@ closed_is s block o did new r =
     let caches = arrives_is o s.protocol s.log before.caches r.next.caches did o.request r.requestor in
     let memory = settled_is (takes_payload o.request before.memory.state) s.protocol
     (arrival_at_memory o.payload) before.memory.state r.memory.act r.next.memory.state r.memory.settled in
-    let next = same_picture _ _ _ _ _ _ (ap (λ x. x.0) caches) (same_memory _ _ _ _ (ap (λ x. x.1) memory)
+    let next = same_picture (ap (λ x. x.0) caches) (same_memory (ap (λ x. x.1) memory)
     (r.memory.value ∙ ap (λ x. written x.0 o.value before.memory.value) memory)) r.closed in
     rw (r.after, next, ap (λ x. x.1) caches) refl
 
