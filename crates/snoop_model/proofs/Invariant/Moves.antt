@@ -141,7 +141,7 @@ order_moves old core block q new g within o =
 arrives_item : (s : Situation) (q : Request) (block : ℕ) (closing : Open) (old new : List Line) (did : Option Did)
     → ArrivesFor q closing s.protocol s.log old new did → closing.block ≡ block → IsWithin s closing.core closing.block
     → AccessWithin s.shape (held_at old closing.core) → IsLawful (flat_words s.log block) did → IsNextOn s block (Some (item.Came (came_of closing) did))
-arrives_item s q block closing old new did arrives placed within waits lawful = elim (by_request q closing s.protocol s.log old new did arrives) [
+arrives_item s q block closing old new did arrives placed within waits lawful = elim (by_request q arrives) [
   | inl put ↦ rw put.2 (record { on = tt; follows = tt; logged = tt })
   | inr f ↦
       let has = waits f.asking f.fills.waited in
@@ -161,13 +161,13 @@ respond_moves old block closing did new g within r =
     let k = respond_keeps old block closing did new r old.shape.cores (flat_words old.log block) (g.blocks block within) (rw (g.shaped.row block within) its_core) in
     rw r.after (kept old block r.next old.queues (Some (item.Came (came_of closing) did)) g (record {
       within = within;
-      as_wide = arrives_length closing.request closing old.protocol old.log before.caches r.next.caches did r.requestor;
+      as_wide = arrives_length (by_request closing.request r.requestor);
       as_many_queues = refl;
       opened = λ t is_open. absurd (none-some t (sym r.closed ∙ is_open));
       block_after = k.0;
       item = arrives_item old closing.request block closing before.caches r.next.caches did r.requestor placed (its_core, rw placed within) (g.accesses closing.core block) k.1;
       accesses = λ c access waits.
-          let same = still_waiting closing.request closing old.protocol old.log before.caches r.next.caches did r.requestor c access waits in
+          let same = still_waiting (by_request closing.request r.requestor) c access waits in
           g.accesses c block access (rw (← same) waits);
     }))
 
