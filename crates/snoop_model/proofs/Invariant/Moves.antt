@@ -174,7 +174,7 @@ respond_moves old block closing did new g within r =
 -- a move keeps the invariant
 pub move_keeps : (block : ℕ) (old : Situation) (step : Step) (answer : Reply) (new : Situation) (entry : Option Item) → Invariant old → MoveOn block old step answer new entry → Invariant new
 move_keeps block old (Ask core on word asking) answer new entry g m = elim m.moves [
-  | inl idle ↦ subst Invariant (sym idle.3) g
+  | inl idle ↦ rw idle.3 g
   | inr a ↦ ask_moves old core block word asking answer new entry g m.within m.has_word a
 ]
 move_keeps block old (Order core) answer new entry g m = order_moves old core block m.request new g m.within m.orders

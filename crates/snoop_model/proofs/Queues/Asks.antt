@@ -80,7 +80,5 @@ module _ (s : Situation) (kept : IsWellKept s) (core block word : ℕ) (asking :
 
 pub kept_asks : (s t : Situation) (core block word : ℕ) (asking : Op) (answer : Reply) (entry : Option Item) → IsWellKept s → IsWithin s core block → Asks s core block word asking answer t entry → IsWellKept t
 kept_asks s t core block word asking answer entry kept within asks =
-    let act = asks.row.action in
-    subst IsWellKept (sym asks.after) (well_after s kept block (with_line (picture_of s block) core asks.held) (queues_after act s.queues core block)
-    (s.log ++ option_to_list entry)
-    (kept_taken s kept core block word asking within asks.held asks.row.next answer entry act asks.is_row asks.taken))
+    rw asks.after (well_after s kept block (with_line (picture_of s block) core asks.held) (queues_after asks.row.action s.queues core block) (s.log ++ option_to_list entry)
+    (kept_taken s kept core block word asking within asks.held asks.row.next answer entry asks.row.action asks.is_row asks.taken))

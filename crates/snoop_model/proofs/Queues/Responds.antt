@@ -62,7 +62,7 @@ module _ (s : Situation) (kept : IsWellKept s) (block : ℕ) (closing : Open) (d
 pub kept_responds : (s t : Situation) (block : ℕ) (closing : Open) (did : Option Did) → IsWellKept s → block < s.shape.blocks → Responds s block closing did t → IsWellKept t
 kept_responds s t block closing did kept within responds =
     let next : Picture = responds.next in
-    subst IsWellKept (sym responds.after) (well_after s kept block next s.queues _ (record {
+    rw responds.after (well_after s kept block next s.queues _ (record {
       within = within;
       as_wide = arrives_length (by_request closing.request responds.requestor);
       as_many = refl;
