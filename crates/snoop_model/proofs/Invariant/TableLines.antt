@@ -1,5 +1,5 @@
 -- Each Order that is taken is a line of the table of senders, and each Respond settles memory by the line of its transaction.
-use Rattle.std.proofs.Common.{◌≡◌, ℕ, ◌<◌, Option, inl, inr, sym, ◌∙◌, ap, subst}
+use Rattle.std.proofs.Common.{◌≡◌, ℕ, ◌<◌, Option, refl, inl, inr, sym, ◌∙◌, ap, subst}
 use Rattle.std.specs.Prelude.{IfSome}
 use Rattle.std.proofs.lemmas.Option.{same_Some}
 use Rattle.snoop_model.proofs.Lists.Facts.{if_some}

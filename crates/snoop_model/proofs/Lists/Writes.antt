@@ -32,7 +32,7 @@ pub first_within : {A : Type 0} (xs : List (List A)) (i : ℕ) (x : A) → slice
 first_within xs i x h = elim (cases_lt i (length xs)) [
   | inl lt ↦ lt
   | inr ge ↦
-      absurd (none-some x (sym (ap (λ l. slice_get l 0) (get_or_past xs i [] ge)) ∙ h))
+      absurd (none-some x (rw (get_or_past xs i [] ge) at h))
 ]
 
 -- what holds of each block of each core's line still holds after an issue and after an Order
@@ -57,17 +57,15 @@ sum_issued lines core block =
     let line : List ℕ = queue_of lines core ++ block ∷ [] in
     elim (cases_lt core (length lines)) [
       | inl lt ↦ omega (arith, sum_by-set (λ (l : List ℕ). length l) lines core line [] lt, length_push (queue_of lines core) block)
-      | inr ge ↦ let e : sum_by length (after_issue lines core block) ≡ sum_by length lines = ap (λ (l : List (List ℕ)). sum_by length l) (set_past lines core line ge) in omega arith
+      | inr ge ↦ rw (set_past lines core line ge) (omega arith)
     ]
 
 left_shorter : (line : List ℕ) (block : ℕ) → slice_get line 0 ≡ Some block → length (filter (λ b. not (b == block)) line) + 1 ≤ length line
 left_shorter [] block h = cc
 left_shorter (x ∷ xs) block h =
     let p : ℕ → Bool = λ b. not (b == block) in
-    let off : p x ≡ false = ap not (eq-eqb x block (same_Some _ _ h)) in
-    let one : count_by p (x ∷ xs) ≡ cond (p x) 1 0 + count_by p xs = sum_by-cons (λ y. cond (p y) 1 0) x xs in
-    let none : cond (p x) 1 0 ≡ 0 = ap (λ (b : Bool). cond {A = ℕ} b 1 0) off in
-    omega (arith, length-filter p (x ∷ xs), one, none, count_by-le-length p xs)
+    let none : cond {A = ℕ} (p x) 1 0 ≡ 0 = rw (eq-eqb x block (same_Some _ _ h)) refl in
+    omega (arith, length-filter p (x ∷ xs), sum_by-cons (λ y. cond (p y) 1 0) x xs, none, count_by-le-length p xs)
 
 pub sum_ordered : (lines : List (List ℕ)) (core block : ℕ) → slice_get (queue_of lines core) 0 ≡ Some block → sum_by length (after_order lines core block) + 1 ≤ sum_by length lines
 sum_ordered lines core block first =
@@ -83,8 +81,5 @@ pub count_set : {A : Type 0} (test : A → Bool) (xs : List A) (i : ℕ) (a d : 
     → count_by test (slice_set xs i a) + one_if (test (slice_index_or xs i d)) ≤ count_by test xs + one_if (test a)
 count_set test xs i a d none = elim (cases_lt i (length xs)) [
   | inl lt ↦ omega (arith, sum_by-set (λ x. one_if (test x)) xs i a d lt)
-  | inr ge ↦
-      let same : count_by test (slice_set xs i a) ≡ count_by test xs = ap (λ l. count_by test l) (set_past xs i a ge) in
-      let nothing : one_if (test (slice_index_or xs i d)) ≡ 0 = ap (λ x. one_if (test x)) (get_or_past xs i d ge) ∙ ap one_if none in
-      omega arith
+  | inr ge ↦ rw (set_past xs i a ge, get_or_past xs i d ge, none) (omega arith)
 ]

@@ -56,9 +56,8 @@ pub no_evict : (wanted : Access) (word : ℕ) → one_if (same_access wanted (re
 no_evict wanted word = go wanted.op (wanted.word == word)
   where
     go : (o : Op) (x : Bool) → one_if (x && same_op o op.Evict) ≡ 0
-    go op.Load true = refl
-    go (op.Store v) true = refl
     go op.Evict true = refl
+    go _ true = refl
     go o false = refl
 
 nothing_so : (wanted : Access) (waiting : Option Access) → option_map (λ access. request_for access.op) waiting ≡ None → waits_so wanted waiting ≡ 0

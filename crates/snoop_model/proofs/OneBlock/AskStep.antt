@@ -112,7 +112,7 @@ module _ (s : Situation) (core block word : ℕ) (asking : Op) (answer : Reply) 
   pub ask_keeps : BlockInvariant s.protocol n (flat_after flat (did_in entry)) after × IsLawful flat (did_in entry)
   ask_keeps = elim (ask_cases asks.row.action asking asks.is_row (rule AskTests.ask_carries) asks.taken) [
     | inl k ↦
-        let carried = each_after (λ d x. Carried (held_by before d) x) k.carried (λ d apart. carried_same (held_by before d) (held_by before d) refl) in
+        let carried = each_after (λ d x. Carried (held_by before d) x) k.carried (λ d apart. carried_same (held_by before d)) in
         let good = claims_stay flat k.state (λ d d_in h. carried_kept (held_by before d) (held_by after d) flat (carried d) (g.kept d d_in) h)
         (λ d d_in h. g.clean d d_in ((carried d).cleans h)) g.fresh g.carried in
         (rw k.same_flat good, k.lawful)

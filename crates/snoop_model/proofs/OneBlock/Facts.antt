@@ -33,10 +33,7 @@ fits_is_owner p shared ow w s h =
 
 pub fits_waits : (p : Protocol) (shared ow : Bool) (w : Option Request) (s : CacheState) → fits p shared ow w s ≡ true → wait_fits w s ≡ true
 unfolding fits
-fits_waits p shared ow w s h =
-    let a = and_parts (in_protocol p s) (same (is_owner s) ow && ((not (is_sharer s) || shared) && wait_fits w s)) h in
-    let b = and_parts (same (is_owner s) ow) ((not (is_sharer s) || shared) && wait_fits w s) a.1 in
-    (and_parts (not (is_sharer s) || shared) (wait_fits w s) b.1).1
+fits_waits p shared ow w s h = (and_parts (not (is_sharer s) || shared) _ (and_parts (same (is_owner s) ow) _ (and_parts (in_protocol p s) _ h).1).1).1
 
 pub implied : (a b : Bool) → (not a || b) ≡ true → a ≡ true → b ≡ true
 implied true b h e = h
@@ -50,17 +47,14 @@ pub record Carried (old new : Line) : Type 0 where
 pub carried_kept : (old new : Line) (flat : List ℕ) → Carried old new → (keeps old.state ≡ true → old.kept ≡ Some flat) → keeps new.state ≡ true → new.kept ≡ Some flat
 carried_kept old new flat k was h = (k.reads h).1 ∙ was (k.reads h).0
 
-pub carried_same : (old new : Line) → new ≡ old → Carried old new
-carried_same old new e = record { reads = λ h. (ap (λ (x : Line). keeps x.state) (sym e) ∙ h, ap (λ (x : Line). x.kept) e); cleans = λ h. ap (λ (x : Line). is_clean x.state) (sym e) ∙ h }
+pub carried_same : (line : Line) → Carried line line
+carried_same line = record { reads = λ h. (h, refl); cleans = λ h. h }
 
 -- a row that makes no reader of a core lets its words carry over
 pub carried_by : (old new : Line) (next : CacheState) → new.state ≡ next → (keeps next ≡ true → new.kept ≡ old.kept) → carries old.state next ≡ true → Carried old new
 carried_by old new next state kept carry =
-    let parts = and_parts (not (keeps next) || keeps old.state) (not (is_clean next) || is_clean old.state) carry in
-    record {
-      reads = λ h. (let e : keeps next ≡ true = ap keeps (sym state) ∙ h in (implied (keeps next) (keeps old.state) parts.0 e, kept e));
-      cleans = λ h. implied (is_clean next) (is_clean old.state) parts.1 (ap is_clean (sym state) ∙ h);
-    }
+    let (read, clean) = and_parts (not (keeps next) || keeps old.state) (not (is_clean next) || is_clean old.state) carry in
+    rw state (record { reads = λ h. (implied _ _ read h, kept h); cleans = implied _ _ clean })
 
 -- so does a move to the row's next state
 pub came_to : (old new : Line) (next : CacheState) → new ≡ moves_to next old → carries old.state next ≡ true → Carried old new

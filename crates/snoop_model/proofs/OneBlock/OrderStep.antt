@@ -5,6 +5,7 @@ use Rattle.std.specs.Option.{ForSome}
 use Rattle.std.proofs.lemmas.Bool.Decides.{eqb_tells}
 use Rattle.std.proofs.Math.Bool.{and-true, and-false}
 use Rattle.std.proofs.lemmas.Bool.{cases_eq, and_parts, cases_Bool, eq-eqb, ne_eqb, or_cases}
+use Rattle.std.proofs.lemmas.Option.{same_Some}
 use Rattle.snoop_model.proofs.Common.{Protocol, CacheEvent, CacheCell, MemCell, Request, Payload, cell_of, memory_cell_of, own, other, seen_by, at_memory, carries_value, waiting_request, Open, Line, Picture, held_by, Situation, picture_of, keeps, IsProper, moves_to, TakesRow, TakesRows, Orders}
 use Rattle.snoop_rules.specs.declared.names.Payload.TheVariants as payload
 use Rattle.snoop_history.specs.Totals.{is_put_m, is_data}
@@ -76,11 +77,8 @@ data_is _ h = cc
 
 payload_of_memory : (a b : Option Payload) (put owned : Bool) (pl sent : Payload) → same (is_some a) put ≡ true → same (is_some b) (not put && not owned) ≡ true → or_else a (or_else b (Some payload.Data)) ≡ Some pl → b ≡ Some sent → sent ≡ pl
 unfolding same
-payload_of_memory None None put owned pl sent h k e f = cc
-payload_of_memory None (Some y) put owned pl sent h k e f = cc
-payload_of_memory (Some x) None put owned pl sent h k e f = cc
 payload_of_memory (Some x) (Some y) true owned pl sent h k e f = cc
-payload_of_memory (Some x) (Some y) false owned pl sent h k e f = cc
+payload_of_memory _ _ _ owned pl sent h k e f = cc
 
 payload_of_requestor : (a b : Option Payload) (pl sent : Payload) → or_else a (or_else b (Some payload.Data)) ≡ Some pl → a ≡ Some sent → sent ≡ pl
 payload_of_requestor _ b pl sent e f = cc
@@ -221,7 +219,7 @@ module _ {p : Protocol} {flat : List ℕ} {before : Picture} {c : ℕ} {q : Requ
 -- a core that sends is there
 sender_there : (p : Protocol) (before : Picture) (c : ℕ) (q : Request) (from : Option ℕ) (sent : Payload) → Sends p before c q from sent → ForSome from (λ sender. sender < length before.caches)
 sender_there p before c q None sent sends = λ sender is. cc
-sender_there p before c q (Some d) sent sends = λ sender is. let same : d ≡ sender = cc in subst (λ (k : ℕ). k < length before.caches) same sends.0
+sender_there p before c q (Some d) sent sends = λ sender is. rw (← same_Some _ _ is) sends.0
 
 -- an Order keeps the invariant of a picture
 pub order_keeps : (s : Situation) (core block : ℕ) (q : Request) (new : Situation) (flat : List ℕ) → BlockInvariant s.protocol (length (picture_of s block).caches) flat (picture_of s block) → core < length (picture_of s block).caches
@@ -247,15 +245,11 @@ order_keeps s core block q new flat good in_row o =
       kept = λ d d_in h. carried_kept (held_by before d) (held_by after d) flat (order_carries l after o.taken d d_in) (good.kept d d_in) h;
       clean = λ d d_in h. o.value ∙ good.clean d d_in ((order_carries l after o.taken d d_in).cleans h);
       fresh = λ h. o.value ∙ order_fresh l h;
-      carried = λ x is_x carrying.
-          let e : opened ≡ x = some_is after.transaction opened x o.opened is_x in
-          let carry : carries_value o.payload ≡ true = ap (λ (y : Open). carries_value y.payload) e ∙ carrying in
-          let v : value_sent before o.from o.payload ≡ flat = sender_value l o.from o.payload o.sent.sends carry in
-          ap (λ (y : Open). y.value) (sym e) ∙ v;
+      carried = λ x is_x.
+          rw (← some_is after.transaction opened x o.opened is_x) (sender_value l o.from o.payload o.sent.sends);
       proper = λ d d_in.
           let t = o.taken.rows d d_in in
-          subst IsProper (sym t.2) (IsProper-order p (held_by before d) d core q t.0.action t.0.next (good.proper d d_in) t.1);
-      requestor_in = λ x is_x. subst (λ (y : Open). y.core < length before.caches) (some_is after.transaction opened x o.opened is_x) in_row;
-      sender_in = λ x is_x.
-          subst (λ (y : Open). ForSome y.from (λ sender. sender < length before.caches)) (some_is after.transaction opened x o.opened is_x) (sender_there p before core q o.from o.payload o.sent.sends);
+          rw t.2 (IsProper-order p (held_by before d) d core q t.0.action t.0.next (good.proper d d_in) t.1);
+      requestor_in = λ x is_x. rw (← some_is after.transaction opened x o.opened is_x) in_row;
+      sender_in = λ x is_x. rw (← some_is after.transaction opened x o.opened is_x) (sender_there p before core q o.from o.payload o.sent.sends);
     }

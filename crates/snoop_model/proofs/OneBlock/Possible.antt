@@ -107,15 +107,11 @@ order_possible p flat before c q good c_in waits calm =
       order_line = rw (sent_payload l (meant q c l.good.owner) s.0 s.1.0) s.1.1;
     }
 
-fits_protocol : (p : Protocol) (shared ow : Bool) (w : Option Request) (s : CacheState) → fits p shared ow w s ≡ true → in_protocol p s ≡ true
-unfolding fits
-fits_protocol p shared ow w s h = (and_parts _ _ h).0
-
 -- an Ask finds its row; an Evict in I has none and needs none
 pub ask_possible : (p : Protocol) (n : ℕ) (flat : List ℕ) (before : Picture) (c : ℕ) (o : Op) → BlockInvariant p n flat before → c < n → is_idle_evict (held_by before c).state (asked o) ≡ false → (r : CacheCell) × (cell_of p (held_by before c).state (asked o) ≡ Some r)
+unfolding fits
 ask_possible p n flat before c o good c_in busy =
-    let fit = good.states c c_in in
-    let h = when_at _ _ (fits_protocol p good.claims.shared (owns good.owner c) (own_open before.transaction c) (held_by before c).state fit) (ask_row p (held_by before c).state o) in
+    let h = when_at _ _ (and_parts _ _ (good.states c c_in)).0 (ask_row p (held_by before c).state o) in
     some_of (cell_of p (held_by before c).state (asked o)) (right_of (is_idle_evict (held_by before c).state (asked o)) _ h busy)
 
 -- a Respond finds its rows

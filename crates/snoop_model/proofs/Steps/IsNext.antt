@@ -26,9 +26,8 @@ use Rattle.snoop_model.proofs.Queues.Waiting.{AreQueued, first_waits}
 -- an operation does one thing
 pub performs_is : (word : ℕ) (asking : Op) (before : List ℕ) (value : ℕ) (after : List ℕ) → Performs word asking before value after
     → (value ≡ value_of word asking before) × (after ≡ words_after word asking before)
-performs_is word op.Load before value after h = h
-performs_is word (op.Store stored) before value after h = h
 performs_is word op.Evict before value after h = absurd h
+performs_is word _ before value after h = h
 
 pub word_decides : (shape : Extent) (word : ℕ) (asking : Op) → Decides (has_word shape word asking) (HasWord shape word asking)
 word_decides shape word op.Evict = (λ h. tt, λ h. refl)
@@ -83,9 +82,7 @@ module _ (p : Protocol) (before : Picture) (core : ℕ) (q : Request) where
           → sender_below p before core q (suc n) ≡ from
       found (Some x) is rest = rw is (sent.alone (Some n) x (omega arith, sends_row _ x is))
       found None is rest =
-          let silent : from ≡ Some n → ⊥ = λ e.
-          (let sends : payload_from p before core q (Some n) ≡ Some payload = subst (λ f. payload_from p before core q f ≡ Some payload) e
-          (sends_is p before core q from payload sent.sends) in cc) in
+          let silent : from ≡ Some n → ⊥ = λ e. (let sends = rw e at (sends_is p before core q from payload sent.sends) in cc) in
           rw is (rest (lower from below silent))
 
 orders_is : (s : Situation) (core block : ℕ) (q : Request) (new : Situation) → Orders s core block q new

@@ -33,7 +33,7 @@ none_left None None core block h = (refl, λ o e own. cc)
 none_left None (Some o) core block h = (
   refl,
   λ p e own.
-      let its : o.core ≡ core = ap (λ (x : Open). x.core) (same_Some _ _ e) ∙ own in
+      let its : o.core ≡ core = rw (same_Some _ _ e) own in
       let clash = rw (eq-eqb o.core core its) at h in
       cc,
 )
@@ -51,14 +51,13 @@ module _ (s : Situation) (under_way : ℕ → Option ℕ) (core block word : ℕ
   order_goes its free q waits NothingWaiting h = h.1 block q waits
   order_goes its free q waits (BusTaken b) h =
       let same : block ≡ b = same_Some _ _ (sym its ∙ all_first (λ x. under_way core ≡ Some x) (queue_of s.queues core) b (serving.waits core) h.1) in
-      let P : ℕ → Type 0 = λ x. (picture_of s x).transaction ≡ None in
-      let taken : is_some (picture_of s b).transaction ≡ true = h.2 in
-      absurd (false≢true (sym (ap (λ (o : Option Open). is_some o) (subst P same free)) ∙ taken))
+      let clash : false ≡ true = rw (← same, free) at h.2 in
+      cc
   order_goes its free q waits _ h = absurd h
 
   respond_goes : (o : Open) → (picture_of s block).transaction ≡ Some o → (cause : Refused) → Refuses s (Respond block) cause → ⊥
   respond_goes o open_here NoBlock h = absurd (omega arith)
-  respond_goes o open_here NoTransaction h = let clash : ◌≡◌ {A = Option Open} None (Some o) = sym h.1 ∙ open_here in cc
+  respond_goes o open_here NoTransaction h = none-some o (sym h.1 ∙ open_here)
   respond_goes o open_here _ h = absurd h
 
 pub never_refused : NeverRefused
