@@ -35,44 +35,9 @@ use Rattle.snoop_model.proofs.Tables.SenderLines.{led_line}
 use Rattle.snoop_model.proofs.Tables.WaitingRows.{awaited-get}
 use Rattle.snoop_model.proofs.Tables.StateTests.{brings_data, resting_rule}
 
--- a block outside the shape has nothing
-outside : (s : Situation) → Invariant s → (block : ℕ) → s.shape.blocks ≤ block → picture_of s block ≡ nothing_there
-outside s g block past = let long = g.shaped.pictures in get_or_past s.pictures block nothing_there (omega arith)
-
--- what holds of each line of the machine, and of a core that holds nothing, holds of every core's
-pub each_line : (s : Situation) → Invariant s → (core block : ℕ) (P : Line → Type 0) → (IsWithin s core block → P (held_by (picture_of s block) core)) → P nothing_held → P (held_by (picture_of s block) core)
-each_line s g core block P here nothing = elim (cases_lt block s.shape.blocks) [
-  | inl in_blocks ↦ each_held (picture_of s block).caches core P (λ below. here (rw (← (g.shaped.row block in_blocks)) below, in_blocks)) nothing
-  | inr past ↦ subst (λ (x : Picture). P (held_by x core)) (sym (outside s g block past)) (subst P (sym (get_or_past [] core nothing_held (omega arith))) nothing)
-]
-
 -- a core that holds nothing may neither read nor write
 never_hits : (p : Protocol) (e : CacheEvent) (n : CacheState) → Cell p state.I e action.Hit n → ⊥
 never_hits p e n row = let kept = (hit_keeps p state.I e n row).0 in cc
-
--- beside a writer no other core is a reader or a writer
-pub has_one_writer : (s : Situation) → Invariant s → (block : ℕ) → OneWriter s.protocol (picture_of s block)
-has_one_writer s g block core other writes apart =
-    let p = s.protocol in
-    let picture : Picture = picture_of s block in
-    let Idle : Line → Type 0 = λ x. (¬ MayLoad p x.state) × (¬ MayStore p x.state) in
-    each_line s g core block (λ x. MayStore p x.state → Idle (held_by picture other))
-    (λ within stores. each_line s g other block Idle
-    (λ within_too.
-    let good = g.blocks block within.1 in
-    let owning = (and_parts (owns good.owner core) (not (is_clean stores.0)) (ask_rule AskTests.ask_store_owns p good.claims.shared (owns good.owner core) (own_open picture.transaction core)
-    (held_by picture core).state (op.Store 0) (record { action = action.Hit; next = stores.0 }) (good.states core within.0) stores.1)).0 in
-    let blind = one_writer p s.shape.cores (flat_words s.log block) picture good core other within_too.0 owning apart in
-    let held = (held_by picture other).state in
-    (λ h. both_ways _ blind (hit_keeps p held event.Load h.0 h.1).0, λ h. both_ways _ blind (hit_keeps p held event.Store h.0 h.1).0))
-    (λ h. never_hits p event.Load h.0 h.1, λ h. never_hits p event.Store h.0 h.1))
-    (λ stores. absurd (never_hits p event.Store stores.0 stores.1)) writes
-
--- each reader keeps flat memory's value
-pub readers_current : (s : Situation) → Invariant s → (core block : ℕ) → MayLoad s.protocol (state_of s core block) → (held_by (picture_of s block) core).kept ≡ Some (flat_words s.log block)
-readers_current s g core block = each_line s g core block (λ x. MayLoad s.protocol x.state → x.kept ≡ Some (flat_words s.log block))
-    (λ within reads. (g.blocks block within.1).kept core within.0 (hit_keeps s.protocol (state_of s core block) event.Load reads.0 reads.1).0)
-    (λ reads. absurd (never_hits s.protocol event.Load reads.0 reads.1))
 
 -- an owner may write
 owner_stores : (p : Protocol) (s : CacheState) → in_protocol p s ≡ true → is_owner s ≡ true → MayStore p s
@@ -95,14 +60,6 @@ keeper_loads Mesi state.E known kept = (state.E, refl)
 keeper_loads Mesi state.EiA known kept = (state.EiA, refl)
 keeper_loads _ _ known kept = cc
 
--- no core keeps words that it may not read
-pub kept_read : (s : Situation) → Invariant s → (core block : ℕ) → IsSome (held_by (picture_of s block) core).kept → MayLoad s.protocol (state_of s core block)
-unfolding fits
-kept_read s g core block = each_line s g core block (λ x. IsSome x.kept → MayLoad s.protocol x.state)
-    (λ within is. let good = g.blocks block within.1 in
-    keeper_loads s.protocol (state_of s core block) (and_parts _ _ (good.states core within.0)).0 (sym (good.proper core within.0).kept ∙ is))
-    (λ is. cc)
-
 -- where no core may write the block, none owns it
 nobody_owns : (p : Protocol) (n : ℕ) (value : List ℕ) (picture : Picture) (g : BlockInvariant p n value picture) → ((core : ℕ) → ¬ MayStore p (held_by picture core).state) → (owner : Option ℕ) → g.owner ≡ owner → g.claims.owned ≡ false
 unfolding fits
@@ -124,34 +81,6 @@ data_is (Some o) value carried = elim (cases_Bool (carries_value o.payload)) [
   | inr e ↦ rw e tt
 ]
 
--- data under way has flat memory's value
-pub data_current : (s : Situation) → Invariant s → (block : ℕ) → block < s.shape.blocks → IfSome (data_under_way (picture_of s block).transaction) (λ words. words ≡ flat_words s.log block)
-data_current s g block within = data_is (picture_of s block).transaction (flat_words s.log block) (g.blocks block within).carried
-
--- and so has memory, where nobody may write and no data is under way
-pub memory_current : (s : Situation) → Invariant s → (block : ℕ) → block < s.shape.blocks → ((core : ℕ) → ¬ MayStore s.protocol (state_of s core block)) → data_under_way (picture_of s block).transaction ≡ None → (picture_of s block).memory.value ≡ flat_words s.log block
-memory_current s g block within idle none =
-    let p = s.protocol in
-    let picture : Picture = picture_of s block in
-    let it = g.blocks block within in
-    it.fresh (resting_rule p picture.memory.state (talk_of picture.transaction) it.claims it.is_claims (nobody_owns p s.shape.cores (flat_words s.log block) picture it idle it.owner refl) (no_data picture.transaction none))
-
--- an open transaction is of a block within the shape
-opened_within : (s : Situation) → Invariant s → (block : ℕ) (o : Open) → (picture_of s block).transaction ≡ Some o → block < s.shape.blocks
-opened_within s g block o is = elim (cases_lt block s.shape.blocks) [
-  | inl within ↦ within
-  | inr past ↦ absurd (none-some o (sym (ap (λ (x : Picture). x.transaction) (outside s g block past)) ∙ is))
-]
-
--- a core that sent its message is there
-pub sender_within : (s : Situation) → Invariant s → (block : ℕ) (o : Open) → (picture_of s block).transaction ≡ Some o → ForSome o.from (λ sender. sender < s.shape.cores)
-sender_within s g block o is = (g.blocks block (opened_within s g block o is)).sender_in o is
-
--- it is of its block, and its requestor is a core of the machine; so is its sender, where that isn't memory
-pub names_its_block : (s : Situation) → Invariant s → (block : ℕ) → IfSome (picture_of s block).transaction (λ o. (o.block ≡ block) × (o.core < s.shape.cores) × IfSome o.from (λ sender. sender < s.shape.cores))
-names_its_block s g block = if_some (picture_of s block).transaction _
-    (λ o is. (g.opened block o is, (g.blocks block (opened_within s g block o is)).requestor_in o is, if_some o.from _ (sender_within s g block o is)))
-
 -- the requestor of an open GetS or GetM is in a state that waits for its data
 open_awaits : (q : Request) (s : CacheState) → q ≢ request.PutM → wait_fits (Some q) s ≡ true → awaited_request s ≡ Some q
 unfolding wait_fits
@@ -160,43 +89,6 @@ open_awaits request.GetM state.ImD get fit = refl
 open_awaits request.GetM state.SmD get fit = refl
 open_awaits request.PutM _ get fit = absurd (get refl)
 open_awaits _ _ get fit = cc
-
--- a core waits for data exactly where the block's open transaction is its GetS or GetM
-pub data_awaited : (s : Situation) → Invariant s → IsWellKept s → (core block : ℕ) (q : Request) → (awaited_request (state_of s core block) ≡ Some q) ↔ (HasOpen s core block q × (q ≢ request.PutM))
-data_awaited s g kept core block q = (
-  λ waits. (kept.awaits core block q waits, λ put. awaited-get (state_of s core block) (waits ∙ ap (λ (x : Request). Some x) put)),
-  λ open_get.
-      let o = open_get.0.0 in
-      let is = open_get.0.1 in
-      let good = g.blocks block (opened_within s g block o is.0) in
-      let there : core < s.shape.cores = rw (← is.1) (good.requestor_in o is.0) in
-      let its : own_open (picture_of s block).transaction core ≡ Some q = rw (is.0, is.1, eq-eqb core core refl, is.2) refl in
-      let fit = fits_waits s.protocol good.claims.shared (owns good.owner core) (own_open (picture_of s block).transaction core) (state_of s core block) (good.states core there) in
-      open_awaits q (state_of s core block) open_get.1 (rw its at fit),
-)
-
--- a core that waits is within the shape, and so is its block
-pub waits_within : (s : Situation) → Invariant s → (core block : ℕ) (q : Request) → Waits s core block q → IsWithin s core block
-waits_within s g core block q = each_line s g core block (λ x. waiting_request x.state ≡ Some q → IsWithin s core block) (λ within waits. within) (λ waits. cc)
-
-possible_order : (s : Situation) → Invariant s → (core block : ℕ) (q : Request) → CanOrder s core block q → Possible s.protocol (picture_of s block) core q
-possible_order s g core block q ready =
-    let within = waits_within s g core block q ready.0 in
-    let long = g.shaped.row block within.1 in
-    order_possible s.protocol (flat_words s.log block) (picture_of s block) core q (rw long (g.blocks block within.1)) (rw long within.0) ready.0 ready.1
-
--- an Order of any request that waits on a free block has exactly one sender, and is a line of the table
-pub orders_follow_sender_table : (s : Situation) → Invariant s → OrdersFollowSenderTable s.protocol s
-orders_follow_sender_table s g core block q ready =
-    let x = possible_order s g core block q ready in
-    record {
-      from = x.from;
-      payload = x.payload;
-      next = x.cell_of_memory.next;
-      sent = x.sender;
-      ordered = (x.cell_of_memory, x.memory_row, refl);
-      is_line = led_line s.protocol (picture_of s block) core q x.from x.payload x.cell_of_memory.next x.order_line;
-    }
 
 pub idle_evict : (s : CacheState) (o : Op) → is_idle_evict s (asked o) ≡ true → (o ≡ op.Evict) × (s ≡ state.I)
 idle_evict state.I op.Evict h = (refl, refl)
@@ -219,48 +111,153 @@ has_mem_row : (p : Protocol) (m : MemState) (found : Option MemEvent) → (r : _
 has_mem_row p m None row = let h = row.1 in cc
 has_mem_row p m (Some e) row = row
 
--- a core has a row for what it is asked
-asked_row : (s : Situation) → Invariant s → (core block word : ℕ) (asking : Op) → (¬ ((asking ≡ op.Evict) × (state_of s core block ≡ state.I))) → HasRow s.protocol (state_of s core block) (asked asking)
-asked_row s g core block word asking = each_line s g core block (λ x. (¬ ((asking ≡ op.Evict) × (x.state ≡ state.I))) → HasRow s.protocol x.state (asked asking))
-    (λ within busy.
-    let held = state_of s core block in
-    let not_idle = false_from_ne_true (is_idle_evict held (asked asking)) (λ idle. busy (idle_evict held asking idle)) in
-    ask_possible s.protocol s.shape.cores (flat_words s.log block) (picture_of s block) core asking (g.blocks block within.1) within.0 not_idle)
-    (nothing_asked s.protocol asking)
-
--- and for a request that is ordered
-seen_row : (s : Situation) → Invariant s → (core block : ℕ) (q : Request) → CanOrder s core block q → (k : ℕ) → HasRow s.protocol (state_of s k block) (seen_by k core q)
-seen_row s g core block q ready k = each_line s g k block (λ x. (k ≡ core → waiting_request x.state ≡ Some q) → HasRow s.protocol x.state (seen_by k core q))
-    (λ within waits. let long : length (picture_of s block).caches ≡ s.shape.cores = g.shaped.row block within.1 in
-    (possible_order s g core block q ready).rows k (omega arith))
-    (λ waits. rw (seen_other k core q (λ same. none-some q (waits same))) (nothing_seen s.protocol q))
-    (λ same. rw same ready.0)
-
 not_put : (q : Request) → q ≢ request.PutM → is_put_m q ≡ false
 not_put request.PutM get = absurd (get refl)
 not_put _ get = refl
 
-response_possible : (s : Situation) → Invariant s → (block : ℕ) (closing : Open) → (picture_of s block).transaction ≡ Some closing → Answerable s.protocol (picture_of s block) closing
-response_possible s g block closing opened = respond_possible s.protocol s.shape.cores (flat_words s.log block) (picture_of s block) closing (g.blocks block (opened_within s g block closing opened)) opened
+module _ (s : Situation) (g : Invariant s) where
+  -- a block outside the shape has nothing
+  outside : (block : ℕ) → s.shape.blocks ≤ block → picture_of s block ≡ nothing_there
+  outside block past = let long = g.shaped.pictures in get_or_past s.pictures block nothing_there (omega arith)
 
-finds_cache : (s : Situation) → Invariant s → (step : Step) (core block : ℕ) (event : Option CacheEvent) → ConsultsCache s step core block event → IsSomeAnd event (HasRow s.protocol (state_of s core block))
-finds_cache s g (Ask asker on word asking) core block event looks = rw looks.3 (asked_row s g core block word asking looks.2)
-finds_cache s g (Order requestor) core block event looks = rw looks.1.1 (seen_row s g requestor block looks.0 looks.1.0 core)
-finds_cache s g (Respond on) core block event looks =
-    let closing = looks.0 in
-    let row = (response_possible s g block closing looks.1.1).requestor (not_put closing.request looks.1.3) in
-    rw (looks.1.4, looks.1.2) (has_row s.protocol (state_of s closing.core block) (arrival closing.payload) row)
+  -- what holds of each line of the machine, and of a core that holds nothing, holds of every core's
+  pub each_line : (core block : ℕ) (P : Line → Type 0) → (IsWithin s core block → P (held_by (picture_of s block) core)) → P nothing_held → P (held_by (picture_of s block) core)
+  each_line core block P here nothing = elim (cases_lt block s.shape.blocks) [
+    | inl in_blocks ↦ each_held (picture_of s block).caches core P (λ below. here (rw (← (g.shaped.row block in_blocks)) below, in_blocks)) nothing
+    | inr past ↦ rw (outside block past, get_or_past [] core nothing_held (omega arith)) nothing
+  ]
 
-finds_memory : (s : Situation) → Invariant s → (step : Step) (block : ℕ) (event : Option MemEvent) → ConsultsMemory s step block event → IsSomeAnd event (HasMemRow s.protocol (picture_of s block).memory.state)
-finds_memory s g (Ask asker on word asking) block event looks = absurd looks
-finds_memory s g (Order requestor) block event looks =
-    let x = possible_order s g requestor block looks.0 looks.1.0 in
-    rw looks.1.1 (x.cell_of_memory, x.memory_row)
-finds_memory s g (Respond on) block event looks =
-    let closing = looks.0 in
-    let row = (response_possible s g block closing looks.1.1).memory looks.1.2 in
-    rw looks.1.3 (has_mem_row s.protocol (picture_of s block).memory.state (arrival_at_memory closing.payload) row)
+  -- beside a writer no other core is a reader or a writer
+  pub has_one_writer : (block : ℕ) → OneWriter s.protocol (picture_of s block)
+  has_one_writer block core other writes apart =
+      let p = s.protocol in
+      let picture : Picture = picture_of s block in
+      let Idle : Line → Type 0 = λ x. (¬ MayLoad p x.state) × (¬ MayStore p x.state) in
+      each_line core block (λ x. MayStore p x.state → Idle (held_by picture other))
+      (λ within stores. each_line other block Idle
+      (λ within_too.
+      let good = g.blocks block within.1 in
+      let owning = (and_parts (owns good.owner core) (not (is_clean stores.0)) (ask_rule AskTests.ask_store_owns p good.claims.shared (owns good.owner core) (own_open picture.transaction core)
+      (held_by picture core).state (op.Store 0) (record { action = action.Hit; next = stores.0 }) (good.states core within.0) stores.1)).0 in
+      let blind = one_writer good core owning other within_too.0 apart in
+      let held = (held_by picture other).state in
+      (λ h. both_ways _ blind (hit_keeps p held event.Load h.0 h.1).0, λ h. both_ways _ blind (hit_keeps p held event.Store h.0 h.1).0))
+      (λ h. never_hits p event.Load h.0 h.1, λ h. never_hits p event.Store h.0 h.1))
+      (λ stores. absurd (never_hits p event.Store stores.0 stores.1)) writes
 
--- no step meets an impossible cell
-pub finds_rows : (s : Situation) → Invariant s → (step : Step) → FindsRows s step
-finds_rows s g step = record { cache = finds_cache s g step; memory = finds_memory s g step }
+  -- each reader keeps flat memory's value
+  pub readers_current : (core block : ℕ) → MayLoad s.protocol (state_of s core block) → (held_by (picture_of s block) core).kept ≡ Some (flat_words s.log block)
+  readers_current core block = each_line core block (λ x. MayLoad s.protocol x.state → x.kept ≡ Some (flat_words s.log block))
+      (λ within reads. (g.blocks block within.1).kept core within.0 (hit_keeps s.protocol (state_of s core block) event.Load reads.0 reads.1).0)
+      (λ reads. absurd (never_hits s.protocol event.Load reads.0 reads.1))
+
+  -- no core keeps words that it may not read
+  pub kept_read : (core block : ℕ) → IsSome (held_by (picture_of s block) core).kept → MayLoad s.protocol (state_of s core block)
+  unfolding fits
+  kept_read core block = each_line core block (λ x. IsSome x.kept → MayLoad s.protocol x.state)
+      (λ within is. let good = g.blocks block within.1 in
+      keeper_loads s.protocol (state_of s core block) (and_parts _ _ (good.states core within.0)).0 (sym (good.proper core within.0).kept ∙ is))
+      (λ is. cc)
+
+  -- data under way has flat memory's value
+  pub data_current : (block : ℕ) → block < s.shape.blocks → IfSome (data_under_way (picture_of s block).transaction) (λ words. words ≡ flat_words s.log block)
+  data_current block within = data_is (picture_of s block).transaction (flat_words s.log block) (g.blocks block within).carried
+
+  -- and so has memory, where nobody may write and no data is under way
+  pub memory_current : (block : ℕ) → block < s.shape.blocks → ((core : ℕ) → ¬ MayStore s.protocol (state_of s core block)) → data_under_way (picture_of s block).transaction ≡ None → (picture_of s block).memory.value ≡ flat_words s.log block
+  memory_current block within idle none =
+      let picture : Picture = picture_of s block in
+      let it = g.blocks block within in
+      it.fresh (resting_rule s.protocol picture.memory.state (talk_of picture.transaction) it.claims it.is_claims
+      (nobody_owns s.protocol s.shape.cores (flat_words s.log block) picture it idle it.owner refl) (no_data picture.transaction none))
+
+  -- an open transaction is of a block within the shape
+  opened_within : (block : ℕ) (o : Open) → (picture_of s block).transaction ≡ Some o → block < s.shape.blocks
+  opened_within block o is = elim (cases_lt block s.shape.blocks) [
+    | inl within ↦ within
+    | inr past ↦ absurd (none-some o (rw (outside block past) at is))
+  ]
+
+  -- a core that sent its message is there
+  pub sender_within : (block : ℕ) (o : Open) → (picture_of s block).transaction ≡ Some o → ForSome o.from (λ sender. sender < s.shape.cores)
+  sender_within block o is = (g.blocks block (opened_within block o is)).sender_in o is
+
+  -- it is of its block, and its requestor is a core of the machine; so is its sender, where that isn't memory
+  pub names_its_block : (block : ℕ) → IfSome (picture_of s block).transaction (λ o. (o.block ≡ block) × (o.core < s.shape.cores) × IfSome o.from (λ sender. sender < s.shape.cores))
+  names_its_block block = if_some (picture_of s block).transaction _
+      (λ o is. (g.opened block o is, (g.blocks block (opened_within block o is)).requestor_in o is, if_some o.from _ (sender_within block o is)))
+
+  -- a core waits for data exactly where the block's open transaction is its GetS or GetM
+  pub data_awaited : IsWellKept s → (core block : ℕ) (q : Request) → (awaited_request (state_of s core block) ≡ Some q) ↔ (HasOpen s core block q × (q ≢ request.PutM))
+  data_awaited kept core block q = (
+    λ waits. (kept.awaits core block q waits, λ put. awaited-get (state_of s core block) (rw put at waits)),
+    λ open_get.
+        let o = open_get.0.0 in
+        let is = open_get.0.1 in
+        let good = g.blocks block (opened_within block o is.0) in
+        let there : core < s.shape.cores = rw (← is.1) (good.requestor_in o is.0) in
+        let its : own_open (picture_of s block).transaction core ≡ Some q = rw (is.0, is.1, eq-eqb core core refl, is.2) refl in
+        let fit = fits_waits s.protocol good.claims.shared (owns good.owner core) (own_open (picture_of s block).transaction core) (state_of s core block) (good.states core there) in
+        open_awaits q (state_of s core block) open_get.1 (rw its at fit),
+  )
+
+  -- a core that waits is within the shape, and so is its block
+  pub waits_within : (core block : ℕ) (q : Request) → Waits s core block q → IsWithin s core block
+  waits_within core block q = each_line core block (λ x. waiting_request x.state ≡ Some q → IsWithin s core block) (λ within waits. within) (λ waits. cc)
+
+  possible_order : (core block : ℕ) (q : Request) → CanOrder s core block q → Possible s.protocol (picture_of s block) core q
+  possible_order core block q ready =
+      let within = waits_within core block q ready.0 in
+      let long = g.shaped.row block within.1 in
+      order_possible s.protocol (flat_words s.log block) (picture_of s block) core q (rw long (g.blocks block within.1)) (rw long within.0) ready.0 ready.1
+
+  -- an Order of any request that waits on a free block has exactly one sender, and is a line of the table
+  pub orders_follow_sender_table : OrdersFollowSenderTable s.protocol s
+  orders_follow_sender_table core block q ready =
+      let x = possible_order core block q ready in
+      record {
+        from = x.from;
+        payload = x.payload;
+        next = x.cell_of_memory.next;
+        sent = x.sender;
+        ordered = (x.cell_of_memory, x.memory_row, refl);
+        is_line = led_line s.protocol (picture_of s block) core q x.from x.payload x.cell_of_memory.next x.order_line;
+      }
+
+  -- a core has a row for what it is asked
+  asked_row : (core block : ℕ) (asking : Op) → (¬ ((asking ≡ op.Evict) × (state_of s core block ≡ state.I))) → HasRow s.protocol (state_of s core block) (asked asking)
+  asked_row core block asking = each_line core block (λ x. (¬ ((asking ≡ op.Evict) × (x.state ≡ state.I))) → HasRow s.protocol x.state (asked asking))
+      (λ within busy.
+      let held = state_of s core block in
+      let not_idle = false_from_ne_true (is_idle_evict held (asked asking)) (λ idle. busy (idle_evict held asking idle)) in
+      ask_possible s.protocol s.shape.cores (flat_words s.log block) (picture_of s block) core asking (g.blocks block within.1) within.0 not_idle)
+      (nothing_asked s.protocol asking)
+
+  -- and for a request that is ordered
+  seen_row : (core block : ℕ) (q : Request) → CanOrder s core block q → (k : ℕ) → HasRow s.protocol (state_of s k block) (seen_by k core q)
+  seen_row core block q ready k = each_line k block (λ x. (k ≡ core → waiting_request x.state ≡ Some q) → HasRow s.protocol x.state (seen_by k core q))
+      (λ within waits. (possible_order core block q ready).rows k (rw (g.shaped.row block within.1) within.0))
+      (λ waits. rw (seen_other k core q (λ same. none-some q (waits same))) (nothing_seen s.protocol q))
+      (λ same. rw same ready.0)
+
+  response_possible : (block : ℕ) (closing : Open) → (picture_of s block).transaction ≡ Some closing → Answerable s.protocol (picture_of s block) closing
+  response_possible block closing opened = respond_possible s.protocol s.shape.cores (flat_words s.log block) (picture_of s block) closing (g.blocks block (opened_within block closing opened)) opened
+
+  finds_cache : (step : Step) (core block : ℕ) (event : Option CacheEvent) → ConsultsCache s step core block event → IsSomeAnd event (HasRow s.protocol (state_of s core block))
+  finds_cache (Ask asker on word asking) core block event looks = rw looks.3 (asked_row core block asking looks.2)
+  finds_cache (Order requestor) core block event looks = rw looks.1.1 (seen_row requestor block looks.0 looks.1.0 core)
+  finds_cache (Respond on) core block event (closing, looks) =
+      rw (looks.4, looks.2) (has_row s.protocol (state_of s closing.core block) (arrival closing.payload)
+      ((response_possible block closing looks.1).requestor (not_put closing.request looks.3)))
+
+  finds_memory : (step : Step) (block : ℕ) (event : Option MemEvent) → ConsultsMemory s step block event → IsSomeAnd event (HasMemRow s.protocol (picture_of s block).memory.state)
+  finds_memory (Ask asker on word asking) block event looks = absurd looks
+  finds_memory (Order requestor) block event looks =
+      let x = possible_order requestor block looks.0 looks.1.0 in
+      rw looks.1.1 (x.cell_of_memory, x.memory_row)
+  finds_memory (Respond on) block event (closing, looks) =
+      rw looks.3 (has_mem_row s.protocol (picture_of s block).memory.state (arrival_at_memory closing.payload) ((response_possible block closing looks.1).memory looks.2))
+
+  -- no step meets an impossible cell
+  pub finds_rows : (step : Step) → FindsRows s step
+  finds_rows step = record { cache = finds_cache step; memory = finds_memory step }

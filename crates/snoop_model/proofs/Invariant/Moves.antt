@@ -13,7 +13,8 @@ use Rattle.snoop_history.specs.declared.items.Item.TheVariants as item
 use Rattle.snoop_history.specs.History.{flat_words, operation_of, operations}
 use Rattle.snoop_model.specs.Invariant.Block.{BlockInvariant}
 use Rattle.snoop_model.specs.Invariant.Invariant.{Invariant}
-use Rattle.snoop_model.proofs.OneBlock.Facts.{by_core, each_held}
+use Rattle.snoop_model.proofs.Lists.Writes.{each_set}
+use Rattle.snoop_model.proofs.OneBlock.Facts.{each_held}
 use Rattle.snoop_model.proofs.OneBlock.Operation.{did_in, flat_after, IsLawful}
 use Rattle.snoop_model.proofs.OneBlock.OfBlocks.{changed, in_pictures, each_picture, shaped_after}
 use Rattle.snoop_model.proofs.Lines.Answered.{by_request, arrives_length, still_waiting}
@@ -81,15 +82,13 @@ abbrev AccessWithin : Extent → Line → Type 0
 AccessWithin shape line = (access : Access) → line.waiting ≡ Some access → IsWord shape access.word
 
 issued_access : (s : Situation) (word : ℕ) (asking : Op) (access : Access) → HasWord s.shape word asking → kept_waiting word asking ≡ Some access → IsWord s.shape access.word
-issued_access s word op.Load access within e = subst (λ (a : Access). IsWord s.shape a.word) (same_Some _ _ e) within
-issued_access s word (op.Store v) access within e = subst (λ (a : Access). IsWord s.shape a.word) (same_Some _ _ e) within
 issued_access s word op.Evict access within e = cc
+issued_access s word _ access within e = rw (← same_Some _ _ e) within
 
 -- a hit is of a load or a store, whose word there is
 hit_word : (shape : Extent) (word : ℕ) (asking : Op) (before : List ℕ) (value : ℕ) (after : List ℕ) → HasWord shape word asking → Performs word asking before value after → IsWord shape word
-hit_word shape word op.Load before value after there h = there
-hit_word shape word (op.Store v) before value after there h = there
 hit_word shape word op.Evict before value after there h = absurd h
+hit_word shape word _ before value after there h = there
 
 -- what waits after an Ask, and its item
 module _ (s : Situation) (core block word : ℕ) (asking : Op) (next : CacheState) (old new : Line) (answer : Reply) (entry : Option Item) (there : HasWord s.shape word asking) where
@@ -110,51 +109,39 @@ module _ (s : Situation) (core block word : ℕ) (asking : Op) (next : CacheStat
 pub ask_moves : (old : Situation) (core block word : ℕ) (asking : Op) (answer : Reply) (new : Situation) (entry : Option Item) → Invariant old → IsWithin old core block → HasWord old.shape word asking → Asks old core block word asking answer new entry → Invariant new
 ask_moves old core block word asking answer new entry g within there a =
     let before : Picture = picture_of old block in
-    let cores : length before.caches ≡ old.shape.cores = g.shaped.row block within.1 in
-    let after : Picture = with_line before core a.held in
-    let in_row : core < length before.caches = subst (λ (n : ℕ). core < n) (sym cores) within.0 in
-    let here : held_by after core ≡ a.held = get_or-set_same before.caches core a.held nothing_held in_row in
+    let in_row : core < length before.caches = rw (g.shaped.row block within.1) within.0 in
     let k = ask_keeps old core block word asking answer new entry a old.shape.cores (flat_words old.log block) (g.blocks block within.1) within.0 in_row in
-    let queues = queues_after a.row.action old.queues core block in
-    let whole : Keeps old block after queues entry = record {
+    rw a.after (kept old block (with_line before core a.held) (queues_after a.row.action old.queues core block) entry g (record {
       within = within.1;
       as_wide = length-set before.caches core a.held;
       as_many_queues = as_many_after a.row.action old.queues core block;
-      opened = λ o is_open. g.opened block o is_open;
+      opened = g.opened block;
       block_after = k.0;
       item = takes_item old core block word asking a.row.next (held_by before core) a.held answer entry there a.row.action a.taken within k.1;
-      accesses = by_core core (λ c. AccessWithin old.shape (held_by after c))
-          (rw here (takes_access old core block word asking a.row.next (held_by before core) a.held answer entry there a.row.action a.taken (g.accesses core block)))
-          (λ c apart. let same : held_by after c ≡ held_by before c = get_or-set_other before.caches core c a.held nothing_held apart in rw same (g.accesses c block));
-    } in
-    subst Invariant (sym a.after) (kept old block after queues entry g whole)
+      accesses = each_set before.caches core a.held nothing_held (λ c. AccessWithin old.shape) in_row
+          (takes_access old core block word asking a.row.next (held_by before core) a.held answer entry there a.row.action a.taken (g.accesses core block))
+          (λ c apart. g.accesses c block);
+    }))
 
 pub order_moves : (old : Situation) (core block : ℕ) (q : Request) (new : Situation) → Invariant old → IsWithin old core block → Orders old core block q new → Invariant new
 order_moves old core block q new g within o =
-    let before : Picture = picture_of old block in
-    let cores : length before.caches ≡ old.shape.cores = g.shaped.row block within.1 in
-    let in_row : core < length before.caches = subst (λ (n : ℕ). core < n) (sym cores) within.0 in
-    let good : BlockInvariant old.protocol (length before.caches) (flat_words old.log block) before = subst (λ (n : ℕ). BlockInvariant old.protocol n (flat_words old.log block) before) (sym cores) (g.blocks block within.1) in
-    let k = subst (λ (n : ℕ). BlockInvariant old.protocol n (flat_words old.log block) o.next) cores (order_keeps old core block q new (flat_words old.log block) good in_row o) in
-    let entry : Option Item = Some (item.Sent (record { core = core; request = q; block = block })) in
-    let queues = after_order old.queues core block in
-    let whole : Keeps old block o.next queues entry = record {
+    let cores : length (picture_of old block).caches ≡ old.shape.cores = g.shaped.row block within.1 in
+    rw o.after (kept old block o.next (after_order old.queues core block) (Some (item.Sent (record { core = core; request = q; block = block }))) g (record {
       within = within.1;
       as_wide = o.taken.same_length;
       as_many_queues = length-set old.queues core _;
       opened = λ t is_open. ap (λ (x : Open). x.block) (same_Some _ _ (sym is_open ∙ o.opened));
-      block_after = k;
+      block_after = rw (← cores) (order_keeps old core block q new (flat_words old.log block) (rw cores (g.blocks block within.1)) (rw cores within.0) o);
       item = record { on = tt; follows = tt; logged = tt };
       accesses = λ c. each_held o.next.caches c (AccessWithin old.shape)
           (λ below. rw (o.taken.rows c (rw (← o.taken.same_length) below)).2 (g.accesses c block)) (λ access waits. cc);
-    } in
-    subst Invariant (sym o.after) (kept old block o.next queues entry g whole)
+    }))
 
 -- the item of a Respond
 arrives_item : (s : Situation) (q : Request) (block : ℕ) (closing : Open) (old new : List Line) (did : Option Did)
     → ArrivesFor q closing s.protocol s.log old new did → closing.block ≡ block → IsWithin s closing.core closing.block
     → AccessWithin s.shape (held_at old closing.core) → IsLawful (flat_words s.log block) did → IsNextOn s block (Some (item.Came (came_of closing) did))
-arrives_item s q block closing old new did arrives placed within waits lawful = elim (by_request q closing s.protocol s.log old new did arrives) [
+arrives_item s q block closing old new did arrives placed within waits lawful = elim (by_request q arrives) [
   | inl put ↦ rw put.2 (record { on = tt; follows = tt; logged = tt })
   | inr f ↦
       let has = waits f.asking f.fills.waited in
@@ -169,30 +156,25 @@ arrives_item s q block closing old new did arrives placed within waits lawful = 
 pub respond_moves : (old : Situation) (block : ℕ) (closing : Open) (did : Option Did) (new : Situation) → Invariant old → block < old.shape.blocks → Responds old block closing did new → Invariant new
 respond_moves old block closing did new g within r =
     let before : Picture = picture_of old block in
-    let cores : length before.caches ≡ old.shape.cores = g.shaped.row block within in
     let placed : closing.block ≡ block = g.opened block closing r.opened in
-    let in_row : closing.core < length before.caches = subst (λ (n : ℕ). closing.core < n) (sym cores) ((g.blocks block within).requestor_in closing r.opened) in
-    let k = respond_keeps old block closing did new r old.shape.cores (flat_words old.log block) (g.blocks block within) in_row in
-    let entry : Option Item = Some (item.Came (came_of closing) did) in
-    let whole : Keeps old block r.next old.queues entry = record {
+    let its_core = (g.blocks block within).requestor_in closing r.opened in
+    let k = respond_keeps old block closing did new r old.shape.cores (flat_words old.log block) (g.blocks block within) (rw (g.shaped.row block within) its_core) in
+    rw r.after (kept old block r.next old.queues (Some (item.Came (came_of closing) did)) g (record {
       within = within;
-      as_wide = arrives_length closing.request closing old.protocol old.log before.caches r.next.caches did r.requestor;
+      as_wide = arrives_length (by_request closing.request r.requestor);
       as_many_queues = refl;
       opened = λ t is_open. absurd (none-some t (sym r.closed ∙ is_open));
       block_after = k.0;
-      item = arrives_item old closing.request block closing before.caches r.next.caches did r.requestor placed
-          ((g.blocks block within).requestor_in closing r.opened, subst (λ (b : ℕ). b < old.shape.blocks) (sym placed) within)
-          (g.accesses closing.core block) k.1;
+      item = arrives_item old closing.request block closing before.caches r.next.caches did r.requestor placed (its_core, rw placed within) (g.accesses closing.core block) k.1;
       accesses = λ c access waits.
-          let same = still_waiting closing.request closing old.protocol old.log before.caches r.next.caches did r.requestor c access waits in
-          g.accesses c block access (ap (λ (x : Line). x.waiting) (sym same) ∙ waits);
-    } in
-    subst Invariant (sym r.after) (kept old block r.next old.queues entry g whole)
+          let same = still_waiting (by_request closing.request r.requestor) c access waits in
+          g.accesses c block access (rw (← same) waits);
+    }))
 
 -- a move keeps the invariant
 pub move_keeps : (block : ℕ) (old : Situation) (step : Step) (answer : Reply) (new : Situation) (entry : Option Item) → Invariant old → MoveOn block old step answer new entry → Invariant new
 move_keeps block old (Ask core on word asking) answer new entry g m = elim m.moves [
-  | inl idle ↦ subst Invariant (sym idle.3) g
+  | inl idle ↦ rw idle.3 g
   | inr a ↦ ask_moves old core block word asking answer new entry g m.within m.has_word a
 ]
 move_keeps block old (Order core) answer new entry g m = order_moves old core block m.request new g m.within m.orders

@@ -4,6 +4,7 @@ use Rattle.std.specs.Prelude.{Result, Ok, Err}
 use Rattle.std.proofs.lemmas.Bool.{cases_lt}
 use Rattle.std.proofs.lemmas.List.{length-replicate, get_or-replicate, get_or_past}
 use Rattle.std.proofs.lemmas.List.Elements.{All-nil}
+use Rattle.std.proofs.lemmas.Option.{none-some}
 use Rattle.std.specs.List.{range_with_len}
 use Rattle.snoop_model.proofs.Common.{Extent, Protocol, Step, Access, Reply, Refused, Line, Picture, first_memory, held_by, nothing_held, Situation, picture_of, reset, untouched, nothing_there, keeps, IsProper, IsWithin}
 use Rattle.snoop_trace.specs.Words.{IsWord, zero_words}
@@ -42,42 +43,37 @@ untouched_block p n =
       owner = None;
       owner_in = λ o e. cc;
       is_owned = refl;
-      states = λ d d_in. subst (λ (x : Line). fits p claims.0 false None x.state ≡ true) (sym (replicated n d nothing_held)) (idle_fits p claims.0);
-      kept = λ d d_in h. (let P : Line → Type 0 = λ x. keeps x.state ≡ true in let e : false ≡ true = subst P (replicated n d nothing_held) h in cc);
+      states = λ d d_in. rw (replicated n d nothing_held) (idle_fits p claims.0);
+      kept = λ d d_in h. (let e = rw (replicated n d nothing_held) at h in cc);
       clean = λ d d_in h. refl;
       fresh = λ h. refl;
       carried = λ o e h. cc;
       requestor_in = λ o e. cc;
       sender_in = λ o e. cc;
-      proper = λ d d_in. subst IsProper (sym (replicated n d nothing_held)) nothing_proper;
+      proper = λ d d_in. rw (replicated n d nothing_held) nothing_proper;
     }
 
 reset_picture : (p : Protocol) (shape : Extent) (block : ℕ) → block < shape.blocks → picture_of (reset p shape) block ≡ untouched p shape.cores
 reset_picture p shape block within = get_or-replicate shape.blocks block (untouched p shape.cores) nothing_there within
 
--- a block outside the shape has nothing
-reset_past : (p : Protocol) (shape : Extent) (block : ℕ) → shape.blocks ≤ block → picture_of (reset p shape) block ≡ nothing_there
-reset_past p shape block past =
-    let long = length-replicate shape.blocks (untouched p shape.cores) in
-    get_or_past (replicate shape.blocks (untouched p shape.cores)) block nothing_there (omega arith)
+-- what holds of an untouched block, and of one outside the shape, holds of each at reset
+each_reset : (p : Protocol) (shape : Extent) (P : Picture → Type 0) → P (untouched p shape.cores) → P nothing_there → (block : ℕ) → P (picture_of (reset p shape) block)
+each_reset p shape P here outside block = elim (cases_lt block shape.blocks) [
+  | inl inside ↦ rw (reset_picture p shape block inside) here
+  | inr past ↦ rw (get_or_past (replicate shape.blocks (untouched p shape.cores)) block nothing_there (rw length-replicate past)) outside
+]
 
 pub reset_open : (p : Protocol) (shape : Extent) (block : ℕ) → (picture_of (reset p shape) block).transaction ≡ None
-reset_open p shape block = elim (cases_lt block shape.blocks) [
-  | inl inside ↦ ap (λ (x : Picture). x.transaction) (reset_picture p shape block inside)
-  | inr past ↦ ap (λ (x : Picture). x.transaction) (reset_past p shape block past)
-]
+reset_open p shape = each_reset p shape (λ x. x.transaction ≡ None) refl refl
 
 -- each line at reset
 pub reset_line : (p : Protocol) (shape : Extent) (core block : ℕ) → held_by (picture_of (reset p shape) block) core ≡ nothing_held
-reset_line p shape core block = elim (cases_lt block shape.blocks) [
-  | inl inside ↦ ap (λ (x : Picture). held_by x core) (reset_picture p shape block inside) ∙ replicated shape.cores core nothing_held
-  | inr past ↦ ap (λ (x : Picture). held_by x core) (reset_past p shape block past) ∙ get_or_past [] core nothing_held (omega arith)
-]
+reset_line p shape core = each_reset p shape (λ x. held_by x core ≡ nothing_held) (replicated shape.cores core nothing_held) (get_or_past [] core nothing_held (omega arith))
 
 pub reset_shaped : (p : Protocol) (shape : Extent) → IsShaped (reset p shape)
 reset_shaped p shape = record {
   pictures = length-replicate shape.blocks (untouched p shape.cores);
-  row = λ b within. ap (λ (x : Picture). length x.caches) (reset_picture p shape b within) ∙ length-replicate shape.cores nothing_held;
+  row = λ b within. rw (reset_picture p shape b within) (length-replicate shape.cores nothing_held);
   queues = length-replicate shape.cores [];
 }
 
@@ -93,8 +89,8 @@ pub reset_invariant : (p : Protocol) (shape : Extent) → Invariant (reset p sha
 reset_invariant p shape = record {
   shaped = reset_shaped p shape;
   opened = λ b o is_open. (let none = reset_open p shape b in cc);
-  blocks = λ b b_in. subst (BlockInvariant p shape.cores (flat_words [] b)) (sym (reset_picture p shape b b_in)) (subst (λ (ws : List ℕ). BlockInvariant p shape.cores ws (untouched p shape.cores)) (sym (flat_reset b)) (untouched_block p shape.cores));
-  accesses = λ core b access waits. (let none = reset_line p shape core b in let e : ◌≡◌ {A = Option Access} None (Some access) = ap (λ (x : Line). x.waiting) (sym none) ∙ waits in cc);
+  blocks = λ b b_in. rw (reset_picture p shape b b_in, flat_reset b) (untouched_block p shape.cores);
+  accesses = λ core b access waits. absurd (none-some access (rw (reset_line p shape core b) at waits));
   legal = λ k entry h. cc;
   logged = All-nil (λ did. IsWithin (reset p shape) did.core did.block × IsWord shape did.word);
 }
@@ -105,4 +101,4 @@ refusal_same old step cause new r = r.1
 
 pub goes_keeps : (old : Situation) (step : Step) (outcome : Result Reply Refused) (new : Situation) → Invariant old → Goes old step outcome new → Invariant new
 goes_keeps old step (Ok answer) new g m = move_keeps m.1.0 old step answer new m.0 g m.1.1
-goes_keeps old step (Err cause) new g r = subst Invariant (sym (refusal_same old step cause new r)) g
+goes_keeps old step (Err cause) new g r = rw (refusal_same old step cause new r) g

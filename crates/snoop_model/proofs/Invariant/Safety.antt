@@ -88,7 +88,7 @@ move_keeps_all block old new step answer entry keeps move = record {
 
 goes_keeps_all : (old new : Situation) (step : Step) (outcome : Result Reply Refused) → MachineKeeps old → Goes old step outcome new → MachineKeeps new
 goes_keeps_all old new step (Ok answer) keeps move = move_keeps_all move.1.0 old new step answer move.0 keeps move.1.1
-goes_keeps_all old new step (Err cause) keeps refused = subst MachineKeeps (sym (refusal_same old step cause new refused)) keeps
+goes_keeps_all old new step (Err cause) keeps refused = rw (refusal_same old step cause new refused) keeps
 
 -- so does a run
 pub run_keeps_all : (steps : List Step) (outcomes : List (Result Reply Refused)) (old new : Situation) → MachineKeeps old → RunFrom old steps outcomes new

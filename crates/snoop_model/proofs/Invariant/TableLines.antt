@@ -1,5 +1,5 @@
 -- Each Order that is taken is a line of the table of senders, and each Respond settles memory by the line of its transaction.
-use Rattle.std.proofs.Common.{◌≡◌, ℕ, ◌<◌, Option, inl, inr, sym, ◌∙◌, ap, subst}
+use Rattle.std.proofs.Common.{◌≡◌, ℕ, ◌<◌, Option, refl, inl, inr, sym, ◌∙◌, ap, subst}
 use Rattle.std.specs.Prelude.{IfSome}
 use Rattle.std.proofs.lemmas.Option.{same_Some}
 use Rattle.snoop_model.proofs.Lists.Facts.{if_some}
@@ -22,11 +22,10 @@ order_is_line s g core block q new o =
     let before : Picture = picture_of s block in
     let f = orders_follow_sender_table s g core block q o.ready in
     let from : f.from ≡ o.from = o.sent.alone f.from f.payload f.sent.sends in
-    let payload : f.payload ≡ o.payload = same_Some _ _ (sym
-    (sends_is p before core q o.from f.payload (subst (λ (x : Option ℕ). Sends p before core q x f.payload) from f.sent.sends))
-    ∙ sends_is p before core q o.from o.payload o.sent.sends) in
-    let memory : f.next ≡ o.next.memory.state = f.ordered.2 ∙ (ap (λ (row : MemCell). row.next) (same_Some _ _ (sym f.ordered.1 ∙ o.memory.1)) ∙ sym o.memory.2) in
-    rw (← from, ← payload, ← memory) f.is_line
+    let same : f.payload ≡ o.payload = same_Some _ _ (sym (sends_is p before core q o.from f.payload (rw from at f.sent.sends)) ∙ sends_is p before core q o.from o.payload o.sent.sends) in
+    let row = same_Some _ _ (sym f.ordered.1 ∙ o.memory.1) in
+    let memory : f.next ≡ o.next.memory.state = rw (f.ordered.2, row, o.memory.2) refl in
+    rw (← from, ← same, ← memory) f.is_line
 
 -- a Respond taken next closes the transaction and leaves memory in the last state of its line
 pub open_is_by_table : (s : Situation) → Invariant s → AreOnSenderLines s → (block : ℕ) → IfSome (picture_of s block).transaction (IsOpenByTable s block)
@@ -43,7 +42,7 @@ open_is_by_table s g lines block = if_some (picture_of s block).transaction (IsO
           let settles = rw same at r.memory.settled in
           let settled = settled_is (takes_payload o.request memory) s.protocol (arrival_at_memory o.payload) memory in
           let done = settled r.memory.act r.next.memory.state settles ∙ sym (settled line.1.act line.1.done line.1.settled) in
-          (ap (λ (x : Picture). x.transaction) there ∙ r.closed, ap (λ (x : Picture). x.memory.state) there ∙ ap (λ x. x.1) done);
+          rw there (r.closed, ap (λ x. x.1) done);
     })
 
 -- each open transaction is on a line, after each step of a run
@@ -58,15 +57,15 @@ on_lines old g lines block within next here =
 -- a move keeps the lines: an Ask changes neither memory nor a transaction
 pub move_on_lines : (block : ℕ) (old : Situation) (step : Step) (answer : Reply) (new : Situation) (entry : Option Item) → Invariant old → AreOnSenderLines old → MoveOn block old step answer new entry → AreOnSenderLines new
 move_on_lines block old (Ask core on word asking) answer new entry g lines m = elim m.moves [
-  | inl absent ↦ subst AreOnSenderLines (sym absent.3) lines
-  | inr a ↦ subst AreOnSenderLines (sym a.after) (on_lines old g lines block m.within.1 (with_line (picture_of old block) core a.held) (lines block))
+  | inl absent ↦ rw absent.3 lines
+  | inr a ↦ rw a.after (on_lines old g lines block m.within.1 (with_line (picture_of old block) core a.held) (lines block))
 ]
 move_on_lines block old (Order core) answer new entry g lines m =
     let o = m.orders in
-    subst AreOnSenderLines (sym o.after) (on_lines old g lines block m.within.1 o.next
+    rw o.after (on_lines old g lines block m.within.1 o.next
     (rw o.opened (picture_of old block, order_is_line old g core block m.request new o)))
 move_on_lines block old (Respond on) answer new entry g lines m =
-    subst AreOnSenderLines (sym m.responds.after) (on_lines old g lines block m.within m.responds.next (rw m.responds.closed tt))
+    rw m.responds.after (on_lines old g lines block m.within m.responds.next (rw m.responds.closed tt))
 
 pub reset_on_lines : (p : Protocol) (shape : Extent) → AreOnSenderLines (reset p shape)
 reset_on_lines p shape block = rw (reset_open p shape block) tt

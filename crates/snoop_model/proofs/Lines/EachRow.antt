@@ -3,6 +3,7 @@ use Rattle.std.proofs.Common.{◌≡◌, ℕ, ◌+◌, ◌<◌, ◌≤◌, List,
 use Rattle.std.specs.Prelude.{slice_set}
 use Rattle.std.proofs.lemmas.Bool.{cases_eq, cases_lt}
 use Rattle.std.proofs.lemmas.List.{length-set, get_or-set_same, get_or-set_other}
+use Rattle.snoop_model.proofs.Lists.Writes.{each_set}
 use Rattle.snoop_model.proofs.Common.{Protocol, CacheState, CacheAction, Request, Cell, seen_by, Line, held_at, nothing_held, TakesRow, moves_to}
 
 -- the cores below n have taken their rows, and the others have not
@@ -17,21 +18,14 @@ pub Taking-more : (protocol : Protocol) (requestor : ℕ) (request : Request) (o
     → after ≡ slice_set new n (moves_to next (held_at new n))
     → Taking protocol requestor request old after (n + 1)
 Taking-more protocol requestor request old new after n act next in_row taking cell wrote =
-    let in_new : n < length new = rw taking.same_length in_row in
     let line : Line = moves_to next (held_at new n) in
-    let here : held_at after n ≡ line = ap (λ row. held_at row n) wrote ∙ get_or-set_same new n line nothing_held in_new in
-    let elsewhere : (k : ℕ) → (k ≡ n → ⊥) → held_at after k ≡ held_at new k = λ k ne. ap (λ row. held_at row k) wrote ∙ get_or-set_other new n k line nothing_held ne in
     let was : held_at new n ≡ held_at old n = taking.left n (omega arith) in
-    let at_n : TakesRow protocol (seen_by n requestor request) (held_at old n) (held_at after n) =
-    (record { action = act; next = next }, rw was at cell, here ∙ ap (moves_to next) was) in
-    record {
-      same_length = ap length wrote ∙ (length-set new n line ∙ taking.same_length);
-      taken = λ k h. elim (cases_eq k n) [
-        | inl e ↦ subst (λ (j : ℕ). TakesRow protocol (seen_by j requestor request) (held_at old j) (held_at after j)) (sym e) at_n
-        | inr ne ↦ rw (elsewhere k ne) (taking.taken k (omega arith))
-      ];
-      left = λ k h. elsewhere k (λ e. absurd (omega arith)) ∙ taking.left k (omega arith);
-    }
+    rw wrote (record {
+      same_length = length-set new n line ∙ taking.same_length;
+      taken = each_set new n line nothing_held (λ k x. k < n + 1 → TakesRow protocol (seen_by k requestor request) (held_at old k) x) (rw taking.same_length in_row)
+          (λ h. (record { action = act; next = next }, rw was at cell, ap (moves_to next) was)) (λ k apart h. taking.taken k (omega arith));
+      left = λ k h. get_or-set_other new n k line nothing_held (λ e. absurd (omega arith)) ∙ taking.left k (omega arith);
+    })
 
 -- cores whose rows change nothing are passed over
 pub Taking-past : (protocol : Protocol) (requestor : ℕ) (request : Request) (old new : List Line) (n m : ℕ)

@@ -1,7 +1,7 @@
 -- How often a block stands in a queue.
 use Rattle.std.proofs.Common.{◌≡◌, ◌≢◌, ℕ, zero, suc, ◌+◌, ◌<◌, ◌≤◌, not, Bool, true, false, cond, eqb, List, [], ◌∷◌, ◌++◌, length, filter, get_or, refl, inl, inr, ap, sym, ◌∙◌, arith}
 use Rattle.std.specs.Prelude.{count_by, Contains}
-use Rattle.std.proofs.lemmas.Bool.{eq-eqb, ne_eqb}
+use Rattle.std.proofs.lemmas.Bool.{cases_Bool, eq-eqb, ne_eqb}
 use Rattle.std.proofs.lemmas.Bool.Decides.{eqb_tells}
 use Rattle.std.proofs.lemmas.List.{get_or-set_same, get_or-set_other}
 use Rattle.std.proofs.lemmas.List.Sums.{sum_by_push, sum_by-cons}
@@ -40,14 +40,12 @@ in_counted block (x ∷ queue) there = at there.0 there.1 there.2 (in_counted bl
 -- a block is taken out of a queue, and the others stay
 times_gone : (taken : ℕ) (queue : List ℕ) → times taken (filter (λ b. not (eqb b taken)) queue) ≡ 0
 times_gone taken [] = refl
-times_gone taken (x ∷ queue) = by_test (eqb x taken) refl (times_gone taken queue)
-  where
-    by_test : (same : Bool) → eqb x taken ≡ same → times taken (filter (λ b. not (eqb b taken)) queue) ≡ 0
-        → times taken (filter (λ b. not (eqb b taken)) (x ∷ queue)) ≡ 0
-    by_test true e rest = rw e rest
-    by_test false e rest =
-        let none : one_if (eqb x taken) ≡ 0 = rw e refl in
-        rw e (times_cons taken x (filter (λ b. not (eqb b taken)) queue) ∙ omega arith)
+times_gone taken (x ∷ queue) = elim (cases_Bool (eqb x taken)) [
+  | inl e ↦ rw e (times_gone taken queue)
+  | inr e ↦
+      let none : one_if (eqb x taken) ≡ 0 = rw e refl in
+      rw e (omega (arith, times_cons taken x (filter (λ b. not (eqb b taken)) queue), times_gone taken queue))
+]
 
 times_left : (block taken : ℕ) (queue : List ℕ) → block ≢ taken → times block (filter (λ b. not (eqb b taken)) queue) ≡ times block queue
 times_left block taken [] apart = refl
@@ -63,9 +61,8 @@ times_left block taken (x ∷ queue) apart = elim (eqb_tells x taken) [
 module _ (queues : List (List ℕ)) (core block : ℕ) where
   pub issued_own : core < length queues → times block (queue_of (after_issue queues core block) core) ≡ times block (queue_of queues core) + 1
   issued_own within =
-      let one : one_if (eqb block block) ≡ 1 = rw (eq-eqb block block refl) refl in
-      ap (times block) (get_or-set_same queues core (queue_of queues core ++ block ∷ []) [] within) ∙
-      (times_push block block (queue_of queues core) ∙ ap (λ n. times block (queue_of queues core) + n) one)
+      rw (get_or-set_same queues core (queue_of queues core ++ block ∷ []) [] within) (times_push block block (queue_of queues core)
+      ∙ ap (λ t. times block (queue_of queues core) + one_if t) (eq-eqb block block refl))
 
   pub issued_others : (k : ℕ) → k ≢ core → queue_of (after_issue queues core block) k ≡ queue_of queues k
   issued_others k apart = get_or-set_other queues core k (queue_of queues core ++ block ∷ []) [] apart
@@ -82,8 +79,7 @@ module _ (queues : List (List ℕ)) (core block : ℕ) where
   -- an Order takes it out
   pub ordered_own : core < length queues → times block (queue_of (after_order queues core block) core) ≡ 0
   ordered_own within =
-      ap (times block) (get_or-set_same queues core (filter (λ b. not (eqb b block)) (queue_of queues core)) [] within)
-      ∙ times_gone block (queue_of queues core)
+      rw (get_or-set_same queues core (filter (λ b. not (eqb b block)) (queue_of queues core)) [] within) (times_gone block (queue_of queues core))
 
   pub ordered_others : (k : ℕ) → k ≢ core → queue_of (after_order queues core block) k ≡ queue_of queues k
   ordered_others k apart = get_or-set_other queues core k (filter (λ b. not (eqb b block)) (queue_of queues core)) [] apart

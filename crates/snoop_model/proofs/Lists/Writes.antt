@@ -1,9 +1,9 @@
 -- What a write in one place does to a list of lists, and to sums over it.
-use Rattle.std.proofs.Common.{◌≡◌, ℕ, zero, suc, ◌+◌, ◌<◌, ◌≤◌, List, [], ◌∷◌, ◌++◌, length, filter, not, Bool, false, cond, Some, refl, sym, ◌∙◌, ap, subst, arith, inl, inr, ◌⊎◌, true}
+use Rattle.std.proofs.Common.{◌≡◌, ◌≢◌, ℕ, zero, suc, ◌+◌, ◌<◌, ◌≤◌, List, [], ◌∷◌, ◌++◌, length, filter, not, Bool, false, cond, Some, refl, sym, ◌∙◌, ap, subst, arith, inl, inr, ◌⊎◌, true}
 use Rattle.std.specs.Prelude.{slice_index_or, slice_set, slice_get, All, ◌==◌, sum_by, count_by}
-use Rattle.std.proofs.lemmas.Bool.{eq-eqb, cases_lt}
+use Rattle.std.proofs.lemmas.Bool.{eq-eqb, cases_eq, cases_lt}
 use Rattle.std.proofs.lemmas.Option.{none-some, same_Some}
-use Rattle.std.proofs.lemmas.List.{set_past, get_or_past, length_push}
+use Rattle.std.proofs.lemmas.List.{set_past, get_or_past, get_or-set_same, get_or-set_other, length_push}
 use Rattle.std.proofs.lemmas.List.Elements.{All-head, All-push, All-filter}
 use Rattle.std.proofs.lemmas.List.Sums.{sum_by-set, sum_by-cons, length-filter, count_by-le-length}
 use Rattle.snoop_bus.specs.Queues.{queue_of, after_issue, after_order}
@@ -17,6 +17,13 @@ set_cases (x ∷ xs) zero (suc k) a d = inr refl
 set_cases (x ∷ xs) (suc i) zero a d = inr refl
 set_cases (x ∷ xs) (suc i) (suc k) a d = elim (set_cases xs i k a d) [ inl p ↦ inl (ap suc p.0, p.1) | inr e ↦ inr e ]
 
+-- what holds of the new value in its place, and of each other, holds of each then
+pub each_set : {A : Type 0} (xs : List A) (i : ℕ) (a d : A) (P : ℕ → A → Type 0) → i < length xs → P i a → ((k : ℕ) → k ≢ i → P k (slice_index_or xs k d)) → (k : ℕ) → P k (slice_index_or (slice_set xs i a) k d)
+each_set xs i a d P inside here others k = elim (cases_eq k i) [
+  | inl e ↦ rw (e, get_or-set_same xs i a d inside) here
+  | inr apart ↦ rw (get_or-set_other xs i k a d apart) (others k apart)
+]
+
 pub all_first : {A : Type 0} (P : A → Type 0) (xs : List A) (x : A) → All P xs → slice_get xs 0 ≡ Some x → P x
 all_first P [] x a h = cc
 all_first P (y ∷ ys) x a h = subst P (same_Some _ _ h) (All-head P y ys a)
@@ -25,7 +32,7 @@ pub first_within : {A : Type 0} (xs : List (List A)) (i : ℕ) (x : A) → slice
 first_within xs i x h = elim (cases_lt i (length xs)) [
   | inl lt ↦ lt
   | inr ge ↦
-      absurd (none-some x (sym (ap (λ l. slice_get l 0) (get_or_past xs i [] ge)) ∙ h))
+      absurd (none-some x (rw (get_or_past xs i [] ge) at h))
 ]
 
 -- what holds of each block of each core's line still holds after an issue and after an Order
@@ -50,17 +57,15 @@ sum_issued lines core block =
     let line : List ℕ = queue_of lines core ++ block ∷ [] in
     elim (cases_lt core (length lines)) [
       | inl lt ↦ omega (arith, sum_by-set (λ (l : List ℕ). length l) lines core line [] lt, length_push (queue_of lines core) block)
-      | inr ge ↦ let e : sum_by length (after_issue lines core block) ≡ sum_by length lines = ap (λ (l : List (List ℕ)). sum_by length l) (set_past lines core line ge) in omega arith
+      | inr ge ↦ rw (set_past lines core line ge) (omega arith)
     ]
 
 left_shorter : (line : List ℕ) (block : ℕ) → slice_get line 0 ≡ Some block → length (filter (λ b. not (b == block)) line) + 1 ≤ length line
 left_shorter [] block h = cc
 left_shorter (x ∷ xs) block h =
     let p : ℕ → Bool = λ b. not (b == block) in
-    let off : p x ≡ false = ap not (eq-eqb x block (same_Some _ _ h)) in
-    let one : count_by p (x ∷ xs) ≡ cond (p x) 1 0 + count_by p xs = sum_by-cons (λ y. cond (p y) 1 0) x xs in
-    let none : cond (p x) 1 0 ≡ 0 = ap (λ (b : Bool). cond {A = ℕ} b 1 0) off in
-    omega (arith, length-filter p (x ∷ xs), one, none, count_by-le-length p xs)
+    let none : cond {A = ℕ} (p x) 1 0 ≡ 0 = rw (eq-eqb x block (same_Some _ _ h)) refl in
+    omega (arith, length-filter p (x ∷ xs), sum_by-cons (λ y. cond (p y) 1 0) x xs, none, count_by-le-length p xs)
 
 pub sum_ordered : (lines : List (List ℕ)) (core block : ℕ) → slice_get (queue_of lines core) 0 ≡ Some block → sum_by length (after_order lines core block) + 1 ≤ sum_by length lines
 sum_ordered lines core block first =
@@ -76,8 +81,5 @@ pub count_set : {A : Type 0} (test : A → Bool) (xs : List A) (i : ℕ) (a d : 
     → count_by test (slice_set xs i a) + one_if (test (slice_index_or xs i d)) ≤ count_by test xs + one_if (test a)
 count_set test xs i a d none = elim (cases_lt i (length xs)) [
   | inl lt ↦ omega (arith, sum_by-set (λ x. one_if (test x)) xs i a d lt)
-  | inr ge ↦
-      let same : count_by test (slice_set xs i a) ≡ count_by test xs = ap (λ l. count_by test l) (set_past xs i a ge) in
-      let nothing : one_if (test (slice_index_or xs i d)) ≡ 0 = ap (λ x. one_if (test x)) (get_or_past xs i d ge) ∙ ap one_if none in
-      omega arith
+  | inr ge ↦ rw (set_past xs i a ge, get_or_past xs i d ge, none) (omega arith)
 ]

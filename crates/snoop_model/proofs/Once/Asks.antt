@@ -40,17 +40,14 @@ count_one block core wanted did = go (eqb did.core core) (eqb did.block block) (
 
 count_of : (block core : ℕ) (wanted : Access) (c b : ℕ) (did : Option Did) → IsBy c b did → count_by (did_it block wanted) (of_core core did) ≡ cond (eqb c core) (cond (eqb b block) (did_so wanted did) 0) 0
 count_of block core wanted c b None by = none_either (eqb c core) (eqb b block) 0
-count_of block core wanted c b (Some did) by =
-    count_one block core wanted did ∙ (ap (λ (x : ℕ). cond (eqb x core) (cond (eqb did.block block) (did_so wanted (Some did)) 0) 0) by.0 ∙ ap (λ (x : ℕ). cond (eqb c core) (cond (eqb x block) (did_so wanted (Some did)) 0) 0) by.1)
+count_of block core wanted c b (Some did) by = rw (← by.0, ← by.1) (count_one block core wanted did)
 
 -- how often a core did it, with one item more
 pub count_logged : (block core : ℕ) (wanted : Access) (c b : ℕ) (log : List Item) (entry : Option Item) → IsBy c b (did_in entry)
     → count_by (did_it block wanted) (answers_of (log ++ option_to_list entry) core) ≡ count_by (did_it block wanted) (answers_of log core) + cond (eqb c core) (cond (eqb b block) (did_so wanted (did_in entry)) 0) 0
 count_logged block core wanted c b log entry by =
-    let e : count_by (did_it block wanted) (answers_of (log ++ option_to_list entry) core) ≡ count_by (did_it block wanted) (answers_of log core ++ of_core core (did_in entry)) = ap (count_by (did_it block wanted)) (answers_are log entry core) in
-    let f : count_by (did_it block wanted) (answers_of log core ++ of_core core (did_in entry)) ≡ count_by (did_it block wanted) (answers_of log core) + count_by (did_it block wanted) (of_core core (did_in entry)) = sum_by-append (λ x. cond (did_it block wanted x) 1 0) (answers_of log core) (of_core core (did_in entry)) in
-    let h = count_of block core wanted c b (did_in entry) by in
-    omega arith
+    let f = sum_by-append (λ x. cond (did_it block wanted x) 1 0) (answers_of log core) (of_core core (did_in entry)) in
+    rw (answers_are log entry core) (f ∙ ap (λ n. count_by (did_it block wanted) (answers_of log core) + n) (count_of block core wanted c b (did_in entry) by))
 
 abbrev pub waits_so : Access → Option Access → ℕ
 waits_so wanted waiting = option_map_or (λ access. one_if (same_access wanted access)) waiting 0
@@ -59,9 +56,8 @@ pub no_evict : (wanted : Access) (word : ℕ) → one_if (same_access wanted (re
 no_evict wanted word = go wanted.op (wanted.word == word)
   where
     go : (o : Op) (x : Bool) → one_if (x && same_op o op.Evict) ≡ 0
-    go op.Load true = refl
-    go (op.Store v) true = refl
     go op.Evict true = refl
+    go _ true = refl
     go o false = refl
 
 nothing_so : (wanted : Access) (waiting : Option Access) → option_map (λ access. request_for access.op) waiting ≡ None → waits_so wanted waiting ≡ 0
@@ -84,17 +80,11 @@ performed_so wanted word op.Evict before value after did h is_word is_loaded is_
 pub line_once : (p : Protocol) (a : CacheAction) (next : CacheState) (log : List Item) (core block word : ℕ) (asking : Op) (old new : Line) (answer : Reply) (entry : Option Item) → IsProper old → Cell p old.state (asked asking) a next → Takes a next log core block word asking old new answer entry
     → (wanted : Access) → waits_so wanted new.waiting + did_so wanted (did_in entry) ≡ waits_so wanted old.waiting + one_if (same_access wanted (record { word = word; op = asking }))
 line_once p action.Hit next log core block word asking old new answer entry proper row t wanted =
-    let e : waits_so wanted new.waiting ≡ waits_so wanted old.waiting = ap (λ (x : Line). waits_so wanted x.waiting) t.1.0.held in
-    let f : did_so wanted (did_in entry) ≡ one_if (same_access wanted (record { word = word; op = asking })) = ap (λ (x : Option Item). did_so wanted (did_in x)) t.1.2 ∙ performed_so wanted word asking t.1.0.before t.0 t.1.0.after (next_did log core block word asking t.0 true) t.1.0.performed refl refl refl in
-    omega arith
+    let did = performed_so wanted word asking t.1.0.before t.0 t.1.0.after (next_did log core block word asking t.0 true) t.1.0.performed refl refl refl in
+    rw (t.1.0.held, t.1.2) (ap (λ n. waits_so wanted old.waiting + n) did)
 line_once p (action.Issue q) next log core block word asking old new answer entry proper row t wanted =
-    let e : waits_so wanted new.waiting ≡ one_if (same_access wanted (record { word = word; op = asking })) = ap (λ (x : Line). waits_so wanted x.waiting) t.0 ∙ kept_so wanted word asking in
-    let f : did_so wanted (did_in entry) ≡ 0 = ap (λ (x : Option Item). did_so wanted (did_in x)) t.2 in
-    let g : waits_so wanted old.waiting ≡ 0 = nothing_so wanted old.waiting (proper.waiting ∙ (issue-missed p old.state (asked asking) q next row).0) in
-    omega arith
+    let none = nothing_so wanted old.waiting (proper.waiting ∙ (issue-missed p old.state (asked asking) q next row).0) in
+    rw (t.0, t.2) (omega (arith, none, kept_so wanted word asking))
 line_once p action.Drop next log core block word asking old new answer entry proper row t wanted =
-    let e : waits_so wanted new.waiting ≡ waits_so wanted old.waiting = ap (λ (x : Line). waits_so wanted x.waiting) t.0 in
-    let f : did_so wanted (did_in entry) ≡ 0 = ap (λ (x : Option Item). did_so wanted (did_in x)) t.2 in
-    let g : one_if (same_access wanted (record { word = word; op = asking })) ≡ 0 = rw (drop_evicts p old.state asking next row) (no_evict wanted word) in
-    omega arith
+    rw (t.0, t.2, drop_evicts p old.state asking next row) (omega (arith, no_evict wanted word))
 line_once p _ next log core block word asking old new answer entry proper row t wanted = absurd t

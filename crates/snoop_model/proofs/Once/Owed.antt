@@ -5,22 +5,22 @@ use Rattle.std.specs.Option.{option_map_or}
 use Rattle.std.proofs.lemmas.List.Sums.{sum_by-append}
 use Rattle.std.proofs.lemmas.Bool.{cases_Bool}
 use Rattle.snoop_model.proofs.Common.{Step, Did, Item, Access, held_by, Situation, picture_of}
-use Rattle.snoop_history.specs.History.{operation_of, answers_of, last_or}
+use Rattle.snoop_history.specs.History.{answers_of, last_or}
 use Rattle.snoop_history.proofs.Pushed.{answers_of-push, of_core}
 use Rattle.snoop_model.specs.Runs.Once.{did_it, tally, waits_for, asks, same_access}
 use Rattle.snoop_model.proofs.Lists.Facts.{one_if}
 use Rattle.snoop_model.specs.Runs.Owed.{IsOwed, Owes}
+use Rattle.snoop_model.proofs.OneBlock.Operation.{did_in}
 use Rattle.snoop_model.proofs.Runs.Logged.{move-log}
 use Rattle.snoop_model.proofs.Lists.Writes.{one_small}
 
 -- the operation of an item, if there is one
 abbrev pub entry_op : Option Item → Option Did
-entry_op None = None
-entry_op (Some entry) = operation_of entry
+entry_op = did_in
 
 -- a core's operations with one item more
 pub answers_are : (log : List Item) (entry : Option Item) (core : ℕ) → answers_of (log ++ option_to_list entry) core ≡ answers_of log core ++ of_core core (entry_op entry)
-answers_are log None core = ap (λ (l : List Item). answers_of l core) (append-nil log) ∙ sym (append-nil (answers_of log core))
+answers_are log None core = rw (append-nil log, append-nil (answers_of log core)) refl
 answers_are log (Some entry) core = answers_of-push log entry core
 
 pub one_or_none : (core : ℕ) (o : Option Did) → (of_core core o ≡ []) ⊎ ((d : Did) × (of_core core o ≡ d ∷ []))
@@ -40,28 +40,20 @@ one_waits s core block wanted = by_op (held_by (picture_of s block) core).waitin
 
 -- more stand in the log or wait than the log had: it waits, or is the core's last operation
 waits_or_last : (s t : Situation) (core block : ℕ) (wanted : Access) (entry : Option Item) → count_by (did_it block wanted) (answers_of s.log core) + 1 ≤ tally t core block wanted → t.log ≡ s.log ++ option_to_list entry → IsOwed t core block wanted
-waits_or_last s t core block wanted entry more log = by_own (one_or_none core (entry_op entry))
+waits_or_last s t core block wanted entry more log = by_own (of_core core (entry_op entry)) (one_or_none core (entry_op entry)) (rw (← log) at (answers_are s.log entry core))
   where
-    now : answers_of t.log core ≡ answers_of s.log core ++ of_core core (entry_op entry)
-    now = ap (λ (l : List Item). answers_of l core) log ∙ answers_are s.log entry core
-
-    by_test : (d : Did) → answers_of t.log core ≡ answers_of s.log core ++ d ∷ [] → count_by (did_it block wanted) (answers_of t.log core) ≡ count_by (did_it block wanted) (answers_of s.log core) + count_by (did_it block wanted) (d ∷ []) → (b : Bool) → did_it block wanted d ≡ b → IsOwed t core block wanted
-    by_test d answers counts true e = inr (d, ap (λ (l : List Did). last_or None (map (λ x. Some x) l)) answers ∙ last_push None (answers_of s.log core) d, e)
-    by_test d answers counts false e =
+    by_test : (d : Did) (b : Bool) → did_it block wanted d ≡ b → answers_of t.log core ≡ answers_of s.log core ++ d ∷ [] → IsOwed t core block wanted
+    by_test d true e answers = inr (d, rw answers (last_push None (answers_of s.log core) d), e)
+    by_test d false e answers =
+        let counts = sum_by-append (λ (x : Did). cond (did_it block wanted x) 1 0) (answers_of s.log core) (d ∷ []) in
         let none : count_by (did_it block wanted) (d ∷ []) ≡ 0 = rw e refl in
-        let most = one_waits t core block wanted in
-        inl (omega (arith, counts, more, none, most))
+        inl (omega (arith, ap (count_by (did_it block wanted)) answers, counts, none, more, one_waits t core block wanted))
 
-    by_own : ((of_core core (entry_op entry) ≡ []) ⊎ ((d : Did) × (of_core core (entry_op entry) ≡ d ∷ []))) → IsOwed t core block wanted
-    by_own (inl none) =
-        let answers = now ∙ ap (λ (l : List Did). answers_of s.log core ++ l) none ∙ append-nil (answers_of s.log core) in
-        let counts = ap (λ (l : List Did). count_by (did_it block wanted) l) answers in
-        let most = one_waits t core block wanted in
-        inl (omega (arith, counts, more, most))
-    by_own (inr (d, is)) =
-        let answers = now ∙ ap (λ (l : List Did). answers_of s.log core ++ l) is in
-        let counts = ap (λ (l : List Did). count_by (did_it block wanted) l) answers ∙ sum_by-append (λ (x : Did). cond (did_it block wanted x) 1 0) (answers_of s.log core) (d ∷ []) in
-        by_test d answers counts (did_it block wanted d) refl
+    by_own : (own : List Did) → (own ≡ []) ⊎ ((d : Did) × (own ≡ d ∷ [])) → answers_of t.log core ≡ answers_of s.log core ++ own → IsOwed t core block wanted
+    by_own own (inl none) now =
+        let answers = rw (none, append-nil (answers_of s.log core)) at now in
+        inl (omega (arith, ap (count_by (did_it block wanted)) answers, more, one_waits t core block wanted))
+    by_own own (inr (d, is)) now = by_test d (did_it block wanted d) refl (rw is at now)
 
 owed_after : (s t : Situation) (core block : ℕ) (wanted : Access) (entry : Option Item) (step : Step) → tally t core block wanted ≡ tally s core block wanted + count_by (asks core block wanted) (step ∷ []) → t.log ≡ s.log ++ option_to_list entry
     → (waits_for s core block wanted ≡ 1) ⊎ (asks core block wanted step ≡ true) → IsOwed t core block wanted

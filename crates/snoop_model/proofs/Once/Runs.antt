@@ -1,10 +1,10 @@
 -- Each load and store that a run asks is done once, or waits.
 use Rattle.std.proofs.Common.{◌≡◌, ◌≢◌, ℕ, ◌<◌, ◌+◌, Bool, true, false, ◌&&◌, cond, eqb, List, [], ◌∷◌, ◌++◌, length, Option, Some, refl, inl, inr, ap, sym, ◌∙◌, subst, arith}
-use Rattle.std.specs.Prelude.{option_to_list, count_by, Result, Ok, Err}
+use Rattle.std.specs.Prelude.{option_to_list, slice_set, count_by, Result, Ok, Err}
 use Rattle.std.proofs.lemmas.Bool.{cases_lt, eq-eqb, ne_eqb}
 use Rattle.std.proofs.lemmas.List.{get_or-set_same, get_or-set_other, get_or_past}
 use Rattle.std.proofs.lemmas.List.Sums.{sum_by-cons}
-use Rattle.snoop_model.proofs.OneBlock.Facts.{by_core}
+use Rattle.snoop_model.proofs.Lists.Writes.{each_set}
 use Rattle.snoop_model.proofs.Common.{Extent, Protocol, Op, Step, Ask, Order, Respond, CacheState, CacheAction, Request, Did, Item, Open, after_order, Access, Reply, Refused, Line, Picture, held_at, held_by, nothing_held, with_line, Situation, picture_of, reset, Takes, FillsRequestor, Asks, Orders, Responds, IsWithin, MoveOn, next_did, came_of, queues_after}
 use Rattle.snoop_trace.specs.declared.step.Op.TheVariants as op
 use Rattle.snoop_rules.specs.declared.names.CacheAction.TheVariants as action
@@ -21,31 +21,39 @@ use Rattle.snoop_model.proofs.Once.Asks.{waits_so, line_once, performed_so, no_e
 use Rattle.snoop_model.proofs.Invariant.Runs.{goes_keeps, refusal_same, reset_invariant, reset_line}
 
 -- what waits on each core of a block, and what one core does there, against what waited and what it asks
-abbrev Balances : Situation → ℕ → Picture → ℕ → Access → ℕ → ℕ → Type 0
-Balances old b next c wanted done asked = (core : ℕ) → waits_so wanted (held_by next core).waiting + cond
+abbrev Balances : Situation → ℕ → List Line → ℕ → Access → ℕ → ℕ → Type 0
+Balances old b next c wanted done asked = (core : ℕ) → waits_so wanted (held_at next core).waiting + cond
     (eqb c core) done 0 ≡ waits_for old core b wanted + cond (eqb c core) asked 0
 
-balances : (old : Situation) (b : ℕ) (next : Picture) (c : ℕ) (wanted : Access) (done asked : ℕ)
-    → waits_so wanted (held_by next c).waiting + done ≡ waits_for old c b wanted + asked
-    → ((core : ℕ) → core ≢ c → waits_so wanted (held_by next core).waiting ≡ waits_for old core b wanted) → Balances old b next c wanted done asked
-balances old b next c wanted done asked here others = by_core c (λ core. waits_so wanted (held_by next core).waiting + cond (eqb c core) done 0 ≡ waits_for old core b wanted + cond (eqb c core) asked 0)
-    (rw (eq-eqb c c refl) here) (λ core apart. rw (ne_eqb c core (λ e. apart (sym e)), others core apart) refl)
+-- they balance where they do so on the one line that changes
+balances : (old : Situation) (b c : ℕ) (held : Line) (wanted : Access) (done asked : ℕ) → c < length (picture_of old b).caches
+    → waits_so wanted held.waiting + done ≡ waits_for old c b wanted + asked → Balances old b (slice_set (picture_of old b).caches c held) c wanted done asked
+balances old b c held wanted done asked inside here = each_set (picture_of old b).caches c held nothing_held
+    (λ k x. waits_so wanted x.waiting + cond (eqb c k) done 0 ≡ waits_for old k b wanted + cond (eqb c k) asked 0) inside
+    (rw (eq-eqb c c refl) here) (λ k apart. rw (ne_eqb c k (λ e. apart (sym e))) refl)
+
+one_if_both : (x y z : Bool) → one_if (x && (y && z)) ≡ cond x (cond y (one_if z) 0) 0
+one_if_both true true z = refl
+one_if_both true false z = refl
+one_if_both false y z = refl
+
+never : (x y : Bool) → one_if (x && (y && false)) ≡ 0
+never x y = one_if_both x y false ∙ sym (none_either x y 0)
 
 -- how often the log and what waits have it after a move
 tallied : (old : Situation) (b : ℕ) → b < length old.pictures
-    → (next : Picture) (queues : List (List ℕ)) (entry : Option Item) (c : ℕ) (wanted : Access) (asked : ℕ) → IsBy c b (did_in entry)
-    → Balances old b next c wanted (did_so wanted (did_in entry)) asked
-    → (core block : ℕ) → tally (changed old b next queues (old.log ++ option_to_list entry)) core block wanted ≡ tally old core block wanted + cond
-    (eqb c core) (cond (eqb b block) asked 0) 0
+    → (next : Picture) (queues : List (List ℕ)) (entry : Option Item) (c : ℕ) (wanted : Access) (asked : Bool) → IsBy c b (did_in entry)
+    → Balances old b next.caches c wanted (did_so wanted (did_in entry)) (one_if asked)
+    → (core block : ℕ) → tally (changed old b next queues (old.log ++ option_to_list entry)) core block wanted ≡ tally old core block wanted + one_if (eqb c core && (eqb b block && asked))
 tallied old b within next queues entry c wanted asked by balance core block =
     let log = old.log ++ option_to_list entry in
     let done = did_so wanted (did_in entry) in
     let logged = count_logged block core wanted c b old.log entry by in
     let waiting = each_picture old b next queues log
     (λ x picture. waits_so wanted (held_by picture core).waiting + cond (eqb c core) (cond (eqb b x) done 0) 0 ≡ waits_for old core x wanted + cond
-    (eqb c core) (cond (eqb b x) asked 0) 0) within
+    (eqb c core) (cond (eqb b x) (one_if asked) 0) 0) within
     (λ x apart. rw (ne_eqb b x (λ e. apart (sym e))) refl) (rw (eq-eqb b b refl) (balance core)) block in
-    omega arith
+    omega (arith, one_if_both (eqb c core) (eqb b block) asked)
 
 takes_by : (a : CacheAction) (next : CacheState) (log : List Item) (core block word : ℕ) (asking : Op) (old new : Line) (answer : Reply) (entry : Option Item) → Takes a next log core block word asking old new answer entry → IsBy core block (did_in entry)
 takes_by action.Hit next log core block word asking old new answer entry t = rw t.1.2 (refl, refl)
@@ -53,28 +61,15 @@ takes_by (action.Issue r) next log core block word asking old new answer entry t
 takes_by action.Drop next log core block word asking old new answer entry t = rw t.2 tt
 takes_by _ next log core block word asking old new answer entry t = absurd t
 
-one_if_both : (x y z : Bool) → one_if (x && (y && z)) ≡ cond x (cond y (one_if z) 0) 0
-one_if_both true true z = refl
-one_if_both true false z = refl
-one_if_both false y z = refl
-
 pub ask_once : (old : Situation) (c b word : ℕ) (asking : Op) (answer : Reply) (new : Situation) (entry : Option Item) → Invariant old → IsWithin old c b → Asks old c b word asking answer new entry → (core block : ℕ) (wanted : Access)
     → tally new core block wanted ≡ tally old core block wanted + one_if (asks core block wanted (Ask c b word asking))
 ask_once old c b word asking answer new entry g within a core block wanted =
-    let before : Picture = picture_of old b in
-    let next : Picture = with_line before c a.held in
-    let asked = one_if (same_access wanted (record { word = word; op = asking })) in
-    let in_row : c < length before.caches = subst (λ (n : ℕ). c < n) (sym (g.shaped.row b within.1)) within.0 in
-    let line : held_by next c ≡ a.held = get_or-set_same before.caches c a.held nothing_held in_row in
-    let once = line_once old.protocol a.row.action a.row.next old.log c b word asking (held_by before c) a.held answer entry ((g.blocks b within.1).proper c within.0) a.is_row a.taken wanted in
-    let balance = balances old b next c wanted (did_so wanted (did_in entry)) asked
-    (rw line once)
-    (λ k apart. ap (λ (x : Line). waits_so wanted x.waiting) (get_or-set_other before.caches c k a.held nothing_held apart)) in
-    let by = takes_by a.row.action a.row.next old.log c b word asking (held_by before c) a.held answer entry a.taken in
-    let counts = tallied old b (in_pictures old b g.shaped within.1) next
-    (queues_after a.row.action old.queues c b) entry c wanted asked by balance core block in
-    ap (λ (s : Situation). tally s core block wanted) a.after ∙ (counts ∙ ap (λ n. tally old core block wanted + n)
-    (sym (one_if_both (eqb c core) (eqb b block) (same_access wanted (record { word = word; op = asking })))))
+    let line = held_by (picture_of old b) c in
+    let asked = same_access wanted (record { word = word; op = asking }) in
+    let once = line_once old.protocol a.row.action a.row.next old.log c b word asking line a.held answer entry ((g.blocks b within.1).proper c within.0) a.is_row a.taken wanted in
+    let balance = balances old b c a.held wanted (did_so wanted (did_in entry)) (one_if asked) (rw (g.shaped.row b within.1) within.0) once in
+    let by = takes_by a.row.action a.row.next old.log c b word asking line a.held answer entry a.taken in
+    rw a.after (tallied old b (in_pictures old b g.shaped within.1) (with_line (picture_of old b) c a.held) (queues_after a.row.action old.queues c b) entry c wanted asked by balance core block)
 
 -- an Order leaves each operation waiting
 order_waiting : (old : Situation) (core block : ℕ) (q : Request) (new : Situation) (o : Orders old core block q new) (wanted : Access) (k : ℕ) → waits_so wanted (held_by o.next k).waiting ≡ waits_so wanted (held_by (picture_of old block) k).waiting
@@ -90,44 +85,26 @@ order_waiting old core block q new o wanted k = elim (cases_lt k (length (pictur
 pub order_once : (old : Situation) (c b : ℕ) (q : Request) (new : Situation) → Invariant old → IsWithin old c b → Orders old c b q new → (core block : ℕ) (wanted : Access) → tally new core block wanted ≡ tally old core block wanted + 0
 order_once old c b q new g within o core block wanted =
     let entry : Option Item = Some (item.Sent (record { core = c; request = q; block = b })) in
-    let balance : Balances old b o.next c wanted 0 0 = λ k. ap (λ (n : ℕ). n + cond (eqb c k) 0 0) (order_waiting old c b q new o wanted k) in
-    let counts = tallied old b (in_pictures old b g.shaped within.1) o.next (after_order old.queues c b) entry c wanted 0 tt balance core block in
-    ap (λ (s : Situation). tally s core block wanted) o.after ∙ (counts ∙ ap (λ n. tally old core block wanted + n)
-    (sym (none_either (eqb c core) (eqb b block) 0)))
+    let balance : Balances old b o.next.caches c wanted 0 0 = λ k. ap (λ (n : ℕ). n + cond (eqb c k) 0 0) (order_waiting old c b q new o wanted k) in
+    rw o.after (tallied old b (in_pictures old b g.shaped within.1) o.next (after_order old.queues c b) entry c wanted false tt balance core block
+    ∙ ap (λ n. tally old core block wanted + n) (never (eqb c core) (eqb b block)))
 
 -- a response leaves nothing waiting where it performs an operation
-fills_once : (closing : Open) (p : Protocol) (log : List Item) (wanted : Access) (old new : List Line) (did : Option Did) → closing.core < length old
-    → FillsRequestor closing p log old new did
-    → waits_so wanted (held_at new closing.core).waiting + did_so wanted did ≡ waits_so wanted (held_at old closing.core).waiting + 0
-fills_once closing p log wanted old new did inside f =
-    let line : held_at new closing.core ≡ f.line = ap (λ (l : List Line). held_at l closing.core) f.held ∙ get_or-set_same old closing.core f.line nothing_held inside in
-    let x : waits_so wanted (held_at new closing.core).waiting ≡ 0 = ap (λ (l : Line). waits_so wanted l.waiting) (line ∙ f.fills.held) in
-    let y : waits_so wanted (held_at old closing.core).waiting ≡ one_if (same_access wanted f.asking) = ap (waits_so wanted) f.fills.waited in
-    let z : did_so wanted did ≡ one_if (same_access wanted f.asking) = ap (did_so wanted) f.logged ∙ performed_so wanted f.asking.word f.asking.op closing.value f.value f.fills.after (next_did log closing.core closing.block f.asking.word f.asking.op f.value false) f.fills.performed refl refl refl in
-    omega arith
+fills_once : {closing : Open} {p : Protocol} {log : List Item} {old new : List Line} {did : Option Did} (f : FillsRequestor closing p log old new did) (wanted : Access)
+    → waits_so wanted f.line.waiting + did_so wanted did ≡ waits_so wanted (held_at old closing.core).waiting + 0
+fills_once {closing} {p} {log} f wanted =
+    let did = performed_so wanted f.asking.word f.asking.op closing.value f.value f.fills.after (next_did log closing.core closing.block f.asking.word f.asking.op f.value false) f.fills.performed refl refl refl in
+    rw (f.fills.held, f.fills.waited, f.logged) (omega (arith, did))
 
 pub respond_once : (old : Situation) (b : ℕ) (closing : Open) (did : Option Did) (new : Situation) → Invariant old → b < old.shape.blocks → Responds old b closing did new → (core block : ℕ) (wanted : Access) → tally new core block wanted ≡ tally old core block wanted + 0
 respond_once old b closing did new g within r core block wanted =
-    let before : Picture = picture_of old b in
-    let placed : closing.block ≡ b = g.opened b closing r.opened in
-    let in_row : closing.core < length before.caches = subst (λ (n : ℕ). closing.core < n) (sym (g.shaped.row b within)) ((g.blocks b within).requestor_in closing r.opened) in
-    let entry : Option Item = Some (item.Came (came_of closing) did) in
-    let counts = elim (by_request closing.request closing old.protocol old.log before.caches r.next.caches did r.requestor) as
-    (λ _. tally (changed old b r.next old.queues (old.log ++ option_to_list entry)) core block wanted ≡ tally old core block wanted + cond
-    (eqb closing.core core) (cond (eqb b block) 0 0) 0) [
-      | inl put ↦
-          tallied old b (in_pictures old b g.shaped within) r.next old.queues entry closing.core wanted 0 (subst (IsBy closing.core b) (sym put.2) tt)
-          (λ k. rw put.2 (ap (λ (l : List Line). waits_so wanted (held_at l k).waiting + cond (eqb closing.core k) 0 0) put.1)) core block
-      | inr fills ↦
-          tallied old b (in_pictures old b g.shaped within) r.next old.queues entry closing.core wanted 0
-          (subst (IsBy closing.core b) (sym fills.logged) (refl, placed))
-          (balances old b r.next closing.core wanted (did_so wanted did) 0
-          (fills_once closing old.protocol old.log wanted before.caches r.next.caches did in_row fills)
-          (λ k apart. ap (λ (l : List Line). waits_so wanted (held_at l k).waiting) fills.held ∙ ap (λ (l : Line). waits_so wanted l.waiting)
-          (get_or-set_other before.caches closing.core k fills.line nothing_held apart))) core block
+    let in_row : closing.core < length (picture_of old b).caches = rw (g.shaped.row b within) ((g.blocks b within).requestor_in closing r.opened) in
+    let balanced : IsBy closing.core b did × Balances old b r.next.caches closing.core wanted (did_so wanted did) 0 = elim (by_request closing.request r.requestor) [
+      | inl put ↦ rw (put.2, put.1) (tt, λ k. refl)
+      | inr f ↦ (rw f.logged (refl, g.opened b closing r.opened), rw f.held (balances old b closing.core f.line wanted (did_so wanted did) 0 in_row (fills_once f wanted)))
     ] in
-    ap (λ (s : Situation). tally s core block wanted) r.after ∙ (counts ∙ ap (λ n. tally old core block wanted + n)
-    (sym (none_either (eqb closing.core core) (eqb b block) 0)))
+    rw r.after (tallied old b (in_pictures old b g.shaped within) r.next old.queues (Some (item.Came (came_of closing) did)) closing.core wanted false balanced.0 balanced.1 core block
+    ∙ ap (λ n. tally old core block wanted + n) (never (eqb closing.core core) (eqb b block)))
 
 absent_once : (wanted : Access) (word : ℕ) (asking : Op) (x y : Bool) → asking ≡ op.Evict → one_if (x && (y && same_access wanted (record { word = word; op = asking }))) ≡ 0
 absent_once wanted word asking x y e = one_if_both x y (same_access wanted (record { word = word; op = asking })) ∙ rw (e, no_evict wanted word) (sym (none_either x y 0))
@@ -135,10 +112,7 @@ absent_once wanted word asking x y e = one_if_both x y (same_access wanted (reco
 -- a move
 pub move_once : (block : ℕ) (old : Situation) (step : Step) (answer : Reply) (new : Situation) (entry : Option Item) → Invariant old → MoveOn block old step answer new entry → (core b : ℕ) (wanted : Access) → tally new core b wanted ≡ tally old core b wanted + one_if (asks core b wanted step)
 move_once block old (Ask c on word asking) answer new entry g m core b wanted = elim m.moves [
-  | inl idle ↦
-      let x : tally new core b wanted ≡ tally old core b wanted = ap (λ (s : Situation). tally s core b wanted) idle.3 in
-      let y = absent_once wanted word asking (eqb c core) (eqb on b) idle.0 in
-      omega arith
+  | inl idle ↦ rw idle.3 (omega (arith, absent_once wanted word asking (eqb c core) (eqb on b) idle.0))
   | inr a ↦ rw m.on_block (ask_once old c block word asking answer new entry g m.within a core b wanted)
 ]
 move_once block old (Order c) answer new entry g m core b wanted = order_once old c block m.request new g m.within m.orders core b wanted
@@ -146,9 +120,7 @@ move_once block old (Respond on) answer new entry g m core b wanted = respond_on
 
 -- a run, from any situation that keeps the invariant
 pub run_once : (steps : List Step) (outcomes : List (Result Reply Refused)) (old new : Situation) → Invariant old → RunFrom old steps outcomes new → OnceMore old steps outcomes new
-run_once [] [] old new g r core block wanted =
-    let x : tally new core block wanted ≡ tally old core block wanted = ap (λ (s : Situation). tally s core block wanted) r in
-    omega arith
+run_once [] [] old new g r core block wanted = rw r (omega arith)
 run_once (step ∷ steps) (Ok answer ∷ outcomes) old new g r core block wanted =
     let middle = r.0 in
     let x = move_once r.1.0.1.0 old step answer middle r.1.0.0 g r.1.0.1.1 core block wanted in
@@ -157,17 +129,13 @@ run_once (step ∷ steps) (Ok answer ∷ outcomes) old new g r core block wanted
     omega arith
 run_once (step ∷ steps) (Err cause ∷ outcomes) old new g r core block wanted =
     let middle = r.0 in
-    let x : tally middle core block wanted ≡ tally old core block wanted = ap (λ (s : Situation). tally s core block wanted) (refusal_same old step cause middle r.1.0) in
     let y = run_once steps outcomes middle new (goes_keeps old step (Err cause) middle g r.1.0) r.1.1 core block wanted in
-    omega arith
+    y ∙ ap (λ (s : Situation). tally s core block wanted + count_by (asks core block wanted) (taken steps outcomes)) (refusal_same old step cause middle r.1.0)
 run_once _ _ old new g r core block wanted = absurd r
 
 -- nothing was done at reset, and nothing waits
 pub reset_tally : (p : Protocol) (shape : Extent) (core block : ℕ) (wanted : Access) → tally (reset p shape) core block wanted ≡ 0
-reset_tally p shape core block wanted =
-    let w : waits_for (reset p shape) core block wanted ≡ 0 = ap (λ (x : Line). waits_so wanted x.waiting) (reset_line p shape core block) in
-    let n : count_by (did_it block wanted) (answers_of (reset p shape).log core) ≡ 0 = refl in
-    omega arith
+reset_tally p shape core block wanted = ap (λ (x : Line). 0 + waits_so wanted x.waiting) (reset_line p shape core block)
 
 -- the loads and stores of a run from reset
 pub run_asked_once : (p : Protocol) (shape : Extent) (steps : List Step) (outcomes : List (Result Reply Refused)) (new : Situation) → RunFrom (reset p shape) steps outcomes new → Once steps outcomes new

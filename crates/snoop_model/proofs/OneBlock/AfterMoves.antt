@@ -2,28 +2,20 @@
 use Rattle.std.proofs.Common.{◌≡◌, ℕ, ◌<◌, List, ◌++◌, Option, Some, ap, sym, ◌∙◌, subst}
 use Rattle.std.specs.Prelude.{option_to_list}
 use Rattle.std.proofs.lemmas.List.{get_or-set_same}
-use Rattle.snoop_model.proofs.Common.{Op, Request, Did, Item, Open, after_order, Reply, Picture, held_by, nothing_held, with_line, Situation, picture_of, Asks, Orders, Responds, IsWithin, queues_after, came_of}
+use Rattle.snoop_model.proofs.Common.{Op, Request, Did, Item, Open, after_order, Reply, Picture, held_by, nothing_held, nothing_there, with_line, Situation, picture_of, Asks, Orders, Responds, IsWithin, queues_after, came_of}
 use Rattle.snoop_history.specs.declared.items.Item.TheVariants as item
 use Rattle.snoop_model.specs.Invariant.Invariant.{Invariant}
 use Rattle.snoop_model.proofs.OneBlock.OfBlocks.{in_pictures, picture_here}
 
 module _ (old : Situation) (c b word : ℕ) (asking : Op) (answer : Reply) (new : Situation) (entry : Option Item) (g : Invariant old) (within : IsWithin old c b) (a : Asks old c b word asking answer new entry) where
-  pub ask_here : picture_of new b ≡ with_line (picture_of old b) c a.held
-  ask_here = ap (λ (s : Situation). picture_of s b) a.after ∙ picture_here old b (with_line (picture_of old b) c a.held) (queues_after a.row.action old.queues c b) (old.log ++ option_to_list entry) (in_pictures old b g.shaped within.1)
-
   pub ask_line : held_by (picture_of new b) c ≡ a.held
-  ask_line = ap (λ (x : Picture). held_by x c) ask_here ∙ get_or-set_same (picture_of old b).caches c a.held nothing_held (subst (λ (n : ℕ). c < n) (sym (g.shaped.row b within.1)) within.0)
+  ask_line = rw (a.after, get_or-set_same old.pictures b (with_line (picture_of old b) c a.held) nothing_there (in_pictures old b g.shaped within.1))
+      (get_or-set_same (picture_of old b).caches c a.held nothing_held (rw (g.shaped.row b within.1) within.0))
 
 module _ (old : Situation) (c b : ℕ) (q : Request) (new : Situation) (g : Invariant old) (within : IsWithin old c b) (o : Orders old c b q new) where
-  sent : List Item
-  sent = old.log ++ option_to_list (Some (item.Sent (record { core = c; request = q; block = b })))
-
   pub order_here : picture_of new b ≡ o.next
-  order_here = ap (λ (s : Situation). picture_of s b) o.after ∙ picture_here old b o.next (after_order old.queues c b) sent (in_pictures old b g.shaped within.1)
+  order_here = rw o.after (get_or-set_same old.pictures b o.next nothing_there (in_pictures old b g.shaped within.1))
 
 module _ (old : Situation) (b : ℕ) (closing : Open) (did : Option Did) (new : Situation) (g : Invariant old) (within : b < old.shape.blocks) (r : Responds old b closing did new) where
-  came : List Item
-  came = old.log ++ option_to_list (Some (item.Came (came_of closing) did))
-
   pub respond_here : picture_of new b ≡ r.next
-  respond_here = ap (λ (s : Situation). picture_of s b) r.after ∙ picture_here old b r.next old.queues came (in_pictures old b g.shaped within)
+  respond_here = rw r.after (get_or-set_same old.pictures b r.next nothing_there (in_pictures old b g.shaped within))

@@ -6,7 +6,7 @@ use Rattle.std.proofs.Math.Bool.{and-false}
 use Rattle.std.proofs.lemmas.List.{get_or_past}
 use Rattle.snoop_model.proofs.Common.{Protocol, CacheState, Request, carries_value, Open, Line, Picture, held_by, held_at, nothing_held, keeps, moves_to}
 use Rattle.snoop_history.specs.Totals.{is_put_m}
-use Rattle.snoop_model.specs.Invariant.Fits.{is_owner, is_sharer, is_clean, in_protocol, same, wait_fits, fits}
+use Rattle.snoop_model.specs.Invariant.Fits.{Claims, Talk, is_owner, is_sharer, is_clean, in_protocol, same, wait_fits, fits}
 use Rattle.snoop_model.specs.Invariant.Block.{BlockInvariant, talk_of, own_open, owns}
 use Rattle.snoop_model.proofs.Tables.Every.{same_is}
 use Rattle.snoop_model.proofs.Tables.StateTests.{alone_rule, calm_talk, carries, fits_calm, is_calm, kept_reader, owned_rule}
@@ -33,10 +33,7 @@ fits_is_owner p shared ow w s h =
 
 pub fits_waits : (p : Protocol) (shared ow : Bool) (w : Option Request) (s : CacheState) → fits p shared ow w s ≡ true → wait_fits w s ≡ true
 unfolding fits
-fits_waits p shared ow w s h =
-    let a = and_parts (in_protocol p s) (same (is_owner s) ow && ((not (is_sharer s) || shared) && wait_fits w s)) h in
-    let b = and_parts (same (is_owner s) ow) ((not (is_sharer s) || shared) && wait_fits w s) a.1 in
-    (and_parts (not (is_sharer s) || shared) (wait_fits w s) b.1).1
+fits_waits p shared ow w s h = (and_parts (not (is_sharer s) || shared) _ (and_parts (same (is_owner s) ow) _ (and_parts (in_protocol p s) _ h).1).1).1
 
 pub implied : (a b : Bool) → (not a || b) ≡ true → a ≡ true → b ≡ true
 implied true b h e = h
@@ -50,34 +47,18 @@ pub record Carried (old new : Line) : Type 0 where
 pub carried_kept : (old new : Line) (flat : List ℕ) → Carried old new → (keeps old.state ≡ true → old.kept ≡ Some flat) → keeps new.state ≡ true → new.kept ≡ Some flat
 carried_kept old new flat k was h = (k.reads h).1 ∙ was (k.reads h).0
 
-pub carried_same : (old new : Line) → new ≡ old → Carried old new
-carried_same old new e = record { reads = λ h. (ap (λ (x : Line). keeps x.state) (sym e) ∙ h, ap (λ (x : Line). x.kept) e); cleans = λ h. ap (λ (x : Line). is_clean x.state) (sym e) ∙ h }
+pub carried_same : (line : Line) → Carried line line
+carried_same line = record { reads = λ h. (h, refl); cleans = λ h. h }
 
 -- a row that makes no reader of a core lets its words carry over
 pub carried_by : (old new : Line) (next : CacheState) → new.state ≡ next → (keeps next ≡ true → new.kept ≡ old.kept) → carries old.state next ≡ true → Carried old new
 carried_by old new next state kept carry =
-    let parts = and_parts (not (keeps next) || keeps old.state) (not (is_clean next) || is_clean old.state) carry in
-    record {
-      reads = λ h. (let e : keeps next ≡ true = ap keeps (sym state) ∙ h in (implied (keeps next) (keeps old.state) parts.0 e, kept e));
-      cleans = λ h. implied (is_clean next) (is_clean old.state) parts.1 (ap is_clean (sym state) ∙ h);
-    }
+    let (read, clean) = and_parts (not (keeps next) || keeps old.state) (not (is_clean next) || is_clean old.state) carry in
+    rw state (record { reads = λ h. (implied _ _ read h, kept h); cleans = implied _ _ clean })
 
 -- so does a move to the row's next state
 pub came_to : (old new : Line) (next : CacheState) → new ≡ moves_to next old → carries old.state next ≡ true → Carried old new
 came_to old new next comes carry = carried_by old new next (ap (λ (x : Line). x.state) comes) (λ e. ap (λ (x : Line). x.kept) comes ∙ kept_reader next old.kept e) carry
-
--- while a core owns the block, memory's value and data under way are claimed of nobody
-pub record Alone (p : Protocol) (n : ℕ) (flat : List ℕ) (picture : Picture) (g : BlockInvariant p n flat picture) : Type 0 where
-  pub unshared : g.claims.shared ≡ false
-  pub unfresh : g.claims.fresh ≡ false
-  pub calm : calm_talk (talk_of picture.transaction) ≡ true
-
-pub owned_alone : (p : Protocol) (n : ℕ) (flat : List ℕ) (picture : Picture) (g : BlockInvariant p n flat picture) → g.claims.owned ≡ true → Alone p n flat picture g
-owned_alone p n flat picture g is_owned =
-    let h = owned_rule p picture.memory.state (talk_of picture.transaction) g.claims g.is_claims is_owned in
-    let a = and_parts (not g.claims.shared) (not g.claims.fresh && calm_talk (talk_of picture.transaction)) h in
-    let b = and_parts (not g.claims.fresh) (calm_talk (talk_of picture.transaction)) a.1 in
-    record { unshared = not-true g.claims.shared a.0; unfresh = not-true g.claims.fresh b.0; calm = b.1 }
 
 pub put_calm : (o : Open) (d : ℕ) → is_put_m o.request ≡ true → is_calm (own_open (Some o) d) ≡ true
 put_calm o d h = elim (cases_Bool (eqb d o.core)) [ inl e ↦ rw e h | inr e ↦ rw e refl ]
@@ -86,19 +67,9 @@ pub calm_wait : (t : Option Open) (d : ℕ) → calm_talk (talk_of t) ≡ true �
 calm_wait None d h = refl
 calm_wait (Some o) d h = put_calm o d (and_parts (is_put_m o.request) (not (carries_value o.payload)) h).0
 
--- where a core owns the block, each core that doesn't may not read it
-pub others_blind : (p : Protocol) (n : ℕ) (flat : List ℕ) (picture : Picture) (g : BlockInvariant p n flat picture) → g.claims.owned ≡ true → (d : ℕ) → d < n → owns g.owner d ≡ false → keeps (held_by picture d).state ≡ false
-others_blind p n flat picture g is_owned d d_in not_owner =
-    let a = owned_alone p n flat picture g is_owned in
-    let fit : fits p false false (own_open picture.transaction d) (held_by picture d).state ≡ true = rw (a.unshared, not_owner) at (g.states d d_in) in
-    alone_rule p (held_by picture d).state (fits_calm p false false (own_open picture.transaction d) (held_by picture d).state (calm_wait picture.transaction d a.calm) fit)
-
 pub owner_is : (owner : Option ℕ) (d : ℕ) → owns owner d ≡ true → owner ≡ Some d
 owner_is None d h = cc
-owner_is (Some o) d h = ap (λ (x : ℕ). Some x) (sym (eqb-true d o h))
-
-pub owner_owned : (p : Protocol) (n : ℕ) (flat : List ℕ) (picture : Picture) (g : BlockInvariant p n flat picture) (d : ℕ) → owns g.owner d ≡ true → g.claims.owned ≡ true
-owner_owned p n flat picture g d h = sym g.is_owned ∙ rw (owner_is g.owner d h) refl
+owner_is (Some o) d h = rw (eqb-true d o h) refl
 
 pub owns_one : (owner : Option ℕ) (c d : ℕ) → owns owner c ≡ true → d ≢ c → owns owner d ≡ false
 owns_one owner c d h apart = rw (owner_is owner c h) (ne_eqb d c apart)
@@ -110,9 +81,26 @@ owns_apart owner c d apart = elim (cases_Bool (owns owner c)) [
   | inr h ↦ rw (h, and-false (owns owner d)) refl
 ]
 
--- one writer alone, or only readers
-pub one_writer : (p : Protocol) (n : ℕ) (flat : List ℕ) (picture : Picture) (g : BlockInvariant p n flat picture) (c d : ℕ) → d < n → owns g.owner c ≡ true → d ≢ c → keeps (held_by picture d).state ≡ false
-one_writer p n flat picture g c d d_in owning apart = others_blind p n flat picture g (owner_owned p n flat picture g c owning) d d_in (owns_one g.owner c d owning apart)
+-- while a core owns the block, memory's value and data under way are claimed of nobody
+pub record Alone (claims : Claims) (talk : Option Talk) : Type 0 where
+  pub unshared : claims.shared ≡ false
+  pub unfresh : claims.fresh ≡ false
+  pub calm : calm_talk talk ≡ true
+
+module _ {p : Protocol} {n : ℕ} {flat : List ℕ} {picture : Picture} (g : BlockInvariant p n flat picture) (c : ℕ) (owning : owns g.owner c ≡ true) where
+  pub owned_alone : Alone g.claims (talk_of picture.transaction)
+  owned_alone =
+      let is_owned : g.claims.owned ≡ true = sym g.is_owned ∙ rw (owner_is g.owner c owning) refl in
+      let (unshared, h) = and_parts _ _ (owned_rule p picture.memory.state (talk_of picture.transaction) g.claims g.is_claims is_owned) in
+      let (unfresh, calm) = and_parts _ _ h in
+      record { unshared = not-true _ unshared; unfresh = not-true _ unfresh; calm = calm }
+
+  -- one writer alone, or only readers
+  pub one_writer : (d : ℕ) → d < n → d ≢ c → keeps (held_by picture d).state ≡ false
+  one_writer d d_in apart =
+      let a = owned_alone in
+      let fit = rw (a.unshared, owns_one g.owner c d owning apart) at (g.states d d_in) in
+      alone_rule p (held_by picture d).state (fits_calm p false false (own_open picture.transaction d) (held_by picture d).state (calm_wait picture.transaction d a.calm) fit)
 
 pub calm_carries : (t : Option Open) (o : Open) → calm_talk (talk_of t) ≡ true → t ≡ Some o → carries_value o.payload ≡ true → ⊥
 calm_carries t o h e carrying = both_ways _ (not-true _ (and_parts (is_put_m o.request) (not (carries_value o.payload)) (rw e at h)).1) carrying

@@ -1,25 +1,22 @@
 -- One block has a new picture, and the others are as they were.
-use Rattle.std.proofs.Common.{◌≡◌, ◌≢◌, ℕ, ◌<◌, List, length, Option, inl, inr, ap, sym, ◌∙◌, subst}
+use Rattle.std.proofs.Common.{◌≡◌, ◌≢◌, ℕ, ◌<◌, List, length, Option, refl, inl, inr, ap, sym, ◌∙◌, subst}
 use Rattle.std.proofs.lemmas.Bool.{cases_eq}
 use Rattle.std.proofs.lemmas.List.{length-set, get_or-set_same, get_or-set_other}
 use Rattle.snoop_model.proofs.Common.{MemState, Item, Open, Line, MemLine, Picture, Situation, picture_of, with_picture, nothing_there}
 use Rattle.snoop_model.specs.Invariant.WellKept.{IsShaped}
-use Rattle.snoop_model.proofs.Lists.Writes.{set_cases}
+use Rattle.snoop_model.proofs.Lists.Writes.{each_set, set_cases}
 
-pub same_picture : (caches caches' : List Line) (memory memory' : MemLine) (transaction transaction' : Option Open)
+pub same_picture : {caches caches' : List Line} {memory memory' : MemLine} {transaction transaction' : Option Open}
     → caches ≡ caches' → memory ≡ memory' → transaction ≡ transaction'
     → ◌≡◌ {A = Picture} (record { caches = caches; memory = memory; transaction = transaction }) (record { caches = caches'; memory = memory'; transaction = transaction' })
-same_picture caches caches' memory memory' transaction transaction' e f h =
-    ap (λ (x : List Line). record { caches = x; memory = memory; transaction = transaction }) e
-    ∙ (ap (λ (x : MemLine). record { caches = caches'; memory = x; transaction = transaction }) f
-    ∙ ap (λ (x : Option Open). record { caches = caches'; memory = memory'; transaction = x }) h)
+same_picture e f h = rw (e, f, h) refl
 
-pub same_memory : (state state' : MemState) (value value' : List ℕ) → state ≡ state' → value ≡ value' → ◌≡◌ {A = MemLine} (record { state = state; value = value }) (record { state = state'; value = value' })
-same_memory state state' value value' e f = ap (λ (x : MemState). record { state = x; value = value }) e ∙ ap (λ (x : List ℕ). record { state = state'; value = x }) f
+pub same_memory : {state state' : MemState} {value value' : List ℕ} → state ≡ state' → value ≡ value' → ◌≡◌ {A = MemLine} (record { state = state; value = value }) (record { state = state'; value = value' })
+same_memory e f = rw (e, f) refl
 
 -- a block of the shape has a picture
 pub in_pictures : (s : Situation) (block : ℕ) → IsShaped s → block < s.shape.blocks → block < length s.pictures
-in_pictures s block shaped within = subst (λ (n : ℕ). block < n) (sym shaped.pictures) within
+in_pictures s block shaped within = rw shaped.pictures within
 
 -- the situation after a move
 abbrev pub changed : Situation → ℕ → Picture → List (List ℕ) → List Item → Situation
@@ -35,10 +32,7 @@ module _ (s : Situation) (block : ℕ) (next : Picture) (queues : List (List ℕ
   -- what holds of each other block's picture and of the new one holds of each block's then
   pub each_picture : (P : ℕ → Picture → Type 0) → block < length s.pictures → ((b : ℕ) → b ≢ block → P b (picture_of s b)) → P block next → (b : ℕ)
       → P b (picture_of (changed s block next queues log) b)
-  each_picture P within others here b = elim (cases_eq b block) [
-    | inl e ↦ subst (λ (x : ℕ). P x (picture_of (changed s block next queues log) x)) (sym e) (subst (P block) (sym (picture_here within)) here)
-    | inr apart ↦ subst (P b) (sym (picture_elsewhere b apart)) (others b apart)
-  ]
+  each_picture P within others here = each_set s.pictures block next nothing_there P within here others
 
   -- what the new picture leaves as it was is so of every block
   pub same_everywhere : {A : Type 0} (f : Picture → A) → f next ≡ f (picture_of s block) → (b : ℕ) → f (picture_of (changed s block next queues log) b) ≡ f (picture_of s b)

@@ -5,6 +5,7 @@ use Rattle.std.specs.Option.{ForSome}
 use Rattle.std.proofs.lemmas.Bool.Decides.{eqb_tells}
 use Rattle.std.proofs.Math.Bool.{and-true, and-false}
 use Rattle.std.proofs.lemmas.Bool.{cases_eq, and_parts, cases_Bool, eq-eqb, ne_eqb, or_cases}
+use Rattle.std.proofs.lemmas.Option.{same_Some}
 use Rattle.snoop_model.proofs.Common.{Protocol, CacheEvent, CacheCell, MemCell, Request, Payload, cell_of, memory_cell_of, own, other, seen_by, at_memory, carries_value, waiting_request, Open, Line, Picture, held_by, Situation, picture_of, keeps, IsProper, moves_to, TakesRow, TakesRows, Orders}
 use Rattle.snoop_rules.specs.declared.names.Payload.TheVariants as payload
 use Rattle.snoop_history.specs.Totals.{is_put_m, is_data}
@@ -26,9 +27,6 @@ pub record Looked (p : Protocol) (flat : List ℕ) (before : Picture) (c : ℕ) 
   pub requestor_in : c < length before.caches
   pub waits : waiting_request (held_by before c).state ≡ Some q
   pub calm : before.transaction ≡ None
-  pub quiet : claims_of p before.memory.state None ≡ Some good.claims
-  pub requestor_fits : fits p good.claims.shared (owns good.owner c) None (held_by before c).state ≡ true
-  pub owned : (not (owns good.owner c) || good.claims.owned) ≡ true
   pub mc : MemCell
   pub is_mc : memory_cell_of p before.memory.state (at_memory q) ≡ Some mc
   pub oc : CacheCell
@@ -38,36 +36,27 @@ pub record Looked (p : Protocol) (flat : List ℕ) (before : Picture) (c : ℕ) 
   pub next : Claims
   pub is_next : claims_of p mc.next (Some (q, pl)) ≡ Some next
 
-pub look : (p : Protocol) (flat : List ℕ) (before : Picture) (c : ℕ) (q : Request) → BlockInvariant p (length before.caches) flat before → c < length before.caches → waiting_request (held_by before c).state ≡ Some q → before.transaction ≡ None → Looked p flat before c q
-look p flat before c q good c_in waits calm =
-    let st = good.claims in
-    let ow = owns good.owner c in
-    let sr = (held_by before c).state in
-    let m = before.memory.state in
-    let quiet : claims_of p m None ≡ Some st = rw calm at good.is_claims in
-    let fit : fits p st.shared ow None sr ≡ true = rw calm at (good.states c c_in) in
-    let owned : (not ow || st.owned) ≡ true = owns_owned good.owner c st.owned good.is_owned in
-    let mc = some_and (memory_cell_of p m (at_memory q)) _ (order_rule p m st sr ow q quiet fit owned waits OrderTests.has_rows) in
-    let oc = some_and (cell_of p sr (own q)) _ mc.2 in
-    let pl = some_and (payload_of oc.0 mc.0) _ oc.2 in
-    let next = some_of (claims_of p mc.0.next (Some (q, pl.0))) pl.2 in
-    record {
-      good = good;
-      requestor_in = c_in;
-      waits = waits;
-      calm = calm;
-      quiet = quiet;
-      requestor_fits = fit;
-      owned = owned;
-      mc = mc.0;
-      is_mc = mc.1;
-      oc = oc.0;
-      is_oc = oc.1;
-      pl = pl.0;
-      is_pl = pl.1;
-      next = next.0;
-      is_next = next.1;
-    }
+-- no transaction is open, so each state fits alone
+module _ {p : Protocol} {flat : List ℕ} {before : Picture} (good : BlockInvariant p (length before.caches) flat before) (calm : before.transaction ≡ None) where
+  fits_alone : (d : ℕ) → d < length before.caches → fits p good.claims.shared (owns good.owner d) None (held_by before d).state ≡ true
+  fits_alone d d_in = rw calm at (good.states d d_in)
+
+  -- a test of an Order's rows holds
+  asked_of : (k : OrderTests.OrderQuestion) (c : ℕ) (q : Request) → c < length before.caches → waiting_request (held_by before c).state ≡ Some q
+      → OrderTests.order_test k p before.memory.state good.claims (held_by before c).state (owns good.owner c) q ≡ true
+  asked_of k c q c_in waits = order_rule p before.memory.state good.claims (held_by before c).state (owns good.owner c) q (rw calm at good.is_claims) (fits_alone c c_in)
+      (owns_owned good.owner c good.claims.owned good.is_owned) waits k
+
+  pub look : (c : ℕ) (q : Request) → c < length before.caches → waiting_request (held_by before c).state ≡ Some q → Looked p flat before c q
+  look c q c_in waits =
+      let mc = some_and (memory_cell_of p before.memory.state (at_memory q)) _ (asked_of OrderTests.has_rows c q c_in waits) in
+      let oc = some_and (cell_of p (held_by before c).state (own q)) _ mc.2 in
+      let pl = some_and (payload_of oc.0 mc.0) _ oc.2 in
+      let next = some_of (claims_of p mc.0.next (Some (q, pl.0))) pl.2 in
+      record {
+        good = good; requestor_in = c_in; waits = waits; calm = calm;
+        mc = mc.0; is_mc = mc.1; oc = oc.0; is_oc = oc.1; pl = pl.0; is_pl = pl.1; next = next.0; is_next = next.1;
+      }
 
 -- the row that a core takes is the one that its event names
 pub takes_row : (p : Protocol) (e f : CacheEvent) (old new : Line) (r : CacheCell) → e ≡ f → cell_of p old.state f ≡ Some r → TakesRow p e old new → new ≡ moves_to r.next old
@@ -88,11 +77,8 @@ data_is _ h = cc
 
 payload_of_memory : (a b : Option Payload) (put owned : Bool) (pl sent : Payload) → same (is_some a) put ≡ true → same (is_some b) (not put && not owned) ≡ true → or_else a (or_else b (Some payload.Data)) ≡ Some pl → b ≡ Some sent → sent ≡ pl
 unfolding same
-payload_of_memory None None put owned pl sent h k e f = cc
-payload_of_memory None (Some y) put owned pl sent h k e f = cc
-payload_of_memory (Some x) None put owned pl sent h k e f = cc
 payload_of_memory (Some x) (Some y) true owned pl sent h k e f = cc
-payload_of_memory (Some x) (Some y) false owned pl sent h k e f = cc
+payload_of_memory _ _ _ owned pl sent h k e f = cc
 
 payload_of_requestor : (a b : Option Payload) (pl sent : Payload) → or_else a (or_else b (Some payload.Data)) ≡ Some pl → a ≡ Some sent → sent ≡ pl
 payload_of_requestor _ b pl sent e f = cc
@@ -124,25 +110,23 @@ next_owner_in true c (Some k) n was o e = elim (cases_Bool (eqb c k)) [ inl h �
 next_owner_in false c owner n was o e = cc
 
 -- what an Order finds of a picture that keeps its invariant, and does to it
-module _ (p : Protocol) (flat : List ℕ) (before : Picture) (c : ℕ) (q : Request) (l : Looked p flat before c q) where
+module _ {p : Protocol} {flat : List ℕ} {before : Picture} {c : ℕ} {q : Request} (l : Looked p flat before c q) where
   -- a test of an Order's end holds there
   pub end_of : (k : OrderTests.EndQuestion) → OrderTests.end_test k p before.memory.state l.good.claims (held_by before c).state (owns l.good.owner c) q l.mc l.oc l.pl l.next ≡ true
-  end_of = end_rule p before.memory.state l.good.claims (held_by before c).state (owns l.good.owner c) q l.quiet l.requestor_fits l.owned l.waits
-      l.mc l.oc l.pl l.next l.is_mc l.is_oc l.is_pl l.is_next
-
-  other_fit : (d : ℕ) → d < length before.caches → fits p l.good.claims.shared (owns l.good.owner d) None (held_by before d).state ≡ true
-  other_fit d d_in = rw l.calm at (l.good.states d d_in)
+  end_of = end_rule _ _ _ _ _ _ (rw l.calm at l.good.is_claims) (fits_alone l.good l.calm c l.requestor_in) (owns_owned l.good.owner c l.good.claims.owned l.good.is_owned) l.waits
+      _ _ _ _ l.is_mc l.is_oc l.is_pl l.is_next
 
   -- a test of another core holds there
   pub other_of : (k : OrderTests.OtherQuestion) (d : ℕ) → d < length before.caches → d ≢ c → (xc : CacheCell) → cell_of p (held_by before d).state (other q) ≡ Some xc
       → OrderTests.other_test k p before.memory.state l.good.claims (held_by before c).state (owns l.good.owner c) q l.mc l.oc l.pl l.next (held_by before d).state (owns l.good.owner d) xc ≡ true
-  other_of k d d_in apart xc = other_rule p before.memory.state l.good.claims (held_by before c).state (owns l.good.owner c) q l.quiet l.requestor_fits l.owned l.waits
-      l.mc l.oc l.pl l.next l.is_mc l.is_oc l.is_pl l.is_next k (held_by before d).state (owns l.good.owner d) xc (other_fit d d_in)
-      (owns_apart l.good.owner c d apart) (owns_owned l.good.owner d l.good.claims.owned l.good.is_owned)
+  other_of k d d_in apart xc =
+      let owned = λ (e : ℕ). owns_owned l.good.owner e l.good.claims.owned l.good.is_owned in
+      other_rule _ _ _ _ _ _ (rw l.calm at l.good.is_claims) (fits_alone l.good l.calm c l.requestor_in) (owned c) l.waits
+      _ _ _ _ l.is_mc l.is_oc l.is_pl l.is_next k _ _ xc (fits_alone l.good l.calm d d_in) (owns_apart l.good.owner c d apart) (owned d)
 
   -- each other core has its row
   pub other_cell : (d : ℕ) → d < length before.caches → (xc : CacheCell) × (cell_of p (held_by before d).state (other q) ≡ Some xc)
-  other_cell d d_in = some_of _ (OrderTests.other_row p q (held_by before d).state l.good.claims.shared (owns l.good.owner d) (other_fit d d_in))
+  other_cell d d_in = some_of _ (OrderTests.other_row p q (held_by before d).state l.good.claims.shared (owns l.good.owner d) (fits_alone l.good l.calm d d_in))
 
   -- what each controller's row sends
   from_memory : payload_from p before c q None ≡ sent_by_memory (Some l.mc)
@@ -185,8 +169,7 @@ module _ (p : Protocol) (flat : List ℕ) (before : Picture) (c : ℕ) (q : Requ
       ap is_some (from_other d apart x.0 x.1) ∙ same_is _ _ (other_of OrderTests.other_sends d d_in apart x.0 x.1)
 
   pub owner_puts : owns l.good.owner c ≡ true → is_put_m q ≡ true
-  owner_puts = implied (owns l.good.owner c) (is_put_m q) (order_rule p before.memory.state l.good.claims (held_by before c).state
-      (owns l.good.owner c) q l.quiet l.requestor_fits l.owned l.waits OrderTests.owner_only_puts)
+  owner_puts = implied (owns l.good.owner c) (is_put_m q) (asked_of l.good l.calm OrderTests.owner_only_puts c q l.requestor_in l.waits)
 
   -- a clean owner's value is memory's
   order_fresh : l.next.fresh ≡ true → before.memory.value ≡ flat
@@ -209,7 +192,7 @@ module _ (p : Protocol) (flat : List ℕ) (before : Picture) (c : ℕ) (q : Requ
             rw e (implied (is_put_m q && carries_value l.pl) (keeps (held_by before c).state) (end_of OrderTests.requestor_reads) (rw (put, carry) refl))
         | inr apart ↦
             let owning = (and_parts (owns l.good.owner d) _ (sym (others_send d sends.0 apart) ∙ does)).0 in
-            owner_reads (held_by before d).state (fits_is_owner p l.good.claims.shared (owns l.good.owner d) None (held_by before d).state (other_fit d sends.0) ∙ owning)
+            owner_reads (held_by before d).state (fits_is_owner p l.good.claims.shared (owns l.good.owner d) None (held_by before d).state (fits_alone l.good l.calm d sends.0) ∙ owning)
       ] in
       rw (carrying, l.good.kept d sends.0 reads) refl
 
@@ -236,7 +219,7 @@ module _ (p : Protocol) (flat : List ℕ) (before : Picture) (c : ℕ) (q : Requ
 -- a core that sends is there
 sender_there : (p : Protocol) (before : Picture) (c : ℕ) (q : Request) (from : Option ℕ) (sent : Payload) → Sends p before c q from sent → ForSome from (λ sender. sender < length before.caches)
 sender_there p before c q None sent sends = λ sender is. cc
-sender_there p before c q (Some d) sent sends = λ sender is. let same : d ≡ sender = cc in subst (λ (k : ℕ). k < length before.caches) same sends.0
+sender_there p before c q (Some d) sent sends = λ sender is. rw (← same_Some _ _ is) sends.0
 
 -- an Order keeps the invariant of a picture
 pub order_keeps : (s : Situation) (core block : ℕ) (q : Request) (new : Situation) (flat : List ℕ) → BlockInvariant s.protocol (length (picture_of s block).caches) flat (picture_of s block) → core < length (picture_of s block).caches
@@ -246,8 +229,8 @@ order_keeps s core block q new flat good in_row o =
     let p = s.protocol in
     let before : Picture = picture_of s block in
     let after : Picture = o.next in
-    let l = look p flat before core q good in_row o.ready.0 o.ready.1 in
-    let is_pl : o.payload ≡ l.pl = sent_payload p flat before core q l o.from o.payload o.sent.sends in
+    let l = look good o.ready.1 core q in_row o.ready.0 in
+    let is_pl : o.payload ≡ l.pl = sent_payload l o.from o.payload o.sent.sends in
     let opened : Open = record { core = core; request = q; block = block; payload = o.payload; value = value_sent before o.from o.payload; from = o.from } in
     let is_mc : o.memory.0 ≡ l.mc = some_is (memory_cell_of p before.memory.state (at_memory q)) o.memory.0 l.mc o.memory.1 l.is_mc in
     let memory : after.memory.state ≡ l.mc.next = o.memory.2 ∙ ap (λ (m : MemCell). m.next) is_mc in
@@ -257,20 +240,16 @@ order_keeps s core block q new flat good in_row o =
       owner = next_owner q core good.owner;
       owner_in = next_owner_in (is_put_m q) core good.owner (length before.caches) good.owner_in;
       is_owned = is_owned_next (is_put_m q) (owns good.owner core) good.claims.owned good.owner good.is_owned ∙ sym
-          (same_is _ _ (end_of p flat before core q l OrderTests.owned_after));
-      states = λ d d_in. rw o.opened (order_states p flat before core q l after o.taken opened refl refl d d_in);
-      kept = λ d d_in h. carried_kept (held_by before d) (held_by after d) flat (order_carries p flat before core q l after o.taken d d_in) (good.kept d d_in) h;
-      clean = λ d d_in h. o.value ∙ good.clean d d_in ((order_carries p flat before core q l after o.taken d d_in).cleans h);
-      fresh = λ h. o.value ∙ order_fresh p flat before core q l h;
-      carried = λ x is_x carrying.
-          let e : opened ≡ x = some_is after.transaction opened x o.opened is_x in
-          let carry : carries_value o.payload ≡ true = ap (λ (y : Open). carries_value y.payload) e ∙ carrying in
-          let v : value_sent before o.from o.payload ≡ flat = sender_value p flat before core q l o.from o.payload o.sent.sends carry in
-          ap (λ (y : Open). y.value) (sym e) ∙ v;
+          (same_is _ _ (end_of l OrderTests.owned_after));
+      states = λ d d_in. rw o.opened (order_states l after o.taken opened refl refl d d_in);
+      kept = λ d d_in h. carried_kept (held_by before d) (held_by after d) flat (order_carries l after o.taken d d_in) (good.kept d d_in) h;
+      clean = λ d d_in h. o.value ∙ good.clean d d_in ((order_carries l after o.taken d d_in).cleans h);
+      fresh = λ h. o.value ∙ order_fresh l h;
+      carried = λ x is_x.
+          rw (← some_is after.transaction opened x o.opened is_x) (sender_value l o.from o.payload o.sent.sends);
       proper = λ d d_in.
           let t = o.taken.rows d d_in in
-          subst IsProper (sym t.2) (IsProper-order p (held_by before d) d core q t.0.action t.0.next (good.proper d d_in) t.1);
-      requestor_in = λ x is_x. subst (λ (y : Open). y.core < length before.caches) (some_is after.transaction opened x o.opened is_x) in_row;
-      sender_in = λ x is_x.
-          subst (λ (y : Open). ForSome y.from (λ sender. sender < length before.caches)) (some_is after.transaction opened x o.opened is_x) (sender_there p before core q o.from o.payload o.sent.sends);
+          rw t.2 (IsProper-order p (held_by before d) d core q t.0.action t.0.next (good.proper d d_in) t.1);
+      requestor_in = λ x is_x. rw (← some_is after.transaction opened x o.opened is_x) in_row;
+      sender_in = λ x is_x. rw (← some_is after.transaction opened x o.opened is_x) (sender_there p before core q o.from o.payload o.sent.sends);
     }

@@ -39,22 +39,22 @@ abbrev meant : Request → ℕ → Option ℕ → Option ℕ
 meant q c owner = cond (is_put_m q) (Some c) owner
 
 -- what an Order finds of a picture that keeps its invariant
-module _ (p : Protocol) (flat : List ℕ) (before : Picture) (c : ℕ) (q : Request) (l : Looked p flat before c q) where
+module _ {p : Protocol} {flat : List ℕ} {before : Picture} {c : ℕ} {q : Request} (l : Looked p flat before c q) where
   possible_rows : (d : ℕ) → d < length before.caches → (r : CacheCell) × (cell_of p (held_by before d).state (seen_by d c q) ≡ Some r)
   possible_rows = by_core c (λ d. d < length before.caches → (r : CacheCell) × (cell_of p (held_by before d).state (seen_by d c q) ≡ Some r))
       (λ c_in. (l.oc, rw (seen_own c q) l.is_oc))
-      (λ d apart d_in. rw (seen_other d c q apart) (other_cell p flat before c q l d d_in))
+      (λ d apart d_in. rw (seen_other d c q apart) (other_cell l d d_in))
 
   only : (another : Option ℕ) (sent : Payload) → Sends p before c q another sent → another ≡ meant q c l.good.owner
   only None sent sends =
-      let h = and_parts (not (is_put_m q)) (not l.good.claims.owned) (sym (memory_sends p flat before c q l) ∙ ap is_some (sends_is p before c q None sent sends)) in
+      let h = and_parts (not (is_put_m q)) (not l.good.claims.owned) (sym (memory_sends l) ∙ ap is_some (sends_is p before c q None sent sends)) in
       sym (rw (not-true (is_put_m q) h.0) (none_of l.good.owner (l.good.is_owned ∙ not-true l.good.claims.owned h.1)))
   only (Some d) sent sends =
       let does : is_some (payload_from p before c q (Some d)) ≡ true = ap is_some (sends_is p before c q (Some d) sent sends) in
       elim (cases_eq d c) [
-        | inl e ↦ let put : is_put_m q ≡ true = sym (requestor_sends p flat before c q l) ∙ (rw e at does) in rw put (ap (λ (x : ℕ). Some x) e)
+        | inl e ↦ let put : is_put_m q ≡ true = sym (requestor_sends l) ∙ (rw e at does) in rw put (ap (λ (x : ℕ). Some x) e)
         | inr apart ↦
-            let both = and_parts (owns l.good.owner d) (not (is_put_m q)) (sym (others_send p flat before c q l d sends.0 apart) ∙ does) in
+            let both = and_parts (owns l.good.owner d) (not (is_put_m q)) (sym (others_send l d sends.0 apart) ∙ does) in
             rw (not-true (is_put_m q) both.1) (sym (owner_is l.good.owner d both.0))
       ]
 
@@ -65,22 +65,22 @@ module _ (p : Protocol) (flat : List ℕ) (before : Picture) (c : ℕ) (q : Requ
 
   sent_put : is_put_m q ≡ true → SendsOnLine (Some c)
   sent_put put =
-      let x = some_of (payload_from p before c q (Some c)) (requestor_sends p flat before c q l ∙ put) in
-      (x.0, ((l.requestor_in, sends_row _ _ x.1), rw (eq-eqb c c refl) (implied (is_put_m q) _ (end_of p flat before c q l OrderTests.order_line_of_put) put)))
+      let x = some_of (payload_from p before c q (Some c)) (requestor_sends l ∙ put) in
+      (x.0, ((l.requestor_in, sends_row _ _ x.1), rw (eq-eqb c c refl) (implied (is_put_m q) _ (end_of l OrderTests.order_line_of_put) put)))
 
   sent_memory : is_put_m q ≡ false → l.good.claims.owned ≡ false → SendsOnLine None
   sent_memory no_put unowned =
-      let x = some_of (payload_from p before c q None) (memory_sends p flat before c q l ∙ rw (no_put, unowned) refl) in
-      (x.0, (memory_sends_row _ _ x.1, implied (not (is_put_m q) && not l.good.claims.owned) _ (end_of p flat before c q l OrderTests.order_line_of_memory) (rw (no_put, unowned) refl)))
+      let x = some_of (payload_from p before c q None) (memory_sends l ∙ rw (no_put, unowned) refl) in
+      (x.0, (memory_sends_row _ _ x.1, implied (not (is_put_m q) && not l.good.claims.owned) _ (end_of l OrderTests.order_line_of_memory) (rw (no_put, unowned) refl)))
 
   sent_owner : is_put_m q ≡ false → (d : ℕ) → l.good.owner ≡ Some d → SendsOnLine (Some d)
   sent_owner no_put d is_d =
       let d_in = l.good.owner_in d is_d in
       let owning : owns l.good.owner d ≡ true = rw is_d (eq-eqb d d refl) in
-      let apart : d ≢ c = λ e. both_ways (is_put_m q) no_put (owner_puts p flat before c q l (rw e at owning)) in
-      let xc = other_cell p flat before c q l d d_in in
-      let x = some_of (payload_from p before c q (Some d)) (others_send p flat before c q l d d_in apart ∙ rw (owning, no_put) refl) in
-      let line = implied (owns l.good.owner d && not (is_put_m q)) _ (other_of p flat before c q l OrderTests.order_line_of_core d d_in apart xc.0 xc.1) (rw (owning, no_put) refl) in
+      let apart : d ≢ c = λ e. both_ways (is_put_m q) no_put (owner_puts l (rw e at owning)) in
+      let xc = other_cell l d d_in in
+      let x = some_of (payload_from p before c q (Some d)) (others_send l d d_in apart ∙ rw (owning, no_put) refl) in
+      let line = implied (owns l.good.owner d && not (is_put_m q)) _ (other_of l OrderTests.order_line_of_core d d_in apart xc.0 xc.1) (rw (owning, no_put) refl) in
       (x.0, ((d_in, sends_row _ _ x.1), rw (ne_eqb d c apart) line))
 
   sent : SendsOnLine (meant q c l.good.owner)
@@ -95,27 +95,23 @@ module _ (p : Protocol) (flat : List ℕ) (before : Picture) (c : ℕ) (q : Requ
 -- an Order finds all its rows and exactly one sender, and is a line of the table of Orders
 pub order_possible : (p : Protocol) (flat : List ℕ) (before : Picture) (c : ℕ) (q : Request) → BlockInvariant p (length before.caches) flat before → c < length before.caches → waiting_request (held_by before c).state ≡ Some q → before.transaction ≡ None → Possible p before c q
 order_possible p flat before c q good c_in waits calm =
-    let l = look p flat before c q good c_in waits calm in
-    let s = sent p flat before c q l in
+    let l = look good calm c q c_in waits in
+    let s = sent l in
     record {
-      rows = possible_rows p flat before c q l;
+      rows = possible_rows l;
       cell_of_memory = l.mc;
       memory_row = l.is_mc;
       from = meant q c l.good.owner;
       payload = s.0;
-      sender = record { sends = s.1.0; alone = only p flat before c q l };
-      order_line = rw (sent_payload p flat before c q l (meant q c l.good.owner) s.0 s.1.0) s.1.1;
+      sender = record { sends = s.1.0; alone = only l };
+      order_line = rw (sent_payload l (meant q c l.good.owner) s.0 s.1.0) s.1.1;
     }
-
-fits_protocol : (p : Protocol) (shared ow : Bool) (w : Option Request) (s : CacheState) → fits p shared ow w s ≡ true → in_protocol p s ≡ true
-unfolding fits
-fits_protocol p shared ow w s h = (and_parts _ _ h).0
 
 -- an Ask finds its row; an Evict in I has none and needs none
 pub ask_possible : (p : Protocol) (n : ℕ) (flat : List ℕ) (before : Picture) (c : ℕ) (o : Op) → BlockInvariant p n flat before → c < n → is_idle_evict (held_by before c).state (asked o) ≡ false → (r : CacheCell) × (cell_of p (held_by before c).state (asked o) ≡ Some r)
+unfolding fits
 ask_possible p n flat before c o good c_in busy =
-    let fit = good.states c c_in in
-    let h = when_at _ _ (fits_protocol p good.claims.shared (owns good.owner c) (own_open before.transaction c) (held_by before c).state fit) (ask_row p (held_by before c).state o) in
+    let h = when_at _ _ (and_parts _ _ (good.states c c_in)).0 (ask_row p (held_by before c).state o) in
     some_of (cell_of p (held_by before c).state (asked o)) (right_of (is_idle_evict (held_by before c).state (asked o)) _ h busy)
 
 -- a Respond finds its rows

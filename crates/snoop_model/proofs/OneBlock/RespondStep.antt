@@ -17,7 +17,8 @@ use Rattle.snoop_model.specs.Invariant.Block.{BlockInvariant, own_open, owns}
 use Rattle.snoop_model.proofs.Tables.Every.{either-at, given, given_at, same_is, some_of, when_at}
 use Rattle.snoop_model.proofs.OneBlock.Operation.{flat_after, IsLawful}
 use Rattle.snoop_model.proofs.Tables.SenderTests.{after_respond, next_memory, next_of}
-use Rattle.snoop_model.proofs.OneBlock.Facts.{by_core, put_calm, owns_owned, implied}
+use Rattle.snoop_model.proofs.Lists.Writes.{each_set}
+use Rattle.snoop_model.proofs.OneBlock.Facts.{put_calm, owns_owned, implied}
 use Rattle.snoop_model.proofs.OneBlock.AskStep.{right_of}
 use Rattle.snoop_model.proofs.Tables.Rows.{IsProper-fill}
 use Rattle.snoop_model.proofs.Tables.RespondTests.{SettlesIf, after_rule, fills_store, gains, memory_row_for, respond_rule, row_for, writes}
@@ -33,8 +34,7 @@ memory_after false p m next found act settled = ap (λ (x : MemState). Some x) (
 
 written_flat : (a : MemAction) (v old flat : List ℕ) → (writes a ≡ true → v ≡ flat) → old ≡ flat → written a v old ≡ flat
 written_flat mem_action.Write v old flat h e = h refl
-written_flat mem_action.None v old flat h e = e
-written_flat (mem_action.Send pl) v old flat h e = e
+written_flat _ v old flat h e = e
 
 write_flat : (a : MemAction) (v old flat : List ℕ) → writes a ≡ true → v ≡ flat → written a v old ≡ flat
 write_flat mem_action.Write v old flat h e = e
@@ -96,48 +96,51 @@ module _ (flat : List ℕ) (log : List Item) (core block word value : ℕ) (came
   filled_words a op.Evict same fill did = absurd did
 
 -- a Respond of a picture that keeps its invariant
-module _ (p : Protocol) (n : ℕ) (flat : List ℕ) (before : Picture) (caches : List Line) (memory : MemLine) (o : Open) (g : BlockInvariant p n flat before)
-    (was_open : before.transaction ≡ Some o) (arrives : ArrivesAtMemory o p before.memory memory) where
+module _ (s : Situation) (block : ℕ) (o : Open) (did : Option Did) (new : Situation) (r : Responds s block o did new) (n : ℕ) (flat : List ℕ) (g : BlockInvariant s.protocol n flat (picture_of s block)) (in_row : o.core < length (picture_of s block).caches) where
+  abbrev p : Protocol
+  p = s.protocol
+
+  abbrev before : Picture
+  before = picture_of s block
+
   abbrev after : Picture
-  after = free_picture caches memory
+  after = free_picture r.next.caches r.next.memory
 
   is_claims : claims_of p before.memory.state (Some (o.request, o.payload)) ≡ Some g.claims
-  is_claims = rw was_open at g.is_claims
+  is_claims = rw r.opened at g.is_claims
 
-  is_memory : after_respond p o.request before.memory.state o.payload ≡ Some after.memory.state
-  is_memory = memory_after (takes_payload o.request before.memory.state) p before.memory.state after.memory.state (arrival_at_memory o.payload) arrives.act arrives.settled
+  is_memory : after_respond p o.request before.memory.state o.payload ≡ Some r.next.memory.state
+  is_memory = memory_after (takes_payload o.request before.memory.state) p before.memory.state r.next.memory.state (arrival_at_memory o.payload) r.memory.act r.memory.settled
 
   -- a test of its rows holds here
   tested : (k : RespondTests.RespondQuestion) → RespondTests.respond_test k p before.memory.state o.request o.payload g.claims ≡ true
   tested = respond_rule p before.memory.state o.request o.payload g.claims is_claims
 
   -- the claims after it
-  line_after : (next : Claims) × (claims_of p after.memory.state None ≡ Some next)
-  line_after = some_of (claims_of p after.memory.state None) (given_at _ _ after.memory.state is_memory (tested RespondTests.has_line_after))
+  line_after : (next : Claims) × (claims_of p r.next.memory.state None ≡ Some next)
+  line_after = some_of (claims_of p r.next.memory.state None) (given_at _ _ r.next.memory.state is_memory (tested RespondTests.has_line_after))
 
   abbrev next : Claims
   next = line_after.0
 
   -- and a test of these
-  tested_after : (k : RespondTests.AfterQuestion) → RespondTests.after_test k p before.memory.state o.request o.payload g.claims after.memory.state next ≡ true
-  tested_after = after_rule p before.memory.state o.request o.payload g.claims is_claims after.memory.state next is_memory line_after.1
+  tested_after : (k : RespondTests.AfterQuestion) → RespondTests.after_test k p before.memory.state o.request o.payload g.claims r.next.memory.state next ≡ true
+  tested_after = after_rule p before.memory.state o.request o.payload g.claims is_claims r.next.memory.state next is_memory line_after.1
 
   -- memory stays where it has the block's value, and is written with it
-  memory_stays : before.memory.value ≡ flat → after.memory.value ≡ flat
-  memory_stays e = arrives.value ∙ written_flat arrives.act o.value before.memory.value flat
-      (λ w. g.carried o was_open (writes_carried p before.memory.state after.memory.state arrives.act (carries_value o.payload)
-      (takes_payload o.request before.memory.state) (arrival_at_memory o.payload) arrives.settled (tested RespondTests.write_carries) w)) e
+  memory_stays : before.memory.value ≡ flat → r.next.memory.value ≡ flat
+  memory_stays e = r.memory.value ∙ written_flat r.memory.act o.value before.memory.value flat
+      (λ w. g.carried o r.opened (writes_carried p before.memory.state r.next.memory.state r.memory.act (carries_value o.payload) _ _ r.memory.settled (tested RespondTests.write_carries) w)) e
 
-  refreshed : next.fresh ≡ true → (is_get_m o.request ≡ false) × (after.memory.value ≡ flat)
+  refreshed : next.fresh ≡ true → (is_get_m o.request ≡ false) × (r.next.memory.value ≡ flat)
   refreshed h =
-      let parts = and_parts (not (is_get_m o.request)) _ (implied next.fresh _ (tested_after RespondTests.fresh_respond) h) in (
-        not-true (is_get_m o.request) parts.0,
-        elim (or_cases g.claims.fresh _ parts.1) [
+      let (get_s, from) = and_parts (not (is_get_m o.request)) _ (implied next.fresh _ (tested_after RespondTests.fresh_respond) h) in (
+        not-true (is_get_m o.request) get_s,
+        elim (or_cases g.claims.fresh _ from) [
           | inl fresh ↦ memory_stays (g.fresh fresh)
           | inr written_now ↦
-              let it = row_writes p before.memory.state after.memory.state arrives.act (carries_value o.payload)
-              (takes_payload o.request before.memory.state) (arrival_at_memory o.payload) arrives.settled written_now in
-              arrives.value ∙ write_flat arrives.act o.value before.memory.value flat it.1 (g.carried o was_open it.0)
+              let (carrying, writing) = row_writes p before.memory.state r.next.memory.state r.memory.act (carries_value o.payload) _ _ r.memory.settled written_now in
+              r.memory.value ∙ write_flat r.memory.act o.value before.memory.value flat writing (g.carried o r.opened carrying)
         ],
       )
 
@@ -151,8 +154,8 @@ module _ (p : Protocol) (n : ℕ) (flat : List ℕ) (before : Picture) (caches :
       let s = (held_by before d).state in
       let fit = fits_calm p g.claims.shared (owns g.owner d) (own_open before.transaction d) s calm (g.states d d_in) in
       let here = when_at _ _ (owns_owned g.owner d g.claims.owned g.is_owned) (when_at _ _ fit (either-at _ (all_states-at _ (tested_after RespondTests.stays) s) (owns g.owner d))) in
-      let parts = and_parts (fits p next.shared (owns g.owner d) None s) (not (is_get_m o.request) || not (keeps s)) here in
-      (parts.0, λ get_m. not-true (keeps s) (implied (is_get_m o.request) (not (keeps s)) parts.1 get_m))
+      let (fits_after, blind) = and_parts (fits p next.shared (owns g.owner d) None s) (not (is_get_m o.request) || not (keeps s)) here in
+      (fits_after, λ get_m. not-true (keeps s) (implied (is_get_m o.request) (not (keeps s)) blind get_m))
 
   -- a PutM's end
   respond_put : is_put_m o.request ≡ true → ((d : ℕ) → held_by after d ≡ held_by before d) → BlockInvariant p n flat after
@@ -162,107 +165,89 @@ module _ (p : Protocol) (n : ℕ) (flat : List ℕ) (before : Picture) (caches :
     owner = g.owner;
     owner_in = g.owner_in;
     is_owned = g.is_owned ∙ sym (owned_after ∙ put_gains o.request o.payload g.claims.owned put);
-    states = λ d d_in. rw (same d) (stays d d_in (rw was_open (put_calm o d put))).0;
-    kept = λ d d_in. rw (same d) (g.kept d d_in);
-    clean = λ d d_in h. memory_stays (g.clean d d_in (rw (same d) at h));
+    states = λ d d_in. rw (same d) (stays d d_in (rw r.opened (put_calm o d put))).0;
+    kept = λ d. rw (same d) (g.kept d);
+    clean = λ d. rw (same d) (λ d_in h. memory_stays (g.clean d d_in h));
     fresh = λ h. (refreshed h).1;
     carried = λ x is_x carrying. cc;
     requestor_in = λ x is_x. cc;
     sender_in = λ x is_x. cc;
-    proper = λ d d_in. rw (same d) (g.proper d d_in);
+    proper = λ d. rw (same d) (g.proper d);
   }
 
   -- the end of a GetS or a GetM
-  module _ (no_put : is_put_m o.request ≡ false) (log : List Item) (asking : Access) (value : ℕ) (did : Option Did) (fills : Fills o p (held_by before o.core) (held_by after o.core) asking value)
-      (logged : did ≡ Some (next_did log o.core o.block asking.word asking.op value false)) (others : (d : ℕ) → d ≢ o.core → held_by after d ≡ held_by before d) where
+  module _ (no_put : is_put_m o.request ≡ false) (f : FillsRequestor o p s.log before.caches r.next.caches did) where
     abbrev c : ℕ
     c = o.core
 
     abbrev gained : Bool
     gained = gains o.request o.payload
 
-    words : (fills.after ≡ flat_after flat did) × IsLawful flat did × (fills_store fills.row.action ≡ false → flat_after flat did ≡ flat)
+    words : (f.fills.after ≡ flat_after flat did) × IsLawful flat did × (fills_store f.fills.row.action ≡ false → flat_after flat did ≡ flat)
     words =
         let carries : carries_value o.payload ≡ true = right_of (is_put_m o.request) (carries_value o.payload) (tested RespondTests.data_of_get) no_put in
-        rw logged (filled_words flat log c o.block asking.word value o.value fills.after fills.row.action asking.op (g.carried o was_open carries) fills.fill fills.performed)
+        rw f.logged (filled_words flat s.log c o.block f.asking.word f.value o.value f.fills.after f.fills.row.action f.asking.op (g.carried o r.opened carries) f.fills.fill f.fills.performed)
 
     -- the requestor's row for the data
-    answered : RespondTests.answered_so p o.request o.payload g.claims next (owns g.owner c) fills.row ≡ true
+    answered : RespondTests.answered_so p o.request o.payload g.claims next (owns g.owner c) f.fills.row ≡ true
     answered =
         let s = (held_by before c).state in
-        let waits : own_open before.transaction c ≡ Some o.request = rw (was_open, eq-eqb c c refl) refl in
-        let fit : fits p g.claims.shared (owns g.owner c) (Some o.request) s ≡ true = rw waits at (g.states c (g.requestor_in o was_open)) in
+        let fit : fits p g.claims.shared (owns g.owner c) (Some o.request) s ≡ true = rw (r.opened, eq-eqb c c refl) at (g.states c (g.requestor_in o r.opened)) in
         let get : not (is_put_m o.request) ≡ true = rw no_put refl in
         let test = when_at _ _ get (tested_after RespondTests.arrival_fits) in
-        given_at (row_for p s (arrival o.payload)) _ fills.row (rw fills.arrives fills.is_row) (when_at _ _ fit (either-at _ (all_states-at _ test s) (owns g.owner c)))
-
-    state_after : (held_by after c).state ≡ fills.row.next
-    state_after = ap (λ (x : Line). x.state) fills.held
+        given_at (row_for p s (arrival o.payload)) _ f.fills.row (rw f.fills.arrives f.fills.is_row) (when_at _ _ fit (either-at _ (all_states-at _ test s) (owns g.owner c)))
 
     calm : (d : ℕ) → d ≢ c → is_calm (own_open before.transaction d) ≡ true
-    calm d apart = rw (was_open, ne_eqb d c apart) refl
+    calm d apart = rw (r.opened, ne_eqb d c apart) refl
+
+    -- what holds of the filled line, and of each other core's as before, holds of each then
+    each_after : (P : ℕ → Line → Type 0) → P c f.line → ((d : ℕ) → d ≢ c → P d (held_by before d)) → (d : ℕ) → P d (held_at r.next.caches d)
+    each_after P = rw f.held (each_set before.caches c f.line nothing_held P in_row)
 
     respond_get : BlockInvariant p n (flat_after flat did) after × IsLawful flat did
     respond_get =
-        let a = and_parts (not (owns g.owner c)) _ answered in
-        let b = and_parts _ _ a.1 in
-        let e = and_parts _ _ b.1 in
+        let (no_owner, parts) = and_parts (not (owns g.owner c)) _ answered in
+        let (fit, rest) = and_parts _ _ parts in
+        let (clean_if, stores) = and_parts _ _ rest in
         -- the flat value is as before, or no other core may read and memory isn't fresh
-        let same_flat : is_get_m o.request ≡ false → flat_after flat did ≡ flat = λ h. words.2 (same_is _ _ e.1 ∙ h) in
+        let same_flat : is_get_m o.request ≡ false → flat_after flat did ≡ flat = λ h. words.2 (same_is _ _ stores ∙ h) in
+        let readers : (d : ℕ) → d < n → d ≢ c → keeps (held_by before d).state ≡ true → flat_after flat did ≡ flat = λ d d_in apart reads. elim (cases_Bool (is_get_m o.request)) [
+          | inl m ↦ absurd (both_ways _ ((stays d d_in (calm d apart)).1 m) reads)
+          | inr m ↦ same_flat m
+        ] in
         let good : BlockInvariant p n (flat_after flat did) after = record {
           claims = next;
           is_claims = line_after.1;
           owner = answered_owner gained c g.owner;
-          owner_in = answered_in gained c g.owner n (g.requestor_in o was_open) g.owner_in;
+          owner_in = answered_in gained c g.owner n (g.requestor_in o r.opened) g.owner_in;
           is_owned = answered_owned gained g.claims.owned c g.owner g.is_owned ∙ sym owned_after;
-          states = by_core c (λ d. d < n → fits p next.shared (owns (answered_owner gained c g.owner) d) None (held_by after d).state ≡ true)
-              (λ c_in. rw (owns_answered_self gained c g.owner (not-true _ a.0), state_after) b.0)
-              (λ d apart d_in. rw (owns_answered_other gained g.claims.owned c d g.owner apart g.is_owned (tested_after RespondTests.gain_alone), others d apart) (stays d d_in (calm d apart)).0);
-          kept = by_core c (λ d. d < n → keeps (held_by after d).state ≡ true → (held_by after d).kept ≡ Some (flat_after flat did))
-              (λ c_in h. ap (λ (x : Line). x.kept) fills.held ∙ ap (λ (ws : List ℕ). Some ws) words.0)
-              (λ d apart d_in. rw (others d apart) (λ h. elim (cases_Bool (is_get_m o.request)) [
-                | inl m ↦ absurd (both_ways _ ((stays d d_in (calm d apart)).1 m) h)
-                | inr m ↦ rw (same_flat m) (g.kept d d_in h)
-              ]));
-          clean = by_core c (λ d. d < n → is_clean (held_by after d).state ≡ true → after.memory.value ≡ flat_after flat did)
-              (λ c_in h. let k = and_parts g.claims.fresh (not (is_get_m o.request)) (implied (is_clean fills.row.next) _ e.0 (rw state_after at h)) in
-              memory_stays (g.fresh k.0) ∙ sym (same_flat (not-true _ k.1)))
-              (λ d apart d_in. rw (others d apart) (λ was. elim (cases_Bool (is_get_m o.request)) [
-                | inl m ↦ absurd (both_ways _ ((stays d d_in (calm d apart)).1 m) (clean_reads _ was))
-                | inr m ↦ memory_stays (g.clean d d_in was) ∙ sym (same_flat m)
-              ]));
+          states = each_after (λ d x. d < n → fits p next.shared (owns (answered_owner gained c g.owner) d) None x.state ≡ true)
+              (λ c_in. rw (owns_answered_self gained c g.owner (not-true _ no_owner), f.fills.held) fit)
+              (λ d apart d_in. rw (owns_answered_other gained g.claims.owned c d g.owner apart g.is_owned (tested_after RespondTests.gain_alone)) (stays d d_in (calm d apart)).0);
+          kept = each_after (λ d x. d < n → keeps x.state ≡ true → x.kept ≡ Some (flat_after flat did))
+              (λ c_in h. rw (f.fills.held, words.0) refl)
+              (λ d apart d_in h. rw (readers d d_in apart h) (g.kept d d_in h));
+          clean = each_after (λ d x. d < n → is_clean x.state ≡ true → r.next.memory.value ≡ flat_after flat did)
+              (λ c_in h. let (fresh, get_s) = and_parts g.claims.fresh (not (is_get_m o.request)) (implied (is_clean f.fills.row.next) _ clean_if (rw f.fills.held at h)) in
+              memory_stays (g.fresh fresh) ∙ sym (same_flat (not-true _ get_s)))
+              (λ d apart d_in h. memory_stays (g.clean d d_in h) ∙ sym (readers d d_in apart (clean_reads _ h)));
           fresh = λ h. (refreshed h).1 ∙ sym (same_flat (refreshed h).0);
           carried = λ x is_x carrying. cc;
           requestor_in = λ x is_x. cc;
           sender_in = λ x is_x. cc;
-          proper = by_core c (λ d. d < n → IsProper (held_by after d))
-              (λ c_in. rw fills.held (IsProper-fill p (held_by before c).state fills.event fills.row.action fills.row.next asking.op fills.after fills.fill fills.is_row))
-              (λ d apart d_in. rw (others d apart) (g.proper d d_in));
+          proper = each_after (λ d x. d < n → IsProper x)
+              (λ c_in. rw f.fills.held (IsProper-fill p (held_by before c).state f.fills.event f.fills.row.action f.fills.row.next f.asking.op f.fills.after f.fills.fill f.fills.is_row))
+              (λ d apart. g.proper d);
         } in
         (good, words.1)
 
--- a Respond keeps the invariant of a picture, and a load that it performs gives the flat value
-module _ (s : Situation) (block : ℕ) (closing : Open) (did : Option Did) (new : Situation) (r : Responds s block closing did new) (n : ℕ) (flat : List ℕ) (g : BlockInvariant s.protocol n flat (picture_of s block)) (in_row : closing.core < length (picture_of s block).caches) where
-  abbrev before : Picture
-  before = picture_of s block
+  by_request : (q : Request) → o.request ≡ q → ArrivesFor q o p s.log before.caches r.next.caches did → BlockInvariant p n (flat_after flat did) after × IsLawful flat did
+  by_request request.PutM is a = rw a.1 (respond_put (ap is_put_m is) (λ d. ap (λ (x : List Line). held_at x d) a.0), tt)
+  by_request _ is a = respond_get (ap is_put_m is) a
 
-  abbrev closed : Picture
-  closed = free_picture r.next.caches r.next.memory
-
-  filled : is_put_m closing.request ≡ false → FillsRequestor closing s.protocol s.log before.caches r.next.caches did → BlockInvariant s.protocol n (flat_after flat did) closed × IsLawful flat did
-  filled no_put f =
-      let here : held_by closed closing.core ≡ f.line = ap (λ (x : List Line). held_at x closing.core) f.held ∙ get_or-set_same before.caches closing.core f.line nothing_held in_row in
-      let fills : Fills closing s.protocol (held_by before closing.core) (held_by closed closing.core) f.asking f.value = rw here f.fills in
-      respond_get s.protocol n flat before r.next.caches r.next.memory closing g r.opened r.memory no_put s.log f.asking f.value did fills f.logged
-      (λ d apart. ap (λ (x : List Line). held_at x d) f.held ∙ get_or-set_other before.caches closing.core d f.line nothing_held apart)
-
-  by_request : (q : Request) → closing.request ≡ q → ArrivesFor q closing s.protocol s.log before.caches r.next.caches did → BlockInvariant s.protocol n (flat_after flat did) closed × IsLawful flat did
-  by_request request.PutM is a =
-      rw a.1 (respond_put s.protocol n flat before r.next.caches r.next.memory closing g r.opened r.memory (ap is_put_m is) (λ d. ap (λ (x : List Line). held_at x d) a.0), tt)
-  by_request _ is a = filled (ap is_put_m is) a
-
-  pub respond_keeps : BlockInvariant s.protocol n (flat_after flat did) r.next × IsLawful flat did
+  -- a Respond keeps the invariant of a picture, and a load that it performs gives the flat value
+  pub respond_keeps : BlockInvariant p n (flat_after flat did) r.next × IsLawful flat did
   respond_keeps =
-      let good = by_request closing.request refl r.requestor in
-      let P : Option Open → Type 0 = λ t. BlockInvariant s.protocol n (flat_after flat did) (record { caches = r.next.caches; memory = r.next.memory; transaction = t }) in
+      let good = by_request o.request refl r.requestor in
+      let P : Option Open → Type 0 = λ t. BlockInvariant p n (flat_after flat did) (record { caches = r.next.caches; memory = r.next.memory; transaction = t }) in
       (subst P (sym r.closed) good.0, good.1)

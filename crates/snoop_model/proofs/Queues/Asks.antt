@@ -3,7 +3,7 @@ use Rattle.std.proofs.Common.{◌≡◌, ℕ, ◌<◌, ◌++◌, true, length, O
 use Rattle.std.specs.Prelude.{is_some, option_map, option_to_list, IsSome}
 use Rattle.std.proofs.lemmas.List.{length-set, get_or-set_same, get_or-set_other}
 use Rattle.snoop_model.proofs.Common.{Op, CacheState, CacheAction, Request, Cell, asked, waiting_request, Item, after_issue, queue_of, Access, Reply, Line, Picture, held_by, nothing_held, with_line, Situation, picture_of, state_of, HasOpen, missed_request, request_for, awaited_request, Asks, Takes, IsWithin, queues_after}
-use Rattle.snoop_model.proofs.OneBlock.Facts.{by_core}
+use Rattle.snoop_model.proofs.Lists.Writes.{each_set}
 use Rattle.snoop_rules.specs.declared.names.CacheAction.TheVariants as action
 use Rattle.snoop_model.specs.Invariant.WellKept.{IsWellKept}
 use Rattle.snoop_model.proofs.Lists.QueueCounts.{issued_own, issued_others, issued_elsewhere, times}
@@ -14,52 +14,42 @@ use Rattle.snoop_model.proofs.Queues.Changed.{waits, IsAwaited, KeepsOn, well_af
 module _ (s : Situation) (kept : IsWellKept s) (core block : ℕ) (within : IsWithin s core block) (held : Line) (next : CacheState) (is_next : held.state ≡ next)
     (awaits : (request : Request) → awaited_request next ≡ Some request → awaited_request (state_of s core block) ≡ Some request)
     (missed : (access : Access) → held.waiting ≡ Some access → has_missed next ≡ true) where
-  abbrev before : Picture
-  before = picture_of s block
-
   abbrev after : Picture
-  after = with_line before core held
+  after = with_line (picture_of s block) core held
 
-  in_row : core < length before.caches
-  in_row = rw (kept.shaped.row block within.1) within.0
-
-  its_line : held_by after core ≡ held
-  its_line = get_or-set_same before.caches core held nothing_held in_row
-
-  others : (k : ℕ) → k ≢ core → held_by after k ≡ held_by before k
-  others k apart = get_or-set_other before.caches core k held nothing_held apart
+  -- what holds of the line that the core holds, and of each other core's as before, holds of each then
+  each_after : (P : ℕ → Line → Type 0) → P core held → ((k : ℕ) → k ≢ core → P k (held_by (picture_of s block) k)) → (k : ℕ) → P k (held_by after k)
+  each_after P = each_set (picture_of s block).caches core held nothing_held P (rw (kept.shaped.row block within.1) within.0)
 
   awaited_after : IsAwaited after
   awaited_after = record {
-    awaits = by_core core (λ k. (q : Request) → awaited_request (held_by after k).state ≡ Some q → HasOpen s k block q)
-        (rw (its_line, is_next) (λ q h. kept.awaits core block q (awaits q h))) (λ k apart. rw (others k apart) (kept.awaits k block));
-    operations = by_core core (λ k. (access : Access) → (held_by after k).waiting ≡ Some access → IsSome (missed_request (held_by after k).state))
-        (rw (its_line, is_next) missed) (λ k apart. rw (others k apart) (kept.operations k block));
+    awaits = each_after (λ k x. (q : Request) → awaited_request x.state ≡ Some q → HasOpen s k block q)
+        (rw is_next (λ q h. kept.awaits core block q (awaits q h))) (λ k apart. kept.awaits k block);
+    operations = each_after (λ k x. (access : Access) → x.waiting ≡ Some access → IsSome (missed_request x.state))
+        (rw is_next missed) (λ k apart. kept.operations k block);
   }
 
   -- the line waits as it did
   kept_line : waiting_request next ≡ waiting_request (state_of s core block) → KeepsOn s block after s.queues
   kept_line same = record {
     within = within.1;
-    as_wide = length-set before.caches core held;
+    as_wide = length-set (picture_of s block).caches core held;
     as_many = refl;
-    here = by_core core (λ k. times block (queue_of s.queues k) ≡ waits (held_by after k).state)
-        (rw (its_line, is_next, same) (kept.queued core block)) (λ k apart. rw (others k apart) (kept.queued k block));
+    here = each_after (λ k x. times block (queue_of s.queues k) ≡ waits x.state) (rw (is_next, same) (kept.queued core block)) (λ k apart. kept.queued k block);
     elsewhere = λ k b apart. refl;
     awaited = awaited_after;
   }
 
   -- the line waits with a request that has just been issued
-  kept_issue : (request : Request) → waiting_request (state_of s core block) ≡ None → waiting_request next ≡ Some request → KeepsOn s block after (queues_after (action.Issue request) s.queues core block)
+  kept_issue : (request : Request) → waiting_request (state_of s core block) ≡ None → waiting_request next ≡ Some request → KeepsOn s block after (after_issue s.queues core block)
   kept_issue request was is = record {
     within = within.1;
-    as_wide = length-set before.caches core held;
+    as_wide = length-set (picture_of s block).caches core held;
     as_many = length-set s.queues core _;
-    here = by_core core (λ k. times block (queue_of (after_issue s.queues core block) k) ≡ waits (held_by after k).state)
+    here = each_after (λ k x. times block (queue_of (after_issue s.queues core block) k) ≡ waits x.state)
         (let in_queues : core < length s.queues = rw kept.shaped.queues within.0 in
-        let none : times block (queue_of s.queues core) ≡ 0 = rw was at (kept.queued core block) in
-        rw (its_line, is_next, is) (issued_own s.queues core block in_queues ∙ omega (arith, none)))
-        (λ k apart. rw (issued_others s.queues core block k apart, others k apart) (kept.queued k block));
+        rw (is_next, is, issued_own s.queues core block in_queues, kept.queued core block, was) refl)
+        (λ k apart. rw (issued_others s.queues core block k apart) (kept.queued k block));
     elsewhere = issued_elsewhere s.queues core block;
     awaited = awaited_after;
   }
@@ -70,34 +60,25 @@ module _ (s : Situation) (kept : IsWellKept s) (core block word : ℕ) (asking :
   abbrev line : Line
   line = held_by (picture_of s block) core
 
-  still : (waiting : held.waiting ≡ line.waiting) → missed_request line.state ≡ missed_request next → (access : Access) → held.waiting ≡ Some access
-      → has_missed next ≡ true
-  still waiting same access h = ap is_some (sym same) ∙ kept.operations core block access (sym waiting ∙ h)
+  still : missed_request line.state ≡ missed_request next → (access : Access) → line.waiting ≡ Some access → has_missed next ≡ true
+  still same access waits = rw (← same) (kept.operations core block access waits)
 
   kept_taken : (act : CacheAction) → Cell s.protocol line.state (asked asking) act next → Takes act next s.log core block word asking line held answer entry
       → KeepsOn s block (with_line (picture_of s block) core held) (queues_after act s.queues core block)
   kept_taken action.Hit row taken =
-      let facts = hit_facts s.protocol line.state (asked asking) next row in
-      kept_line s kept core block within held next (ap (λ (x : Line). x.state) taken.1.0.held)
-      (λ q. awaited-asked s.protocol line.state asking action.Hit next q row)
-      (still (ap (λ (x : Line). x.waiting) taken.1.0.held) facts.1) facts.2
+      let (keeping, missed, waits) = hit_facts s.protocol line.state (asked asking) next row in
+      rw taken.1.0.held (kept_line s kept core block within _ next refl (λ q. awaited-asked s.protocol line.state asking action.Hit next q row) (still missed) waits)
   kept_taken action.Drop row taken =
-      let facts = drop_facts s.protocol line.state (asked asking) next row in
-      kept_line s kept core block within held next (ap (λ (x : Line). x.state) taken.0) (λ q. awaited-asked s.protocol line.state asking action.Drop next q row)
-      (still (ap (λ (x : Line). x.waiting) taken.0) facts.1) facts.2
+      let (keeping, missed, waits) = drop_facts s.protocol line.state (asked asking) next row in
+      rw taken.0 (kept_line s kept core block within _ next refl (λ q. awaited-asked s.protocol line.state asking action.Drop next q row) (still missed) waits)
   kept_taken (action.Issue request) row taken =
-      let facts = issue-waits s.protocol line.state (asked asking) request next row in
+      let (was, is) = issue-waits s.protocol line.state (asked asking) request next row in
       let missed = issue-missed s.protocol line.state (asked asking) request next row in
-      kept_issue s kept core block within held next (ap (λ (x : Line). x.state) taken.0)
-      (λ q. awaited-asked s.protocol line.state asking (action.Issue request) next q row)
-      (λ access h. ap is_some (missed.1 ∙ sym (asked_missed word asking)) ∙ ap
-      (λ (x : Option Access). is_some (option_map (λ (a : Access). request_for a.op) x)) (sym (ap (λ (x : Line). x.waiting) taken.0) ∙ h))
-      request facts.0 facts.1
+      rw taken.0 (kept_issue s kept core block within _ next refl (λ q. awaited-asked s.protocol line.state asking (action.Issue request) next q row)
+      (λ access h. rw (missed.1, ← asked_missed word asking, h) refl) request was is)
   kept_taken _ row taken = absurd taken
 
 pub kept_asks : (s t : Situation) (core block word : ℕ) (asking : Op) (answer : Reply) (entry : Option Item) → IsWellKept s → IsWithin s core block → Asks s core block word asking answer t entry → IsWellKept t
 kept_asks s t core block word asking answer entry kept within asks =
-    let act = asks.row.action in
-    subst IsWellKept (sym asks.after) (well_after s kept block (with_line (picture_of s block) core asks.held) (queues_after act s.queues core block)
-    (s.log ++ option_to_list entry)
-    (kept_taken s kept core block word asking within asks.held asks.row.next answer entry act asks.is_row asks.taken))
+    rw asks.after (well_after s kept block (with_line (picture_of s block) core asks.held) (queues_after asks.row.action s.queues core block) (s.log ++ option_to_list entry)
+    (kept_taken s kept core block word asking within asks.held asks.row.next answer entry asks.row.action asks.is_row asks.taken))

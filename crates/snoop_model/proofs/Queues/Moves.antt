@@ -1,6 +1,7 @@
 -- A machine is well kept at reset, and stays so.
-use Rattle.std.proofs.Common.{◌≡◌, ℕ, List, [], Option, Some, None, sym, ◌∙◌, ap, subst, arith, inl, inr}
+use Rattle.std.proofs.Common.{◌≡◌, ℕ, List, [], Option, Some, None, refl, sym, ◌∙◌, ap, subst, arith, inl, inr}
 use Rattle.std.specs.Prelude.{All}
+use Rattle.std.proofs.lemmas.Option.{none-some}
 use Rattle.snoop_model.proofs.Common.{Extent, Protocol, Step, Ask, Order, Respond, Request, Item, Open, queue_of, Access, Reply, Line, Situation, reset, awaited_request, MoveOn}
 use Rattle.snoop_model.proofs.Lists.QueueCounts.{times}
 use Rattle.snoop_model.proofs.Queues.Changed.{waits}
@@ -16,7 +17,7 @@ use Rattle.snoop_model.proofs.Queues.Responds.{kept_responds}
 pub on_kept : (block : ℕ) (s t : Situation) (step : Step) (answer : Reply) (entry : Option Item) → IsWellKept s → MoveOn block s step answer t entry
     → IsWellKept t
 on_kept block s t (Ask core on word asking) answer entry kept move = elim move.moves [
-  | inl absent ↦ subst IsWellKept (sym absent.3) kept
+  | inl absent ↦ rw absent.3 kept
   | inr asks ↦ kept_asks s t core block word asking answer entry kept move.within asks
 ]
 on_kept block s t (Order core) answer entry kept move = kept_orders s t core block move.request kept move.within move.orders
@@ -33,14 +34,14 @@ module _ (protocol : Protocol) (shape : Extent) where
   kept_reset = record {
     shaped = reset_shaped protocol shape;
     queued = λ k b. ap (times b) (queue_is k) ∙ sym (ap (λ (x : Line). waits x.state) (reset_line protocol shape k b));
-    awaits = λ k b q h. (let clash : ◌≡◌ {A = Option Request} None (Some q) = sym (ap (λ (x : Line). awaited_request x.state) (reset_line protocol shape k b)) ∙ h in cc);
-    operations = λ k b access h. (let clash : ◌≡◌ {A = Option Access} None (Some access) = sym (ap (λ (x : Line). x.waiting) (reset_line protocol shape k b)) ∙ h in cc);
+    awaits = λ k b q h. absurd (none-some q (sym (ap (λ (x : Line). awaited_request x.state) (reset_line protocol shape k b)) ∙ h));
+    operations = λ k b access h. absurd (none-some access (rw (reset_line protocol shape k b) at h));
   }
 
   serving_reset : (under_way : ℕ → Option ℕ) → IsServing under_way (reset protocol shape)
   serving_reset under_way = record {
-    waits = λ k. (let P : List ℕ → Type 0 = λ l. All (λ b. under_way k ≡ Some b) l in subst P (sym (queue_is k)) (λ i d lt. absurd (omega arith)));
-    opened = λ b o h. (let clash : ◌≡◌ {A = Option Open} None (Some o) = sym (reset_open protocol shape b) ∙ h in cc);
+    waits = λ k. rw (queue_is k) (λ i d lt. absurd (omega arith));
+    opened = λ b o h. absurd (none-some o (sym (reset_open protocol shape b) ∙ h));
   }
 
 pub starts_well : StartsWell

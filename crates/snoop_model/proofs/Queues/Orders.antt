@@ -34,9 +34,9 @@ kept_orders s t core block request kept within orders =
     let before : Picture = picture_of s block in
     let next : Picture = orders.next in
     let taken = orders.taken in
-    let in_queues : core < length s.queues = (let many = kept.shaped.queues in let below = within.0 in omega arith) in
-    let in_row : core < length before.caches = (let wide = kept.shaped.row block within.1 in let below = within.0 in omega arith) in
-    subst IsWellKept (sym orders.after) (well_after s kept block next (after_order s.queues core block) _ (record {
+    let in_queues : core < length s.queues = rw kept.shaped.queues within.0 in
+    let in_row : core < length before.caches = rw (kept.shaped.row block within.1) within.0 in
+    rw orders.after (well_after s kept block next (after_order s.queues core block) _ (record {
       within = within.1;
       as_wide = taken.same_length;
       as_many = length-set s.queues core _;

@@ -10,49 +10,34 @@ use Rattle.snoop_model.specs.Invariant.WellKept.{IsWellKept}
 use Rattle.snoop_model.proofs.Lists.Facts.{one_if}
 use Rattle.snoop_model.proofs.Tables.Rows.{fill-waits}
 use Rattle.snoop_model.proofs.Tables.WaitingRows.{has_missed, awaited-filled, awaited-get}
+use Rattle.snoop_model.proofs.OneBlock.Facts.{each_held}
 use Rattle.snoop_model.proofs.Lines.Answered.{by_request, filled_or_same, arrives_length, still_waiting}
 use Rattle.snoop_model.proofs.Queues.Changed.{well_after}
 
-module _ (closing : Open) (p : Protocol) (log : List Item) (old new : List Line) (did : Option Did) (fills : FillsRequestor closing p log old new did) where
+module _ {closing : Open} {p : Protocol} {log : List Item} {old new : List Line} {did : Option Did} (f : FillsRequestor closing p log old new did) where
   fills_waits : (k : ℕ) → waiting_request (held_at new k).state ≡ waiting_request (held_at old k).state
-  fills_waits k = elim (filled_or_same closing p log old new did fills k) [
-    | inl e ↦
-        ap (λ (x : Line). waiting_request x.state) (e.1 ∙ fills.fills.held)
-        ∙ (fill-waits p (held_at old closing.core).state fills.fills.event fills.fills.row.action fills.fills.row.next fills.asking.op fills.fills.fill fills.fills.is_row ∙ ap (λ j. waiting_request (held_at old j).state) (sym e.0))
-    | inr e ↦ ap (λ (x : Line). waiting_request x.state) e
+  fills_waits k = elim (filled_or_same f k) [
+    | inl e ↦ rw (e.1, f.fills.held, e.0) (fill-waits p (held_at old closing.core).state f.fills.event f.fills.row.action f.fills.row.next f.asking.op f.fills.fill f.fills.is_row)
+    | inr e ↦ rw e refl
   ]
 
   -- the requestor awaits no more
   fills_awaits : (q : Request) → awaited_request (held_at new closing.core).state ≡ Some q → ⊥
-  fills_awaits q h = elim (cases_lt closing.core (length old)) [
-    | inl inside ↦
-        (let line = ap (λ l. held_at l closing.core) fills.held ∙ (get_or-set_same old closing.core fills.line nothing_held inside ∙ fills.fills.held) in
-        awaited-filled p (held_at old closing.core).state closing.payload fills.fills.event fills.fills.row.action fills.fills.row.next q fills.fills.arrives
-        fills.fills.is_row
-        (ap (λ (x : Line). awaited_request x.state) (sym line) ∙ h))
-    | inr past ↦
-        (let same : length new ≡ length old = ap length fills.held ∙ length-set old closing.core fills.line in
-        none-some q (ap (λ (x : Line). awaited_request x.state) (sym (get_or_past new closing.core nothing_held (omega arith))) ∙ h))
-  ]
-
-  fills_other : (k : ℕ) → (k ≡ closing.core → ⊥) → held_at new k ≡ held_at old k
-  fills_other k apart = ap (λ l. held_at l k) fills.held ∙ get_or-set_other old closing.core k fills.line nothing_held apart
+  fills_awaits q = each_held new closing.core (λ x. awaited_request x.state ≡ Some q → ⊥)
+      (λ below. let inside : closing.core < length old = rw (f.held, length-set) at below in
+      rw (f.held, get_or-set_same old closing.core f.line nothing_held inside, f.fills.held)
+      (awaited-filled p (held_at old closing.core).state closing.payload f.fills.event f.fills.row.action f.fills.row.next q f.fills.arrives f.fills.is_row))
+      (λ h. cc)
 
 -- a response changes no wait
 pub arrives_waits : (closing : Open) (p : Protocol) (log : List Item) (old new : List Line) (did : Option Did) → ArrivesFor closing.request closing p log old new did
     → (k : ℕ) → waiting_request (held_at new k).state ≡ waiting_request (held_at old k).state
-arrives_waits closing p log old new did arrives k = elim (by_request closing.request closing p log old new did arrives) [
-  | inl put ↦ ap (λ l. waiting_request (held_at l k).state) put.1
-  | inr fills ↦ fills_waits closing p log old new did fills k
-]
+arrives_waits closing p log old new did arrives k = elim (by_request closing.request arrives) [ inl put ↦ rw put.1 refl | inr fills ↦ fills_waits fills k ]
 
 module _ (s : Situation) (kept : IsWellKept s) (block : ℕ) (closing : Open) (did : Option Did) (next : Picture)
     (opened : (picture_of s block).transaction ≡ Some closing) (requestor : ArrivesFor closing.request closing s.protocol s.log (picture_of s block).caches next.caches did) where
   abbrev before : Picture
   before = picture_of s block
-
-  arrived : ((closing.request ≡ PutM) × (next.caches ≡ before.caches) × (did ≡ None)) ⊎ FillsRequestor closing s.protocol s.log before.caches next.caches did
-  arrived = by_request closing.request closing s.protocol s.log before.caches next.caches did requestor
 
   -- a core that awaited data awaited those of this transaction
   its : (k : ℕ) (q : Request) → awaited_request (state_of s k block) ≡ Some q → (closing.core ≡ k) × (closing.request ≡ q)
@@ -63,28 +48,23 @@ module _ (s : Situation) (kept : IsWellKept s) (block : ℕ) (closing : Open) (d
 
   -- no core awaits data of the block any more
   none_awaits : (k : ℕ) (q : Request) → awaited_request (held_by next k).state ≡ Some q → ⊥
-  none_awaits k q h = elim arrived [
-    | inl put ↦
-        (let was : awaited_request (state_of s k block) ≡ Some q = ap (λ l. awaited_request (held_at l k).state) (sym put.1) ∙ h in
-        awaited-get (state_of s k block) (was ∙ ap (λ (r : Request). Some r) (sym (its k q was).1 ∙ put.0)))
-    | inr fills ↦ elim (cases_eq k closing.core) [
-      | inl e ↦ fills_awaits closing s.protocol s.log before.caches next.caches did fills q (rw e at h)
-      | inr apart ↦ apart (sym (its k q
-          (ap (λ (x : Line). awaited_request x.state) (sym (fills_other closing s.protocol s.log before.caches next.caches did fills k apart)) ∙ h)).0)
+  none_awaits k q h = elim (by_request closing.request requestor) [
+    | inl put ↦ let was = rw put.1 at h in awaited-get (state_of s k block) (cc (was, (its k q was).1, put.0))
+    | inr fills ↦ elim (filled_or_same fills k) [
+      | inl e ↦ fills_awaits fills q (rw e.0 at h)
+      | inr e ↦ let same = (its k q (rw e at h)).0 in fills_awaits fills q (rw (← same) at h)
     ]
   ]
 
   missed_after : (k : ℕ) (access : Access) → (held_by next k).waiting ≡ Some access → has_missed (held_by next k).state ≡ true
-  missed_after k access h =
-      let same = still_waiting closing.request closing s.protocol s.log before.caches next.caches did requestor k access h in
-      ap (λ (x : Line). has_missed x.state) same ∙ kept.operations k block access (ap (λ (x : Line). x.waiting) (sym same) ∙ h)
+  missed_after k access h = let same = still_waiting (by_request closing.request requestor) k access h in rw same (kept.operations k block access (rw same at h))
 
 pub kept_responds : (s t : Situation) (block : ℕ) (closing : Open) (did : Option Did) → IsWellKept s → block < s.shape.blocks → Responds s block closing did t → IsWellKept t
 kept_responds s t block closing did kept within responds =
     let next : Picture = responds.next in
-    subst IsWellKept (sym responds.after) (well_after s kept block next s.queues _ (record {
+    rw responds.after (well_after s kept block next s.queues _ (record {
       within = within;
-      as_wide = arrives_length closing.request closing s.protocol s.log (picture_of s block).caches next.caches did responds.requestor;
+      as_wide = arrives_length (by_request closing.request responds.requestor);
       as_many = refl;
       here = λ k. kept.queued k block ∙ ap (λ (x : Option Request). one_if (is_some x))
           (sym (arrives_waits closing s.protocol s.log (picture_of s block).caches next.caches did responds.requestor k));

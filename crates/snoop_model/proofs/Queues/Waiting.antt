@@ -15,7 +15,7 @@ AreQueued s = (core block : ℕ) → IsInQueue s core block
 module _ (s : Situation) (queued : AreQueued s) (core block : ℕ) where
   pub waits_queued : (request : Request) → Waits s core block request → Contains (queue_of s.queues core) block
   waits_queued request waits =
-      let one : times block (queue_of s.queues core) ≡ 1 = queued core block ∙ ap (λ (o : Option Request). one_if (is_some o)) waits in
+      let one : times block (queue_of s.queues core) ≡ 1 = rw waits at (queued core block) in
       counted_in block (queue_of s.queues core) (omega arith)
 
   pub queued_waits : Contains (queue_of s.queues core) block → (request : Request) × Waits s core block request
@@ -24,7 +24,7 @@ module _ (s : Situation) (queued : AreQueued s) (core block : ℕ) where
       by_state : (waits : Option Request) → waiting_request (state_of s core block) ≡ waits → (request : Request) × Waits s core block request
       by_state (Some request) waits = (request, waits)
       by_state None waits =
-          let zero : times block (queue_of s.queues core) ≡ 0 = queued core block ∙ ap (λ (o : Option Request). one_if (is_some o)) waits in
+          let zero : times block (queue_of s.queues core) ≡ 0 = rw waits at (queued core block) in
           absurd (omega (arith, in_counted block (queue_of s.queues core) there))
 
 first_in : (queue : List ℕ) (block : ℕ) → slice_get queue 0 ≡ Some block → Contains queue block

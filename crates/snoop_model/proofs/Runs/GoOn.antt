@@ -31,7 +31,7 @@ IsSteady s = Invariant s × IsWellKept s
 
 pub steady_on : KeepsWell → (old : Situation) (step : Step) (outcome : Result Reply Refused) (new : Situation) → IsSteady old → GoesFirst old step outcome new → IsSteady new
 steady_on keeps old step (Ok answer) new steady goes = (first_keeps old step answer new goes.0 steady.0 goes.1, keeps old new step answer goes.0 steady.1 goes.1)
-steady_on keeps old step (Err cause) new steady goes = subst IsSteady (sym goes.1) steady
+steady_on keeps old step (Err cause) new steady goes = rw goes.1 steady
 
 -- it holds at reset, and after each step of a run
 pub reset_steady : (protocol : Protocol) (shape : Extent) → IsSteady (reset protocol shape)
@@ -60,7 +60,7 @@ run_one [] [] [] old new new' steady a b = (refl, a ∙ sym b)
 run_one (step ∷ steps) (outcome ∷ outcomes) (outcome' ∷ outcomes') old new new' steady a b =
     let is = goes_is old steady.1.queued step in
     let here = is outcome a.0 a.1.0 ∙ sym (is outcome' b.0 b.1.0) in
-    let rest : FirstRunFrom a.0 steps outcomes' new' = subst (λ (m : Situation). FirstRunFrom m steps outcomes' new') (sym (ap (λ x. x.1) here)) b.1.1 in
+    let rest : FirstRunFrom a.0 steps outcomes' new' = rw (ap (λ x. x.1) here) b.1.1 in
     let on = run_one steps outcomes outcomes' a.0 new new' (steady_on keeps_well old step outcome a.0 steady a.1.0) a.1.1 rest in
     (ap (λ x. x.0 ∷ outcomes) here ∙ ap (λ l. outcome' ∷ l) on.0, on.1)
 run_one [] (outcome ∷ outcomes) outcomes' old new new' steady a b = absurd a

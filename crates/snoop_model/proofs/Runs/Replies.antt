@@ -13,14 +13,12 @@ use Rattle.snoop_model.specs.Invariant.Invariant.{Invariant}
 use Rattle.snoop_model.proofs.Invariant.Runs.{refusal_same, goes_keeps}
 
 issued_reply : (core block word : ℕ) (asking : Op) → IsReplyTo (Ask core block word asking) (reply.Issued (request_for asking))
-issued_reply core block word op.Load = tt
-issued_reply core block word (op.Store v) = tt
 issued_reply core block word op.Evict = tt
+issued_reply core block word _ = tt
 
 performed_reply : (core block word : ℕ) (asking : Op) (before : List ℕ) (value : ℕ) (after : List ℕ) → Performs word asking before value after → IsReplyTo (Ask core block word asking) (if is_load asking then reply.Hit value else reply.StoreHit)
-performed_reply core block word op.Load before value after h = tt
-performed_reply core block word (op.Store v) before value after h = tt
 performed_reply core block word op.Evict before value after h = absurd h
+performed_reply core block word _ before value after h = tt
 
 module _ (p : Protocol) (next : CacheState) (log : List Item) (core block word : ℕ) (asking : Op) (old new : Line) (answer : Reply) (entry : Option Item) where
   taken_reply : (a : CacheAction) → Cell p old.state (asked asking) a next → Takes a next log core block word asking old new answer entry → IsReplyTo (Ask core block word asking) answer
@@ -29,17 +27,14 @@ module _ (p : Protocol) (next : CacheState) (log : List Item) (core block word :
   taken_reply action.Drop row t = rw (t.1, drop_evicts p old.state asking next row) tt
   taken_reply _ row t = absurd t
 
-absent_reply : (core block word : ℕ) (asking : Op) (answer : Reply) → asking ≡ op.Evict → answer ≡ reply.Absent → IsReplyTo (Ask core block word asking) answer
-absent_reply core block word asking answer e is = rw (e, is) tt
-
 pub move_replies : (old new : Situation) (step : Step) (answer : Reply) (entry : Option Item) → FirstMove old step answer new entry → IsReplyTo step answer
 move_replies old new (Ask core on word asking) answer entry m = elim m.1.1.moves [
-  | inl absent ↦ absent_reply core on word asking answer absent.0 absent.2
+  | inl absent ↦ rw (absent.0, absent.2) tt
   | inr a ↦ taken_reply old.protocol a.row.next old.log core on word asking (held_by (picture_of old m.0) core) a.held answer entry a.row.action a.is_row
       (rw m.1.1.on_block a.taken)
 ]
-move_replies old new (Order core) answer entry m = subst (λ (r : Reply). IsReplyTo (Order core) r) (sym m.1.1.answered) tt
-move_replies old new (Respond on) answer entry m = subst (λ (r : Reply). IsReplyTo (Respond on) r) (sym m.1.1.answered) tt
+move_replies old new (Order core) answer entry m = rw m.1.1.answered tt
+move_replies old new (Respond on) answer entry m = rw m.1.1.answered tt
 
 -- what an Ask's row adds is what its reply tells
 module _ (next : CacheState) (log : List Item) (core block word : ℕ) (old new : Line) (answer : Reply) (entry : Option Item) where
@@ -47,21 +42,16 @@ module _ (next : CacheState) (log : List Item) (core block word : ℕ) (old new 
   taken_tells op.Load action.Hit t = rw (t.1.1, t.1.2) refl
   taken_tells (op.Store v) action.Hit t = rw (t.1.1, t.1.2, t.1.0.performed.0) refl
   taken_tells op.Evict action.Hit t = absurd t.1.0.performed
-  taken_tells op.Load (action.Issue q) t = rw (t.1, t.2) (append-nil log)
-  taken_tells (op.Store v) (action.Issue q) t = rw (t.1, t.2) (append-nil log)
   taken_tells op.Evict (action.Issue q) t = rw t.2 (append-nil log)
-  taken_tells op.Load action.Drop t = rw (t.1, t.2) (append-nil log)
-  taken_tells (op.Store v) action.Drop t = rw (t.1, t.2) (append-nil log)
+  taken_tells _ (action.Issue q) t = rw (t.1, t.2) (append-nil log)
   taken_tells op.Evict action.Drop t = rw t.2 (append-nil log)
+  taken_tells _ action.Drop t = rw (t.1, t.2) (append-nil log)
   taken_tells asking _ t = absurd t
 
 -- a refusal tells of nothing
 pub refusal_tells : {past log : List Item} (step : Step) (cause : Refused) → log ≡ past → Tells past step (Err cause) log
-refusal_tells (Ask core block word op.Load) cause same = same
-refusal_tells (Ask core block word (op.Store value)) cause same = same
 refusal_tells (Ask core block word op.Evict) cause same = same
-refusal_tells (Order core) cause same = same
-refusal_tells (Respond block) cause same = same
+refusal_tells _ cause same = same
 
 -- what a step adds to the log is what its outcome tells
 pub goes_tells : (old : Situation) (step : Step) (outcome : Result Reply Refused) (new : Situation) → Invariant old → Goes old step outcome new → Tells old.log step outcome new.log

@@ -11,15 +11,15 @@ abbrev pub IsAlike : Situation → Situation → Type 0
 IsAlike old new = (new.protocol ≡ old.protocol) × (new.shape ≡ old.shape)
 
 pub same_alike : (old new : Situation) → new ≡ old → IsAlike old new
-same_alike old new same = (ap (λ (s : Situation). s.protocol) same, ap (λ (s : Situation). s.shape) same)
+same_alike old new same = rw same (refl, refl)
 
 on_stays : (block : ℕ) (old new : Situation) (step : Step) (answer : Reply) (entry : Option Item) → MoveOn block old step answer new entry → IsAlike old new
 on_stays block old new (Ask core on word asking) answer entry m = elim m.moves [
-  | inl absent ↦ same_alike old new absent.3
-  | inr asks ↦ (ap (λ (s : Situation). s.protocol) asks.after, ap (λ (s : Situation). s.shape) asks.after)
+  | inl absent ↦ rw absent.3 (refl, refl)
+  | inr asks ↦ rw asks.after (refl, refl)
 ]
-on_stays block old new (Order core) answer entry m = (ap (λ (s : Situation). s.protocol) m.orders.after, ap (λ (s : Situation). s.shape) m.orders.after)
-on_stays block old new (Respond on) answer entry m = (ap (λ (s : Situation). s.protocol) m.responds.after, ap (λ (s : Situation). s.shape) m.responds.after)
+on_stays block old new (Order core) answer entry m = rw m.orders.after (refl, refl)
+on_stays block old new (Respond on) answer entry m = rw m.responds.after (refl, refl)
 
 pub move_stays : (old new : Situation) (step : Step) (answer : Reply) (entry : Option Item) → FirstMove old step answer new entry → IsAlike old new
 move_stays old new step answer entry m = on_stays m.0 old new step answer entry m.1.1

@@ -38,9 +38,8 @@ some_kept (Some v) h = refl
 -- a load or a store performs its operation
 performs : (asking : Op) → not (is_evict (asked asking)) ≡ true → (word : ℕ) (ws : List ℕ)
     → Performs word asking ws (value_of word asking ws) (words_after word asking ws)
-performs op.Load asks word ws = (refl, refl)
-performs (op.Store v) asks word ws = (refl, refl)
 performs op.Evict asks word ws = cc
+performs _ asks word ws = (refl, refl)
 
 module _ (s : Situation) (core block word : ℕ) (asking : Op) (within : IsWithin s core block) (has : HasWord s.shape word asking) where
   taken : (act : CacheAction) (next : CacheState) → Cell s.protocol (state_of s core block) (asked asking) act next
@@ -230,8 +229,7 @@ module _ (p : Protocol) (log : List Item) (old : List Line) (o : Open) where
   brings : (q : Request) → (is_put_m q ≡ false → (r : CacheCell) × (row_for p (held_at old o.core).state (arrival o.payload) ≡ Some r))
       → IsProper (held_at old o.core) → (let n = brought o p log old q in ArrivesFor q o p log old n.0 n.1)
   brings request.PutM row proper = (refl, refl)
-  brings request.GetS row proper = fills_as (arrival o.payload) refl (row refl).0 (row refl).1 proper
-  brings request.GetM row proper = fills_as (arrival o.payload) refl (row refl).0 (row refl).1 proper
+  brings _ row proper = fills_as (arrival o.payload) refl (row refl).0 (row refl).1 proper
 
 -- what the response brings to memory
 remembers : (takes : Bool) (p : Protocol) (found : Option MemEvent) (m : MemState) → (takes ≡ true → (r : MemCell) × (memory_row_for p m found ≡ Some r))

@@ -26,9 +26,8 @@ use Rattle.snoop_model.proofs.Queues.Waiting.{AreQueued, first_waits}
 -- an operation does one thing
 pub performs_is : (word : ℕ) (asking : Op) (before : List ℕ) (value : ℕ) (after : List ℕ) → Performs word asking before value after
     → (value ≡ value_of word asking before) × (after ≡ words_after word asking before)
-performs_is word op.Load before value after h = h
-performs_is word (op.Store stored) before value after h = h
 performs_is word op.Evict before value after h = absurd h
+performs_is word _ before value after h = h
 
 pub word_decides : (shape : Extent) (word : ℕ) (asking : Op) → Decides (has_word shape word asking) (HasWord shape word asking)
 word_decides shape word op.Evict = (λ h. tt, λ h. refl)
@@ -83,9 +82,7 @@ module _ (p : Protocol) (before : Picture) (core : ℕ) (q : Request) where
           → sender_below p before core q (suc n) ≡ from
       found (Some x) is rest = rw is (sent.alone (Some n) x (omega arith, sends_row _ x is))
       found None is rest =
-          let silent : from ≡ Some n → ⊥ = λ e.
-          (let sends : payload_from p before core q (Some n) ≡ Some payload = subst (λ f. payload_from p before core q f ≡ Some payload) e
-          (sends_is p before core q from payload sent.sends) in cc) in
+          let silent : from ≡ Some n → ⊥ = λ e. (let sends = rw e at (sends_is p before core q from payload sent.sends) in cc) in
           rw is (rest (lower from below silent))
 
 orders_is : (s : Situation) (core block : ℕ) (q : Request) (new : Situation) → Orders s core block q new
@@ -98,7 +95,7 @@ orders_is s core block q new o =
     let caches = fill_by_all (line_after p before core q) o.next.caches (length before.caches) nothing_held o.taken.same_length
     (λ k below. (let row = o.taken.rows k below in row.2 ∙ rw row.1 refl)) in
     let next : o.next ≡ next_picture p before core q block =
-    same_picture _ _ _ _ _ _ caches (same_memory _ _ _ _ (o.memory.2 ∙ rw o.memory.1 refl) o.value)
+    same_picture caches (same_memory (o.memory.2 ∙ rw o.memory.1 refl) o.value)
     (o.opened ∙ rw (from, sends_is p before core q o.from o.payload o.sent.sends) refl) in
     rw (o.after, next) refl
 
@@ -126,7 +123,7 @@ closed_is s block o did new r =
     let caches = arrives_is o s.protocol s.log before.caches r.next.caches did o.request r.requestor in
     let memory = settled_is (takes_payload o.request before.memory.state) s.protocol
     (arrival_at_memory o.payload) before.memory.state r.memory.act r.next.memory.state r.memory.settled in
-    let next = same_picture _ _ _ _ _ _ (ap (λ x. x.0) caches) (same_memory _ _ _ _ (ap (λ x. x.1) memory)
+    let next = same_picture (ap (λ x. x.0) caches) (same_memory (ap (λ x. x.1) memory)
     (r.memory.value ∙ ap (λ x. written x.0 o.value before.memory.value) memory)) r.closed in
     rw (r.after, next, ap (λ x. x.1) caches) refl
 

@@ -2,6 +2,7 @@
 use Rattle.std.proofs.Common.{List, ◌≡◌, ℕ, Bool, true, false, not, ◌&&◌, ◌||◌, Option, Some, None, refl, sym, ap, ◌∙◌}
 use Rattle.std.proofs.Math.Bool.{and-true, and-false}
 use Rattle.std.proofs.lemmas.Bool.{and_parts}
+use Rattle.std.specs.Option.{option_map_or}
 use Rattle.std.specs.Prelude.{is_some, option_map, ◌==◌, if◌then◌else◌}
 use Rattle.snoop_model.proofs.Common.{Protocol, Op, CacheState, CacheEvent, CacheAction, CacheCell, Request, Cell, asked, own, other, seen_by, waiting_request, Line, kept_on, keeps, request_for, missed_request, IsProper, moves_to, kept_waiting, is_load}
 use Rattle.snoop_trace.specs.declared.step.Op.TheVariants as op
@@ -40,11 +41,11 @@ given_up _ = false
 abbrev same_three : Bool → Bool → Option Request → Option Request → Option Request → Option Request → Bool
 same_three x y a b c d = same x y && (same_request a b && same_request c d)
 
-same_three-true : (x y : Bool) (a b c d : Option Request) → same_three x y a b c d ≡ true → (x ≡ y) × (a ≡ b) × (c ≡ d)
-same_three-true x y a b c d h =
-    let l = and_parts (same x y) (same_request a b && same_request c d) h in
-    let r = and_parts (same_request a b) (same_request c d) l.1 in
-    (same_is x y l.0, same_request-true a b r.0, same_request-true c d r.1)
+same_three-true : {x y : Bool} {a b c d : Option Request} → same_three x y a b c d ≡ true → (x ≡ y) × (a ≡ b) × (c ≡ d)
+same_three-true h =
+    let (l, r) = and_parts _ _ h in
+    let (m, n) = and_parts _ _ r in
+    (same_is _ _ l, same_request-true _ _ m, same_request-true _ _ n)
 
 -- the request that serves the operation
 abbrev serves : CacheEvent → Request → Bool
@@ -123,7 +124,7 @@ module _ (p : Protocol) (s : CacheState) (e : CacheEvent) (q : Request) (n : Cac
   issue_parts = and_parts _ _ (action_rule p s e (action.Issue q) n row)
 
   issue_facts : (keeps n ≡ (keeps s && not (given_up n))) × (waiting_request s ≡ None) × (waiting_request n ≡ Some q)
-  issue_facts = same_three-true (keeps n) (keeps s && not (given_up n)) (waiting_request s) None (waiting_request n) (Some q) issue_parts.0
+  issue_facts = same_three-true issue_parts.0
 
   pub issue-waits : (waiting_request s ≡ None) × (waiting_request n ≡ Some q)
   issue-waits = (issue_facts.1, issue_facts.2)
@@ -157,8 +158,7 @@ IsProper-issue p old word asking q n proper row = record {
 -- a hit keeps a value, and what waits goes on waiting
 pub hit_facts : (p : Protocol) (s : CacheState) (e : CacheEvent) (n : CacheState) → Cell p s e action.Hit n
     → (keeps n ≡ true) × (missed_request s ≡ missed_request n) × (waiting_request n ≡ waiting_request s)
-hit_facts p s e n row = same_three-true (keeps n) true (missed_request s) (missed_request n) (waiting_request n) (waiting_request s)
-    (and_parts _ _ (action_rule p s e action.Hit n row)).1
+hit_facts p s e n row = same_three-true (and_parts _ _ (action_rule p s e action.Hit n row)).1
 
 -- it is no Evict, of words that are kept
 pub hit_keeps : (p : Protocol) (s : CacheState) (e : CacheEvent) (n : CacheState) → Cell p s e action.Hit n → (keeps s ≡ true) × (not (is_evict e) ≡ true)
@@ -173,8 +173,7 @@ IsProper-hit p old e n after proper row =
 -- so does a drop, which leaves nothing
 pub drop_facts : (p : Protocol) (s : CacheState) (e : CacheEvent) (n : CacheState) → Cell p s e action.Drop n
     → (keeps n ≡ (keeps s && not (given_up n))) × (missed_request s ≡ missed_request n) × (waiting_request n ≡ waiting_request s)
-drop_facts p s e n row = same_three-true (keeps n) (keeps s && not (given_up n)) (missed_request s) (missed_request n) (waiting_request n) (waiting_request s)
-    (and_parts _ _ (action_rule p s e action.Drop n row)).1
+drop_facts p s e n row = same_three-true (and_parts _ _ (action_rule p s e action.Drop n row)).1
 
 -- only an Evict drops a line
 pub drop_evicts : (p : Protocol) (s : CacheState) (asking : Op) (n : CacheState) → Cell p s (asked asking) action.Drop n → asking ≡ op.Evict
@@ -193,46 +192,33 @@ pub drop-waits : (p : Protocol) (s : CacheState) (e : CacheEvent) (n : CacheStat
 drop-waits p s e n row = (drop_facts p s e n row).2
 
 -- at an Order a core's own row ends its waiting, and another's row leaves it; both keep what the next state keeps
-abbrev is_own : CacheEvent → Bool
-is_own event.OwnGetS = true
-is_own event.OwnGetM = true
-is_own event.OwnPutM = true
-is_own _ = false
-
-abbrev is_other : CacheEvent → Bool
-is_other event.OtherGetS = true
-is_other event.OtherGetM = true
-is_other event.OtherPutM = true
-is_other _ = false
+abbrev is_own : CacheEvent → Option Bool
+is_own event.OwnGetS = Some true
+is_own event.OwnGetM = Some true
+is_own event.OwnPutM = Some true
+is_own event.OtherGetS = Some false
+is_own event.OtherGetM = Some false
+is_own event.OtherPutM = Some false
+is_own _ = None
 
 abbrev order_test : Protocol → CacheState → CacheEvent → CacheCell → Bool
 order_test p s e row =
-    not (is_own e || is_other e)
-    || same_three (keeps row.next) (keeps s && not (given_up row.next)) (missed_request s) (missed_request row.next) (waiting_request row.next)
-    (if is_own e then None else waiting_request s)
+    option_map_or (λ mine. same_three (keeps row.next) (keeps s && not (given_up row.next)) (missed_request s) (missed_request row.next) (waiting_request row.next)
+    (if mine then None else waiting_request s)) (is_own e) true
 
 order_test_holds : each_row order_test ≡ true
 unfolding each_row all_protocols all_states all_events same
 order_test_holds = refl
 
 -- a core sees its own request exactly where it is the requestor
-seen_own : (mine : Bool) (q : Request) → is_own (if mine then own q else other q) ≡ mine
+seen_own : (mine : Bool) (q : Request) → is_own (if mine then own q else other q) ≡ Some mine
 seen_own true GetS = refl
 seen_own false GetS = refl
 seen_own _ _ = refl
 
-seen_ordered : (mine : Bool) (q : Request) → (is_own (if mine then own q else other q) || is_other (if mine then own q else other q)) ≡ true
-seen_ordered true GetS = refl
-seen_ordered false GetS = refl
-seen_ordered _ _ = refl
-
 pub order_facts : (p : Protocol) (s : CacheState) (k core : ℕ) (q : Request) (a : CacheAction) (n : CacheState) → Cell p s (seen_by k core q) a n
     → (keeps n ≡ (keeps s && not (given_up n))) × (missed_request s ≡ missed_request n) × (waiting_request n ≡ (if k == core then None else waiting_request s))
-order_facts p s k core q a n row =
-    let t = each_row-at order_test order_test_holds p s (seen_by k core q) a n row in
-    let f = same_three-true (keeps n) (keeps s && not (given_up n)) (missed_request s) (missed_request n) (waiting_request n)
-    (if is_own (seen_by k core q) then None else waiting_request s) (rw (seen_ordered (k == core) q) at t) in
-    (f.0, f.1, f.2 ∙ ap (λ mine. if mine then None else waiting_request s) (seen_own (k == core) q))
+order_facts p s k core q a n row = same_three-true (rw (seen_own (k == core) q) at (each_row-at order_test order_test_holds p s (seen_by k core q) a n row))
 
 pub IsProper-order : (p : Protocol) (old : Line) (k core : ℕ) (q : Request) (a : CacheAction) (n : CacheState) → IsProper old → Cell p old.state (seen_by k core q) a n → IsProper (moves_to n old)
 IsProper-order p old k core q a n proper row =
@@ -243,13 +229,8 @@ IsProper-order p old k core q a n proper row =
 fill_facts : (p : Protocol) (s : CacheState) (e : CacheEvent) (a : CacheAction) (n : CacheState) (asking : Op)
     → a ≡ (if is_load asking then action.FillLoad else action.FillStore) → Cell p s e a n
     → (keeps n ≡ true) × (missed_request n ≡ None) × (waiting_request n ≡ waiting_request s)
-fill_facts p s e a n asking fill row = same_three-true (keeps n) true (missed_request n) None (waiting_request n) (waiting_request s)
-    (by_kind (is_load asking) fill)
-  where
-    by_kind : (load : Bool) → a ≡ (if load then action.FillLoad else action.FillStore)
-        → same_three (keeps n) true (missed_request n) None (waiting_request n) (waiting_request s) ≡ true
-    by_kind true is = let t = action_rule p s e a n row in rw is at t
-    by_kind false is = let t = action_rule p s e a n row in rw is at t
+fill_facts p s e a n op.Load fill row = same_three-true (rw fill at (action_rule p s e a n row))
+fill_facts p s e a n _ fill row = same_three-true (rw fill at (action_rule p s e a n row))
 
 pub fill-waits : (p : Protocol) (s : CacheState) (e : CacheEvent) (a : CacheAction) (n : CacheState) (asking : Op) → a ≡ (if is_load asking then action.FillLoad else action.FillStore) → Cell p s e a n → waiting_request n ≡ waiting_request s
 fill-waits p s e a n asking fill row = (fill_facts p s e a n asking fill row).2

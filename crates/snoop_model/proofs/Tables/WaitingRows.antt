@@ -43,9 +43,8 @@ awaited_rule p s e a n r row awaits = elim (or_cases _ _ (each_row-at awaited_te
 -- an Ask leaves what its core awaits
 pub awaited-asked : (p : Protocol) (s : CacheState) (asking : Op) (a : CacheAction) (n : CacheState) (r : Request) → Cell p s (asked asking) a n
     → awaited_request n ≡ Some r → awaited_request s ≡ Some r
-awaited-asked p s op.Load a n r row awaits = awaited_rule p s event.Load a n r row awaits
-awaited-asked p s (op.Store v) a n r row awaits = awaited_rule p s event.Store a n r row awaits
 awaited-asked p s op.Evict a n r row awaits = awaited_rule p s event.Evict a n r row awaits
+awaited-asked p s _ a n r row awaits = awaited_rule p s _ a n r row awaits
 
 -- after an Order only its core awaits data of the block, that of its request
 pub awaited-ordered : (p : Protocol) (s : CacheState) (k core : ℕ) (q : Request) (a : CacheAction) (n : CacheState) (r : Request)
@@ -56,14 +55,12 @@ awaited-ordered p s k core q a n r row awaits = elim (cases_eq k core) [
 ]
   where
     mine : (q : Request) → may_await (own q) (awaited_request s) ≡ Some r → q ≡ r
-    mine GetS is = same_Some _ _ is
-    mine GetM is = same_Some _ _ is
     mine PutM is = cc
+    mine _ is = same_Some _ _ is
 
     theirs : (q : Request) → may_await (other q) (awaited_request s) ≡ Some r → ⊥
-    theirs GetS is = cc
-    theirs GetM is = cc
     theirs PutM is = cc
+    theirs _ is = cc
 
 -- data that has come is awaited no more
 pub awaited-filled : (p : Protocol) (s : CacheState) (message : Payload) (e : CacheEvent) (a : CacheAction) (n : CacheState) (r : Request)

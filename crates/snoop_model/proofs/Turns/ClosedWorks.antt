@@ -27,7 +27,7 @@ has_step s core block word asking wanted kept waits none =
     let it = some_waits (held_by (picture_of s block) core).waiting wanted waits in
     let left = none_left (waiting_request (state_of s core block)) (picture_of s block).transaction core block none in
     elim (busy_cases (state_of s core block) (missed_busy (state_of s core block) (kept.operations core block it.0 it.1))) [
-      | inl w ↦ let clash : ◌≡◌ {A = Option Request} None (Some w.0) = sym left.0 ∙ w.1 in cc
+      | inl w ↦ none-some w.0 (sym left.0 ∙ w.1)
       | inr a ↦ let its = kept.awaits core block a.0 a.1 in left.1 its.0 its.1.0 its.1.1
     ]
 
@@ -51,12 +51,10 @@ no_issue _ next log queues core block word asking old new answer entry taken oth
 -- the queues and the transactions are as before
 same_queues : (s t : Situation) (core block word : ℕ) (asking : Op) (answer : Reply) (entry : Option Item) → FirstMove s (Ask core block word asking) answer t entry → ((request : Request) → answer ≢ Issued request) → (t.queues ≡ s.queues) × ((b : ℕ) → (picture_of t b).transaction ≡ (picture_of s b).transaction)
 same_queues s t core block word asking answer entry m other = elim m.1.1.moves [
-  | inl absent ↦ (ap (λ (x : Situation). x.queues) absent.3, λ b. ap (λ (x : Situation). (picture_of x b).transaction) absent.3)
-  | inr a ↦ (
-    ap (λ (x : Situation). x.queues) a.after ∙ no_issue a.row.action a.row.next s.log s.queues core m.0 word asking
-        (held_by (picture_of s m.0) core) a.held answer entry a.taken other,
-    λ b. ap (λ (x : Situation). (picture_of x b).transaction) a.after ∙ same_everywhere s m.0 (with_line (picture_of s m.0) core a.held) s.queues s.log
-        (λ (x : Picture). x.transaction) refl b,
+  | inl absent ↦ rw absent.3 (refl, λ b. refl)
+  | inr a ↦ rw a.after (
+    no_issue a.row.action a.row.next s.log s.queues core m.0 word asking (held_by (picture_of s m.0) core) a.held answer entry a.taken other,
+    same_everywhere s m.0 (with_line (picture_of s m.0) core a.held) s.queues s.log (λ (x : Picture). x.transaction) refl,
   )
 ]
 

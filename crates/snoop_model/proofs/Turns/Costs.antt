@@ -12,24 +12,18 @@ sum_asked : (act : CacheAction) (lines : List (List ℕ)) (core block : ℕ) →
 sum_asked (action.Issue request) lines core block = sum_issued lines core block
 sum_asked _ lines core block = omega arith
 
-abbrev owes : List (List ℕ) → List Picture → ℕ
-owes queues pictures = 2 * sum_by length queues + count_by has_transaction pictures
-
 pub pays : Pays
 pays s t (Ask core on word asking) answer entry move = elim move.1.1.moves [
-  | inl absent ↦ let e : steps_owed t ≡ steps_owed s = ap (λ (x : Situation). steps_owed x) absent.3 in omega arith
+  | inl absent ↦ rw absent.3 (omega arith)
   | inr asks ↦
       let next : Picture = with_line (picture_of s move.0) core asks.held in
-      let e : steps_owed t ≡ owes (queues_after asks.row.action s.queues core move.0) (slice_set s.pictures move.0 next) = ap (λ (x : Situation). steps_owed x) asks.after in
-      omega (arith, e, sum_asked asks.row.action s.queues core move.0, count_set has_transaction s.pictures move.0 next nothing_there refl)
+      rw asks.after (omega (arith, sum_asked asks.row.action s.queues core move.0, count_set has_transaction s.pictures move.0 next nothing_there refl))
 ]
 pays s t (Order core) answer entry move =
     let orders = move.1.1.orders in
-    let e : steps_owed t ≡ owes (after_order s.queues core move.0) (slice_set s.pictures move.0 orders.next) = ap (λ (x : Situation). steps_owed x) orders.after in
-    omega (arith, e, sum_ordered s.queues core move.0 move.1.0, count_set has_transaction s.pictures move.0 orders.next nothing_there refl, one_small (has_transaction orders.next))
+    rw orders.after (omega (arith, sum_ordered s.queues core move.0 move.1.0, count_set has_transaction s.pictures move.0 orders.next nothing_there refl, one_small (has_transaction orders.next)))
 pays s t (Respond on) answer entry move =
     let responds = move.1.1.responds in
-    let e : steps_owed t ≡ owes s.queues (slice_set s.pictures move.0 responds.next) = ap (λ (x : Situation). steps_owed x) responds.after in
-    let was : one_if (has_transaction (picture_of s move.0)) ≡ 1 = ap (λ (o : Option Open). one_if (is_some o)) responds.opened in
-    let is : one_if (has_transaction responds.next) ≡ 0 = ap (λ (o : Option Open). one_if (is_some o)) responds.closed in
-    omega (arith, e, count_set has_transaction s.pictures move.0 responds.next nothing_there refl, was, is)
+    let was : one_if (has_transaction (picture_of s move.0)) ≡ 1 = rw responds.opened refl in
+    let is : one_if (has_transaction responds.next) ≡ 0 = rw responds.closed refl in
+    rw responds.after (omega (arith, count_set has_transaction s.pictures move.0 responds.next nothing_there refl, was, is))

@@ -33,7 +33,7 @@ none_left None None core block h = (refl, λ o e own. cc)
 none_left None (Some o) core block h = (
   refl,
   λ p e own.
-      let its : o.core ≡ core = ap (λ (x : Open). x.core) (same_Some _ _ e) ∙ own in
+      let its : o.core ≡ core = rw (same_Some _ _ e) own in
       let clash = rw (eq-eqb o.core core its) at h in
       cc,
 )
@@ -51,14 +51,13 @@ module _ (s : Situation) (under_way : ℕ → Option ℕ) (core block word : ℕ
   order_goes its free q waits NothingWaiting h = h.1 block q waits
   order_goes its free q waits (BusTaken b) h =
       let same : block ≡ b = same_Some _ _ (sym its ∙ all_first (λ x. under_way core ≡ Some x) (queue_of s.queues core) b (serving.waits core) h.1) in
-      let P : ℕ → Type 0 = λ x. (picture_of s x).transaction ≡ None in
-      let taken : is_some (picture_of s b).transaction ≡ true = h.2 in
-      absurd (false≢true (sym (ap (λ (o : Option Open). is_some o) (subst P same free)) ∙ taken))
+      let clash : false ≡ true = rw (← same, free) at h.2 in
+      cc
   order_goes its free q waits _ h = absurd h
 
   respond_goes : (o : Open) → (picture_of s block).transaction ≡ Some o → (cause : Refused) → Refuses s (Respond block) cause → ⊥
   respond_goes o open_here NoBlock h = absurd (omega arith)
-  respond_goes o open_here NoTransaction h = let clash : ◌≡◌ {A = Option Open} None (Some o) = sym h.1 ∙ open_here in cc
+  respond_goes o open_here NoTransaction h = none-some o (sym h.1 ∙ open_here)
   respond_goes o open_here _ h = absurd h
 
 pub never_refused : NeverRefused
@@ -70,7 +69,7 @@ never_refused s under_way core block word asking true step serving kept has_core
       | inr p ↦ respond_goes s under_way core block word asking serving kept has_core has_block has_word p.1.0 p.1.1 cause (rw p.0 at refused)
     ]
 
-module _ (s : Situation) (before after : ℕ → Option ℕ) (serving : IsServing before s) (extends : (core block : ℕ) → before core ≡ Some block → after core ≡ Some block) where
+module _ {s : Situation} {before after : ℕ → Option ℕ} (serving : IsServing before s) (extends : (core block : ℕ) → before core ≡ Some block → after core ≡ Some block) where
   still_waits : (k : ℕ) → All (λ block. after k ≡ Some block) (queue_of s.queues k)
   still_waits k = All-weaker (λ block. before k ≡ Some block) (λ block. after k ≡ Some block) (extends k) (queue_of s.queues k) (serving.waits k)
 
@@ -91,25 +90,25 @@ module _ (s : Situation) (before after : ℕ → Option ℕ) (serving : IsServin
 
 pub serves_on : ServesOn
 serves_on s t before after (Ask core on word asking) answer entry serving move extends its = elim move.1.1.moves [
-  | inl absent ↦ rw absent.3 (record { waits = still_waits s before after serving extends; opened = still_opened s before after serving extends })
+  | inl absent ↦ rw absent.3 (record { waits = still_waits serving extends; opened = still_opened serving extends })
   | inr asks ↦ rw asks.after (record {
-    waits = asked_waits s before after serving extends asks.row.action core move.0 (rw (← move.1.1.on_block) its);
-    opened = set_opened s before after serving extends move.0 (with_line (picture_of s move.0) core asks.held) (still_opened s before after serving extends move.0);
+    waits = asked_waits serving extends asks.row.action core move.0 (rw (← move.1.1.on_block) its);
+    opened = set_opened serving extends move.0 (with_line (picture_of s move.0) core asks.held) (still_opened serving extends move.0);
   })
 ]
 serves_on s t before after (Order core) answer entry serving move extends its =
     let orders = move.1.1.orders in
     let here : after core ≡ Some move.0 = extends core move.0 (all_first (λ b. before core ≡ Some b) (queue_of s.queues core) move.0 (serving.waits core) move.1.0) in
     rw orders.after (record {
-      waits = all_ordered (λ c b. after c ≡ Some b) s.queues core move.0 (still_waits s before after serving extends);
-      opened = set_opened s before after serving extends move.0 orders.next
+      waits = all_ordered (λ c b. after c ≡ Some b) s.queues core move.0 (still_waits serving extends);
+      opened = set_opened serving extends move.0 orders.next
           (λ o is. rw (ap (λ (x : Open). x.core) (same_Some _ _ (sym is ∙ orders.opened))) here);
     })
 serves_on s t before after (Respond on) answer entry serving move extends its =
     let responds = move.1.1.responds in
     rw responds.after (record {
-      waits = still_waits s before after serving extends;
-      opened = set_opened s before after serving extends move.0 responds.next (λ o is. absurd (none-some o (sym responds.closed ∙ is)));
+      waits = still_waits serving extends;
+      opened = set_opened serving extends move.0 responds.next (λ o is. absurd (none-some o (sym responds.closed ∙ is)));
     })
 
 pub ends : Ends
