@@ -16,7 +16,7 @@ use Rattle.snoop_history.specs.History.{last_of}
 use Rattle.snoop_history.proofs.Pushed.{last_of-push}
 use Rattle.snoop_model.specs.declared.replies.Reply.{Reply}
 use Rattle.snoop_model.specs.declared.replies.Reply.TheVariants as reply
-use Rattle.snoop_model.specs.Moves.Replies.{IsReplyTo, Tells}
+use Rattle.snoop_model.specs.Moves.Replies.{Tells}
 use Rattle.snoop_model.specs.Pictures.Situation.{Situation, picture_of, state_of}
 use Rattle.snoop_model.specs.Moves.Move.{next_did}
 use Rattle.snoop_model.specs.Runs.Once.{did_it, did_access, same_op, same_access}
@@ -72,17 +72,17 @@ module _ (past log : List Item) (core block word : ℕ) where
   abbrev hit_did : Op → ℕ → Did
   hit_did asking value = next_did past core block word asking value true
 
-  told_load : (asking : Op) (value : ℕ) → IsReplyTo (Ask core block word asking) (reply.Hit value) → Tells past (Ask core block word asking) (Ok (reply.Hit value)) log
+  told_load : (asking : Op) (value : ℕ) → Tells past (Ask core block word asking) (Ok (reply.Hit value)) log
       → IsOp asking (hit_did asking value) × (log ≡ past ++ item.Did (hit_did asking value) ∷ [])
-  told_load op.Load value fits told = (refl, told)
-  told_load (op.Store v) value fits told = absurd fits
-  told_load op.Evict value fits told = absurd fits
+  told_load op.Load value told = (refl, told)
+  told_load (op.Store v) value told = absurd told
+  told_load op.Evict value told = absurd told
 
-  told_store : (asking : Op) → IsReplyTo (Ask core block word asking) reply.StoreHit → Tells past (Ask core block word asking) (Ok reply.StoreHit) log
+  told_store : (asking : Op) → Tells past (Ask core block word asking) (Ok reply.StoreHit) log
       → (value : ℕ) × (IsOp asking (hit_did asking value) × (log ≡ past ++ item.Did (hit_did asking value) ∷ []))
-  told_store op.Load fits told = absurd fits
-  told_store (op.Store v) fits told = (v, ((refl, refl), told))
-  told_store op.Evict fits told = absurd fits
+  told_store op.Load told = absurd told
+  told_store (op.Store v) told = (v, ((refl, refl), told))
+  told_store op.Evict told = absurd told
 
 -- it is the core's last operation
 hit_ends : (s t : Situation) (core : ℕ) (work : Work) (value : ℕ)
@@ -97,26 +97,26 @@ hit_ends s t core work value h =
 -- what an Ask answers, and the works after it
 pub asked_so : TurnLaws → (core : ℕ) (work : Work) (answer : Reply) (given : Turn) (p q : Locked) → AreUnderWay p.works p.situation
     → work_at p.works core ≡ None → IsInside core work p
-    → Stepped p.situation q.situation (Ask core work.block work.word work.op) answer → IsReplyTo (Ask core work.block work.word work.op) answer
+    → Stepped p.situation q.situation (Ask core work.block work.word work.op) answer
     → Tells p.situation.log (Ask core work.block work.word work.op) (Ok answer) q.situation.log
     → given ≡ turn_asked answer → q.works ≡ works_asked answer p.works core work → Asked answer core work given p q
-asked_so rule core work (reply.Issued request) given p q u idle inside m fits told e w = (e, w)
-asked_so rule core work reply.Gone given p q u idle inside m fits told e w = (e, w)
-asked_so rule core work reply.Absent given p q u idle inside m fits told e w = (e, w)
-asked_so rule core work (reply.Hit value) given p q u idle inside m fits told e w =
-    let does = told_load p.situation.log q.situation.log core work.block work.word work.op value fits told in
+asked_so rule core work (reply.Issued request) given p q u idle inside m told e w = (e, w)
+asked_so rule core work reply.Gone given p q u idle inside m told e w = (e, w)
+asked_so rule core work reply.Absent given p q u idle inside m told e w = (e, w)
+asked_so rule core work (reply.Hit value) given p q u idle inside m told e w =
+    let does = told_load p.situation.log q.situation.log core work.block work.word work.op value told in
     (e, (_, hit_ends p.situation q.situation core work value does, refl), w)
-asked_so rule core work reply.StoreHit given p q u idle inside m fits told e w =
-    let does = told_store p.situation.log q.situation.log core work.block work.word work.op fits told in
+asked_so rule core work reply.StoreHit given p q u idle inside m told e w =
+    let does = told_store p.situation.log q.situation.log core work.block work.word work.op told in
     (e, (_, hit_ends p.situation q.situation core work does.0 does.1), w)
-asked_so rule core work (reply.Ordered request) given p q u idle inside m fits told e w = absurd (not_ordered work.op fits)
+asked_so rule core work (reply.Ordered request) given p q u idle inside m told e w = absurd (not_ordered work.op told)
   where
-    not_ordered : (asking : Op) → IsReplyTo (Ask core work.block work.word asking) (reply.Ordered request) → ⊥
+    not_ordered : (asking : Op) → Tells p.situation.log (Ask core work.block work.word asking) (Ok (reply.Ordered request)) q.situation.log → ⊥
     not_ordered op.Load f = f
     not_ordered _ f = f
-asked_so rule core work (reply.Came payload from did) given p q u idle inside m fits told e w = absurd (not_came work.op fits)
+asked_so rule core work (reply.Came payload from did) given p q u idle inside m told e w = absurd (not_came work.op told)
   where
-    not_came : (asking : Op) → IsReplyTo (Ask core work.block work.word asking) (reply.Came payload from did) → ⊥
+    not_came : (asking : Op) → Tells p.situation.log (Ask core work.block work.word asking) (Ok (reply.Came payload from did)) q.situation.log → ⊥
     not_came op.Load f = f
     not_came _ f = f
 

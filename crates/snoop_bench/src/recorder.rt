@@ -4,7 +4,7 @@ ghost use Rattle.snoop_trace.specs.Output.{IsReadableStep};
 ghost use Rattle.snoop_model.specs.declared.replies.Refused.{Refused};
 ghost use Rattle.snoop_model.specs.Pictures.Situation.{Situation, reset};
 ghost use Rattle.snoop_model.specs.Moves.Refuses.{Refuses};
-ghost use Rattle.snoop_model.specs.Moves.Replies.{IsReplyTo, Tells};
+ghost use Rattle.snoop_model.specs.Moves.Replies.{Tells};
 ghost use Rattle.snoop_model.specs.Runs.Once.{OnceMore};
 ghost use Rattle.snoop_model.specs.Runs.Safe.{IsSafe};
 ghost use Rattle.snoop_machine.specs.Standing.{Standing};
@@ -89,7 +89,6 @@ impl Recorder {
         requires allowed { (cause : Refused) → ¬ Refuses self.old.situation step cause }
         requires within { IsReadableStep self.old.situation.shape step }
         ensures takes { IfOk result (λ answer. TakesAndPublishes step answer self.old self.new) }
-        ensures replied { IfOk result (λ answer. IsReplyTo step answer) }
         ensures told { IfOk result (λ answer. Tells self.old.situation.log step (Ok answer) self.new.situation.log) }
         ensures once { IfOk result (λ answer. OnceMore self.old.situation (step ∷ []) (Ok answer ∷ []) self.new.situation) }
         ensures stays { (self.new.situation.protocol ≡ self.old.situation.protocol) × (self.new.situation.shape ≡ self.old.situation.shape) }

@@ -12,7 +12,7 @@ ghost use Rattle.snoop_model.specs.Pictures.Picture.{held_by};
 ghost use Rattle.snoop_model.specs.Pictures.Situation.{picture_of, reset, state_of, IsHead};
 ghost use Rattle.snoop_model.specs.Pictures.Proper.{keeps};
 ghost use Rattle.snoop_model.specs.Moves.Move.{FirstMove};
-ghost use Rattle.snoop_model.specs.Moves.Replies.{IsReplyTo, Tells};
+ghost use Rattle.snoop_model.specs.Moves.Replies.{Tells};
 ghost use Rattle.snoop_model.specs.Moves.Refuses.{Refuses, RefusedFor};
 ghost use Rattle.snoop_machine.specs.Standing.{KeepsRoom, line_count};
 ghost use Rattle.snoop_machine.specs.Holding.{HoldsOn, HasHeldLines};
@@ -99,7 +99,6 @@ impl Machine {
         // For the proofs of callers: this follows from the above and from what every machine keeps (`coherent`). After every step, taken
         // or refused, the machine is coherent, and a load or store stands once in its history or waits.
         ensures stays { (self.new.situation.protocol ≡ self.old.situation.protocol) × (self.new.situation.shape ≡ self.old.situation.shape) }
-        ensures replied { IfOk result (λ reply. IsReplyTo step reply) }
         ensures told { Tells self.old.situation.log step result self.new.situation.log }
         ensures safe { IsSafe self.new.situation }
         ensures once { IfOk result (λ reply. OnceMore self.old.situation (step ∷ []) (Ok reply ∷ []) self.new.situation) }

@@ -34,5 +34,5 @@ returns-clause-ok g c =
     let asked = asked_so c.turns_are_served.ensures c.args.core c.args.work c.in_ok-reply.reply c.asked.result _ _ c.self.invariant
     (rw (← c.self.view_is) at c.requires.idle) (rw (← c.self.view_is) at c.requires.inside)
     (stepped c.turns_are_served.ensures (well_kept_in _ c.recorded.ensures.safe) c.in_ok-reply.ensures.takes c.in_ok-reply.ensures.once c.take.ensures.stays.1)
-    c.in_ok-reply.ensures.replied c.in_ok-reply.ensures.told c.asked.ensures c.note.ensures in
+    c.in_ok-reply.ensures.told c.asked.ensures c.note.ensures in
     rw (← c.self.view_is) (c.in_ok-reply.reply, (c.in_ok-reply.ensures.takes, asked))

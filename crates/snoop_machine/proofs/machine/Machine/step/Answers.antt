@@ -1,7 +1,6 @@
 use Rattle.snoop_model.specs.Invariant.MachineKeeps.{MachineKeeps}
 use Rattle.snoop_model.proofs.Invariant.Safety.{is_safe}
 use Rattle.snoop_model.proofs.Invariant.Steps.{step_once}
-use Rattle.snoop_model.proofs.Runs.Replies.{step_replies}
 use Rattle.snoop_machine.proofs.StepKeeps.{answers, step_keeps, step_stays, step_tells}
 use Rattle.snoop_machine.specs.Runs.{Answers}
 use Rattle.snoop_machine.specs.AnyParts.{stand}
@@ -28,9 +27,6 @@ returns-clause-once c =
 pub returns-clause-stays : goal.returns-clause-stays
 returns-clause-stays c =
     rw c.self.view_is at (step_stays _ _ c.args.step c.step.result (went (goal.at.returns-clause-stays c).After-step))
-
-pub returns-clause-replied : goal.returns-clause-replied
-returns-clause-replied c = step_replies (stand c.self.inside.parts).situation (stand c.step.new.self).situation c.args.step c.step.result c.step.ensures.taken
 
 pub returns-clause-told : goal.returns-clause-told
 returns-clause-told c =
