@@ -18,7 +18,7 @@ use Rattle.snoop_history.specs.declared.packed.Packed.{Packed}
 use Rattle.snoop_history.specs.Kept.{IsTallied}
 use Rattle.snoop_history.proofs.Pushed.{next_number-few, next_number_le, totals-few}
 use Rattle.snoop_history.proofs.Legal.{listed-push}
-use Rattle.snoop_history.proofs.Boards.{inside_all, board_lengths}
+use Rattle.snoop_history.proofs.Boards.{inside_all}
 use Rattle.snoop_history.proofs.Touching.{all_places, touched_within}
 
 -- the number of an operation that may come next in a short list
@@ -103,12 +103,6 @@ module _ {cores blocks words : ℕ} {items : List Item} {board : Tables} {order 
         tallied = tallied;
         mentioned = mentioned;
       })
-
--- the shape of a log is that of its board
-pub board-shape : {cores blocks words : ℕ} (items : List Item) {board : Tables} → board ≡ board_of cores blocks words items → (length board.counts ≡ cores) × (board.blocks ≡ blocks) × (board.words ≡ words)
-board-shape {cores} {blocks} {words} items {board} is =
-    let lengths = board_lengths cores blocks words items in
-    (ap (λ (t : Tables). length t.counts) is ∙ lengths.0, ap (λ (t : Tables). t.blocks) is, ap (λ (t : Tables). t.words) is)
 
 -- the same log under other names of its sizes
 pub kept-as : {cores blocks words : ℕ} (cores' blocks' words' : ℕ) {items : List Item} {board : Tables} {order : List ℕ} → cores' ≡ cores → blocks' ≡ blocks → words' ≡ words → IsTallied cores blocks words items board order → IsTallied cores' blocks' words' items board order

@@ -1,7 +1,8 @@
 use Rattle.std.proofs.Common.{◌≡◌, [], ◌∙◌, map, sym, ap, arith}
 use Rattle.snoop_history.specs.Mentions.{Mentions}
 use Rattle.snoop_history.specs.Packed.{unpacked}
-use Rattle.snoop_history.proofs.Kept.{kept-at_first, kept-as, kept-empty, board-shape, same-journal}
+use Rattle.snoop_history.proofs.Boards.{board-shape}
+use Rattle.snoop_history.proofs.Kept.{kept-at_first, kept-as, kept-empty, same-journal}
 use Rattle.snoop_history.proofs.log.Log.new.Goals as goal
 
 pub invariant_of-result : goal.invariant_of-result
@@ -10,7 +11,7 @@ invariant_of-result c =
     let items : map unpacked c.new.result.items ≡ [] = ap (map unpacked) c.new.ensures.items in
     let tallied = c.in_ok-new.ensures in
     let order = ap (λ (m : Mentions). m.order) c.in_ok-new-2.ensures in
-    let shape = board-shape [] tallied in
+    let shape = board-shape _ _ _ [] tallied in
     let few_cores = c.if-prove.false in
     let same_cores = c.cores.ensures.value in
     let few_blocks = c.blocks-2.ensures.within in
@@ -23,5 +24,5 @@ invariant_of-result c =
 pub returns : goal.returns
 returns c =
     let tallied = c.in_ok-new.ensures in
-    let shape = board-shape [] tallied in
+    let shape = board-shape _ _ _ [] tallied in
     same-journal _ _ shape.0 shape.1 shape.2 (ap (map unpacked) c.new.ensures.items) (omega (arith, c.new.ensures.len, c.new.ensures.capacity))
