@@ -95,9 +95,7 @@ board_with cores blocks words dids totals =
     record { blocks = blocks; words = words; values = for_each_below (blocks * words) (value_at words dids); counts = for_each_below cores (count_in dids); lasts = for_each_below cores (last_in dids); totals = totals }
 
 pub same_tables : (s t : Tables) → s.blocks ≡ t.blocks → s.words ≡ t.words → s.values ≡ t.values → s.counts ≡ t.counts → s.lasts ≡ t.lasts → s.totals ≡ t.totals → s ≡ t
-same_tables s t b w v c l o =
-    let same : ◌≡◌ {A = Tables} (record { blocks = s.blocks; words = s.words; values = s.values; counts = s.counts; lasts = s.lasts; totals = s.totals }) (record { blocks = t.blocks; words = t.words; values = t.values; counts = t.counts; lasts = t.lasts; totals = t.totals }) = cc in
-    same
+same_tables s t b w v c l o = λ i. record { blocks = b i; words = w i; values = v i; counts = c i; lasts = l i; totals = o i }
 
 -- the tables with one operation more
 module _ (dids : List Did) (did : Did) where

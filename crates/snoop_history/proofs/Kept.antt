@@ -59,16 +59,13 @@ module _ {cores blocks words : ℕ} {items : List Item} {board : Tables} {order 
 
   pub kept-count : (core : ℕ) (answer : Option ℕ) → length items < 2 ^ 64 → answer ≡ (if nat_lt core cores then Some (capped (next_number (inside cores blocks words items) core)) else None) →
       answer ≡ (if nat_lt core cores then Some (next_number items core) else None)
-  kept-count core answer few is =
-      is
-      ∙ (ap (λ (l : List Item). if nat_lt core cores then Some (capped (next_number l core)) else None) whole
-      ∙ ap (λ (n : ℕ). if nat_lt core cores then Some n else None) (next_number-few items core few))
+  kept-count core answer few is = is ∙ rw (whole, next_number-few items core few)
 
   pub kept-last : (core : ℕ) (answer : Option Did) → answer ≡ (if nat_lt core cores then last_of (inside cores blocks words items) core else None) → answer ≡ (if nat_lt core cores then last_of items core else None)
-  kept-last core answer is = is ∙ ap (λ (l : List Item). if nat_lt core cores then last_of l core else None) whole
+  kept-last core answer is = is ∙ rw whole
 
   pub kept-flat : (block word : ℕ) (answer : Option ℕ) → answer ≡ (if nat_lt block blocks && nat_lt word words then Some (flat (inside cores blocks words items) block word) else None) → answer ≡ (if nat_lt block blocks && nat_lt word words then Some (flat items block word) else None)
-  kept-flat block word answer is = is ∙ ap (λ (l : List Item). if nat_lt block blocks && nat_lt word words then Some (flat l block word) else None) whole
+  kept-flat block word answer is = is ∙ rw whole
 
   pub kept-totals : (answer : Totals) → length items < 2 ^ 64 → answer ≡ capped_totals (totals_of items) → answer ≡ totals_of items
   kept-totals answer few is = is ∙ totals-few items few
@@ -125,9 +122,4 @@ kept-empty none kept = rw none kept
 
 -- two journals of equal parts
 pub same-journal : (j k : Journal) → j.cores ≡ k.cores → j.blocks ≡ k.blocks → j.words ≡ k.words → j.items ≡ k.items → j.room ≡ k.room → j ≡ k
-same-journal j k c b w i r =
-    ap (λ (n : ℕ). let s : Journal = record j { cores = n } in s) c
-    ∙ (ap (λ (n : ℕ). let s : Journal = record k { blocks = n; words = j.words; items = j.items; room = j.room } in s) b
-    ∙ (ap (λ (n : ℕ). let s : Journal = record k { words = n; items = j.items; room = j.room } in s) w
-    ∙ (ap (λ (l : List Item). let s : Journal = record k { items = l; room = j.room } in s) i
-    ∙ ap (λ (n : ℕ). let s : Journal = record k { room = n } in s) r)))
+same-journal j k cores blocks words items room = λ i. record { cores = cores i; blocks = blocks i; words = words i; items = items i; room = room i }

@@ -101,8 +101,7 @@ pub same-clones : (xs ys : List ℕ) → AllZip (λ x y. y ≡ x) xs ys → ys �
 same-clones xs ys all = AllZip-map (λ x. x) xs ys all ∙ map-id xs
 
 pub same-mentions : (m n : Mentions) → m.blocks ≡ n.blocks → m.order ≡ n.order → m ≡ n
-same-mentions m n blocks order =
-    ap (λ (b : ℕ). let r : Mentions = record { blocks = b; order = m.order } in r) blocks ∙ ap (λ (o : List ℕ). let r : Mentions = record { blocks = n.blocks; order = o } in r) order
+same-mentions m n blocks order = λ i. record { blocks = blocks i; order = order i }
 
 -- equal marks and an equal list
 pub same-marks : (marks marks' : List Bool) (order order' : List ℕ) → marks' ≡ marks → order' ≡ order → AreMarksOf marks order → AreMarksOf marks' order'
