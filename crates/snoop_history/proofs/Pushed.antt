@@ -67,7 +67,7 @@ how_many-capped test items entry =
 pub capped_totals-push : (items : List Item) (entry : Item) → tallied (capped_totals (totals_of items)) entry ≡ capped_totals (totals_of (items ++ entry ∷ []))
 capped_totals-push items entry = λ i. counts_by (λ test. how_many-capped test items entry i)
 
-length-filter-le : {A : Type 0} (test : A → Bool) (items : List A) → length (filter test items) ≤ length items
+pub length-filter-le : {A : Type 0} (test : A → Bool) (items : List A) → length (filter test items) ≤ length items
 length-filter-le test items = omega (arith, length-filter test items, count_by-le-length test items)
 
 length-operations : (items : List Item) → length (operations items) ≤ length items
