@@ -179,7 +179,7 @@ operation_within-lies cores blocks words entry did is =
     (passes-within cores blocks words entry passes).operation did performs
 
 -- a board has a count for each core
-board-cores : (cores blocks words : ℕ) (items : List Item) → length (board_of cores blocks words items).counts ≡ cores
+pub board-cores : (cores blocks words : ℕ) (items : List Item) → length (board_of cores blocks words items).counts ≡ cores
 board-cores cores blocks words items = length-map-range_with_len (count_in (operations (inside cores blocks words items))) 0 cores
 
 -- absorbing one item gives the board of the list with it
