@@ -58,21 +58,21 @@ module _ {cores blocks words : ℕ} {items : List Item} {board : Tables} {order 
   whole : inside cores blocks words items ≡ items
   whole = inside_all cores blocks words items within_all
 
-  pub kept-count : (core : ℕ) (answer : Option ℕ) → length items < 2 ^ 64 → answer ≡ (if nat_lt core cores then Some (capped (next_number (inside cores blocks words items) core)) else None) →
+  pub kept-count : (core : ℕ) {answer : Option ℕ} → length items < 2 ^ 64 → answer ≡ (if nat_lt core cores then Some (capped (next_number (inside cores blocks words items) core)) else None) →
       answer ≡ (if nat_lt core cores then Some (next_number items core) else None)
-  kept-count core answer few is = is ∙ rw (whole, next_number-few items core few)
+  kept-count core few is = is ∙ rw (whole, next_number-few items core few)
 
-  pub kept-last : (core : ℕ) (answer : Option Did) → answer ≡ (if nat_lt core cores then last_of (inside cores blocks words items) core else None) → answer ≡ (if nat_lt core cores then last_of items core else None)
-  kept-last core answer is = is ∙ rw whole
+  pub kept-last : (core : ℕ) {answer : Option Did} → answer ≡ (if nat_lt core cores then last_of (inside cores blocks words items) core else None) → answer ≡ (if nat_lt core cores then last_of items core else None)
+  kept-last core is = is ∙ rw whole
 
-  pub kept-flat : (block word : ℕ) (answer : Option ℕ) → answer ≡ (if nat_lt block blocks && nat_lt word words then Some (flat (inside cores blocks words items) block word) else None) → answer ≡ (if nat_lt block blocks && nat_lt word words then Some (flat items block word) else None)
-  kept-flat block word answer is = is ∙ rw whole
+  pub kept-flat : (block word : ℕ) {answer : Option ℕ} → answer ≡ (if nat_lt block blocks && nat_lt word words then Some (flat (inside cores blocks words items) block word) else None) → answer ≡ (if nat_lt block blocks && nat_lt word words then Some (flat items block word) else None)
+  kept-flat block word is = is ∙ rw whole
 
-  pub kept-totals : (answer : Totals) → length items < 2 ^ 64 → answer ≡ capped_totals (totals_of items) → answer ≡ totals_of items
-  kept-totals answer few is = is ∙ totals-few items few
+  pub kept-totals : {answer : Totals} → length items < 2 ^ 64 → answer ≡ capped_totals (totals_of items) → answer ≡ totals_of items
+  kept-totals few is = is ∙ totals-few items few
 
-  pub kept-touched : (answer : List ℕ) → answer ≡ order → All (λ block. block < blocks) answer
-  kept-touched answer is = rw (is ∙ kept.mentioned) (touched_within cores blocks words items within_all)
+  pub kept-touched : {answer : List ℕ} → answer ≡ order → All (λ block. block < blocks) answer
+  kept-touched is = rw (is ∙ kept.mentioned) (touched_within cores blocks words items within_all)
 
   -- an item of the shape is one of the largest shape
   pub fits : (entry : Item) → IsItemWithin cores blocks words entry → IsItemWithin 256 65536 64 entry

@@ -56,10 +56,9 @@ touched-more items entry =
     rw (flat_map-append mentioned items (entry ∷ []), append-nil (mentioned entry)) (each_once-blocks (flat_map mentioned items) (block_of entry) (operation_of entry))
 
 -- the same under other names
-pub touched-add : (items : List Item) (entry : Item) (before after : List ℕ) (block : ℕ) (op : Option Did) → before ≡ touched items → block ≡ block_of entry → op ≡ operation_of entry →
+pub touched-add : (items : List Item) (entry : Item) {before after : List ℕ} {block : ℕ} {op : Option Did} → before ≡ touched items → block ≡ block_of entry → op ≡ operation_of entry →
     after ≡ with_operation (insert_key nat_eq before block) op → after ≡ touched (items ++ entry ∷ [])
-touched-add items entry before after block op was is performs added =
-    rw (added, was, is, performs, touched-more items entry)
+touched-add items entry was is performs added = rw (added, was, is, performs, touched-more items entry)
 
 each_once-all : (P : ℕ → Type 0) (xs : List ℕ) → All P xs → All P (each_once xs)
 each_once-all P [] all = All-nil P
@@ -84,24 +83,18 @@ pub touched_within : (cores blocks words : ℕ) (items : List Item) → All (IsI
 touched_within cores blocks words items all =
     each_once-all (λ block. block < blocks) (flat_map mentioned items) (mentioned_within cores blocks words items all)
 
--- a step of the loop over the words
-pub values_step : (items : List Item) (block word : ℕ) (old before after : List ℕ) (value : ℕ) → before ≡ old ++ values_text (map (flat items block) (range_with_len 0 word)) →
-    value ≡ flat items block word → after ≡ before ++ (codes " " ++ decimal value) → after ≡ old ++ values_text (map (flat items block) (range_with_len 0 (word + 1)))
-values_step items block word old before after value so_far is put =
-    rw (put, so_far, is, map-range_with_len_more (flat items block) 0 word word (omega arith)) (flat_map_more (λ v. codes " " ++ decimal v) old (map (flat items block) (range_with_len 0 word)) (flat items block word))
-
 -- what holds of the element at each place holds of all
 pub all_places : (P : Item → Type 0) (items : List Item) → ((k : ℕ) (entry : Item) → slice_get items k ≡ Some entry → P entry) → All P items
 all_places P [] each = All-nil P
 all_places P (x ∷ xs) each = All-cons P x xs (each 0 x refl) (all_places P xs (λ k entry at. each (suc k) entry at))
 
 -- a flat value that was found
-pub flat_found : (blocks words : ℕ) (items : List Item) (block word value : ℕ) (answer : Option ℕ) → block < blocks → word < words → answer ≡ (if nat_lt block blocks && nat_lt word words then Some (flat items block word) else None) → answer ≡ Some value → value ≡ flat items block word
-flat_found blocks words items block word value answer within in_words told found =
+pub flat_found : (blocks words : ℕ) (items : List Item) (block word : ℕ) {value : ℕ} {answer : Option ℕ} → block < blocks → word < words → answer ≡ (if nat_lt block blocks && nat_lt word words then Some (flat items block word) else None) → answer ≡ Some value → value ≡ flat items block word
+flat_found blocks words items block word within in_words told found =
     let some = rw (lt-ltb block blocks within, lt-ltb word words in_words) at told in cc
 
 -- the totals and then the blocks are the report
-pub report_joined : (words : ℕ) (items : List Item) (blocks old mid new : List ℕ) (totals : Totals) → totals ≡ totals_of items → blocks ≡ touched items → mid ≡ old ++ totals_text totals →
+pub report_joined : (words : ℕ) (items : List Item) (old : List ℕ) {blocks mid new : List ℕ} {totals : Totals} → totals ≡ totals_of items → blocks ≡ touched items → mid ≡ old ++ totals_text totals →
     new ≡ mid ++ blocks_text words items blocks → new ≡ old ++ report_of words items
-report_joined words items blocks old mid new totals counts mentioned put_totals put_blocks =
-    rw (put_blocks, put_totals, counts, mentioned) (append_assoc old (totals_text (totals_of items)) (blocks_text words items (touched items)))
+report_joined words items old counts blocks_are put_totals put_blocks =
+    rw (put_blocks, put_totals, counts, blocks_are) (append_assoc old (totals_text (totals_of items)) (blocks_text words items (touched items)))
