@@ -1,15 +1,12 @@
 -- The blocks that a list mentions, with one item more.
-use Rattle.std.proofs.Common.{◌≡◌, ℕ, Bool, true, false, not, arith, codes, ◌&&◌, List, [], ◌∷◌, ◌++◌, refl, sym, ◌∙◌, ap, map, filter, ◌<◌, ◌+◌, eqb, inl, inr, append-nil, append_assoc}
+use Rattle.std.proofs.Common.{◌≡◌, ℕ, Bool, true, false, not, ◌&&◌, List, [], ◌∷◌, ◌++◌, refl, map, filter, ◌<◌, eqb, append-nil, append_assoc}
 use Rattle.std.specs.Prelude.{Option, Some, None, option_to_list, slice_get, suc, nat_lt, ◌==◌, nat_eq, All, if◌then◌else◌}
-use Rattle.std.specs.List.{list_any, flat_map, range_with_len}
+use Rattle.std.specs.List.{list_any, flat_map}
 use Rattle.std.specs.Option.{ForSome}
 use Rattle.std.proofs.lemmas.Grind.{flat_map-append}
 use Rattle.snoop_history.specs.History.{flat, operation_of}
-use Rattle.snoop_history.specs.Report.{values_text, blocks_text, totals_text, report_of}
-use Rattle.std.proofs.lemmas.Bool.{cases_eq, eq-eqb, ne_eqb, eqb-true, lt-ltb}
-use Rattle.std.specs.Fmt.{decimal}
-use Rattle.std.proofs.lemmas.List.{flat_map_more}
-use Rattle.std.proofs.lemmas.List.FromFn.{map-range_with_len_more}
+use Rattle.snoop_history.specs.Report.{blocks_text, totals_text, report_of}
+use Rattle.std.proofs.lemmas.Bool.{eqb-true, lt-ltb}
 use Rattle.std.proofs.lemmas.List.Elements.{filter-append, All-filter, All-nil, All-cons, All-head, All-tail, All-append}
 use Rattle.std.proofs.lemmas.Map.Views.{any-filter_same}
 use Rattle.indexmap.specs.IndexSet.{insert_key}

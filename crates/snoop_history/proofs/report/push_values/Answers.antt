@@ -1,4 +1,4 @@
-use Rattle.std.proofs.Common.{◌≡◌, ◌++◌, arith, codes, map}
+use Rattle.std.proofs.Common.{◌++◌, arith, codes, map}
 use Rattle.std.specs.Fmt.{decimal}
 use Rattle.std.specs.List.{range_with_len}
 use Rattle.std.proofs.lemmas.List.{flat_map_more}

@@ -1,4 +1,3 @@
-use Rattle.std.proofs.Common.{sym, ◌∙◌}
 use Rattle.snoop_history.proofs.Boards.{board-shape}
 use Rattle.snoop_history.proofs.board.Board.has_shape.Goals as goal
 
