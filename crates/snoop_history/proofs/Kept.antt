@@ -2,20 +2,20 @@
 use Rattle.std.proofs.Common.{◌≡◌, ℕ, ◌^◌, ◌<◌, ◌≤◌, List, [], ◌∷◌, ◌++◌, length, Option, Some, None, arith, refl, sym, ap, ◌∙◌, map, get_or}
 use Rattle.std.specs.Prelude.{All, IfSome, slice_get, nat_lt, is_some, unwrap_or, ◌&&◌, if◌then◌else◌}
 use Rattle.std.specs.Option.{option_map}
+use Rattle.std.specs.List.{filter_map}
 use Rattle.std.proofs.lemmas.Bool.{ltb-true}
 use Rattle.std.proofs.lemmas.Option.{slice_get_read, slice_get-map, unwrap_or-slice_get}
 use Rattle.std.proofs.lemmas.List.{length-map, same_lists}
-use Rattle.std.specs.List.{filter_map}
 use Rattle.snoop_history.specs.declared.items.Did.{Did}
 use Rattle.snoop_history.specs.declared.items.Item.{Item}
 use Rattle.snoop_history.specs.declared.items.Totals.{Totals}
+use Rattle.snoop_history.specs.declared.packed.Packed.{Packed}
 use Rattle.snoop_history.specs.History.{next_number, flat, last_of, IsNumbered}
 use Rattle.snoop_history.specs.Within.{IsItemWithin, inside}
 use Rattle.snoop_history.specs.Totals.{totals_of, touched, capped, capped_totals}
 use Rattle.snoop_history.specs.Journal.{Journal}
 use Rattle.snoop_history.specs.Board.{Tables, board_of}
 use Rattle.snoop_history.specs.Packed.{NumberFits, unpacked}
-use Rattle.snoop_history.specs.declared.packed.Packed.{Packed}
 use Rattle.snoop_history.specs.Kept.{IsTallied}
 use Rattle.snoop_history.proofs.Pushed.{next_number-few, next_number_le, totals-few}
 use Rattle.snoop_history.proofs.Legal.{listed-push}
