@@ -1,24 +1,25 @@
 -- What a log's board says of its items.
-use Rattle.std.proofs.Common.{◌≡◌, ℕ, suc, ◌^◌, ◌<◌, ◌≤◌, List, [], ◌∷◌, ◌++◌, length, Option, Some, None, arith, refl, sym, ap, ◌∙◌, map, get_or}
-use Rattle.std.specs.Prelude.{All, IfSome, slice_get, nat_lt, is_some, ◌&&◌, if◌then◌else◌}
+use Rattle.std.proofs.Common.{◌≡◌, ℕ, ◌^◌, ◌<◌, ◌≤◌, List, [], ◌∷◌, ◌++◌, length, Option, Some, None, arith, refl, sym, ap, ◌∙◌, map, get_or}
+use Rattle.std.specs.Prelude.{All, IfSome, slice_get, nat_lt, is_some, unwrap_or, ◌&&◌, if◌then◌else◌}
 use Rattle.std.specs.Option.{option_map}
-use Rattle.std.proofs.lemmas.Bool.{ltb-true}
-use Rattle.std.proofs.lemmas.Option.{slice_get_read, slice_get-map}
 use Rattle.std.specs.List.{filter_map}
+use Rattle.std.proofs.lemmas.Bool.{ltb-true}
+use Rattle.std.proofs.lemmas.Option.{slice_get_read, slice_get-map, unwrap_or-slice_get}
+use Rattle.std.proofs.lemmas.List.{length-map, same_lists}
 use Rattle.snoop_history.specs.declared.items.Did.{Did}
 use Rattle.snoop_history.specs.declared.items.Item.{Item}
 use Rattle.snoop_history.specs.declared.items.Totals.{Totals}
+use Rattle.snoop_history.specs.declared.packed.Packed.{Packed}
 use Rattle.snoop_history.specs.History.{next_number, flat, last_of, IsNumbered}
 use Rattle.snoop_history.specs.Within.{IsItemWithin, inside}
 use Rattle.snoop_history.specs.Totals.{totals_of, touched, capped, capped_totals}
 use Rattle.snoop_history.specs.Journal.{Journal}
 use Rattle.snoop_history.specs.Board.{Tables, board_of}
 use Rattle.snoop_history.specs.Packed.{NumberFits, unpacked}
-use Rattle.snoop_history.specs.declared.packed.Packed.{Packed}
 use Rattle.snoop_history.specs.Kept.{IsTallied}
 use Rattle.snoop_history.proofs.Pushed.{next_number-few, next_number_le, totals-few}
 use Rattle.snoop_history.proofs.Legal.{listed-push}
-use Rattle.snoop_history.proofs.Boards.{inside_all, board_lengths}
+use Rattle.snoop_history.proofs.Boards.{inside_all, board-cores}
 use Rattle.snoop_history.proofs.Touching.{all_places, touched_within}
 
 -- the number of an operation that may come next in a short list
@@ -33,17 +34,17 @@ read-at now xs place (Some y) x some at is = slice_get_read xs (length xs) place
 
 -- lists that are as long and have the same at each place
 pub same-places : {A : Type 0} (xs ys : List A) → length xs ≡ length ys → ((k : ℕ) → k < length xs → slice_get xs k ≡ slice_get ys k) → xs ≡ ys
-same-places [] [] many same = refl
-same-places [] (y ∷ ys) many same = absurd (omega arith)
-same-places (x ∷ xs) [] many same = absurd (omega arith)
-same-places (x ∷ xs) (y ∷ ys) many same =
-    let first : Some x ≡ Some y = same 0 (omega arith) in
-    let head : x ≡ y = cc in
-    rw head (ap (λ l. y ∷ l) (same-places xs ys (omega arith) (λ k within. same (suc k) (omega arith))))
+same-places xs ys many same = same_lists xs ys many (λ k d within. sym (unwrap_or-slice_get xs k d) ∙ ap (λ o. unwrap_or o d) (same k within) ∙ unwrap_or-slice_get ys k d)
 
 -- an item that was unpacked, in the list of items
 pub item-at : (xs : List Packed) (place : ℕ) (p : Packed) (entry : Item) → place < length xs → p ≡ get_or xs place p → entry ≡ unpacked p → slice_get (map unpacked xs) place ≡ Some entry
 item-at xs place p entry within read is = slice_get-map unpacked xs place ∙ (ap (option_map unpacked) (slice_get_read xs (length xs) place p refl within read) ∙ ap Some (sym is))
+
+-- and two items at one place of two lists, which callers see as these
+pub items-at : (xs ys : List Packed) (place : ℕ) (p q : Packed) (one other : Item) {seen also : List Item} → map unpacked xs ≡ seen → map unpacked ys ≡ also → place < length seen → place < length also →
+    p ≡ get_or xs place p → q ≡ get_or ys place q → one ≡ unpacked p → other ≡ unpacked q → (slice_get (map unpacked xs) place ≡ Some one) × (slice_get (map unpacked ys) place ≡ Some other)
+items-at xs ys place p q one other left right within inside read read_other is is_other =
+    (item-at xs place p one (omega (arith, ap length left, length-map xs unpacked)) read is, item-at ys place q other (omega (arith, ap length right, length-map ys unpacked)) read_other is_other)
 
 -- what a function gives of each of a list of values of another
 pub filter_map-map : {X Y Z : Type 0} (f : X → Y) (g : Y → Option Z) (xs : List X) → filter_map (λ x. g (f x)) xs ≡ filter_map g (map f xs)
@@ -57,83 +58,58 @@ module _ {cores blocks words : ℕ} {items : List Item} {board : Tables} {order 
   whole : inside cores blocks words items ≡ items
   whole = inside_all cores blocks words items within_all
 
-  pub kept-count : (core : ℕ) (answer : Option ℕ) → length items < 2 ^ 64 → answer ≡ (if nat_lt core cores then Some (capped (next_number (inside cores blocks words items) core)) else None) →
+  pub kept-count : (core : ℕ) {answer : Option ℕ} → length items < 2 ^ 64 → answer ≡ (if nat_lt core cores then Some (capped (next_number (inside cores blocks words items) core)) else None) →
       answer ≡ (if nat_lt core cores then Some (next_number items core) else None)
-  kept-count core answer few is =
-      is
-      ∙ (ap (λ (l : List Item). if nat_lt core cores then Some (capped (next_number l core)) else None) whole
-      ∙ ap (λ (n : ℕ). if nat_lt core cores then Some n else None) (next_number-few items core few))
+  kept-count core few is = is ∙ rw (whole, next_number-few items core few)
 
-  pub kept-last : (core : ℕ) (answer : Option Did) → answer ≡ (if nat_lt core cores then last_of (inside cores blocks words items) core else None) → answer ≡ (if nat_lt core cores then last_of items core else None)
-  kept-last core answer is = is ∙ ap (λ (l : List Item). if nat_lt core cores then last_of l core else None) whole
+  pub kept-last : (core : ℕ) {answer : Option Did} → answer ≡ (if nat_lt core cores then last_of (inside cores blocks words items) core else None) → answer ≡ (if nat_lt core cores then last_of items core else None)
+  kept-last core is = is ∙ rw whole
 
-  pub kept-flat : (block word : ℕ) (answer : Option ℕ) → answer ≡ (if nat_lt block blocks && nat_lt word words then Some (flat (inside cores blocks words items) block word) else None) → answer ≡ (if nat_lt block blocks && nat_lt word words then Some (flat items block word) else None)
-  kept-flat block word answer is = is ∙ ap (λ (l : List Item). if nat_lt block blocks && nat_lt word words then Some (flat l block word) else None) whole
+  pub kept-flat : (block word : ℕ) {answer : Option ℕ} → answer ≡ (if nat_lt block blocks && nat_lt word words then Some (flat (inside cores blocks words items) block word) else None) → answer ≡ (if nat_lt block blocks && nat_lt word words then Some (flat items block word) else None)
+  kept-flat block word is = is ∙ rw whole
 
-  pub kept-totals : (answer : Totals) → length items < 2 ^ 64 → answer ≡ capped_totals (totals_of items) → answer ≡ totals_of items
-  kept-totals answer few is = is ∙ totals-few items few
+  pub kept-totals : {answer : Totals} → length items < 2 ^ 64 → answer ≡ capped_totals (totals_of items) → answer ≡ totals_of items
+  kept-totals few is = is ∙ totals-few items few
 
-  pub kept-touched : (answer : List ℕ) → answer ≡ order → All (λ block. block < blocks) answer
-  kept-touched answer is = rw (is ∙ kept.mentioned) (touched_within cores blocks words items within_all)
+  pub kept-touched : {answer : List ℕ} → answer ≡ order → All (λ block. block < blocks) answer
+  kept-touched is = rw (is ∙ kept.mentioned) (touched_within cores blocks words items within_all)
 
   -- an item of the shape is one of the largest shape
   pub fits : (entry : Item) → IsItemWithin cores blocks words entry → IsItemWithin 256 65536 64 entry
   fits entry lies =
-      let few_cores = kept.few_cores in
-      let few_blocks = kept.few_blocks in
-      let few_words = kept.few_words in
-      let core = lies.core in
-      let block = lies.block in
       record {
-        core = omega arith;
-        block = omega arith;
-        sender = λ core is. omega (arith, lies.sender core is);
-        operation = λ did is. let p = lies.operation did is in (omega (arith, p.0), omega (arith, p.1), omega (arith, p.2));
+        core = omega (arith, lies.core, kept.few_cores);
+        block = omega (arith, lies.block, kept.few_blocks);
+        sender = λ core is. omega (arith, lies.sender core is, kept.few_cores);
+        operation = λ did is. let (core, block, word) = lies.operation did is in (omega (arith, kept.few_cores), omega (arith, kept.few_blocks), omega (arith, kept.few_words));
       }
 
   -- a log with one item more
   pub kept-push : (entry : Item) (items' : List Item) (board' : Tables) (order' : List ℕ) → IsItemWithin cores blocks words entry → IsNumbered items entry →
-      items' ≡ items ++ entry ∷ [] → board' ≡ board_of cores blocks words (items ++ entry ∷ []) → order' ≡ touched (items ++ entry ∷ []) → IsTallied cores blocks words items' board' order'
+      items' ≡ items ++ entry ∷ [] → board' ≡ board_of cores blocks words (items ++ entry ∷ []) → order' ≡ touched (items ++ entry ∷ []) → IsTallied (length board'.counts) board'.blocks board'.words items' board' order'
   kept-push entry items' board' order' lies numbered more tallied mentioned =
-      rw more (record {
+      rw (more, tallied, board-cores cores blocks words (items ++ entry ∷ [])) (record {
         few_cores = kept.few_cores;
         few_blocks = kept.few_blocks;
         few_words = kept.few_words;
         listed = listed-push cores blocks words items entry kept.listed lies numbered;
-        tallied = tallied;
+        tallied = refl;
         mentioned = mentioned;
       })
 
--- the shape of a log is that of its board
-pub board-shape : {cores blocks words : ℕ} (items : List Item) {board : Tables} → board ≡ board_of cores blocks words items → (length board.counts ≡ cores) × (board.blocks ≡ blocks) × (board.words ≡ words)
-board-shape {cores} {blocks} {words} items {board} is =
-    let lengths = board_lengths cores blocks words items in
-    (ap (λ (t : Tables). length t.counts) is ∙ lengths.0, ap (λ (t : Tables). t.blocks) is, ap (λ (t : Tables). t.words) is)
-
--- the same log under other names of its sizes
-pub kept-as : {cores blocks words : ℕ} (cores' blocks' words' : ℕ) {items : List Item} {board : Tables} {order : List ℕ} → cores' ≡ cores → blocks' ≡ blocks → words' ≡ words → IsTallied cores blocks words items board order → IsTallied cores' blocks' words' items board order
-kept-as cores' blocks' words' c b w kept = rw (c, b, w) kept
-
 -- an empty log
-pub kept-at_first : (cores blocks words : ℕ) (board : Tables) (order : List ℕ) → cores ≤ 256 → blocks ≤ 65536 → words ≤ 64 → board ≡ board_of cores blocks words [] → order ≡ [] → IsTallied cores blocks words [] board order
-kept-at_first cores blocks words board order few_cores few_blocks few_words tallied mentioned =
-    record {
+pub kept-at_first : (cores blocks words : ℕ) (items : List Item) (board : Tables) (order : List ℕ) → cores ≤ 256 → blocks ≤ 65536 → words ≤ 64 → items ≡ [] → board ≡ board_of cores blocks words [] → order ≡ [] →
+    IsTallied (length board.counts) board.blocks board.words items board order
+kept-at_first cores blocks words items board order few_cores few_blocks few_words none tallied mentioned =
+    rw (none, tallied, board-cores cores blocks words []) (record {
       few_cores = few_cores;
       few_blocks = few_blocks;
       few_words = few_words;
       listed = record { within = λ k entry at. cc; in_order = λ k entry at. cc };
-      tallied = tallied;
+      tallied = refl;
       mentioned = mentioned;
-    }
-
-pub kept-empty : {cores blocks words : ℕ} {items : List Item} {board : Tables} {order : List ℕ} → items ≡ [] → IsTallied cores blocks words [] board order → IsTallied cores blocks words items board order
-kept-empty none kept = rw none kept
+    })
 
 -- two journals of equal parts
 pub same-journal : (j k : Journal) → j.cores ≡ k.cores → j.blocks ≡ k.blocks → j.words ≡ k.words → j.items ≡ k.items → j.room ≡ k.room → j ≡ k
-same-journal j k c b w i r =
-    ap (λ (n : ℕ). let s : Journal = record j { cores = n } in s) c
-    ∙ (ap (λ (n : ℕ). let s : Journal = record k { blocks = n; words = j.words; items = j.items; room = j.room } in s) b
-    ∙ (ap (λ (n : ℕ). let s : Journal = record k { words = n; items = j.items; room = j.room } in s) w
-    ∙ (ap (λ (l : List Item). let s : Journal = record k { items = l; room = j.room } in s) i
-    ∙ ap (λ (n : ℕ). let s : Journal = record k { room = n } in s) r)))
+same-journal j k cores blocks words items room = λ i. record { cores = cores i; blocks = blocks i; words = words i; items = items i; room = room i }

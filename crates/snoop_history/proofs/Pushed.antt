@@ -1,8 +1,10 @@
 -- One more item: the operations, counts, flat values and totals of the longer list.
-use Rattle.std.proofs.Common.{◌≡◌, ℕ, suc, ◌+◌, ◌^◌, ◌<◌, ◌≤◌, Bool, true, false, not, ◌&&◌, List, [], ◌∷◌, ◌++◌, length, Option, Some, None, refl, sym, ◌∙◌, ap, arith, map, filter, cond}
+use Rattle.std.proofs.Common.{◌≡◌, ℕ, ◌+◌, ◌^◌, ◌<◌, ◌≤◌, Bool, true, false, not, ◌&&◌, List, [], ◌∷◌, ◌++◌, length, Option, Some, None, refl, ◌∙◌, ap, arith, map, filter, cond}
 use Rattle.std.specs.Prelude.{option_to_list, ◌==◌, is_some, is_none}
 use Rattle.std.proofs.lemmas.List.{map-append, length-append}
 use Rattle.std.proofs.lemmas.List.Elements.{filter-append, filter_map-append}
+use Rattle.std.proofs.lemmas.List.Sums.{length-filter, count_by-le-length}
+use Rattle.snoop_history.specs.declared.items.Totals.{Totals}
 use Rattle.snoop_history.specs.declared.items.Did.{Did}
 use Rattle.snoop_history.specs.declared.items.Item.{Item}
 use Rattle.snoop_history.specs.declared.items.Item.TheVariants as item
@@ -33,55 +35,40 @@ last_or-append value (x ∷ xs) ys = last_or-append x xs ys
 
 pub last_of-push : (items : List Item) (entry : Item) (core : ℕ) → last_of (items ++ entry ∷ []) core ≡ last_or (last_of items core) (map Some (of_core core (operation_of entry)))
 last_of-push items entry core =
-    ap (λ l. last_or None (map Some l)) (answers_of-push items entry core)
-    ∙ (ap (last_or None) (map-append Some (answers_of items core) (of_core core (operation_of entry)))
-    ∙ last_or-append None (map Some (answers_of items core)) (map Some (of_core core (operation_of entry))))
+    rw (answers_of-push items entry core, map-append Some (answers_of items core) (of_core core (operation_of entry))) (last_or-append None (map Some (answers_of items core)) (map Some (of_core core (operation_of entry))))
 
--- one where something holds
-abbrev one_if : Bool → ℕ
-one_if true = 1
-one_if false = 0
-
-how_many-one : (test : Item → Bool) (entry : Item) (b : Bool) → test entry ≡ b → how_many test (entry ∷ []) ≡ one_if b
-how_many-one test entry true e = rw e
-how_many-one test entry false e = rw e
-
-length-filter-le : {A : Type 0} (test : A → Bool) (items : List A) → length (filter test items) ≤ length items
-length-filter-le test [] = omega arith
-length-filter-le test (x ∷ xs) =
-    let rest = length-filter-le test xs in
-    elim (test x) as (λ b. length (cond b (x ∷ filter test xs) (filter test xs)) ≤ suc (length xs)) [ true ↦ omega (arith, rest) | false ↦ omega (arith, rest) ]
-
--- a count of a list with one more item
-how_many-more : (test : Item → Bool) (items : List Item) (entry : Item) → how_many test (items ++ entry ∷ []) ≡ how_many test items + one_if (test entry)
-how_many-more test items entry =
-    ap length (filter-append test items (entry ∷ [])) ∙ (length-append (filter test items) (filter test (entry ∷ [])) ∙ ap (λ n. how_many test items + n) (how_many-one test entry (test entry) refl))
-
-counted-capped : (n : ℕ) (here : Bool) → counted (capped n) here ≡ capped (n + one_if here)
-counted-capped n true = omega arith
-counted-capped n false = omega arith
+-- a number for each of the twelve counts, by what it counts
+abbrev counts_by : ((Item → Bool) → ℕ) → Totals
+counts_by count =
+    record {
+      loads = count (performed (λ did. did.load));
+      load_hits = count (performed (λ did. did.load && did.hit));
+      stores = count (performed (λ did. not did.load));
+      store_hits = count (performed (λ did. not did.load && did.hit));
+      get_s = count (ordered is_get_s);
+      get_m = count (ordered is_get_m);
+      put_m = count (ordered is_put_m);
+      from_memory = count (responded (λ came. is_none came.from));
+      from_caches = count (responded (λ came. is_some came.from && not (is_put_m came.request)));
+      writebacks = count (responded (λ came. is_put_m came.request && is_data came.payload));
+      clean = count (responded (λ came. is_put_m came.request && is_no_data_e came.payload));
+      stale = count (responded (λ came. is_put_m came.request && is_no_data came.payload));
+    }
 
 -- a capped count of a list with one more item
 how_many-capped : (test : Item → Bool) (items : List Item) (entry : Item) → counted (capped (how_many test items)) (test entry) ≡ capped (how_many test (items ++ entry ∷ []))
-how_many-capped test items entry = counted-capped (how_many test items) (test entry) ∙ ap capped (sym (how_many-more test items entry))
+how_many-capped test items entry =
+    rw (filter-append test items (entry ∷ []), length-append (filter test items) (filter test (entry ∷ []))) (go (how_many test items) (test entry))
+  where
+    go : (n : ℕ) (here : Bool) → counted (capped n) here ≡ capped (n + length (cond here (entry ∷ []) []))
+    go n true = omega arith
+    go n false = omega arith
 
 pub capped_totals-push : (items : List Item) (entry : Item) → tallied (capped_totals (totals_of items)) entry ≡ capped_totals (totals_of (items ++ entry ∷ []))
-capped_totals-push items entry =
-    let step : (test : Item → Bool) → counted (capped (how_many test items)) (test entry) ≡ capped (how_many test (items ++ entry ∷ [])) = λ test. how_many-capped test items entry in
-    simp (
-      step (performed (λ did. did.load)),
-      step (performed (λ did. did.load && did.hit)),
-      step (performed (λ did. not did.load)),
-      step (performed (λ did. not did.load && did.hit)),
-      step (ordered is_get_s),
-      step (ordered is_get_m),
-      step (ordered is_put_m),
-      step (responded (λ came. is_none came.from)),
-      step (responded (λ came. is_some came.from && not (is_put_m came.request))),
-      step (responded (λ came. is_put_m came.request && is_data came.payload)),
-      step (responded (λ came. is_put_m came.request && is_no_data_e came.payload)),
-      step (responded (λ came. is_put_m came.request && is_no_data came.payload)),
-    )
+capped_totals-push items entry = λ i. counts_by (λ test. how_many-capped test items entry i)
+
+pub length-filter-le : {A : Type 0} (test : A → Bool) (items : List A) → length (filter test items) ≤ length items
+length-filter-le test items = omega (arith, length-filter test items, count_by-le-length test items)
 
 length-operations : (items : List Item) → length (operations items) ≤ length items
 length-operations [] = omega arith
@@ -101,22 +88,7 @@ pub next_number-few : (items : List Item) (core : ℕ) → length items < 2 ^ 64
 next_number-few items core few = capped-few (next_number items core) (omega (arith, next_number_le items core))
 
 pub totals-few : (items : List Item) → length items < 2 ^ 64 → capped_totals (totals_of items) ≡ totals_of items
-totals-few items few =
-    let step : (test : Item → Bool) → capped (how_many test items) ≡ how_many test items = λ test. capped-few (how_many test items) (omega (arith, length-filter-le test items)) in
-    simp (
-      step (performed (λ did. did.load)),
-      step (performed (λ did. did.load && did.hit)),
-      step (performed (λ did. not did.load)),
-      step (performed (λ did. not did.load && did.hit)),
-      step (ordered is_get_s),
-      step (ordered is_get_m),
-      step (ordered is_put_m),
-      step (responded (λ came. is_none came.from)),
-      step (responded (λ came. is_some came.from && not (is_put_m came.request))),
-      step (responded (λ came. is_put_m came.request && is_data came.payload)),
-      step (responded (λ came. is_put_m came.request && is_no_data_e came.payload)),
-      step (responded (λ came. is_put_m came.request && is_no_data came.payload)),
-    )
+totals-few items few = λ i. counts_by (λ test. capped-few (how_many test items) (omega (arith, length-filter-le test items)) i)
 
 pub none_from_not_some : (op : Option Did) → ((did : Did) → op ≡ Some did → ⊥) → op ≡ None
 none_from_not_some None h = refl

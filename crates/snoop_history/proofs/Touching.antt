@@ -1,15 +1,12 @@
 -- The blocks that a list mentions, with one item more.
-use Rattle.std.proofs.Common.{◌≡◌, ℕ, Bool, true, false, not, arith, codes, ◌&&◌, List, [], ◌∷◌, ◌++◌, refl, sym, ◌∙◌, ap, map, filter, ◌<◌, ◌+◌, eqb, inl, inr, append-nil, append_assoc}
+use Rattle.std.proofs.Common.{◌≡◌, ℕ, Bool, true, false, not, ◌&&◌, List, [], ◌∷◌, ◌++◌, refl, map, filter, ◌<◌, eqb, append-nil, append_assoc}
 use Rattle.std.specs.Prelude.{Option, Some, None, option_to_list, slice_get, suc, nat_lt, ◌==◌, nat_eq, All, if◌then◌else◌}
-use Rattle.std.specs.List.{list_any, flat_map, range_with_len}
+use Rattle.std.specs.List.{list_any, flat_map}
 use Rattle.std.specs.Option.{ForSome}
 use Rattle.std.proofs.lemmas.Grind.{flat_map-append}
 use Rattle.snoop_history.specs.History.{flat, operation_of}
-use Rattle.snoop_history.specs.Report.{values_text, blocks_text, totals_text, report_of}
-use Rattle.std.proofs.lemmas.Bool.{cases_eq, eq-eqb, ne_eqb, eqb-true, lt-ltb}
-use Rattle.std.specs.Fmt.{decimal}
-use Rattle.std.proofs.lemmas.List.{flat_map_more}
-use Rattle.std.proofs.lemmas.List.FromFn.{map-range_with_len_more}
+use Rattle.snoop_history.specs.Report.{blocks_text, totals_text, report_of}
+use Rattle.std.proofs.lemmas.Bool.{eqb-true, lt-ltb}
 use Rattle.std.proofs.lemmas.List.Elements.{filter-append, All-filter, All-nil, All-cons, All-head, All-tail, All-append}
 use Rattle.std.proofs.lemmas.Map.Views.{any-filter_same}
 use Rattle.indexmap.specs.IndexSet.{insert_key}
@@ -27,37 +24,17 @@ but y xs = filter (λ z. not (z == y)) xs
 any-but : (x y : ℕ) (xs : List ℕ) → eqb x y ≡ false → list_any (nat_eq x) (but y xs) ≡ list_any (nat_eq x) xs
 any-but x y xs other = any-filter_same (nat_eq x) (λ z. not (z == y)) true (λ z same. let e : x ≡ z = eqb-true x z same in rw (← e, other)) xs
 
--- a list with x after it where it is new, without another number
-but-insert : (x y : ℕ) (xs : List ℕ) → eqb x y ≡ false → (b : Bool) → list_any (nat_eq x) xs ≡ b → but y (insert_key nat_eq xs x) ≡ insert_key nat_eq (but y xs) x
-but-insert x y xs other true e = rw (any-but x y xs other, e)
-but-insert x y xs other false e = rw (any-but x y xs other, e) (filter-append (λ z. not (z == y)) xs (x ∷ []) ∙ rw other)
-
--- and without x itself
-but-insert_same : (x y : ℕ) (xs : List ℕ) → eqb x y ≡ true → (b : Bool) → list_any (nat_eq x) xs ≡ b → but y (insert_key nat_eq xs x) ≡ but y xs
-but-insert_same x y xs same true e = rw e
-but-insert_same x y xs same false e = rw e (filter-append (λ z. not (z == y)) xs (x ∷ []) ∙ rw same (append-nil (but y xs)))
-
-insert-cons : (x y : ℕ) (xs : List ℕ) → eqb x y ≡ false → (b : Bool) → list_any (nat_eq x) xs ≡ b → y ∷ insert_key nat_eq xs x ≡ insert_key nat_eq (y ∷ xs) x
-insert-cons x y xs other true e = rw (other, e)
-insert-cons x y xs other false e = rw (other, e)
-
-insert-first : (x y : ℕ) (xs : List ℕ) → eqb x y ≡ true → insert_key nat_eq (y ∷ xs) x ≡ y ∷ xs
-insert-first x y xs same = rw same
+-- one number more after a first one, which stands nowhere else
+insert-cons : (x y : ℕ) (xs : List ℕ) (same found : Bool) → eqb x y ≡ same → list_any (nat_eq x) xs ≡ found → y ∷ but y (insert_key nat_eq xs x) ≡ insert_key nat_eq (y ∷ but y xs) x
+insert-cons x y xs true true same found = rw (found, same)
+insert-cons x y xs true false same found = rw (found, filter-append (λ z. not (z == y)) xs (x ∷ []), same, append-nil (but y xs))
+insert-cons x y xs false true same found = rw (found, same, any-but x y xs same, found)
+insert-cons x y xs false false same found = rw (found, filter-append (λ z. not (z == y)) xs (x ∷ []), same, any-but x y xs same, found)
 
 -- one number more stands last, where it is new
 pub each_once-more : (xs : List ℕ) (x : ℕ) → each_once (xs ++ x ∷ []) ≡ insert_key nat_eq (each_once xs) x
 each_once-more [] x = refl
-each_once-more (y ∷ ys) x =
-    let more : y ∷ but y (each_once (ys ++ x ∷ [])) ≡ y ∷ but y (insert_key nat_eq (each_once ys) x) = ap (λ l. y ∷ but y l) (each_once-more ys x) in
-    elim (cases_eq x y) [
-      | inl e ↦
-          let same = eq-eqb x y e in
-          more ∙ (ap (λ l. y ∷ l) (but-insert_same x y (each_once ys) same (list_any (nat_eq x) (each_once ys)) refl) ∙ sym (insert-first x y (but y (each_once ys)) same))
-      | inr ne ↦
-          let other = ne_eqb x y ne in
-          more ∙ (ap (λ l. y ∷ l) (but-insert x y (each_once ys) other (list_any (nat_eq x) (each_once ys)) refl)
-          ∙ insert-cons x y (but y (each_once ys)) other (list_any (nat_eq x) (but y (each_once ys))) refl)
-    ]
+each_once-more (y ∷ ys) x = rw (each_once-more ys x) (insert-cons x y (each_once ys) (eqb x y) (list_any (nat_eq x) (each_once ys)) refl refl)
 
 -- the keys with the block of an operation, if there is one
 abbrev pub with_operation : List ℕ → Option Did → List ℕ
@@ -69,22 +46,16 @@ each_once-blocks : (xs : List ℕ) (block : ℕ) (op : Option Did) →
     each_once (xs ++ (block ∷ map (λ did. did.block) (option_to_list op))) ≡ with_operation (insert_key nat_eq (each_once xs) block) op
 each_once-blocks xs block None = each_once-more xs block
 each_once-blocks xs block (Some did) =
-    ap each_once (sym (append_assoc xs (block ∷ []) (did.block ∷ [])))
-    ∙ (each_once-more (xs ++ block ∷ []) did.block ∙ ap (λ (l : List ℕ). insert_key nat_eq l did.block) (each_once-more xs block))
+    rw (← append_assoc xs (block ∷ []) (did.block ∷ []), each_once-more (xs ++ block ∷ []) did.block, each_once-more xs block)
 
 pub touched-more : (items : List Item) (entry : Item) → touched (items ++ entry ∷ []) ≡ with_operation (insert_key nat_eq (touched items) (block_of entry)) (operation_of entry)
 touched-more items entry =
-    ap each_once (flat_map-append mentioned items (entry ∷ []) ∙ ap (λ (l : List ℕ). flat_map mentioned items ++ l) (append-nil (mentioned entry)))
-    ∙ each_once-blocks (flat_map mentioned items) (block_of entry) (operation_of entry)
+    rw (flat_map-append mentioned items (entry ∷ []), append-nil (mentioned entry)) (each_once-blocks (flat_map mentioned items) (block_of entry) (operation_of entry))
 
 -- the same under other names
-pub touched-add : (items : List Item) (entry : Item) (before after : List ℕ) (block : ℕ) (op : Option Did) → before ≡ touched items → block ≡ block_of entry → op ≡ operation_of entry →
+pub touched-add : (items : List Item) (entry : Item) {before after : List ℕ} {block : ℕ} {op : Option Did} → before ≡ touched items → block ≡ block_of entry → op ≡ operation_of entry →
     after ≡ with_operation (insert_key nat_eq before block) op → after ≡ touched (items ++ entry ∷ [])
-touched-add items entry before after block op was is performs added =
-    added
-    ∙ (ap (λ (l : List ℕ). with_operation (insert_key nat_eq l block) op) was
-    ∙ (ap (λ (b : ℕ). with_operation (insert_key nat_eq (touched items) b) op) is
-    ∙ (ap (λ (o : Option Did). with_operation (insert_key nat_eq (touched items) (block_of entry)) o) performs ∙ sym (touched-more items entry))))
+touched-add items entry was is performs added = rw (added, was, is, performs, touched-more items entry)
 
 each_once-all : (P : ℕ → Type 0) (xs : List ℕ) → All P xs → All P (each_once xs)
 each_once-all P [] all = All-nil P
@@ -109,33 +80,18 @@ pub touched_within : (cores blocks words : ℕ) (items : List Item) → All (IsI
 touched_within cores blocks words items all =
     each_once-all (λ block. block < blocks) (flat_map mentioned items) (mentioned_within cores blocks words items all)
 
--- a step of the loop over the words
-pub values_step : (items : List Item) (block word : ℕ) (old before after : List ℕ) (value : ℕ) → before ≡ old ++ values_text (map (flat items block) (range_with_len 0 word)) →
-    value ≡ flat items block word → after ≡ before ++ (codes " " ++ decimal value) → after ≡ old ++ values_text (map (flat items block) (range_with_len 0 (word + 1)))
-values_step items block word old before after value so_far is put =
-    let f = flat items block in
-    let one : ℕ → List ℕ = λ v. codes " " ++ decimal v in
-    put ∙ (ap (λ (l : List ℕ). l ++ one value) so_far ∙ (ap (λ (v : ℕ). (old ++ values_text (map f (range_with_len 0 word))) ++ one v) is
-    ∙ (flat_map_more one old (map f (range_with_len 0 word)) (f word) ∙ ap (λ (l : List ℕ). old ++ values_text l) (sym (map-range_with_len_more f 0 word word (omega arith))))))
-
 -- what holds of the element at each place holds of all
 pub all_places : (P : Item → Type 0) (items : List Item) → ((k : ℕ) (entry : Item) → slice_get items k ≡ Some entry → P entry) → All P items
 all_places P [] each = All-nil P
 all_places P (x ∷ xs) each = All-cons P x xs (each 0 x refl) (all_places P xs (λ k entry at. each (suc k) entry at))
 
 -- a flat value that was found
-pub flat_found : (blocks words : ℕ) (items : List Item) (block word value : ℕ) (answer : Option ℕ) → block < blocks → word < words → answer ≡ (if nat_lt block blocks && nat_lt word words then Some (flat items block word) else None) → answer ≡ Some value → value ≡ flat items block word
-flat_found blocks words items block word value answer within in_words told found =
-    let inside : nat_lt block blocks ≡ true = lt-ltb block blocks within in
-    let there : nat_lt word words ≡ true = lt-ltb word words in_words in
-    let some : answer ≡ Some (flat items block word) = rw (inside, there) at told in
-    cc
+pub flat_found : (blocks words : ℕ) (items : List Item) (block word : ℕ) {value : ℕ} {answer : Option ℕ} → block < blocks → word < words → answer ≡ (if nat_lt block blocks && nat_lt word words then Some (flat items block word) else None) → answer ≡ Some value → value ≡ flat items block word
+flat_found blocks words items block word within in_words told found =
+    let some = rw (lt-ltb block blocks within, lt-ltb word words in_words) at told in cc
 
 -- the totals and then the blocks are the report
-pub report_joined : (words : ℕ) (items : List Item) (blocks old mid new : List ℕ) (totals : Totals) → totals ≡ totals_of items → blocks ≡ touched items → mid ≡ old ++ totals_text totals →
+pub report_joined : (words : ℕ) (items : List Item) (old : List ℕ) {blocks mid new : List ℕ} {totals : Totals} → totals ≡ totals_of items → blocks ≡ touched items → mid ≡ old ++ totals_text totals →
     new ≡ mid ++ blocks_text words items blocks → new ≡ old ++ report_of words items
-report_joined words items blocks old mid new totals counts mentioned put_totals put_blocks =
-    put_blocks
-    ∙ (ap (λ (l : List ℕ). l ++ blocks_text words items blocks) (put_totals ∙ ap (λ (t : Totals). old ++ totals_text t) counts)
-    ∙ (append_assoc old (totals_text (totals_of items)) (blocks_text words items blocks)
-    ∙ ap (λ (l : List ℕ). old ++ (totals_text (totals_of items) ++ blocks_text words items l)) mentioned))
+report_joined words items old counts blocks_are put_totals put_blocks =
+    rw (put_blocks, put_totals, counts, blocks_are) (append_assoc old (totals_text (totals_of items)) (blocks_text words items (touched items)))

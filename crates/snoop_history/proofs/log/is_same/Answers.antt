@@ -1,5 +1,5 @@
-use Rattle.std.proofs.Common.{◌≡◌, ◌∙◌, sym, refl, true, false, Bool, ◌&&◌, Some, None, ap, arith}
-use Rattle.std.proofs.lemmas.Bool.{and_parts}
+use Rattle.std.proofs.Common.{◌≡◌, ◌∙◌, sym, refl, true, Some, None, ap, arith}
+use Rattle.std.proofs.lemmas.Bool.{and_parts, and_from}
 use Rattle.std.proofs.lemmas.Bool.Decides.{nat_tests}
 use Rattle.std.proofs.lemmas.Grind.{common_steps}
 use Rattle.snoop_history.specs.declared.items.Did.{Did}
@@ -9,10 +9,6 @@ use Rattle.snoop_history.specs.declared.items.Item.TheVariants as item
 use Rattle.snoop_history.specs.contracts.items.ItemPartialEq.TheImpl.{eq-value}
 use Rattle.snoop_history.proofs.log.is_same.Goals as goal
 
-and-true : (a : Bool) → a ≡ true → (a && true) ≡ true
-and-true true e = refl
-and-true false e = cc
-
 same-did : (a b : Did) → eq-value.it (item.Did a) (item.Did b) ≡ true → a ≡ b
 same-did a b e = grind (arith, common_steps, nat_tests)
 
@@ -21,19 +17,14 @@ same-came a b e = grind (arith, common_steps, nat_tests)
 
 same : (x y : Item) → eq-value.it x y ≡ true → x ≡ y
 same (item.Did a) (item.Did b) e = ap item.Did (same-did a b e)
-same (item.Did a) (item.Sent b) e = cc
-same (item.Did a) (item.Came b d) e = cc
-same (item.Sent a) (item.Did b) e = cc
 same (item.Sent a) (item.Sent b) e = grind (arith, common_steps, nat_tests)
-same (item.Sent a) (item.Came b d) e = cc
-same (item.Came a c) (item.Did b) e = cc
-same (item.Came a c) (item.Sent b) e = cc
 same (item.Came a None) (item.Came b None) e = rw (same-came a b e) refl
 same (item.Came a None) (item.Came b (Some d)) e = grind (arith, common_steps, nat_tests)
 same (item.Came a (Some c)) (item.Came b None) e = grind (arith, common_steps, nat_tests)
 same (item.Came a (Some c)) (item.Came b (Some d)) e =
-    let parts = and_parts _ _ e in
-    rw (same-came a b (and-true _ parts.0), same-did c d parts.1) refl
+    let (came, did) = and_parts _ _ e in
+    rw (same-came a b (and_from _ true came refl), same-did c d did) refl
+same x y e = cc
 
 pub returns-clause-sound : goal.returns-clause-sound
 returns-clause-sound c is = same c.args.one c.args.other (sym c.eq.ensures ∙ is)

@@ -1,11 +1,16 @@
-use Rattle.std.proofs.Common.{◌≡◌, arith}
+use Rattle.std.proofs.Common.{◌++◌, arith, codes, map}
+use Rattle.std.specs.Fmt.{decimal}
+use Rattle.std.specs.List.{range_with_len}
+use Rattle.std.proofs.lemmas.List.{flat_map_more}
+use Rattle.std.proofs.lemmas.List.FromFn.{map-range_with_len_more}
 use Rattle.snoop_history.specs.History.{flat}
-use Rattle.snoop_history.proofs.Touching.{values_step, flat_found}
+use Rattle.snoop_history.proofs.Touching.{flat_found}
 use Rattle.snoop_history.proofs.report.push_values.Goals as goal
 
 pub loop-word-preserved : goal.loop-word-preserved
 loop-word-preserved c =
     let log = c.args.log.now in
     let word = c.loop-word.word in
-    let value : c.unwrap.result ≡ flat log.items c.args.block word = flat_found log.blocks log.words log.items c.args.block word c.unwrap.result c.flat.result c.requires (omega (arith, c.loop-word-test.true, c.words-word-end.ensures)) c.flat.ensures c.unwrap.ensures in
-    values_step log.items c.args.block word c.args.out.now.items c.loop-word.out.items c.push_count.new.out.items c.unwrap.result c.loop-word.invariant value c.in_ok-push_count.ensures
+    let value = flat_found log.blocks log.words log.items c.args.block word c.requires (omega (arith, c.loop-word-test.true, c.words-word-end.ensures)) c.flat.ensures c.unwrap.ensures in
+    let values = flat log.items c.args.block in
+    rw (c.in_ok-push_count.ensures, c.loop-word.invariant, value, map-range_with_len_more values 0 word word (omega arith)) (flat_map_more (λ v. codes " " ++ decimal v) c.args.out.now.items (map values (range_with_len 0 word)) (values word))

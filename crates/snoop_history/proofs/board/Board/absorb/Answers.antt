@@ -1,8 +1,8 @@
-use Rattle.std.proofs.Common.{rules, ℕ, subst, sym, ◌≡◌, ◌∙◌, ◌<◌, arith, ap, length, Some, true}
+use Rattle.std.proofs.Common.{rules, ◌≡◌, ◌∙◌, ◌<◌, arith, ap, length, Some, true}
 use Rattle.std.specs.Prelude.{slice_index, slice_set}
 use Rattle.std.proofs.lemmas.List.{get_or_read}
 use Rattle.snoop_history.specs.Journal.{counted}
-use Rattle.snoop_history.specs.Board.{Tables, operation_within, absorbed, place_of}
+use Rattle.snoop_history.specs.Board.{Tables, operation_within, absorbed}
 use Rattle.snoop_history.proofs.Boards.{board_after, absorbed_as, operation_within-lies, place-within}
 use Rattle.snoop_history.proofs.board.Board.absorb.Goals as goal
 
@@ -12,7 +12,7 @@ write_value-requires c =
     let did = c.in-Some.did in
     let own : operation_within (length b.counts.items) b.blocks b.words c.args.item ≡ Some did = search rules in
     let lies = operation_within-lies _ _ _ c.args.item did own in
-    subst (λ (n : ℕ). place_of b.words did.block did.word < n) (sym c.self.invariant.1) (place-within b.blocks b.words did.block did.word lies.1 lies.2)
+    rw c.self.invariant.1 (place-within b.blocks b.words did.block did.word lies.1 lies.2)
 
 pub returns-in-Some : goal.returns-in-Some
 returns-in-Some c =
@@ -22,11 +22,8 @@ returns-in-Some c =
     let within : core < length counts = (operation_within-lies _ _ _ c.args.item c.in-Some.did own).0 in
     let read : c.index.result.now ≡ slice_index counts core = get_or_read _ _ _ within c.index.ensures 0 in
     let one_more : c.saturating_add.result ≡ counted (slice_index counts core) true = omega arith in
-    record {
-      value = (absorbed_as _ _ c.args.item c.in-Some.did own (search rules) (search rules) (search rules) (ap (λ n. slice_set counts core n) one_more) (search rules) (search rules)) ∙ ap (λ (t : Tables). absorbed t c.args.item) c.self.view_is;
-      board = board_after _ _ _ c.args.item c.self.view_is
-          (absorbed_as _ _ c.args.item c.in-Some.did own (search rules) (search rules) (search rules) (ap (λ n. slice_set counts core n) one_more) (search rules) (search rules));
-    }
+    let after = absorbed_as _ _ c.args.item c.in-Some.did own (search rules) (search rules) (search rules) (ap (λ n. slice_set counts core n) one_more) (search rules) (search rules) in
+    record { value = after ∙ ap (λ (t : Tables). absorbed t c.args.item) c.self.view_is; board = board_after c.self.view_is _ c.args.item after }
 
 pub returns-in_default : goal.returns-in_default
-returns-in_default c = record { value = search rules ∙ ap (λ (t : Tables). absorbed t c.args.item) c.self.view_is; board = board_after _ _ _ c.args.item c.self.view_is (search rules) }
+returns-in_default c = record { value = search rules ∙ ap (λ (t : Tables). absorbed t c.args.item) c.self.view_is; board = board_after c.self.view_is _ c.args.item (search rules) }

@@ -12,4 +12,4 @@ returns c =
     let l = c.self.inside in
     let kept = c.self.invariant.kept in
     let P : Journal → Type 0 = λ j. c.count.result ≡ (if nat_lt c.args.core j.cores then Some (next_number j.items c.args.core) else None) in
-    subst P c.self.view_is (kept-count kept c.args.core c.count.result (omega (arith, length-map l.items.items unpacked, l.items.ok.0)) (c.count.ensures.board _ _ _ _ kept.tallied))
+    subst P c.self.view_is (kept-count kept c.args.core (omega (arith, length-map l.items.items unpacked, l.items.ok.0)) (c.count.ensures.board _ _ _ _ kept.tallied))

@@ -9,4 +9,4 @@ pub returns : goal.returns
 returns c =
     let kept = c.self.invariant.kept in
     let P : Journal → Type 0 = λ j. c.value.result ≡ (if nat_lt c.args.block j.blocks && nat_lt c.args.word j.words then Some (flat j.items c.args.block c.args.word) else None) in
-    subst P c.self.view_is (kept-flat kept c.args.block c.args.word c.value.result (c.value.ensures.board _ _ _ _ kept.tallied))
+    subst P c.self.view_is (kept-flat kept c.args.block c.args.word (c.value.ensures.board _ _ _ _ kept.tallied))

@@ -9,22 +9,14 @@ use Rattle.snoop_history.specs.History.{IsNumbered}
 use Rattle.snoop_history.proofs.Kept.{read-at}
 use Rattle.snoop_history.proofs.log.Log.item.Goals as goal
 
-pub returns-clause-within : goal.returns-clause-within
-returns-clause-within c =
+pub returns : goal.returns
+returns c =
     let l = c.self.inside in
     let place = c.args.place in
     let there : slice_get l.items.items place ≡ Some c.in_ok-packed.packed =
     read-at (λ p. p.now) l.items.items place c.get.result _ (c.get.ensures.lookup.0 ∙ ap (λ xs. nat_lt place (length xs)) c.deref.ensures.value) (rw c.deref.ensures.value at c.get.ensures.lookup.1) (sym c.copied.ensures ∙ c.in_ok-packed.was) in
-    let item = slice_get-map unpacked l.items.items place ∙ ap (option_map unpacked) there in
+    let item = rw (← c.unpack.ensures) at (slice_get-map unpacked l.items.items place ∙ ap (option_map unpacked) there) in
     let P : Journal → Type 0 = λ j. IsItemWithin j.cores j.blocks j.words c.unpack.result in
-    subst P c.self.view_is (rw c.unpack.ensures (c.self.invariant.kept.listed.within place _ item))
-
-pub returns-clause-numbered : goal.returns-clause-numbered
-returns-clause-numbered c =
-    let l = c.self.inside in
-    let place = c.args.place in
-    let there : slice_get l.items.items place ≡ Some c.in_ok-packed.packed =
-    read-at (λ p. p.now) l.items.items place c.get.result _ (c.get.ensures.lookup.0 ∙ ap (λ xs. nat_lt place (length xs)) c.deref.ensures.value) (rw c.deref.ensures.value at c.get.ensures.lookup.1) (sym c.copied.ensures ∙ c.in_ok-packed.was) in
-    let item = slice_get-map unpacked l.items.items place ∙ ap (option_map unpacked) there in
-    let P : Journal → Type 0 = λ j. IsNumbered (take place j.items) c.unpack.result in
-    subst P c.self.view_is (rw c.unpack.ensures (c.self.invariant.kept.listed.in_order place _ item))
+    let Q : Journal → Type 0 = λ j. IsNumbered (take place j.items) c.unpack.result in
+    let listed = c.self.invariant.kept.listed in
+    record { value = sym item ∙ ap (λ (j : Journal). slice_get j.items place) c.self.view_is; within = subst P c.self.view_is (listed.within place _ item); numbered = subst Q c.self.view_is (listed.in_order place _ item) }

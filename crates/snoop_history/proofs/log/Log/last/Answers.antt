@@ -9,4 +9,4 @@ pub returns : goal.returns
 returns c =
     let kept = c.self.invariant.kept in
     let P : Journal → Type 0 = λ j. c.last.result ≡ (if nat_lt c.args.core j.cores then last_of j.items c.args.core else None) in
-    subst P c.self.view_is (kept-last kept c.args.core c.last.result (c.last.ensures.board _ _ _ _ kept.tallied))
+    subst P c.self.view_is (kept-last kept c.args.core (c.last.ensures.board _ _ _ _ kept.tallied))

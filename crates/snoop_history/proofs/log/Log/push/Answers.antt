@@ -5,7 +5,8 @@ use Rattle.snoop_history.specs.Packed.{unpacked}
 use Rattle.snoop_history.specs.History.{IsNumbered}
 use Rattle.snoop_history.specs.Within.{IsItemWithin}
 use Rattle.snoop_history.specs.declared.items.Item.{Item}
-use Rattle.snoop_history.proofs.Kept.{kept-push, kept-as, board-shape, numbers_fit}
+use Rattle.snoop_history.proofs.Boards.{board-shape}
+use Rattle.snoop_history.proofs.Kept.{kept-push, numbers_fit}
 use Rattle.snoop_history.proofs.log.Log.push.Goals as goal
 
 pub invariant_of-self : goal.invariant_of-self
@@ -19,10 +20,9 @@ invariant_of-self c =
     let more : map unpacked c.push_reserved.new.self.items ≡ items ++ entry ∷ [] =
     ap (map unpacked) c.push_reserved.ensures.items ∙ (map-append unpacked l.items.items (c.new.result ∷ []) ∙ ap (λ (e : Item). items ++ e ∷ []) c.new.ensures) in
     let tallied = c.absorb.ensures.board _ _ _ items kept.tallied in
-    let shape = board-shape (items ++ entry ∷ []) tallied in
     record {
-      kept = kept-as _ _ _ shape.0 shape.1 shape.2 (kept-push kept entry _ _ _ (subst P (sym c.self.view_is) c.requires.within) (subst Q (sym c.self.view_is) c.requires.numbered) more tallied (c.add.ensures.order items kept.mentioned));
-      as_many = c.add.ensures.blocks ∙ (c.self.invariant.as_many ∙ sym shape.1);
+      kept = kept-push kept entry _ _ _ (subst P (sym c.self.view_is) c.requires.within) (subst Q (sym c.self.view_is) c.requires.numbered) more tallied (c.add.ensures.order items kept.mentioned);
+      as_many = c.add.ensures.blocks ∙ (c.self.invariant.as_many ∙ sym (board-shape _ _ _ (items ++ entry ∷ []) tallied).1);
     }
 
 pub new-requires-clause-number : goal.new-requires-clause-number

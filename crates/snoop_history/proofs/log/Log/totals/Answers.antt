@@ -11,4 +11,4 @@ returns c =
     let l = c.self.inside in
     let kept = c.self.invariant.kept in
     let P : Journal → Type 0 = λ j. c.totals.result ≡ totals_of j.items in
-    subst P c.self.view_is (kept-totals kept c.totals.result (omega (arith, length-map l.items.items unpacked, l.items.ok.0)) (c.totals.ensures.board _ _ _ _ kept.tallied))
+    subst P c.self.view_is (kept-totals kept (omega (arith, length-map l.items.items unpacked, l.items.ok.0)) (c.totals.ensures.board _ _ _ _ kept.tallied))

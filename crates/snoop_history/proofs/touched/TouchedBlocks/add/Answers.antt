@@ -12,9 +12,9 @@ returns-in-Some-clause-order c items is =
     let performs : Some c.in-Some.did ≡ operation_of c.args.item = sym c.in-Some.is ∙ c.did.ensures in
     let own : c.mention.new.self.order ≡ insert_key nat_eq c.args.self.now.order c.block.result = ap (λ (m : Mentions). m.order) c.mention.ensures in
     let its : c.mention-in-Some.new.self.order ≡ insert_key nat_eq c.mention.new.self.order c.in-Some.did.block = ap (λ (m : Mentions). m.order) c.mention-in-Some.ensures in
-    touched-add items c.args.item c.args.self.now.order _ c.block.result (Some c.in-Some.did) is c.block.ensures performs (its ∙ ap (λ (l : List ℕ). insert_key nat_eq l c.in-Some.did.block) own)
+    touched-add items c.args.item is c.block.ensures performs (its ∙ ap (λ (l : List ℕ). insert_key nat_eq l c.in-Some.did.block) own)
 
 pub returns-in_default-clause-order : goal.returns-in_default-clause-order
 returns-in_default-clause-order c items is =
     let performs : None ≡ operation_of c.args.item = sym (none_from_not_some _ c.in_default.not-Some) ∙ c.did.ensures in
-    touched-add items c.args.item c.args.self.now.order _ c.block.result None is c.block.ensures performs (ap (λ (m : Mentions). m.order) c.mention.ensures)
+    touched-add items c.args.item is c.block.ensures performs (ap (λ (m : Mentions). m.order) c.mention.ensures)
