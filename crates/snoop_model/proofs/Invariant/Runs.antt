@@ -1,12 +1,12 @@
 -- The invariant holds at reset, and after each step of a run.
-use Rattle.std.proofs.Common.{Some, ◌≡◌, ℕ, zero, suc, map, ◌+◌, ◌<◌, ◌≤◌, List, [], ◌∷◌, length, replicate, Bool, true, false, Option, None, refl, inl, inr, ap, sym, ◌∙◌, subst, arith}
+use Rattle.std.proofs.Common.{Some, ◌≡◌, ℕ, zero, suc, map, ◌+◌, ◌<◌, List, [], ◌∷◌, replicate, Bool, true, false, None, refl, inl, inr, ap, sym, arith}
 use Rattle.std.specs.Prelude.{Result, Ok, Err}
 use Rattle.std.proofs.lemmas.Bool.{cases_lt}
 use Rattle.std.proofs.lemmas.List.{length-replicate, get_or-replicate, get_or_past}
 use Rattle.std.proofs.lemmas.List.Elements.{All-nil}
 use Rattle.std.proofs.lemmas.Option.{none-some}
 use Rattle.std.specs.List.{range_with_len}
-use Rattle.snoop_model.proofs.Common.{Extent, Protocol, Step, Access, Reply, Refused, Line, Picture, first_memory, held_by, nothing_held, Situation, picture_of, reset, untouched, nothing_there, keeps, IsProper, IsWithin}
+use Rattle.snoop_model.proofs.Common.{Extent, Protocol, Step, Reply, Refused, Picture, first_memory, held_by, nothing_held, Situation, picture_of, reset, untouched, nothing_there, IsProper, IsWithin}
 use Rattle.snoop_trace.specs.Words.{IsWord, zero_words}
 use Rattle.snoop_history.specs.History.{flat, flat_words}
 use Rattle.snoop_trace.specs.declared.protocol.Protocol.TheVariants as protocol

@@ -1,5 +1,5 @@
 -- What every machine keeps makes it safe, and its steps keep it.
-use Rattle.std.proofs.Common.{ℕ, List, ◌<◌, ◌≤◌, arith, ap, Option, sym, ◌∙◌, subst, refl, Some, None}
+use Rattle.std.proofs.Common.{ℕ, List, ◌<◌, ◌≤◌, arith, ap, Option, sym, ◌∙◌, refl, Some, None}
 use Rattle.std.specs.Prelude.{◌≡◌, option_map, Result, Ok, Err, IfSome, is_some}
 use Rattle.std.proofs.lemmas.Option.{same_Some}
 use Rattle.snoop_model.proofs.Common.{Extent, Protocol, Step, Item, Reply, Refused, held_by, Situation, picture_of, state_of, reset, IsProper, keeps, MoveOn}

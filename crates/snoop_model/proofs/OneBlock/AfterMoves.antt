@@ -1,11 +1,9 @@
 -- The pictures after each kind of move.
-use Rattle.std.proofs.Common.{◌≡◌, ℕ, ◌<◌, List, ◌++◌, Option, Some, ap, sym, ◌∙◌, subst}
-use Rattle.std.specs.Prelude.{option_to_list}
+use Rattle.std.proofs.Common.{◌≡◌, ℕ, ◌<◌, Option}
 use Rattle.std.proofs.lemmas.List.{get_or-set_same}
-use Rattle.snoop_model.proofs.Common.{Op, Request, Did, Item, Open, after_order, Reply, Picture, held_by, nothing_held, nothing_there, with_line, Situation, picture_of, Asks, Orders, Responds, IsWithin, queues_after, came_of}
-use Rattle.snoop_history.specs.declared.items.Item.TheVariants as item
+use Rattle.snoop_model.proofs.Common.{Op, Request, Did, Item, Open, Reply, held_by, nothing_held, nothing_there, with_line, Situation, picture_of, Asks, Orders, Responds, IsWithin}
 use Rattle.snoop_model.specs.Invariant.Invariant.{Invariant}
-use Rattle.snoop_model.proofs.OneBlock.OfBlocks.{in_pictures, picture_here}
+use Rattle.snoop_model.proofs.OneBlock.OfBlocks.{in_pictures}
 
 module _ (old : Situation) (c b word : ℕ) (asking : Op) (answer : Reply) (new : Situation) (entry : Option Item) (g : Invariant old) (within : IsWithin old c b) (a : Asks old c b word asking answer new entry) where
   pub ask_line : held_by (picture_of new b) c ≡ a.held

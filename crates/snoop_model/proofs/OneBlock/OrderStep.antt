@@ -1,12 +1,12 @@
 -- An Order keeps the invariant.
-use Rattle.std.proofs.Common.{◌≡◌, ◌≢◌, ◌<◌, ◌&&◌, ◌||◌, ◌∙◌, ℕ, length, List, Bool, true, false, not, cond, eqb, Option, Some, None, refl, inl, inr, ap, sym, subst}
+use Rattle.std.proofs.Common.{◌≡◌, ◌≢◌, ◌<◌, ◌&&◌, ◌∙◌, ℕ, length, List, Bool, true, false, not, cond, eqb, Option, Some, None, refl, inl, inr, ap, sym}
 use Rattle.std.specs.Prelude.{is_some}
 use Rattle.std.specs.Option.{ForSome}
 use Rattle.std.proofs.lemmas.Bool.Decides.{eqb_tells}
 use Rattle.std.proofs.Math.Bool.{and-true, and-false}
 use Rattle.std.proofs.lemmas.Bool.{cases_eq, and_parts, cases_Bool, eq-eqb, ne_eqb, or_cases}
 use Rattle.std.proofs.lemmas.Option.{same_Some}
-use Rattle.snoop_model.proofs.Common.{Protocol, CacheEvent, CacheCell, MemCell, Request, Payload, cell_of, memory_cell_of, own, other, seen_by, at_memory, carries_value, waiting_request, Open, Line, Picture, held_by, Situation, picture_of, keeps, IsProper, moves_to, TakesRow, TakesRows, Orders}
+use Rattle.snoop_model.proofs.Common.{Protocol, CacheEvent, CacheCell, MemCell, Request, Payload, cell_of, memory_cell_of, own, other, seen_by, at_memory, carries_value, waiting_request, Open, Line, Picture, held_by, Situation, picture_of, keeps, moves_to, TakesRow, TakesRows, Orders}
 use Rattle.snoop_rules.specs.declared.names.Payload.TheVariants as payload
 use Rattle.snoop_history.specs.Totals.{is_put_m, is_data}
 use Rattle.snoop_model.specs.Pictures.Sends.{Sends, value_sent}
@@ -54,8 +54,18 @@ module _ {p : Protocol} {flat : List ℕ} {before : Picture} (good : BlockInvari
       let pl = some_and (payload_of oc.0 mc.0) _ oc.2 in
       let next = some_of (claims_of p mc.0.next (Some (q, pl.0))) pl.2 in
       record {
-        good = good; requestor_in = c_in; waits = waits; calm = calm;
-        mc = mc.0; is_mc = mc.1; oc = oc.0; is_oc = oc.1; pl = pl.0; is_pl = pl.1; next = next.0; is_next = next.1;
+        good = good;
+        requestor_in = c_in;
+        waits = waits;
+        calm = calm;
+        mc = mc.0;
+        is_mc = mc.1;
+        oc = oc.0;
+        is_oc = oc.1;
+        pl = pl.0;
+        is_pl = pl.1;
+        next = next.0;
+        is_next = next.1;
       }
 
 -- the row that a core takes is the one that its event names

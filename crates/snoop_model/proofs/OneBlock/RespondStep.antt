@@ -3,9 +3,8 @@ use Rattle.std.proofs.Common.{◌≡◌, ◌≢◌, ◌<◌, ◌&&◌, ◌||◌,
 use Rattle.std.specs.Prelude.{is_some, if◌then◌else◌}
 use Rattle.std.proofs.lemmas.Bool.{and_parts, both_ways, cases_Bool, eq-eqb, ne_eqb, not-true, or_cases, or_right}
 use Rattle.std.proofs.lemmas.Option.{same_Some}
-use Rattle.std.proofs.lemmas.List.{get_or-set_same, get_or-set_other}
 use Rattle.snoop_trace.specs.Words.{word_at}
-use Rattle.snoop_model.proofs.Common.{Protocol, Op, CacheAction, MemState, MemEvent, MemAction, Request, Payload, memory_cell_of, arrival, arrival_at_memory, takes_payload, carries_value, Did, Item, Open, Access, Line, MemLine, Picture, free_picture, held_at, held_by, nothing_held, Situation, picture_of, keeps, IsProper, Performs, is_load, Fills, FillsRequestor, ArrivesFor, ArrivesAtMemory, Responds, next_did, written}
+use Rattle.snoop_model.proofs.Common.{Protocol, Op, CacheAction, MemState, MemEvent, MemAction, Request, Payload, memory_cell_of, arrival, arrival_at_memory, takes_payload, carries_value, Did, Item, Open, Line, Picture, free_picture, held_at, held_by, nothing_held, Situation, picture_of, keeps, IsProper, Performs, is_load, FillsRequestor, ArrivesFor, Responds, next_did, written}
 use Rattle.snoop_trace.specs.declared.step.Op.TheVariants as op
 use Rattle.snoop_rules.specs.declared.names.CacheAction.TheVariants as action
 use Rattle.snoop_rules.specs.declared.names.MemAction.TheVariants as mem_action

@@ -1,8 +1,8 @@
 -- A machine stays well kept at an Ask.
-use Rattle.std.proofs.Common.{◌≡◌, ℕ, ◌<◌, ◌++◌, true, length, Option, Some, None, refl, sym, ◌∙◌, ap, subst, arith, ◌≢◌}
-use Rattle.std.specs.Prelude.{is_some, option_map, option_to_list, IsSome}
-use Rattle.std.proofs.lemmas.List.{length-set, get_or-set_same, get_or-set_other}
-use Rattle.snoop_model.proofs.Common.{Op, CacheState, CacheAction, Request, Cell, asked, waiting_request, Item, after_issue, queue_of, Access, Reply, Line, Picture, held_by, nothing_held, with_line, Situation, picture_of, state_of, HasOpen, missed_request, request_for, awaited_request, Asks, Takes, IsWithin, queues_after}
+use Rattle.std.proofs.Common.{◌≡◌, ℕ, ◌<◌, ◌++◌, true, length, Option, Some, None, refl, ◌≢◌}
+use Rattle.std.specs.Prelude.{option_to_list, IsSome}
+use Rattle.std.proofs.lemmas.List.{length-set}
+use Rattle.snoop_model.proofs.Common.{Op, CacheState, CacheAction, Request, Cell, asked, waiting_request, Item, after_issue, queue_of, Access, Reply, Line, Picture, held_by, nothing_held, with_line, Situation, picture_of, state_of, HasOpen, missed_request, awaited_request, Asks, Takes, IsWithin, queues_after}
 use Rattle.snoop_model.proofs.Lists.Writes.{each_set}
 use Rattle.snoop_rules.specs.declared.names.CacheAction.TheVariants as action
 use Rattle.snoop_model.specs.Invariant.WellKept.{IsWellKept}

@@ -1,5 +1,5 @@
 -- From every situation of a run each step leads on, in one way: it is a move, or refused for a cause.
-use Rattle.std.proofs.Common.{◌≡◌, None, List, [], ◌∷◌, Option, refl, ap, sym, ◌∙◌, subst}
+use Rattle.std.proofs.Common.{◌≡◌, None, List, [], ◌∷◌, Option, refl, ap, sym, ◌∙◌}
 use Rattle.std.specs.Prelude.{Result, Ok, Err}
 use Rattle.snoop_model.proofs.Common.{Extent, Protocol, Step, Item, Reply, Refused, Situation, reset, FirstMove}
 use Rattle.snoop_model.specs.Runs.Run.{GoesFirst, FirstRunFrom}

@@ -1,5 +1,5 @@
 -- A move adds its item to the log.
-use Rattle.std.proofs.Common.{◌≡◌, ◌++◌, Option, refl, sym, ◌∙◌, ap, inl, inr}
+use Rattle.std.proofs.Common.{◌≡◌, ◌++◌, Option, refl, sym, inl, inr}
 use Rattle.std.specs.Prelude.{option_to_list}
 use Rattle.std.proofs.lemmas.List.{append-nil}
 use Rattle.snoop_model.proofs.Common.{Step, Ask, Order, Respond, Item, Reply, Situation, FirstMove}

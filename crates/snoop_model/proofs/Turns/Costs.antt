@@ -1,9 +1,9 @@
 -- Each step is paid for by the Asks.
-use Rattle.std.proofs.Common.{◌≡◌, ℕ, ◌+◌, ◌*◌, ◌≤◌, List, length, Option, ap, arith, inl, inr, refl}
-use Rattle.std.specs.Prelude.{sum_by, count_by, is_some, slice_set}
-use Rattle.snoop_model.proofs.Common.{Ask, Order, Respond, CacheAction, Open, after_order, Picture, with_line, Situation, picture_of, nothing_there, queues_after}
+use Rattle.std.proofs.Common.{◌≡◌, ℕ, ◌+◌, ◌≤◌, List, length, arith, inl, inr, refl}
+use Rattle.std.specs.Prelude.{sum_by}
+use Rattle.snoop_model.proofs.Common.{Ask, Order, Respond, CacheAction, Picture, with_line, picture_of, nothing_there, queues_after}
 use Rattle.snoop_rules.specs.declared.names.CacheAction.TheVariants as action
-use Rattle.snoop_model.specs.Turns.Serving.{steps_owed, has_transaction}
+use Rattle.snoop_model.specs.Turns.Serving.{has_transaction}
 use Rattle.snoop_model.specs.Turns.TurnLaws.{Pays}
 use Rattle.snoop_model.proofs.Lists.Writes.{sum_issued, sum_ordered, one_small, count_set}
 use Rattle.snoop_model.proofs.Lists.Facts.{one_if}

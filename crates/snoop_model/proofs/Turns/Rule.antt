@@ -1,7 +1,7 @@
 -- Turns that follow the turn rule are never refused, and keep what they stand on.
-use Rattle.std.proofs.Common.{◌≡◌, ℕ, ◌<◌, true, false, Option, Some, None, refl, sym, ◌∙◌, ap, subst, arith, inl, inr, ◌⊎◌}
-use Rattle.std.specs.Prelude.{◌==◌, is_some, All, slice_index_or, slice_set}
-use Rattle.std.proofs.lemmas.Bool.{false≢true, cases_eq, eq-eqb}
+use Rattle.std.proofs.Common.{◌≡◌, ℕ, ◌<◌, true, false, Option, Some, None, refl, sym, ◌∙◌, ap, arith, inl, inr, ◌⊎◌}
+use Rattle.std.specs.Prelude.{◌==◌, All, slice_index_or, slice_set}
+use Rattle.std.proofs.lemmas.Bool.{cases_eq, eq-eqb}
 use Rattle.std.proofs.lemmas.Option.{cond_some, none-some, same_Some}
 use Rattle.std.proofs.lemmas.List.Elements.{All-contains, All-weaker, Contains-get_or}
 use Rattle.snoop_trace.specs.Words.{HasWord}
