@@ -3,23 +3,10 @@ use Rattle.std.proofs.Common.{◌≡◌, ◌<◌, ℕ, ◌-◌, List, ◌++◌, 
 use Rattle.std.specs.Prelude.{option_map, slice_set}
 use Rattle.std.proofs.lemmas.Option.{same_Some}
 use Rattle.std.proofs.lemmas.List.{length-set, length-append}
+use Rattle.snoop_machine.proofs.Common.{Came, Did, Item, Open, transaction_on, ArrivesFor, RespondMove, came_of, written, Line, MemLine, Picture, picture_of, LosesLines, Held, KeepsMapsRoom, LinesGo, row_of, memory_line, Fields, standing, IsSound, IsWhole, IsClosing, Standing, KeepsRoom}
 use Rattle.snoop_rules.specs.declared.names.MemCell.{MemCell}
-use Rattle.snoop_history.specs.declared.items.Came.{Came}
-use Rattle.snoop_history.specs.declared.items.Did.{Did}
-use Rattle.snoop_history.specs.declared.items.Item.{Item}
 use Rattle.snoop_history.specs.declared.items.Item.TheVariants as item
-use Rattle.snoop_bus.specs.Traffic.{Open, transaction_on}
 use Rattle.snoop_model.specs.declared.replies.Reply.TheVariants as reply
-use Rattle.snoop_model.specs.Pictures.Lines.{Line, MemLine}
-use Rattle.snoop_model.specs.Pictures.Picture.{Picture}
-use Rattle.snoop_model.specs.Pictures.Situation.{picture_of}
-use Rattle.snoop_machine.specs.Standing.{Standing, KeepsRoom}
-use Rattle.snoop_model.specs.Moves.Move.{ArrivesFor, RespondMove, came_of, written}
-use Rattle.snoop_machine.specs.Following.{LosesLines}
-use Rattle.snoop_machine.specs.Lines.{Held, KeepsMapsRoom, LinesGo, row_of}
-use Rattle.snoop_machine.specs.PartsView.{Fields, standing, IsSound, IsWhole}
-use Rattle.snoop_machine.specs.Memory.{memory_line}
-use Rattle.snoop_machine.specs.Plan.{IsClosing}
 use Rattle.snoop_machine.proofs.Following.{follows-rows}
 use Rattle.snoop_machine.proofs.Soundness.{IsSound-close}
 use Rattle.snoop_machine.proofs.Room.{keeps_room}

@@ -2,24 +2,12 @@
 use Rattle.std.proofs.Common.{◌≡◌, ◌≢◌, ℕ, ◌<◌, List, length, true, false, None, Some, refl, sym, ap, ◌∙◌, arith, inl, inr}
 use Rattle.std.proofs.lemmas.Bool.{ne_eqb, cases_lt}
 use Rattle.std.proofs.lemmas.List.{get_or_past}
-use Rattle.snoop_trace.specs.declared.protocol.Protocol.{Protocol}
-use Rattle.snoop_rules.specs.declared.names.Request.{Request}
-use Rattle.snoop_rules.specs.declared.names.Request.TheVariants.{GetS, GetM, PutM}
-use Rattle.snoop_rules.specs.declared.names.CacheState.{CacheState}
+use Rattle.snoop_machine.proofs.Common.{Protocol, Cell, seen_by, other, waiting_request, CacheState, Request, GetS, GetM, PutM, has, TakesRow, Line, held_at, nothing_held, IsProper, concerns}
 use Rattle.snoop_rules.specs.declared.names.CacheState.TheVariants as state
 use Rattle.snoop_rules.specs.declared.names.CacheAction.{CacheAction}
 use Rattle.snoop_rules.specs.declared.names.CacheAction.TheVariants as action
-use Rattle.snoop_rules.specs.Cell.{Cell}
-use Rattle.snoop_rules.specs.Waits.{waiting_request}
-use Rattle.snoop_rules.specs.Takers.{seen_by, other}
-use Rattle.snoop_model.specs.Pictures.Lines.{Line}
-use Rattle.snoop_model.specs.Pictures.Picture.{held_at, nothing_held}
-use Rattle.snoop_model.specs.Pictures.Proper.{IsProper}
 use Rattle.snoop_model.specs.Invariant.Fits.{is_owner}
-use Rattle.snoop_model.specs.Moves.Move.{TakesRow}
 use Rattle.snoop_model.specs.Moves.LookUps.{HasRow}
-use Rattle.snoop_blocks.specs.CoreSet.{has}
-use Rattle.snoop_machine.specs.Holders.{concerns}
 use Rattle.snoop_machine.proofs.ProperLines.{moves_to_same}
 
 still : (p : Protocol) (s : CacheState) (q : Request) → concerns q s ≡ false → HasRow p s (other q) → Cell p s (other q) action.None s

@@ -2,14 +2,7 @@
 use Rattle.std.proofs.Common.{◌≡◌, ◌≢◌, ℕ, ◌+◌, ◌<◌, List, length, sym, ◌∙◌, ap, arith, inl, inr, refl}
 use Rattle.std.specs.Prelude.{slice_index_or, slice_set}
 use Rattle.std.proofs.lemmas.List.{get_or-set_same}
-use Rattle.snoop_rules.specs.declared.names.CacheState.TheVariants.{I}
-use Rattle.snoop_model.specs.Pictures.Lines.{Line}
-use Rattle.snoop_model.specs.Pictures.Picture.{Picture, held_by}
-use Rattle.snoop_model.specs.Pictures.Situation.{state_of, nothing_there}
-use Rattle.snoop_machine.specs.Standing.{Standing, line_count}
-use Rattle.snoop_machine.specs.PartsView.{Fields, standing, IsWhole}
-use Rattle.snoop_machine.specs.Lines.{Held, LinesGo, WritesLine, gone, row_of}
-use Rattle.snoop_machine.specs.Following.{LosesLines}
+use Rattle.snoop_machine.proofs.Common.{I, Line, Picture, held_by, state_of, nothing_there, LosesLines, Held, LinesGo, WritesLine, gone, row_of, Fields, standing, IsWhole, Standing, line_count}
 use Rattle.snoop_machine.proofs.EachPlace.{each_place}
 use Rattle.snoop_machine.proofs.PictureViews.{state_seen, core_in, block_in, has_picture}
 use Rattle.snoop_machine.proofs.LineMaps.{gone-one, gone-cases}

@@ -4,14 +4,7 @@ use Rattle.std.specs.Prelude.{slice_index_or, slice_set, nat_eq, map, is_some}
 use Rattle.std.specs.Map.{lookup}
 use Rattle.std.proofs.lemmas.List.{length-set, map-set, set-get_or, get_or-set_same, get_or-set_other}
 use Rattle.std.proofs.lemmas.Map.Made.{is_some-lookup}
-use Rattle.snoop_rules.specs.declared.names.CacheState.{CacheState}
-use Rattle.snoop_rules.specs.declared.names.CacheState.TheVariants.{I}
-use Rattle.snoop_machine.specs.declared.holders.Holders.{Holders}
-use Rattle.snoop_model.specs.Pictures.Lines.{Line}
-use Rattle.snoop_model.specs.Pictures.Proper.{IsProper}
-use Rattle.snoop_machine.specs.Holders.{HaveFollowed}
-use Rattle.snoop_machine.specs.Cache.{Contents, no_cache, line_or_nothing, line_in, blocks_of, KeepsMapRoom}
-use Rattle.snoop_machine.specs.Lines.{Held, AreLines, KeepsMapsRoom, WritesLine, held, held_by_block, gone, line_at, with_line_at}
+use Rattle.snoop_machine.proofs.Common.{CacheState, I, Line, IsProper, Contents, no_cache, line_or_nothing, line_in, blocks_of, KeepsMapRoom, HaveFollowed, Held, AreLines, KeepsMapsRoom, WritesLine, held, held_by_block, gone, line_at, with_line_at, Holders}
 use Rattle.snoop_machine.proofs.EachPlace.{each_place}
 use Rattle.snoop_machine.proofs.MapRows.{rows-set, blocks-at, spare-at, length-blocks_of}
 use Rattle.snoop_machine.proofs.LineMaps.{IsMap, blocks_seen, spare_seen, maps-long, gone-none, gone-one, is_I}

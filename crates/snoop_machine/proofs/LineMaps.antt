@@ -5,12 +5,7 @@ use Rattle.std.specs.Map.{lookup}
 use Rattle.std.proofs.lemmas.Bool.{true_from_ne_false}
 use Rattle.std.proofs.lemmas.List.{length-map, get_or_read}
 use Rattle.std.proofs.lemmas.Map.Made.{is_some-lookup}
-use Rattle.snoop_rules.specs.declared.names.CacheState.{CacheState}
-use Rattle.snoop_rules.specs.declared.names.CacheState.TheVariants.{I}
-use Rattle.snoop_model.specs.Pictures.Lines.{Line}
-use Rattle.snoop_machine.specs.declared.holders.Holders.{Holders}
-use Rattle.snoop_machine.specs.Cache.{Contents, no_cache, line_in, blocks_of, lines_held}
-use Rattle.snoop_machine.specs.Lines.{Held, AreLines, held, MayMoveTo, is_among, is_invalid, gone, row_of, line_at}
+use Rattle.snoop_machine.proofs.Common.{CacheState, I, Line, Contents, no_cache, line_in, blocks_of, lines_held, Held, AreLines, held, MayMoveTo, is_among, is_invalid, gone, row_of, line_at, Holders}
 use Rattle.snoop_machine.proofs.MapRows.{within-rows, line-rows, line-none, row-rows, blocks-at, spare-at, found-lookup}
 
 -- a core's map and its line of a block, where callers see both

@@ -3,15 +3,8 @@ use Rattle.std.proofs.Common.{◌≡◌, ℕ, ◌<◌, false, List, length, refl
 use Rattle.std.specs.Prelude.{slice_index_or, slice_set, nat_eq}
 use Rattle.std.proofs.lemmas.Bool.{cases_eq, ne_eqb}
 use Rattle.std.proofs.lemmas.List.{length-set, set-get_or}
-use Rattle.snoop_rules.specs.declared.names.CacheState.{CacheState}
-use Rattle.snoop_model.specs.Pictures.Lines.{Line}
-use Rattle.snoop_model.specs.Pictures.Picture.{held_at}
-use Rattle.snoop_model.specs.Pictures.Proper.{IsProper, keeps}
+use Rattle.snoop_machine.proofs.Common.{CacheState, Line, held_at, IsProper, keeps, Contents, no_cache, line_in, lines_held, AreHolders, HaveFollowed, StandsAs, no_holders, Held, AreLines, Holders}
 use Rattle.snoop_model.specs.Invariant.Fits.{is_owner}
-use Rattle.snoop_machine.specs.declared.holders.Holders.{Holders}
-use Rattle.snoop_machine.specs.Holders.{AreHolders, HaveFollowed, StandsAs, no_holders}
-use Rattle.snoop_machine.specs.Cache.{Contents, no_cache, line_in, lines_held}
-use Rattle.snoop_machine.specs.Lines.{Held, AreLines}
 use Rattle.snoop_machine.proofs.EachPlace.{each_place}
 use Rattle.snoop_machine.proofs.LineMaps.{IsMap}
 use Rattle.snoop_machine.proofs.MapRows.{line-row, row-same, row-set, length-row, AreHolders-moved}

@@ -2,18 +2,9 @@
 use Rattle.std.proofs.Common.{◌≡◌, ℕ, ◌<◌, zero, suc, List, [], ◌∷◌, length, replicate, Option, None, refl, sym, ◌∙◌, ap, arith}
 use Rattle.std.specs.Prelude.{slice_index_or, slice_set}
 use Rattle.std.proofs.lemmas.List.{set-get_or}
-use Rattle.snoop_trace.specs.Extent.{Extent}
-use Rattle.snoop_trace.specs.Words.{Data, zero_words}
+use Rattle.snoop_machine.proofs.Common.{Extent, Data, zero_words, Open, Line, Picture, held_by, with_line, picture_of, state_of, nothing_there, line_at, row_of, with_line_at, memory_line, Fields, standing, pictures_of, IsSized, IsWhole, Standing}
 use Rattle.snoop_rules.specs.declared.names.MemState.{MemState}
 use Rattle.snoop_rules.specs.declared.names.MemState.TheVariants.{IorS}
-use Rattle.snoop_bus.specs.Traffic.{Open}
-use Rattle.snoop_model.specs.Pictures.Lines.{Line}
-use Rattle.snoop_model.specs.Pictures.Picture.{Picture, held_by, with_line}
-use Rattle.snoop_model.specs.Pictures.Situation.{picture_of, state_of, nothing_there}
-use Rattle.snoop_machine.specs.Standing.{Standing}
-use Rattle.snoop_machine.specs.Lines.{line_at, row_of, with_line_at}
-use Rattle.snoop_machine.specs.PartsView.{Fields, standing, pictures_of, IsSized, IsWhole}
-use Rattle.snoop_machine.specs.Memory.{memory_line}
 
 pictures-get : (rows : List (List Line)) (states : List MemState) (values : List Data) (transactions : List (Option Open)) (block : ℕ)
     → length states ≡ length rows → length values ≡ length rows → length transactions ≡ length rows

@@ -1,22 +1,13 @@
 -- What is so of a proper line.
 use Rattle.std.proofs.Common.{◌≡◌, Option, None, Some, false, refl, sym, ◌∙◌, ap}
 use Rattle.std.specs.Prelude.{is_some, option_map}
+use Rattle.snoop_machine.proofs.Common.{Protocol, Cell, cell_of, CacheCell, CacheState, moves_to, Line, kept_on, nothing_held, IsProper, keeps, request_for, missed_request, Access, changed, words_after}
 use Rattle.snoop_trace.specs.declared.words.Words.{Words}
-use Rattle.snoop_trace.specs.declared.protocol.Protocol.{Protocol}
 use Rattle.snoop_trace.specs.declared.protocol.Protocol.TheVariants.{Msi, Mesi}
 use Rattle.snoop_trace.specs.declared.step.Op.TheVariants as op
-use Rattle.snoop_rules.specs.Cell.{Cell, cell_of}
-use Rattle.snoop_rules.specs.declared.names.CacheCell.{CacheCell}
 use Rattle.snoop_rules.specs.declared.names.CacheAction.TheVariants as action
 use Rattle.snoop_rules.specs.declared.names.CacheEvent.TheVariants as event
-use Rattle.snoop_rules.specs.declared.names.CacheState.{CacheState}
 use Rattle.snoop_rules.specs.declared.names.CacheState.TheVariants as state
-use Rattle.snoop_model.specs.declared.access.Access.{Access}
-use Rattle.snoop_model.specs.Pictures.Lines.{Line}
-use Rattle.snoop_model.specs.Pictures.Picture.{kept_on, nothing_held}
-use Rattle.snoop_model.specs.Pictures.Proper.{IsProper, keeps, request_for, missed_request}
-use Rattle.snoop_model.specs.Moves.Move.{moves_to}
-use Rattle.snoop_machine.specs.Cache.{changed, words_after}
 use Rattle.snoop_machine.specs.declared.cache.LineChange.TheVariants.{Hit}
 
 nothing_kept : (kept : Option Words) → is_some kept ≡ false → kept ≡ None

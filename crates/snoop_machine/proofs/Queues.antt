@@ -8,15 +8,7 @@ use Rattle.std.proofs.lemmas.Bool.{cases_eq, cases_lt, eq-eqb, ne_eqb, false≢t
 use Rattle.std.proofs.lemmas.Option.{same_Some}
 use Rattle.std.proofs.lemmas.List.{append-nil, get_or_past, length-map, map-append, map-set}
 use Rattle.std.proofs.lemmas.List.Elements.{filter-append}
-use Rattle.snoop_trace.specs.Extent.{Extent}
-use Rattle.snoop_rules.specs.declared.names.Request.{Request}
-use Rattle.snoop_rules.specs.Waits.{waiting_request}
-use Rattle.snoop_bus.specs.Traffic.{Traffic, Waiting, no_queue, waiting_of, head_of}
-use Rattle.snoop_bus.specs.Queues.{queue_of, after_issue, after_order, place_in}
-use Rattle.snoop_model.specs.Pictures.Lines.{Line}
-use Rattle.snoop_model.specs.Pictures.Picture.{held_at, nothing_held}
-use Rattle.snoop_machine.specs.Lines.{line_at}
-use Rattle.snoop_machine.specs.PartsView.{queues_of, requests_for, IsSound}
+use Rattle.snoop_machine.proofs.Common.{Extent, waiting_request, Request, queue_of, after_issue, after_order, place_in, Traffic, Waiting, no_queue, waiting_of, head_of, Line, held_at, nothing_held, line_at, queues_of, requests_for, IsSound}
 
 abbrev pub blocks_of : List (Request × ℕ) → List ℕ
 blocks_of requests = map (λ (r : Request × ℕ). r.1) requests

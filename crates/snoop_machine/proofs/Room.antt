@@ -3,13 +3,7 @@ use Rattle.std.proofs.Common.{◌≡◌, ◌<◌, ◌≤◌, ◌+◌, ℕ, zero,
 use Rattle.std.specs.Prelude.{slice_index, slice_index_or, slice_set}
 use Rattle.std.proofs.Math.ListN.{get_or-map}
 use Rattle.std.proofs.lemmas.List.{length-map}
-use Rattle.snoop_rules.specs.declared.names.Request.{Request}
-use Rattle.snoop_bus.specs.Traffic.{Waiting, no_queue}
-use Rattle.snoop_bus.specs.Queues.{queue_of}
-use Rattle.snoop_machine.specs.Standing.{Standing, KeepsRoom}
-use Rattle.snoop_machine.specs.Prepared.{places}
-use Rattle.snoop_machine.specs.Lines.{Held, KeepsMapsRoom}
-use Rattle.snoop_machine.specs.PartsView.{Fields, queues_of, shown_line_room, shown_line_rooms, standing}
+use Rattle.snoop_machine.proofs.Common.{Request, queue_of, Waiting, no_queue, Held, KeepsMapsRoom, Fields, queues_of, shown_line_room, shown_line_rooms, standing, places, Standing, KeepsRoom}
 use Rattle.snoop_machine.proofs.EachPlace.{each_place}
 use Rattle.snoop_machine.proofs.Queues.{queue_of-queues_of}
 

@@ -3,19 +3,11 @@ use Rattle.std.proofs.Common.{◌≡◌, ◌<◌, take, length, get_or, ℕ, ◌
 use Rattle.std.specs.Prelude.{Result, Ok, Err, is_ok, count_by}
 use Rattle.std.proofs.lemmas.List.Sums.{sum_by-append}
 use Rattle.std.proofs.lemmas.List.{take_more}
-use Rattle.snoop_trace.specs.declared.step.Step.{Step}
-use Rattle.snoop_model.specs.declared.replies.Reply.{Reply}
-use Rattle.snoop_model.specs.declared.replies.Refused.{Refused}
-use Rattle.snoop_model.specs.declared.replies.Refused.TheVariants.{NoMemory}
-use Rattle.snoop_machine.specs.Standing.{Standing}
-use Rattle.snoop_model.specs.Runs.Run.{Goes, RunFrom, RunBy}
-use Rattle.snoop_model.specs.Invariant.Invariant.{Invariant}
-use Rattle.snoop_model.specs.Invariant.MachineKeeps.{MachineKeeps}
+use Rattle.snoop_machine.proofs.Common.{Step, Invariant, MachineKeeps, Goes, RunFrom, RunBy, Refused, NoMemory, Reply, Answers, AnswersSafely, HasRun, Standing}
 use Rattle.snoop_model.proofs.Invariant.Safety.{is_safe}
 use Rattle.snoop_machine.proofs.StepKeeps.{step_keeps}
 use Rattle.snoop_model.proofs.Once.Runs.{run_once}
 use Rattle.snoop_model.proofs.Runs.Along.{run_more, seen_along}
-use Rattle.snoop_machine.specs.Runs.{Answers, AnswersSafely, HasRun}
 
 -- the steps so far
 pub record Going (old : Standing) (steps : List Step) (taken : ℕ) (new : Standing) : Type 0 where

@@ -4,21 +4,9 @@ use Rattle.std.specs.Prelude.{option_to_list, slice_set}
 use Rattle.std.proofs.lemmas.Bool.{cases_lt}
 use Rattle.std.proofs.lemmas.Option.{same_Some}
 use Rattle.std.proofs.lemmas.List.{length-set, get_or_past, get_or-set_same, get_or-set_other}
-use Rattle.snoop_trace.specs.Extent.{Extent}
-use Rattle.snoop_trace.specs.Words.{Data}
-use Rattle.snoop_trace.specs.declared.protocol.Protocol.{Protocol}
-use Rattle.snoop_rules.specs.declared.names.Request.{Request}
-use Rattle.snoop_rules.specs.declared.names.Payload.{Payload}
-use Rattle.snoop_rules.specs.Waits.{waiting_request}
-use Rattle.snoop_bus.specs.Traffic.{Open, Traffic, Waiting, Starts, no_queue, waiting_of, head_of, transaction_on}
-use Rattle.snoop_model.specs.Pictures.Lines.{Line}
-use Rattle.snoop_model.specs.Pictures.Picture.{held_at, nothing_held}
-use Rattle.snoop_model.specs.Pictures.Proper.{IsProper}
-use Rattle.snoop_model.specs.Moves.Move.{TakesRows}
+use Rattle.snoop_machine.proofs.Common.{Extent, Data, Protocol, waiting_request, Payload, Request, Open, Traffic, Waiting, Starts, no_queue, waiting_of, head_of, transaction_on, TakesRows, Line, held_at, nothing_held, IsProper, row_of, line_at, with_line_at, requests_for, IsSound, WaitsAs}
 use Rattle.snoop_model.proofs.Tables.Rows.{IsProper-order}
 use Rattle.snoop_model.proofs.Queues.Orders.{own_waits, others_wait}
-use Rattle.snoop_machine.specs.Lines.{row_of, line_at, with_line_at}
-use Rattle.snoop_machine.specs.PartsView.{requests_for, IsSound, WaitsAs}
 use Rattle.snoop_machine.proofs.EachPlace.{each_place}
 use Rattle.snoop_machine.proofs.Queues.{issued_own, issued_other, head_other, head_alone}
 

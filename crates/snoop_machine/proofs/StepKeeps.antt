@@ -1,26 +1,13 @@
 -- What each step of a machine keeps, and what a prepared one adds.
 use Rattle.std.proofs.Common.{◌≡◌, ℕ, ◌++◌, List, Option, refl, ap, ◌∙◌}
 use Rattle.std.specs.Prelude.{Result, Ok, Err, IfOk, IfErr, option_to_list}
-use Rattle.snoop_trace.specs.declared.step.Step.{Step}
-use Rattle.snoop_history.specs.declared.items.Item.{Item}
-use Rattle.snoop_model.specs.declared.replies.Reply.{Reply}
-use Rattle.snoop_model.specs.declared.replies.Refused.{Refused}
-use Rattle.snoop_model.specs.declared.replies.Refused.TheVariants.{NoMemory}
-use Rattle.snoop_model.specs.Pictures.Situation.{Situation}
-use Rattle.snoop_model.specs.Moves.Move.{FirstMove}
-use Rattle.snoop_model.specs.Moves.Refuses.{RefusedFor}
+use Rattle.snoop_machine.proofs.Common.{Step, Item, MachineKeeps, FirstMove, RefusedFor, Situation, RunBy, Refused, NoMemory, Reply, HoldsOn, IsFull, IsPrepared, Answers, AnswersSafely, Standing, KeepsRoom}
 use Rattle.snoop_model.specs.Moves.Replies.{Tells}
-use Rattle.snoop_model.specs.Invariant.MachineKeeps.{MachineKeeps}
-use Rattle.snoop_model.specs.Runs.Run.{RunBy}
 use Rattle.snoop_model.proofs.Invariant.Safety.{move_keeps_all}
 use Rattle.snoop_model.proofs.Runs.Along.{kept_along}
 use Rattle.snoop_model.proofs.Runs.Logged.{move-log}
 use Rattle.snoop_model.proofs.Runs.Replies.{move_tells, refusal_tells}
 use Rattle.snoop_model.proofs.Runs.Shape.{IsAlike, alike_on, move_stays, same_alike}
-use Rattle.snoop_machine.specs.Standing.{Standing, KeepsRoom}
-use Rattle.snoop_machine.specs.Prepared.{IsFull, IsPrepared}
-use Rattle.snoop_machine.specs.Holding.{HoldsOn}
-use Rattle.snoop_machine.specs.Runs.{Answers, AnswersSafely}
 
 -- what a machine's step answers
 pub answers : (old new : Standing) (step : Step) (result : Result Reply Refused) → IfOk result (λ reply. (entry : Option Item) × FirstMove old.situation step reply new.situation entry)

@@ -1,13 +1,8 @@
 -- The words that operations are of lie below how many a block has.
 use Rattle.std.proofs.Common.{◌≡◌, ℕ, ◌<◌, ◌⊎◌, inl, inr, Option, Some, None, refl, subst}
 use Rattle.std.specs.Prelude.{IfSome}
-use Rattle.snoop_trace.specs.Words.{HasWord}
-use Rattle.snoop_trace.specs.declared.step.Op.{Op}
+use Rattle.snoop_machine.proofs.Common.{HasWord, Op, Invariant, held_by, Situation, picture_of, Access}
 use Rattle.snoop_trace.specs.declared.step.Op.TheVariants.{Load, Store, Evict}
-use Rattle.snoop_model.specs.declared.access.Access.{Access}
-use Rattle.snoop_model.specs.Pictures.Picture.{held_by}
-use Rattle.snoop_model.specs.Pictures.Situation.{Situation, picture_of}
-use Rattle.snoop_model.specs.Invariant.Invariant.{Invariant}
 
 -- the word of an operation within
 pub operation_held : (s : Situation) (count word : ℕ) (asking : Op) → s.shape.words ≡ count → HasWord s.shape word asking → (word < count) ⊎ (asking ≡ Evict)

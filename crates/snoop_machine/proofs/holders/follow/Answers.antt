@@ -1,8 +1,7 @@
 use Rattle.std.proofs.Common.{◌≡◌, sym, refl, ◌∙◌, subst}
 use Rattle.std.specs.Prelude.{slice_index_or}
 use Rattle.std.proofs.lemmas.List.{get_or_default, set-get_or}
-use Rattle.snoop_machine.specs.declared.holders.Holders.{Holders}
-use Rattle.snoop_machine.specs.Holders.{HaveMoved, no_holders}
+use Rattle.snoop_machine.proofs.Common.{HaveMoved, no_holders, Holders}
 use Rattle.snoop_machine.proofs.holders.follow.Goals as goal
 
 pub returns-then-are_alike : goal.returns-then-are_alike

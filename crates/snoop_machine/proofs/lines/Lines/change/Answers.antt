@@ -1,7 +1,5 @@
 use Rattle.std.proofs.Common.{◌∙◌, ap, arith, inl, inr}
-use Rattle.snoop_model.specs.Pictures.Lines.{Line}
-use Rattle.snoop_machine.specs.Cache.{changed}
-use Rattle.snoop_machine.specs.Lines.{line_at}
+use Rattle.snoop_machine.proofs.Common.{Line, changed, line_at}
 use Rattle.snoop_machine.proofs.LineChanges.{HasWritten, goes_from, lines_after, writes}
 use Rattle.snoop_machine.proofs.LineMaps.{IsMap, is_map, in_rows, core_few, mover_placed}
 use Rattle.snoop_machine.proofs.LineParts.{stands}

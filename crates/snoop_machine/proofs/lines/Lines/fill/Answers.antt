@@ -1,5 +1,5 @@
 use Rattle.std.proofs.Common.{arith, inl}
-use Rattle.snoop_machine.specs.Cache.{filled_line}
+use Rattle.snoop_machine.proofs.Common.{filled_line}
 use Rattle.snoop_machine.proofs.LineChanges.{HasWritten, lines_after, writes}
 use Rattle.snoop_machine.proofs.LineMaps.{IsMap, is_map, in_rows, core_few, held_placed, gone-none}
 use Rattle.snoop_machine.proofs.LineParts.{stands}

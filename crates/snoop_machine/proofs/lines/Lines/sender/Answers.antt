@@ -1,18 +1,12 @@
 use Rattle.std.proofs.Common.{ℕ, ◌<◌, length, arith, sym, ap, ◌∙◌, Option, Some, None}
-use Rattle.snoop_rules.specs.declared.names.Payload.{Payload}
-use Rattle.snoop_rules.specs.Cell.{Cell}
+use Rattle.snoop_machine.proofs.Common.{Cell, seen_by, at_memory, Payload, free_picture, held_at, Sends, IsOnlySender, row_of, memory_line}
 use Rattle.snoop_rules.specs.MemoryCell.{MemoryCell}
-use Rattle.snoop_rules.specs.Takers.{seen_by, at_memory}
-use Rattle.snoop_model.specs.Pictures.Picture.{free_picture, held_at}
-use Rattle.snoop_model.specs.Pictures.Sends.{Sends, IsOnlySender}
 use Rattle.snoop_model.proofs.Tables.SentBy.{sent_by, sends_row}
 use Rattle.snoop_model.proofs.Lines.TheSender.{Silent-none, Silent-more, Silent-past, Silent-all}
 use Rattle.snoop_machine.proofs.ConcernedCores.{AreConcerned, concerned_within, waits_within, Cell-passed}
 use Rattle.snoop_machine.proofs.lines.Lines.sender.Given.{Over}
 use Rattle.snoop_machine.proofs.lines.Lines.sender.Goals as goal
 use Rattle.snoop_machine.proofs.lines.Lines.sender.Goals.{After-concerned-concerned, In-Some, In-Some-cache_cell, In-Some-next}
-use Rattle.snoop_machine.specs.Lines.{row_of}
-use Rattle.snoop_machine.specs.Memory.{memory_line}
 
 -- memory's row
 memory_row : (g : Over) (c : In-Some g) → MemoryCell c.args.protocol (memory_line c.args.memory.now c.args.block).state

@@ -1,11 +1,5 @@
 use Rattle.std.proofs.Common.{List, sym, ◌∙◌, ap, arith, inl, inr}
-use Rattle.snoop_rules.specs.declared.names.CacheState.{CacheState}
-use Rattle.snoop_rules.specs.Cell.{Cell}
-use Rattle.snoop_machine.specs.declared.holders.Holders.{Holders}
-use Rattle.snoop_model.specs.Moves.Move.{moves_to}
-use Rattle.snoop_model.specs.Pictures.Lines.{Line}
-use Rattle.snoop_machine.specs.Cache.{line_or_nothing}
-use Rattle.snoop_machine.specs.Lines.{line_at}
+use Rattle.snoop_machine.proofs.Common.{Cell, CacheState, moves_to, Line, line_or_nothing, line_at, Holders}
 use Rattle.snoop_machine.proofs.ProperLines.{settled, moves_to_same}
 use Rattle.snoop_machine.proofs.LineMaps.{IsMap, is_map, in_rows, core_few, gone-same, is_I}
 use Rattle.snoop_machine.proofs.LineParts.{stands, followed-still}

@@ -1,11 +1,8 @@
 use Rattle.std.proofs.Common.{◌≡◌, ◌<◌, List, length, arith, sym, ap, ◌∙◌}
 use Rattle.std.specs.Prelude.{slice_set}
 use Rattle.std.proofs.lemmas.List.{set-set, length-set}
-use Rattle.snoop_model.specs.Pictures.Lines.{Line}
-use Rattle.snoop_model.specs.Pictures.Proper.{IsProper}
-use Rattle.snoop_model.specs.Moves.Move.{moves_to}
+use Rattle.snoop_machine.proofs.Common.{moves_to, Line, IsProper, row_of, line_at}
 use Rattle.snoop_model.proofs.Tables.Rows.{IsProper-order}
-use Rattle.snoop_machine.specs.Lines.{row_of, line_at}
 use Rattle.snoop_machine.proofs.LinesGoing.{LinesGo-more, KeepsMapsRoom-more, row_after}
 use Rattle.snoop_model.proofs.Lines.EachRow.{Taking, Taking-more, Taking-past}
 use Rattle.snoop_machine.proofs.ConcernedCores.{AreConcerned, concerned_within, TakesRow-passed, Cell-leaves}

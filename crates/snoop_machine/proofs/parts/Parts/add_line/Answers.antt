@@ -2,9 +2,7 @@ use Rattle.std.proofs.Common.{◌≡◌, ◌<◌, ◌≤◌, [], ◌∙◌, ℕ,
 use Rattle.std.specs.Prelude.{slice_index_or}
 use Rattle.std.proofs.lemmas.Result.{err_from_is_err_and}
 use Rattle.std.proofs.lemmas.List.{length-set}
-use Rattle.snoop_bus.specs.Traffic.{Waiting, waiting_of}
-use Rattle.snoop_machine.specs.PartsView.{Fields, fields, shown_line_rooms}
-use Rattle.snoop_machine.specs.Lines.{KeepsMapsRoom}
+use Rattle.snoop_machine.proofs.Common.{Waiting, waiting_of, KeepsMapsRoom, Fields, fields, shown_line_rooms}
 use Rattle.snoop_machine.proofs.Room.{held_in, held_in-set, keeps_room, shown-same, places-map, places-queue}
 use Rattle.snoop_machine.proofs.Queues.{queues_of-room}
 use Rattle.snoop_machine.proofs.Soundness.{IsSound-room}

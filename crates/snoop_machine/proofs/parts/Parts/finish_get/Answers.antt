@@ -1,12 +1,6 @@
 use Rattle.std.proofs.Common.{◌≡◌, ◌≢◌, ◌<◌, false, length, Some, refl, sym, ◌∙◌, ap, arith}
 use Rattle.std.specs.Prelude.{slice_set}
-use Rattle.snoop_rules.specs.declared.names.Request.TheVariants.{PutM}
-use Rattle.snoop_model.specs.Pictures.Lines.{Line}
-use Rattle.snoop_model.specs.Moves.Move.{Fills, next_did}
-use Rattle.snoop_machine.specs.Standing.{Standing}
-use Rattle.snoop_machine.specs.Cache.{filled_line}
-use Rattle.snoop_machine.specs.Lines.{row_of, line_at}
-use Rattle.snoop_machine.specs.PartsView.{fields}
+use Rattle.snoop_machine.proofs.Common.{PutM, Fills, next_did, Line, filled_line, row_of, line_at, fields, Standing}
 use Rattle.snoop_machine.proofs.Closing.{Closes, opened, header, whole_after, room_after, responded, loses}
 use Rattle.snoop_machine.proofs.LinesGoing.{LinesGo-none, LinesGo-more, row_after}
 use Rattle.snoop_machine.proofs.Soundness.{IsSound-line}

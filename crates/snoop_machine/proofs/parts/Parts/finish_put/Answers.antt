@@ -1,7 +1,6 @@
 use Rattle.std.proofs.Common.{None, [], refl, sym, ◌∙◌}
 use Rattle.std.proofs.lemmas.List.{set-get_or}
-use Rattle.snoop_machine.specs.Lines.{row_of}
-use Rattle.snoop_machine.specs.PartsView.{fields}
+use Rattle.snoop_machine.proofs.Common.{row_of, fields}
 use Rattle.snoop_machine.proofs.Closing.{Closes, header, whole_after, room_after, responded, loses}
 use Rattle.snoop_machine.proofs.LinesGoing.{LinesGo-none}
 use Rattle.snoop_machine.proofs.PictureViews.{seen}

@@ -1,13 +1,7 @@
 use Rattle.std.proofs.Common.{◌≡◌, ◌<◌, ◌+◌, ◌-◌, ◌++◌, ◌∷◌, [], length, refl, arith}
 use Rattle.std.proofs.lemmas.List.{length-append}
 use Rattle.std.specs.Prelude.{slice_set}
-use Rattle.snoop_bus.specs.Traffic.{Waiting, waiting_of}
-use Rattle.snoop_model.specs.Pictures.Lines.{Line}
-use Rattle.snoop_model.specs.Pictures.Picture.{with_line}
-use Rattle.snoop_machine.specs.Cache.{changed}
-use Rattle.snoop_machine.specs.declared.cache.LineChange.TheVariants.{Wait}
-use Rattle.snoop_machine.specs.Lines.{line_at}
-use Rattle.snoop_machine.specs.PartsView.{Fields, fields, standing, pictures_of}
+use Rattle.snoop_machine.proofs.Common.{Waiting, waiting_of, Line, with_line, changed, line_at, Fields, fields, standing, pictures_of, Wait}
 use Rattle.snoop_machine.proofs.Following.{follows-set}
 use Rattle.snoop_machine.proofs.Soundness.{IsSound-issue}
 use Rattle.snoop_machine.proofs.PictureViews.{seen, line_seen, picture_in, line-written, core_in, block_in, sized_on}

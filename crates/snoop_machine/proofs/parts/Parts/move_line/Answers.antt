@@ -1,10 +1,5 @@
 use Rattle.std.proofs.Common.{sym, ap, ◌∙◌, arith, refl, inl}
-use Rattle.snoop_model.specs.Pictures.Lines.{Line}
-use Rattle.snoop_model.specs.Pictures.Picture.{with_line}
-use Rattle.snoop_machine.specs.Standing.{Standing}
-use Rattle.snoop_machine.specs.Cache.{changed}
-use Rattle.snoop_machine.specs.Lines.{line_at}
-use Rattle.snoop_machine.specs.PartsView.{Fields, fields}
+use Rattle.snoop_machine.proofs.Common.{Line, with_line, changed, line_at, Fields, fields, Standing}
 use Rattle.snoop_machine.proofs.Following.{follows-set}
 use Rattle.snoop_machine.proofs.Soundness.{IsSound-line}
 use Rattle.snoop_machine.proofs.PictureViews.{seen, line_seen, state_seen, picture_in, line-written, core_in, block_in, sized_on}

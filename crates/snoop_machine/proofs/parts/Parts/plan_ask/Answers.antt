@@ -1,11 +1,8 @@
 use Rattle.std.proofs.Common.{Some, refl, sym, ap, ◌∙◌}
 use Rattle.std.proofs.lemmas.Result.{err_from_is_err_and}
-use Rattle.snoop_trace.specs.declared.step.Step.TheVariants.{Ask}
+use Rattle.snoop_machine.proofs.Common.{Ask, held_by, picture_of, Standing}
 use Rattle.snoop_rules.specs.Takers.{asked as event_of}
 use Rattle.snoop_machine.specs.declared.plan.Plan.TheVariants as plan
-use Rattle.snoop_machine.specs.Standing.{Standing}
-use Rattle.snoop_model.specs.Pictures.Picture.{held_by}
-use Rattle.snoop_model.specs.Pictures.Situation.{picture_of}
 use Rattle.snoop_model.proofs.Invariant.Coherence.{finds_rows}
 use Rattle.snoop_machine.proofs.WordsHeld.{operation_held}
 use Rattle.snoop_machine.proofs.Plans.{refuses-ask, plan-allowed}

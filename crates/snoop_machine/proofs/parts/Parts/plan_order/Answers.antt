@@ -1,19 +1,10 @@
 use Rattle.std.proofs.Common.{◌≡◌, Option, Some, None, refl, sym, ap, ◌∙◌, false}
 use Rattle.std.specs.Prelude.{ℕ, is_some, option_copied}
-use Rattle.snoop_trace.specs.declared.step.Step.TheVariants.{Order}
-use Rattle.snoop_rules.specs.Takers.{seen_by}
 use Rattle.std.specs.Borrow.{Bor}
-use Rattle.snoop_bus.specs.Traffic.{Open}
-use Rattle.snoop_model.specs.Pictures.Picture.{Picture, free_picture}
-use Rattle.snoop_machine.specs.Standing.{Standing}
-use Rattle.snoop_model.specs.Pictures.Situation.{picture_of}
+use Rattle.snoop_machine.proofs.Common.{Order, seen_by, Open, Picture, free_picture, picture_of, row_of, memory_line, Fields, standing, IsWhole, IsPlan, Standing}
 use Rattle.snoop_model.proofs.Invariant.Coherence.{orders_follow_sender_table, finds_rows}
 use Rattle.snoop_machine.specs.declared.plan.Plan.TheVariants as plan
 use Rattle.snoop_machine.proofs.Plans.{order-allowed}
-use Rattle.snoop_machine.specs.Plan.{IsPlan}
-use Rattle.snoop_machine.specs.PartsView.{Fields, standing, IsWhole}
-use Rattle.snoop_machine.specs.Lines.{row_of}
-use Rattle.snoop_machine.specs.Memory.{memory_line}
 use Rattle.snoop_machine.proofs.parts.Parts.plan_order.Given.{Over}
 use Rattle.snoop_machine.proofs.parts.Parts.plan_order.Goals as goal
 use Rattle.snoop_machine.proofs.parts.Parts.plan_order.Goals.{After-sender-from}

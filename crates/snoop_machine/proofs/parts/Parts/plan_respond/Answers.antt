@@ -1,17 +1,7 @@
 use Rattle.std.proofs.Common.{arith, ℕ, ◌≡◌, ◌≢◌, Some, refl, sym, ap, ◌∙◌, subst}
 use Rattle.std.specs.Prelude.{Option, option_copied, option_map}
-use Rattle.snoop_bus.specs.Traffic.{Open}
-use Rattle.snoop_history.specs.declared.items.Came.{Came}
-use Rattle.snoop_model.specs.Moves.Move.{came_of}
-use Rattle.snoop_trace.specs.declared.step.Step.TheVariants.{Respond}
-use Rattle.snoop_rules.specs.declared.names.Request.TheVariants.{PutM}
-use Rattle.snoop_rules.specs.Takers.{arrival, arrival_at_memory}
-use Rattle.snoop_model.specs.Pictures.Lines.{Line}
-use Rattle.snoop_machine.specs.Standing.{Standing}
-use Rattle.snoop_model.specs.Pictures.Situation.{picture_of}
-use Rattle.snoop_model.specs.Pictures.Picture.{held_by}
+use Rattle.snoop_machine.proofs.Common.{Respond, arrival, arrival_at_memory, PutM, Came, Open, came_of, Line, held_by, picture_of, IsClosing, Standing}
 use Rattle.snoop_model.proofs.Invariant.Coherence.{finds_rows, sender_within}
-use Rattle.snoop_machine.specs.Plan.{IsClosing}
 use Rattle.snoop_machine.proofs.WordsHeld.{waiting_held}
 use Rattle.snoop_machine.proofs.parts.Parts.plan_respond.Given.{Over}
 use Rattle.snoop_machine.proofs.parts.Parts.plan_respond.Goals as goal

@@ -1,9 +1,8 @@
 use Rattle.std.proofs.Common.{◌<◌, ap, length, arith, refl}
-use Rattle.snoop_bus.specs.Traffic.{Waiting, waiting_of}
+use Rattle.snoop_machine.proofs.Common.{Waiting, waiting_of, Fields, fields}
 use Rattle.snoop_machine.proofs.Room.{held_in-set, keeps_room, KeepsMapsRoom-same}
 use Rattle.snoop_machine.proofs.Queues.{queues_of-room}
 use Rattle.snoop_machine.proofs.Soundness.{IsSound-room}
-use Rattle.snoop_machine.specs.PartsView.{Fields, fields}
 use Rattle.snoop_machine.proofs.parts.Parts.reserve_request.Goals as goal
 use Rattle.snoop_machine.proofs.PictureViews.{core_in, sized_on}
 

@@ -1,10 +1,8 @@
-use Rattle.snoop_model.specs.Pictures.Picture.{first_memory, nothing_held}
-use Rattle.snoop_machine.specs.Memory.{MemTables}
 use Rattle.std.proofs.Common.{rules, ℕ, List, [], length, replicate, refl, ap, ◌∙◌, None}
-use Rattle.snoop_trace.specs.Words.{zero_words}
 use Rattle.snoop_history.specs.Journal.{Journal}
 use Rattle.std.specs.Prelude.{slice_index_or}
 use Rattle.std.proofs.lemmas.List.{length-replicate}
+use Rattle.snoop_machine.proofs.Common.{zero_words, first_memory, nothing_held, MemTables}
 use Rattle.snoop_model.proofs.Lists.Facts.{replicated}
 use Rattle.snoop_machine.proofs.AtReset.{IsSound-reset, queues_of-reset}
 use Rattle.snoop_machine.proofs.parts.Parts.reset.Goals as goal

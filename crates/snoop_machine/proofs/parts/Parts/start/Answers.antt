@@ -2,20 +2,8 @@ use Rattle.std.proofs.Common.{◌≡◌, ℕ, List, ◌<◌, ◌-◌, ◌++◌, 
 use Rattle.std.specs.Prelude.{slice_set}
 use Rattle.std.specs.Option.{ForSome}
 use Rattle.std.proofs.lemmas.List.{length-set, length-append, length-drop, set-get_or}
-use Rattle.snoop_trace.specs.declared.protocol.Protocol.{Protocol}
-use Rattle.snoop_rules.specs.declared.names.Payload.{Payload}
-use Rattle.snoop_rules.specs.declared.names.Request.{Request}
+use Rattle.snoop_machine.proofs.Common.{zero_words, Protocol, Payload, Request, Open, Waiting, waiting_of, head_of, Starts, MemLine, Picture, Sends, picture_of, row_of, MemTables, memory_line, Fields, fields, standing, pictures_of, Standing}
 use Rattle.snoop_history.specs.declared.items.Item.TheVariants as item
-use Rattle.snoop_bus.specs.Traffic.{Open, Waiting, waiting_of, head_of, Starts}
-use Rattle.snoop_model.specs.Pictures.Lines.{MemLine}
-use Rattle.snoop_model.specs.Pictures.Picture.{Picture}
-use Rattle.snoop_model.specs.Pictures.Sends.{Sends}
-use Rattle.snoop_model.specs.Pictures.Situation.{picture_of}
-use Rattle.snoop_machine.specs.Standing.{Standing}
-use Rattle.snoop_machine.specs.Lines.{row_of}
-use Rattle.snoop_machine.specs.PartsView.{Fields, fields, standing, pictures_of}
-use Rattle.snoop_machine.specs.Memory.{MemTables, memory_line}
-use Rattle.snoop_trace.specs.Words.{zero_words}
 use Rattle.snoop_machine.proofs.Following.{follows-rows}
 use Rattle.snoop_machine.proofs.PictureViews.{seen, line_seen, picture-written, core_in, block_in, sized_on}
 use Rattle.snoop_machine.proofs.Queues.{head_from_line, head_alone, queues_of-order}

@@ -1,6 +1,4 @@
-use Rattle.snoop_rules.specs.Takers.{asked}
-use Rattle.snoop_model.specs.Pictures.Picture.{held_by}
-use Rattle.snoop_model.specs.Pictures.Situation.{picture_of}
+use Rattle.snoop_machine.proofs.Common.{asked, held_by, picture_of}
 use Rattle.snoop_model.proofs.Tables.Rows.{issue-waits, drop-waits, IsProper-issue, IsProper-hit, IsProper-drop}
 use Rattle.snoop_machine.proofs.ProperLines.{load_stays}
 use Rattle.snoop_machine.proofs.parts.Parts.take_ask.Goals as goal
