@@ -21,6 +21,15 @@ pub record Closes (m : Fields) (now : Standing) (came : Came) (memory : MemCell)
   pub found : IsClosing now.situation came memory
   pub is_open : transaction_on m.bus came.block ≡ Some closing
 
+module _ {count : ℕ} {m : Fields} (whole : IsWhole count m) {now : Standing} (view : standing m ≡ now) {came : Came} {memory : MemCell}
+    (found : IsClosing now.situation came memory) where
+  -- its transaction is open
+  pub never_none : transaction_on m.bus came.block ≡ None → ⊥
+  never_none none = let clash = rw (seen whole view came.block, none) at found.opened in cc
+
+  abbrev pub as_closes : {closing : Open} → came.block < now.situation.shape.blocks → transaction_on m.bus came.block ≡ Some closing → Closes m now came memory closing
+  as_closes within is_open = record { count = count; whole = whole; view = view; within = within; found = found; is_open = is_open }
+
 module _ {m : Fields} {now : Standing} {came : Came} {memory : MemCell} {closing : Open} (closes : Closes m now came memory closing) where
   -- callers see it open
   pub opened : (picture_of now.situation came.block).transaction ≡ Some closing
@@ -29,6 +38,10 @@ module _ {m : Fields} {now : Standing} {came : Came} {memory : MemCell} {closing
   -- the response is its
   pub header : came_of closing ≡ came
   header = same_Some _ _ (sym (ap (option_map came_of) opened) ∙ closes.found.opened)
+
+  -- its core is one that there is
+  pub in_cores : closing.core < now.situation.shape.cores
+  in_cores = rw (← header) at closes.found.core
 
   -- memory's line of the block then
   abbrev pub settled : MemLine
@@ -57,7 +70,8 @@ module _ {m : Fields} {now : Standing} {came : Came} {memory : MemCell} {closing
   room_after lines did room line_rooms =
       let had : 0 < m.log.room = rw (← closes.view) at room in
       let long = length-append m.log.items (item.Came came did ∷ []) in
-      keeps_room m (closed lines did) now closes.view (omega arith) (λ core. omega arith) line_rooms
+      let after = closed lines did in
+      keeps_room closes.whole closes.view lines after.memory after.bus after.log (omega arith) (λ core. omega arith) line_rooms
 
   -- the block's picture is written
   abbrev pub next : List Line → Picture

@@ -69,11 +69,17 @@ module _ {count : ℕ} {m : Fields} (whole : IsWhole count m) {now : Standing} (
   pub block_in : (block : ℕ) → block < now.situation.shape.blocks → block < m.shape.blocks
   block_in block within = rw (← view) at within
 
+  -- where a block and a core stand in the rows
+  pub rows_in : (block : ℕ) → block < now.situation.shape.blocks → block < length m.lines.rows
+  rows_in block within = rw whole.sound.rows (block_in block within)
+
+  pub row_in : (core block : ℕ) → core < now.situation.shape.cores → block < now.situation.shape.blocks → core < length (row_of m.lines.rows block)
+  row_in core block in_cores within = rw (whole.sound.row block (block_in block within)) (core_in core in_cores)
+
   pub has_picture : (block : ℕ) → block < now.situation.shape.blocks → block < length (standing m).situation.pictures
   has_picture block within =
       let long = pictures-length m.lines.rows m.memory.states m.memory.words m.bus.transactions states_long values_long transactions_long in
-      let rows = whole.sound.rows in
-      let inside = block_in block within in
+      let inside = rows_in block within in
       omega arith
 
   -- all that is shown of a block is written
@@ -100,12 +106,12 @@ pub sized_on : {count : ℕ} (m n : Fields) → IsSized count m → n.shape ≡ 
     → (n.log.cores ≡ m.log.cores) × (n.log.blocks ≡ m.log.blocks) × (n.log.words ≡ m.log.words) → IsSized count n
 sized_on m n sized shape lines memory log = record {
   few = rw shape sized.few;
-  lines = lines ∙ (sized.lines ∙ ap (λ (e : Extent). e.cores) (sym shape));
-  states = memory.0 ∙ (sized.states ∙ ap (λ (e : Extent). e.blocks) (sym shape));
-  values = memory.1 ∙ (sized.values ∙ ap (λ (e : Extent). e.blocks) (sym shape));
-  cores = log.0 ∙ (sized.cores ∙ ap (λ (e : Extent). e.cores) (sym shape));
-  blocks = log.1 ∙ (sized.blocks ∙ ap (λ (e : Extent). e.blocks) (sym shape));
-  words = log.2 ∙ (sized.words ∙ ap (λ (e : Extent). e.words) (sym shape));
-  held = ap (λ (e : Extent). e.words) shape ∙ sized.held;
+  lines = cc;
+  states = cc;
+  values = cc;
+  cores = cc;
+  blocks = cc;
+  words = cc;
+  held = cc;
   few_words = sized.few_words;
 }

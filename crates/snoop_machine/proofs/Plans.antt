@@ -3,7 +3,7 @@ use Rattle.std.proofs.Common.{◌≡◌, ◌≢◌, ℕ, ◌<◌, List, Option, 
 use Rattle.std.proofs.lemmas.Option.{same_Some}
 use Rattle.std.specs.Prelude.{option_map}
 use Rattle.std.specs.Option.{option_map_or}
-use Rattle.snoop_machine.proofs.Common.{HasWord, Protocol, Op, Step, cell_of, CacheCell, CacheState, Request, PutM, Came, Did, Item, Open, Performs, Takes, Fills, FillsRequestor, ArrivesFor, IsAbsent, Asks, RespondMove, FirstMove, came_of, next_did, Refuses, RefusedFor, Line, held_at, held_by, Situation, picture_of, IsHead, Access, Refused, NoCore, NoBlock, Stalled, NothingWaiting, BusTaken, NoTransaction, NoMemory, Reply, IsPlan, IsPlanFor, HasRoom, HasRoomToAsk, planned_step, room_for, room_for_ask, entry_of, entry_of_ask, room_to, IsFull, IsPrepared, Standing, Absent, Issue, Drop, Plan}
+use Rattle.snoop_machine.proofs.Common.{HasWord, Protocol, Op, Step, cell_of, CacheCell, CacheState, Request, PutM, Came, Did, Item, Open, Performs, Takes, Fills, FillsRequestor, ArrivesFor, IsAbsent, Asks, RespondMove, FirstMove, came_of, next_did, Refuses, RefusedFor, Line, held_at, held_by, Situation, picture_of, IsHead, Access, Refused, NoCore, NoBlock, Stalled, NothingWaiting, BusTaken, NoTransaction, NoMemory, Reply, IsPlan, IsPlanFor, HasRoom, planned_step, room_for, room_for_ask, entry_of, entry_of_ask, room_to, IsFull, IsPrepared, Standing, Absent, Issue, Drop, Plan}
 use Rattle.snoop_trace.specs.declared.step.Op.TheVariants as op
 use Rattle.snoop_trace.specs.declared.step.Step.TheVariants as step
 use Rattle.snoop_rules.specs.declared.names.CacheAction.TheVariants as action
@@ -164,15 +164,11 @@ plan-full before _ h none = none
 pub IsFull-plan : (before : Standing) (taking : Step) (x : Plan) → IsPlanFor before.situation taking x → room_for before x ≡ 0 → IsFull before taking
 IsFull-plan before taking x h none = rw h.0 at (plan-full before x h.1 none)
 
-ask-room : (before : Standing) (core block : ℕ) (asked : Asked) → HasRoomToAsk before core block asked → 0 < room_for_ask before core block asked
-ask-room before core block Absent h = omega arith
-ask-room before core block (Hit next value) h = h
-ask-room before core block (Issue request next) h = rw (h.0) h.1
-ask-room before core block (Drop next) h = omega arith
-
 -- where the room for a plan was made there is room for one such step at least
 some-room : (before : Standing) (x : Plan) → HasRoom before x → 0 < room_for before x
-some-room before (plan.Ask core block word asking asked) h = ask-room before core block asked h
+some-room before (plan.Ask core block word asking Absent) h = omega arith
+some-room before (plan.Ask core block word asking (Issue request next)) h = rw h.0 h.1
+some-room before (plan.Ask core block word asking (Drop next)) h = omega arith
 some-room before _ h = h
 
 -- a planned step is refused as out of memory alone

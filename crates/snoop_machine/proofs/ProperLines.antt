@@ -10,9 +10,10 @@ use Rattle.snoop_rules.specs.declared.names.CacheEvent.TheVariants as event
 use Rattle.snoop_rules.specs.declared.names.CacheState.TheVariants as state
 use Rattle.snoop_machine.specs.declared.cache.LineChange.TheVariants.{Hit}
 
-nothing_kept : (kept : Option Words) → is_some kept ≡ false → kept ≡ None
-nothing_kept None e = refl
-nothing_kept (Some v) e = cc
+-- where there is no value
+pub is_none : {X : Type 0} (o : Option X) → is_some o ≡ false → o ≡ None
+is_none None e = refl
+is_none (Some x) e = cc
 
 nothing_waits : (waiting : Option Access) → option_map (λ access. request_for access.op) waiting ≡ None → waiting ≡ None
 nothing_waits None e = refl
@@ -21,7 +22,7 @@ nothing_waits (Some access) e = cc
 -- a proper line in I holds nothing
 pub settled : (line : Line) → IsProper line → line.state ≡ state.I → line ≡ nothing_held
 settled line proper e =
-    let kept : line.kept ≡ None = nothing_kept line.kept (proper.kept ∙ ap keeps e) in
+    let kept : line.kept ≡ None = is_none line.kept (proper.kept ∙ ap keeps e) in
     let waiting : line.waiting ≡ None = nothing_waits line.waiting (proper.waiting ∙ ap missed_request e) in
     λ i. record { state = e i; kept = kept i; waiting = waiting i }
 
@@ -30,9 +31,9 @@ pub moves_to_same : (line : Line) → IsProper line → moves_to line.state line
 moves_to_same line proper = let kept : kept_on line.state line.kept ≡ line.kept = go line.state line.kept proper.kept in rw kept refl
   where
     go : (s : CacheState) (kept : Option Words) → is_some kept ≡ keeps s → kept_on s kept ≡ kept
-    go state.I kept e = sym (nothing_kept kept e)
-    go state.ImAd kept e = sym (nothing_kept kept e)
-    go state.IiA kept e = sym (nothing_kept kept e)
+    go state.I kept e = sym (is_none kept e)
+    go state.ImAd kept e = sym (is_none kept e)
+    go state.IiA kept e = sym (is_none kept e)
     go _ kept e = refl
 
 -- the next state of a row that is a hit, or this one

@@ -52,7 +52,6 @@ unreachable-requires-in_default-cache_cell g c =
     let core = c.in-Some-next.core in
     let none = rw (c.event_seen.ensures, c.state-state.ensures) at c.in_default-cache_cell.ensures.impossible in
     let there = (c.requires.rows core (within_row g (goal.at.unreachable-requires-in_default-cache_cell g c).In-Some-next)).1 in
-    let clash = sym none ∙ there in
     cc
 
 pub returns-in-Send-action-clause-sender : goal.returns-in-Send-action-clause-sender

@@ -43,6 +43,6 @@ returns g c =
     let wrote = line-written c.self.invariant refl c.args.block c.change.new.self.rows c.args.core (line g d) c.change.ensures.rows in
     record {
       written = rw (← c.self.view_is, seen c.self.invariant refl c.args.block, wrote);
-      room = keeps_room m (record m { lines = c.change.new.self }) c.args.self.now c.self.view_is (omega arith) (λ core. omega arith) c.change.ensures.room;
+      room = keeps_room c.self.invariant c.self.view_is c.change.new.self m.memory m.bus m.log (omega arith) (λ core. omega arith) c.change.ensures.room;
       lines = follows-set c.self.invariant c.self.view_is _ c.args.block next c.change.new.self c.requires.block wrote refl c.change.ensures c.requires.core refl;
     }

@@ -2,6 +2,7 @@ use Rattle.std.proofs.Common.{◌≡◌, Option, Some, None, refl, sym, ap, ◌�
 use Rattle.std.specs.Prelude.{ℕ, is_some, option_copied}
 use Rattle.std.specs.Borrow.{Bor}
 use Rattle.snoop_machine.proofs.Common.{Order, seen_by, Open, Picture, free_picture, picture_of, row_of, memory_line, Fields, standing, IsWhole, IsPlan, Standing}
+use Rattle.snoop_machine.proofs.ProperLines.{is_none}
 use Rattle.snoop_model.proofs.Invariant.Coherence.{orders_follow_sender_table, finds_rows}
 use Rattle.snoop_machine.specs.declared.plan.Plan.TheVariants as plan
 use Rattle.snoop_machine.proofs.Plans.{order-allowed}
@@ -12,8 +13,7 @@ use Rattle.snoop_machine.proofs.PictureViews.{seen, line_seen}
 
 -- a block that was found without an open transaction
 free_copied : (found : Option (Bor Open)) (transaction : Option Open) → option_copied found ≡ transaction → is_some found ≡ false → transaction ≡ None
-free_copied None transaction shown none = sym shown
-free_copied (Some found) transaction shown none = cc
+free_copied found transaction shown none = sym shown ∙ ap option_copied (is_none found none)
 
 -- has this picture
 free_seen : {count : ℕ} {m : Fields} (whole : IsWhole count m) {now : Standing} (view : standing m ≡ now) (block : ℕ)

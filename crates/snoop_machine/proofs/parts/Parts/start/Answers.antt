@@ -104,19 +104,11 @@ returns g c =
     let its = head g (goal.at.returns g c).After-words_sent-words in
     let left = queues_of-order m.bus.queues core block (queue g d).room c.args.request its
     (head_alone c.self.invariant.sound core c.args.request block its).1 in
-    let in_cores = core_in c.self.invariant c.self.view_is core c.requires.core in
-    let in_queues : core < length m.bus.queues = omega (arith, c.self.invariant.sound.queues) in
     let fewer = length-drop 1 before.requests in
     let more = (starts g d).more in
     let items = m.log.items ++ item.Sent (record { core = core; request = c.args.request; block = block }) ∷ [] in
     let long = length-append m.log.items (item.Sent (record { core = core; request = c.args.request; block = block }) ∷ []) in
     let room : 0 < m.log.room = rw (← c.self.view_is) at c.requires.room in
-    let new : Fields = record m {
-      lines = c.take_rows.new.self;
-      memory = c.move_to.new.self;
-      bus = c.start.new.self;
-      log = record m.log { items = items; room = m.log.room - 1 };
-    } in
     record {
       ordered = rw (← c.self.view_is) (record {
         ready = (rw (← c.self.view_is) at c.requires.head.waits, rw (← c.self.view_is) at c.requires.free);
@@ -130,7 +122,8 @@ returns g c =
         opened = ap (λ (x : List ℕ). let o : Option Open = Some (record (opened g d) { value = x }) in o) (rw (← c.self.view_is) at c.words_sent-words.ensures);
         after = rw (wrote g d, (starts g d).queues, left, c.push.ensures);
       });
-      room = rw c.push.ensures (keeps_room m new c.args.self.now c.self.view_is (omega arith)
-          (rw (starts g d).queues (held_in-set m.bus.queues core (queue g d) in_queues (omega arith))) c.take_rows.ensures.room);
+      room = rw c.push.ensures (keeps_room c.self.invariant c.self.view_is c.take_rows.new.self c.move_to.new.self c.start.new.self
+          (record m.log { items = items; room = m.log.room - 1 }) (omega arith)
+          (held_in-set c.self.invariant c.self.view_is c.start.new.self core (queue g d) (starts g d).queues c.requires.core (omega arith)) c.take_rows.ensures.room);
       lines = follows-rows c.self.invariant c.self.view_is _ block (next g d) c.take_rows.new.self c.requires.head.within (wrote g d) refl refl c.take_rows.ensures.lines;
     }
