@@ -1,5 +1,5 @@
 -- The parts of a machine fit together at reset.
-use Rattle.std.proofs.Common.{◌≡◌, ℕ, List, [], ◌∷◌, length, replicate, Option, Some, None, refl, sym, ◌∙◌, ap, arith, inl, inr}
+use Rattle.std.proofs.Common.{◌≡◌, ℕ, List, [], ◌∷◌, length, replicate, Option, None, refl, ◌∙◌, ap, arith, inl, inr}
 use Rattle.std.specs.Prelude.{slice_index_or, All}
 use Rattle.std.proofs.lemmas.Bool.{cases_lt}
 use Rattle.std.proofs.lemmas.List.{length-replicate, get_or-replicate, get_or_past}
@@ -38,6 +38,6 @@ module _ (shape : Extent) (bus : Traffic) (long : length bus.queues ≡ shape.co
     queues = long;
     transactions = ap length closed ∙ length-replicate shape.blocks None;
     proper = λ k b. (rw (line_is k b) (record { kept = refl; waiting = refl }));
-    opened = λ b t h. (let clash : ◌≡◌ {A = Option Open} None (Some t) = sym (transaction_is b) ∙ h in cc);
+    opened = λ b t h. cc (transaction_is b);
     waits = λ k b. rw (queue_is k, line_is k b) refl;
   }

@@ -1,5 +1,5 @@
 -- The cores that a request concerns; each other core's row changes nothing and sends nothing.
-use Rattle.std.proofs.Common.{◌≡◌, ◌≢◌, ℕ, ◌<◌, List, length, true, false, None, Some, refl, sym, ap, ◌∙◌, arith, inl, inr}
+use Rattle.std.proofs.Common.{◌≡◌, ◌≢◌, ℕ, ◌<◌, List, length, true, false, Some, refl, sym, ap, ◌∙◌, arith, inl, inr}
 use Rattle.std.proofs.lemmas.Bool.{ne_eqb, cases_lt}
 use Rattle.std.proofs.lemmas.List.{get_or_past}
 use Rattle.snoop_machine.proofs.Common.{Protocol, Cell, seen_by, other, waiting_request, CacheState, Request, GetS, GetM, PutM, has, TakesRow, Line, held_at, nothing_held, IsProper, concerns}
@@ -54,9 +54,7 @@ module _ {lines : List Line} {core : ℕ} {q : Request} {set : List ℕ} (concer
 pub waits_within : (lines : List Line) (core : ℕ) (q : Request) → waiting_request (held_at lines core).state ≡ Some q → core < length lines
 waits_within lines core q waits = elim (cases_lt core (length lines)) [
   | inl less ↦ less
-  | inr past ↦
-      let none : waiting_request (held_at lines core).state ≡ None = rw (get_or_past lines core nothing_held past) refl in
-      cc
+  | inr past ↦ (let none = rw (get_or_past lines core nothing_held past) at waits in cc)
 ]
 
 -- a core in I stays there at an Order

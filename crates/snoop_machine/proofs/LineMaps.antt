@@ -1,5 +1,5 @@
 -- The lines that callers see, in the maps.
-use Rattle.std.proofs.Common.{◌≡◌, ◌≢◌, ℕ, ◌<◌, true, false, List, [], length, is_some, refl, sym, ◌∙◌, ap, inl, inr, ◌⊎◌, arith, get_or}
+use Rattle.std.proofs.Common.{◌≡◌, ◌≢◌, ℕ, ◌<◌, true, false, List, [], length, is_some, refl, sym, ◌∙◌, ap, inl, inr, ◌⊎◌, get_or}
 use Rattle.std.specs.Prelude.{slice_index_or, map, nat_eq}
 use Rattle.std.specs.Map.{lookup}
 use Rattle.std.proofs.lemmas.Bool.{true_from_ne_false}

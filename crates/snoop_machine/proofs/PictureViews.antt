@@ -2,7 +2,7 @@
 use Rattle.std.proofs.Common.{◌≡◌, ℕ, ◌<◌, zero, suc, List, [], ◌∷◌, length, replicate, Option, None, refl, sym, ◌∙◌, ap, arith}
 use Rattle.std.specs.Prelude.{slice_index_or, slice_set}
 use Rattle.std.proofs.lemmas.List.{set-get_or}
-use Rattle.snoop_machine.proofs.Common.{Extent, Data, zero_words, Open, Line, Picture, held_by, with_line, picture_of, state_of, nothing_there, line_at, row_of, with_line_at, memory_line, Fields, standing, pictures_of, IsSized, IsWhole, Standing}
+use Rattle.snoop_machine.proofs.Common.{Data, zero_words, Open, Line, Picture, held_by, with_line, picture_of, state_of, nothing_there, line_at, row_of, with_line_at, memory_line, Fields, standing, pictures_of, IsSized, IsWhole, Standing}
 use Rattle.snoop_rules.specs.declared.names.MemState.{MemState}
 use Rattle.snoop_rules.specs.declared.names.MemState.TheVariants.{IorS}
 
@@ -62,6 +62,13 @@ module _ {count : ℕ} {m : Fields} (whole : IsWhole count m) {now : Standing} (
 
   pub state_seen : (core block : ℕ) → state_of now.situation core block ≡ (line_at m.lines.rows core block).state
   state_seen core block = ap (λ (x : Line). x.state) (line_seen core block)
+
+  -- the protocol, and how many words a block has
+  pub protocol_seen : m.protocol ≡ now.situation.protocol
+  protocol_seen = ap (λ (s : Standing). s.situation.protocol) view
+
+  pub words_seen : now.situation.shape.words ≡ count
+  words_seen = sym (ap (λ (s : Standing). s.situation.shape.words) view) ∙ whole.sized.held
 
   pub core_in : (core : ℕ) → core < now.situation.shape.cores → core < m.shape.cores
   core_in core within = rw (← view) at within

@@ -3,7 +3,7 @@ use Rattle.std.proofs.Common.{◌≡◌, ◌≢◌, ℕ, ◌<◌, List, Option, 
 use Rattle.std.proofs.lemmas.Option.{same_Some}
 use Rattle.std.specs.Prelude.{option_map}
 use Rattle.std.specs.Option.{option_map_or}
-use Rattle.snoop_machine.proofs.Common.{HasWord, Protocol, Op, Step, cell_of, CacheCell, CacheState, Request, PutM, Came, Did, Item, Open, Performs, Takes, Fills, FillsRequestor, ArrivesFor, IsAbsent, Asks, RespondMove, FirstMove, came_of, next_did, Refuses, RefusedFor, Line, held_at, held_by, Situation, picture_of, IsHead, Access, Refused, NoCore, NoBlock, Stalled, NothingWaiting, BusTaken, NoTransaction, NoMemory, Reply, IsPlan, IsPlanFor, HasRoom, planned_step, room_for, room_for_ask, entry_of, entry_of_ask, room_to, IsFull, IsPrepared, Standing, Absent, Issue, Drop, Plan}
+use Rattle.snoop_machine.proofs.Common.{HasWord, Protocol, Op, Step, cell_of, CacheCell, CacheState, Request, PutM, Came, Did, Item, Open, Performs, Takes, Fills, ArrivesFor, IsAbsent, Asks, RespondMove, FirstMove, came_of, next_did, Refuses, RefusedFor, Line, held_at, held_by, Situation, picture_of, IsHead, Access, Refused, NoCore, NoBlock, Stalled, NothingWaiting, BusTaken, NoTransaction, NoMemory, Reply, IsPlan, IsPlanFor, HasRoom, planned_step, room_for, room_for_ask, entry_of, entry_of_ask, room_to, IsFull, IsPrepared, Standing, Absent, Issue, Drop, Plan}
 use Rattle.snoop_trace.specs.declared.step.Op.TheVariants as op
 use Rattle.snoop_trace.specs.declared.step.Step.TheVariants as step
 use Rattle.snoop_rules.specs.declared.names.CacheAction.TheVariants as action
@@ -21,10 +21,10 @@ row_of (Issue request next) = Some (record { action = action.Issue request; next
 row_of (Drop next) = Some (record { action = action.Drop; next = next })
 
 row_found : (p : Protocol) (line : Line) (word : ℕ) (asking : Op) (asked : Asked) → TakesAsk p line word asking asked
-    → cell_of p line.state (event_asked asking) ≡ row_of asked
+    → row_of asked ≡ cell_of p line.state (event_asked asking)
 row_found p line word asking Absent t = rw (t.1, t.0) refl
-row_found p line word asking (Hit next value) t = t.0
-row_found p line word asking _ t = t
+row_found p line word asking (Hit next value) t = sym t.0
+row_found p line word asking _ t = sym t
 
 never_stalls : (asked : Asked) (next : CacheState) → row_of asked ≡ Some (record { action = action.Stall; next = next }) → ⊥
 never_stalls Absent next e = cc
@@ -60,7 +60,7 @@ plan-allowed s (plan.Ask core block word asking asked) h = go
     go : (cause : Refused) → ¬ Refuses s (step.Ask core block word asking) cause
     go NoCore g = let within = h.0.0 in absurd (omega arith)
     go NoBlock g = let within = h.0.1 in elim g.1 [ inl past ↦ absurd (omega arith) | inr none ↦ none h.3 ]
-    go (Stalled state) g = never_stalls asked g.2.0 (sym (row_found s.protocol (held_by (picture_of s block) core) word asking asked h.1) ∙ g.2.1)
+    go (Stalled state) g = never_stalls asked g.2.0 (row_found s.protocol (held_by (picture_of s block) core) word asking asked h.1 ∙ g.2.1)
     go _ g = g
 plan-allowed s (plan.Order core request block from payload memory) h = order-allowed s core block request h.0 h.1.head h.1.free
 plan-allowed s (plan.Writeback came memory) h = respond-allowed s came h.0 h.1.opened
@@ -69,8 +69,7 @@ plan-allowed s (plan.Fill came memory filled) h = respond-allowed s came h.0 h.1
 -- an operation on one value loads or stores one value
 performs-one : (word : ℕ) (asking : Op) (words : List ℕ) (v w : ℕ) (m n : List ℕ) → Performs word asking words v m → Performs word asking words w n → v ≡ w
 performs-one word op.Evict words v w m n p q = absurd p
-performs-one word op.Load words v w m n p q = p.0 ∙ sym q.0
-performs-one word (op.Store stored) words v w m n p q = p.0 ∙ sym q.0
+performs-one word _ words v w m n p q = p.0 ∙ sym q.0
 
 -- an Ask adds the item that was found
 module _ (s : Situation) (core block word : ℕ) (asking : Op) (answer : Reply) (added : Option Item) where
@@ -92,19 +91,16 @@ module _ (s : Situation) (core block word : ℕ) (asking : Op) (answer : Reply) 
   ask-adds : (new : Situation) (asked : Asked) → TakesAsk s.protocol (held_by (picture_of s block) core) word asking asked
       → IsAbsent s core block asking answer new added ⊎ Asks s core block word asking answer new added → added ≡ entry_of_ask s.log core block word asking asked
   ask-adds new asked t (inl absent) =
-      absent.4 ∙ sym (none-added asked (sym (row_found s.protocol (held_by (picture_of s block) core) word asking asked t) ∙ rw (absent.1, absent.0) refl))
+      absent.4 ∙ sym (none-added asked (row_found s.protocol (held_by (picture_of s block) core) word asking asked t ∙ rw (absent.1, absent.0) refl))
   ask-adds new asked t (inr asks) =
-      taken-adds asked t asks.row (sym (row_found s.protocol (held_by (picture_of s block) core) word asking asked t) ∙ asks.is_row) asks.held asks.taken
-
-fills_of : (q : Request) (closing : Open) (p : Protocol) (log : List Item) (old new : List Line) (did : Option Did) → q ≢ PutM → ArrivesFor q closing p log old new did → FillsRequestor closing p log old new did
-fills_of PutM closing p log old new did get fills = absurd (get refl)
-fills_of _ closing p log old new did get fills = fills
+      taken-adds asked t asks.row (row_found s.protocol (held_by (picture_of s block) core) word asking asked t ∙ asks.is_row) asks.held asks.taken
 
 -- the requestor performs the operation that waits
-fills-adds : (closing : Open) (p : Protocol) (log : List Item) (old new : List Line) (did : Option Did) (line : Line) (asking : Access) (value : ℕ)
-    → FillsRequestor closing p log old new did → Fills closing p (held_at old closing.core) line asking value
+fills-adds : (q : Request) (closing : Open) (p : Protocol) (log : List Item) (old new : List Line) (did : Option Did) (line : Line) (asking : Access) (value : ℕ)
+    → q ≢ PutM → ArrivesFor q closing p log old new did → Fills closing p (held_at old closing.core) line asking value
     → did ≡ Some (next_did log closing.core closing.block asking.word asking.op value false)
-fills-adds closing p log old new did line asking value f t =
+fills-adds PutM closing p log old new did line asking value get f t = absurd (get refl)
+fills-adds _ closing p log old new did line asking value get f t =
     let same : f.asking ≡ asking = same_Some _ _ (sym f.fills.waited ∙ t.waited) in
     let its = performs-one asking.word asking.op closing.value f.value value f.fills.after t.after (rw same at f.fills.performed) t.performed in
     rw (← same, ← its) f.logged
@@ -130,10 +126,8 @@ plan-adds s (plan.Writeback came memory) h answer new added m =
 plan-adds s (plan.Fill came memory filled) h answer new added m =
     let its = its_response h.1.opened m.1.1 in
     let responds = m.1.1.responds in
-    let fills = fills_of m.1.1.closing.request m.1.1.closing s.protocol s.log (picture_of s m.0).caches responds.next.caches m.1.1.did
-    (λ e. h.2 (sym (ap (λ (x : Came). x.request) its) ∙ e)) responds.requestor in
-    let did = fills-adds m.1.1.closing s.protocol s.log (picture_of s m.0).caches responds.next.caches m.1.1.did _ filled.access filled.value fills
-    (rw (m.1.1.on_block, responds.opened) at h.3) in
+    let did = fills-adds m.1.1.closing.request m.1.1.closing s.protocol s.log (picture_of s m.0).caches responds.next.caches m.1.1.did _ filled.access filled.value
+    (λ e. h.2 (sym (ap (λ (x : Came). x.request) its) ∙ e)) responds.requestor (rw (m.1.1.on_block, responds.opened) at h.3) in
     rw (← its, ← did) m.1.1.logged
 
 -- for how many more of an Ask there is room, by its row
@@ -146,7 +140,7 @@ room_is before core block _ = refl
 plan-room : (before : Standing) (x : Plan) → IsPlan before.situation x → 0 < room_for before x → ¬ IsFull before (planned_step x)
 plan-room before (plan.Ask core block word asking asked) h some full =
     let s = before.situation in
-    let row = sym (row_found s.protocol (held_by (picture_of s block) core) word asking asked h.1) ∙ full.1.1.0 in
+    let row = row_found s.protocol (held_by (picture_of s block) core) word asking asked h.1 ∙ full.1.1.0 in
     let room : room_for_ask before core block asked ≡ room_to full.0 before core block =
     room_is before core block asked ∙ ap (λ (o : Option CacheCell). option_map_or (λ row. room_to row.action before core block) o 1) row in
     let none = full.1.1.1 in

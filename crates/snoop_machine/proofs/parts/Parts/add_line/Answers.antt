@@ -1,9 +1,9 @@
-use Rattle.std.proofs.Common.{◌≡◌, ◌<◌, ◌≤◌, [], ◌∙◌, ℕ, List, ap, length, arith, refl}
+use Rattle.std.proofs.Common.{◌≡◌, [], ◌∙◌, ℕ, List, ap, length, arith, refl}
 use Rattle.std.specs.Prelude.{slice_index_or}
 use Rattle.std.proofs.lemmas.Result.{err_from_is_err_and}
 use Rattle.std.proofs.lemmas.List.{length-set}
-use Rattle.snoop_machine.proofs.Common.{Waiting, waiting_of, KeepsMapsRoom, Fields, fields, shown_line_rooms}
-use Rattle.snoop_machine.proofs.Room.{held_in, held_in-set, keeps_room, shown-same, places-map, places-queue}
+use Rattle.snoop_machine.proofs.Common.{Waiting, waiting_of, KeepsMapsRoom, shown_line_rooms}
+use Rattle.snoop_machine.proofs.Room.{held_in-set, keeps_room, shown-same, places-map, places-queue}
 use Rattle.snoop_machine.proofs.Queues.{queues_of-room}
 use Rattle.snoop_machine.proofs.Soundness.{IsSound-room}
 use Rattle.snoop_machine.proofs.parts.Parts.add_line.Given.{Over}

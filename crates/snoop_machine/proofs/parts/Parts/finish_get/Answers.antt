@@ -1,10 +1,10 @@
-use Rattle.std.proofs.Common.{◌≡◌, ◌≢◌, ◌<◌, false, length, Some, refl, sym, ◌∙◌, ap, arith}
+use Rattle.std.proofs.Common.{◌≡◌, ◌≢◌, false, Some, refl, sym, ◌∙◌, arith}
 use Rattle.std.specs.Prelude.{slice_set}
-use Rattle.snoop_machine.proofs.Common.{PutM, Fills, next_did, Line, filled_line, row_of, line_at, fields, Standing}
+use Rattle.snoop_machine.proofs.Common.{PutM, Fills, next_did, Line, filled_line, row_of, line_at, fields}
 use Rattle.snoop_machine.proofs.Closing.{Closes, as_closes, never_none, opened, header, in_cores, whole_after, room_after, responded, loses}
 use Rattle.snoop_machine.proofs.LinesGoing.{LinesGo-none, LinesGo-more, row_after}
 use Rattle.snoop_machine.proofs.Soundness.{IsSound-line}
-use Rattle.snoop_machine.proofs.PictureViews.{line_seen, core_in, block_in, rows_in, row_in}
+use Rattle.snoop_machine.proofs.PictureViews.{line_seen, core_in, block_in, rows_in, row_in, words_seen}
 use Rattle.snoop_machine.proofs.Responses.{Arrives-get, IsProper-filled, waits-filled, held-filled}
 use Rattle.snoop_machine.proofs.parts.Parts.finish_get.Given.{Over}
 use Rattle.snoop_machine.proofs.parts.Parts.finish_get.Goals as goal
@@ -33,7 +33,7 @@ fill-requires-clause-core g c =
 
 pub fill-requires-clause-word : goal.fill-requires-clause-word
 fill-requires-clause-word g c =
-    let held = sym (ap (λ (x : Standing). x.situation.shape.words) c.self.view_is) ∙ c.self.invariant.sized.held in
+    let held = words_seen c.self.invariant c.self.view_is in
     let word = c.requires.word.0 in
     omega arith
 

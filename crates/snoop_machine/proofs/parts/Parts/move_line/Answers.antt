@@ -1,8 +1,8 @@
-use Rattle.std.proofs.Common.{sym, ap, ◌∙◌, arith, refl, inl}
-use Rattle.snoop_machine.proofs.Common.{Line, with_line, changed, line_at, Fields, fields, Standing}
+use Rattle.std.proofs.Common.{◌∙◌, arith, refl, inl}
+use Rattle.snoop_machine.proofs.Common.{Line, with_line, changed, line_at, Fields, fields}
 use Rattle.snoop_machine.proofs.Following.{follows-set}
 use Rattle.snoop_machine.proofs.Soundness.{IsSound-line}
-use Rattle.snoop_machine.proofs.PictureViews.{seen, line_seen, state_seen, picture_in, line-written, core_in, block_in, sized_on}
+use Rattle.snoop_machine.proofs.PictureViews.{seen, line_seen, state_seen, words_seen, picture_in, line-written, core_in, block_in, sized_on}
 use Rattle.snoop_machine.proofs.Room.{keeps_room}
 use Rattle.snoop_machine.proofs.parts.Parts.move_line.Given.{Over}
 use Rattle.snoop_machine.proofs.parts.Parts.move_line.Goals as goal
@@ -17,7 +17,7 @@ abbrev line : (g : Over) (c : After-change g) → Line
 line g c = changed c.args.next c.args.change (line_at c.self.inside.lines.rows c.args.core c.args.block)
 
 pub change-requires-clause-words : goal.change-requires-clause-words
-change-requires-clause-words g c = rw (sym c.self.invariant.sized.held ∙ ap (λ (x : Standing). x.situation.shape.words) c.self.view_is) c.requires.words
+change-requires-clause-words g c = rw (← (words_seen c.self.invariant c.self.view_is)) c.requires.words
 
 pub change-requires-clause-proper : goal.change-requires-clause-proper
 change-requires-clause-proper g c = rw (line_seen c.self.invariant c.self.view_is c.args.core c.args.block) at c.requires.proper

@@ -9,7 +9,7 @@ use Rattle.snoop_machine.proofs.Plans.{order-allowed}
 use Rattle.snoop_machine.proofs.parts.Parts.plan_order.Given.{Over}
 use Rattle.snoop_machine.proofs.parts.Parts.plan_order.Goals as goal
 use Rattle.snoop_machine.proofs.parts.Parts.plan_order.Goals.{After-sender-from}
-use Rattle.snoop_machine.proofs.PictureViews.{seen, line_seen}
+use Rattle.snoop_machine.proofs.PictureViews.{seen, line_seen, protocol_seen}
 
 -- a block that was found without an open transaction
 free_copied : (found : Option (Bor Open)) (transaction : Option Open) → option_copied found ≡ transaction → is_some found ≡ false → transaction ≡ None
@@ -31,14 +31,14 @@ pub sender-from-requires-clause-rows : goal.sender-from-requires-clause-rows
 sender-from-requires-clause-rows g c =
     let free = free_copied _ _ c.transaction.ensures.value (sym c.is_some.ensures ∙ c.if-is_some.false) in
     let request = c.in-Some.request in
-    rw (ap (λ (s : Standing). s.situation.protocol) c.self.view_is, sym (ap (λ (x : Picture). x.caches) (seen c.self.invariant c.self.view_is c.in-Some.block)))
+    rw (protocol_seen c.self.invariant c.self.view_is, sym (ap (λ (x : Picture). x.caches) (seen c.self.invariant c.self.view_is c.in-Some.block)))
     (λ k inside. (finds_rows c.args.self.now.situation c.requires.inductive (Order c.args.core)).cache k c.in-Some.block (Some (seen_by k c.args.core request))
     (request, ((c.in-Some.ensures.some.waits, free), refl)))
 
 pub sender-from-requires-clause-line : goal.sender-from-requires-clause-line
 sender-from-requires-clause-line g c =
     let free = free_copied _ _ c.transaction.ensures.value (sym c.is_some.ensures ∙ c.if-is_some.false) in
-    rw (ap (λ (s : Standing). s.situation.protocol) c.self.view_is, free_seen c.self.invariant c.self.view_is c.in-Some.block free)
+    rw (protocol_seen c.self.invariant c.self.view_is, free_seen c.self.invariant c.self.view_is c.in-Some.block free)
     (orders_follow_sender_table c.args.self.now.situation c.requires.inductive c.args.core c.in-Some.block c.in-Some.request
     (c.in-Some.ensures.some.waits, free))
 
@@ -46,7 +46,7 @@ sender-from-requires-clause-line g c =
 plan_is : (g : Over) (c : After-sender-from g) → IsPlan c.args.self.now.situation (plan.Order c.args.core c.in-Some.request c.in-Some.block c.sender-from.result.from c.sender-from.result.payload c.sender-from.result.memory)
 plan_is g c =
     let free = free_copied _ _ c.transaction.ensures.value (sym c.is_some.ensures ∙ c.if-is_some.false) in
-    let protocol = ap (λ (s : Standing). s.situation.protocol) c.self.view_is in
+    let protocol = protocol_seen c.self.invariant c.self.view_is in
     let request = c.in-Some.request in (
       c.requires.core,
       record {

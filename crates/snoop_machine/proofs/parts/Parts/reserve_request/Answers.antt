@@ -1,5 +1,5 @@
-use Rattle.std.proofs.Common.{◌<◌, ap, length, arith, refl}
-use Rattle.snoop_machine.proofs.Common.{Waiting, waiting_of, Fields, fields}
+use Rattle.std.proofs.Common.{ap, arith, refl}
+use Rattle.snoop_machine.proofs.Common.{Waiting, waiting_of}
 use Rattle.snoop_machine.proofs.Room.{held_in-set, keeps_room, KeepsMapsRoom-same}
 use Rattle.snoop_machine.proofs.Queues.{queues_of-room}
 use Rattle.snoop_machine.proofs.Soundness.{IsSound-room}

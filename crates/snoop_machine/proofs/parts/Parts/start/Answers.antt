@@ -1,8 +1,7 @@
 use Rattle.std.proofs.Common.{◌≡◌, ℕ, List, ◌<◌, ◌-◌, ◌++◌, ◌∷◌, [], length, drop, Option, Some, ◌∙◌, refl, sym, ap, arith}
 use Rattle.std.specs.Prelude.{slice_set}
-use Rattle.std.specs.Option.{ForSome}
 use Rattle.std.proofs.lemmas.List.{length-set, length-append, length-drop, set-get_or}
-use Rattle.snoop_machine.proofs.Common.{zero_words, Protocol, Payload, Request, Open, Waiting, waiting_of, head_of, Starts, MemLine, Picture, Sends, picture_of, row_of, MemTables, memory_line, Fields, fields, standing, pictures_of, Standing}
+use Rattle.snoop_machine.proofs.Common.{zero_words, Open, Waiting, waiting_of, head_of, Starts, MemLine, Picture, picture_of, row_of, MemTables, memory_line, Fields, fields, standing, pictures_of, Standing}
 use Rattle.snoop_history.specs.declared.items.Item.TheVariants as item
 use Rattle.snoop_machine.proofs.Following.{follows-rows}
 use Rattle.snoop_machine.proofs.PictureViews.{seen, line_seen, picture-written, core_in, block_in, sized_on}
@@ -30,11 +29,6 @@ start-requires-clause-free g c =
     rw (head g (goal.at.start-requires-clause-free g c).After-words_sent-words)
     (sym (ap (λ (x : Picture). x.transaction) (seen c.self.invariant c.self.view_is c.args.block)) ∙ c.requires.free)
 
--- a core that sends is one of the picture
-sender_in : (p : Protocol) (before : Picture) (core : ℕ) (request : Request) (from : Option ℕ) (payload : Payload) → Sends p before core request from payload
-    → ForSome from (λ sender. sender < length before.caches)
-sender_in p before core request from payload sends = λ sender is. (rw is at sends).0
-
 pub words_sent-words-requires-clause-sender : goal.words_sent-words-requires-clause-sender
 words_sent-words-requires-clause-sender g c =
     let s = c.args.self.now.situation in
@@ -42,7 +36,7 @@ words_sent-words-requires-clause-sender g c =
     ap (λ (x : Picture). length x.caches) (seen c.self.invariant c.self.view_is c.args.block)
     ∙ (c.self.invariant.sound.row c.args.block (block_in c.self.invariant c.self.view_is c.args.block c.requires.head.within)
     ∙ ap (λ (x : Standing). x.situation.shape.cores) c.self.view_is) in
-    rw (← wide) (sender_in s.protocol (picture_of s c.args.block) c.args.core c.args.request c.args.from c.args.payload c.requires.sender.sends)
+    rw (← wide) (λ sender is. (rw is at c.requires.sender.sends).0)
 
 -- the parts before it
 abbrev parts : (g : Over) (c : After-start g) → Fields
