@@ -2,7 +2,7 @@
 use Rattle.std.proofs.Common.{◌≡◌, ◌≢◌, ℕ, ◌<◌, List, length, true, false, Some, refl, sym, ap, ◌∙◌, arith, inl, inr}
 use Rattle.std.proofs.lemmas.Bool.{ne_eqb, cases_lt}
 use Rattle.std.proofs.lemmas.List.{get_or_past}
-use Rattle.snoop_machine.proofs.Common.{Protocol, Cell, seen_by, other, waiting_request, CacheState, Request, GetS, GetM, PutM, has, TakesRow, Line, held_at, nothing_held, IsProper, concerns}
+use Rattle.snoop_machine.proofs.Common.{Protocol, Cell, seen_by, other, waiting_request, CacheState, Request, PutM, has, TakesRow, Line, held_at, nothing_held, IsProper, concerns}
 use Rattle.snoop_rules.specs.declared.names.CacheState.TheVariants as state
 use Rattle.snoop_rules.specs.declared.names.CacheAction.{CacheAction}
 use Rattle.snoop_rules.specs.declared.names.CacheAction.TheVariants as action
@@ -16,9 +16,8 @@ still p s q h there = (let row = there.1 in grind arith)
 
 none_concerned : (q : Request) → concerns q state.I ≡ false
 unfolding is_owner
-none_concerned GetS = refl
-none_concerned GetM = refl
 none_concerned PutM = refl
+none_concerned _ = refl
 
 -- a set of the requestor and of the cores that its request concerns
 pub record AreConcerned (lines : List Line) (core : ℕ) (q : Request) (set : List ℕ) : Type 0 where

@@ -60,10 +60,8 @@ module _ {caches : List Contents} {holders : List Holders} {now : Held} {core bl
 
   rows_wrote : held_by_block (length after) (slice_set caches core new) ≡ with_line_at now.rows core block line
   rows_wrote =
-      ap (λ (l : List Holders). held_by_block (length l) (slice_set caches core new)) wrote.followed.set
-      ∙ (ap (λ (n : ℕ). held_by_block n (slice_set caches core new)) (length-set holders block wrote.followed.moved)
-      ∙ (rows-set (length holders) caches core block new line wrote.map.in_blocks wrote.here elsewhere
-      ∙ ap (λ (h : Held). with_line_at h.rows core block line) wrote.map.view))
+      rw (wrote.followed.set, length-set holders block wrote.followed.moved, ← wrote.map.view)
+      (rows-set (length holders) caches core block new line wrote.map.in_blocks wrote.here elsewhere)
 
   -- the blocks that the maps have lines for now
   lines_set : map blocks_of (slice_set caches core new) ≡ slice_set now.lines core (blocks_of new)

@@ -149,10 +149,9 @@ plan-room before _ h some full = absurd (omega arith)
 
 -- where the plan has no room the step has none
 plan-full : (before : Standing) (x : Plan) → IsPlan before.situation x → room_for before x ≡ 0 → IsFull before (planned_step x)
-plan-full before (plan.Ask core block word asking Absent) h none = absurd (omega arith)
 plan-full before (plan.Ask core block word asking (Hit next value)) h none = (action.Hit, (next, (h.1.0, none)))
 plan-full before (plan.Ask core block word asking (Issue request next)) h none = (action.Issue request, (next, (h.1, none)))
-plan-full before (plan.Ask core block word asking (Drop next)) h none = absurd (omega arith)
+plan-full before (plan.Ask core block word asking _) h none = absurd (omega arith)
 plan-full before _ h none = none
 
 pub IsFull-plan : (before : Standing) (taking : Step) (x : Plan) → IsPlanFor before.situation taking x → room_for before x ≡ 0 → IsFull before taking
@@ -160,9 +159,9 @@ IsFull-plan before taking x h none = rw h.0 at (plan-full before x h.1 none)
 
 -- where the room for a plan was made there is room for one such step at least
 some-room : (before : Standing) (x : Plan) → HasRoom before x → 0 < room_for before x
-some-room before (plan.Ask core block word asking Absent) h = omega arith
+some-room before (plan.Ask core block word asking (Hit next value)) h = h
 some-room before (plan.Ask core block word asking (Issue request next)) h = rw h.0 h.1
-some-room before (plan.Ask core block word asking (Drop next)) h = omega arith
+some-room before (plan.Ask core block word asking _) h = omega arith
 some-room before _ h = h
 
 -- a planned step is refused as out of memory alone

@@ -24,21 +24,14 @@ capacity_held queues core =
     let room = rooms_at queues core in
     omega arith
 
-shown-full : (room spare : ℕ) → room ≡ 0 → shown_line_room room spare ≡ 0
-shown-full zero spare full = refl
-shown-full (suc room) spare full = absurd (omega arith)
-
-shown-there : (room spare : ℕ) → 0 < room → shown_line_room room spare ≡ spare
-shown-there zero spare some = absurd (omega arith)
-shown-there (suc room) spare some = refl
+-- no room of a map is shown where the queue has none, and all of it where the queue has some
+shown : (room spare : ℕ) → (room ≡ 0 → shown_line_room room spare ≡ 0) × (0 < room → shown_line_room room spare ≡ spare) × (shown_line_room room spare ≤ spare)
+shown zero spare = ((λ full. refl), (λ some. absurd (omega arith)), omega arith)
+shown (suc room) spare = ((λ full. absurd (omega arith)), (λ some. refl), omega arith)
 
 shown-none : (room : ℕ) → shown_line_room room 0 ≡ 0
 shown-none zero = refl
 shown-none (suc room) = refl
-
-shown-least : (room spare : ℕ) → shown_line_room room spare ≤ spare
-shown-least zero spare = omega arith
-shown-least (suc room) spare = omega arith
 
 shown_at : (queues : List Waiting) (line_rooms : List ℕ) (core : ℕ) → slice_index (shown_line_rooms queues line_rooms) core ≡ shown_line_room (slice_index_or queues core no_queue).room (slice_index_or line_rooms core 0)
 shown_at [] line_rooms core = refl
@@ -51,19 +44,19 @@ shown_at (q ∷ qs) (s ∷ ss) (suc core) = shown_at qs ss core
 pub shown-same : (queues : List Waiting) (line_rooms : List ℕ) (core spare : ℕ) → (slice_index_or queues core no_queue).room ≡ 0 → shown_line_rooms queues (slice_set line_rooms core spare) ≡ shown_line_rooms queues line_rooms
 shown-same [] line_rooms core spare full = refl
 shown-same (q ∷ qs) [] core spare full = refl
-shown-same (q ∷ qs) (s ∷ ss) zero spare full = ap (λ (n : ℕ). n ∷ shown_line_rooms qs ss) (shown-full q.room spare full ∙ sym (shown-full q.room s full))
+shown-same (q ∷ qs) (s ∷ ss) zero spare full = ap (λ (n : ℕ). n ∷ shown_line_rooms qs ss) ((shown q.room spare).0 full ∙ sym ((shown q.room s).0 full))
 shown-same (q ∷ qs) (s ∷ ss) (suc core) spare full = ap (λ (l : List ℕ). shown_line_room q.room s ∷ l) (shown-same qs ss core spare full)
 
 -- what holds of the room of parts, of which callers see this
 module _ {count : ℕ} {m : Fields} (whole : IsWhole count m) {now : Standing} (view : standing m ≡ now) where
   -- there is no place where the queue has no room, nor where the map has none
   pub places-queue : (core : ℕ) → (waiting_of m.bus core).room ≡ 0 → places now core ≡ 0
-  places-queue core full = let shown = rooms_at m.bus.queues core in rw (← view) (omega arith)
+  places-queue core full = let its = rooms_at m.bus.queues core in rw (← view) (omega arith)
 
   pub places-map : (core : ℕ) → slice_index_or m.lines.line_rooms core 0 ≡ 0 → places now core ≡ 0
   places-map core full =
-      let least = shown-least (waiting_of m.bus core).room (slice_index_or m.lines.line_rooms core 0) in
-      let shown = shown_at m.bus.queues m.lines.line_rooms core in
+      let least = (shown (waiting_of m.bus core).room (slice_index_or m.lines.line_rooms core 0)).2 in
+      let its = shown_at m.bus.queues m.lines.line_rooms core in
       rw (← view) (omega arith)
 
   -- another queue for one core, of no less capacity
@@ -87,9 +80,9 @@ module _ {count : ℕ} {m : Fields} (whole : IsWhole count m) {now : Standing} (
             omega arith;
         lines = λ core had has.
             let before = shown_at m.bus.queues m.lines.line_rooms core in
-            let least = shown-least (waiting_of m.bus core).room (slice_index_or m.lines.line_rooms core 0) in
+            let least = (shown (waiting_of m.bus core).room (slice_index_or m.lines.line_rooms core 0)).2 in
             let room = rooms_at bus.queues core in
-            let after = shown_at bus.queues lines.line_rooms core ∙ shown-there (waiting_of bus core).room (slice_index_or lines.line_rooms core 0) (omega arith) in
+            let after = shown_at bus.queues lines.line_rooms core ∙ (shown (waiting_of bus core).room (slice_index_or lines.line_rooms core 0)).1 (omega arith) in
             let kept = line_rooms core in
             omega arith;
       })

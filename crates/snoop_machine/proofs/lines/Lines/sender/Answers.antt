@@ -27,9 +27,6 @@ returns-in-Send-clause-sender g c =
     sends g (goal.at.returns-in-Send-clause-sender g c).In-Some None c.in-Send.payload
     (c.in-Some.row.next, rw c.in-Send.is at (memory_row g (goal.at.returns-in-Send-clause-sender g c).In-Some))
 
-requestor_within : (g : Over) (c : In-Some-next g) → c.args.requestor < length (row_of c.args.self.now.rows c.args.block)
-requestor_within g c = waits_within (row_of c.args.self.now.rows c.args.block) c.args.requestor c.args.request c.requires.waits
-
 -- the set has the cores that the request concerns
 concerned : (g : Over) (c : After-concerned-concerned g)
     → AreConcerned (row_of c.args.self.now.rows c.args.block) c.args.requestor c.args.request c.concerned-concerned.result
@@ -37,7 +34,7 @@ concerned g c = record { own = c.concerned-concerned.ensures.own; others = c.con
 
 within_row : (g : Over) (c : In-Some-next g) → c.in-Some-next.core < length (row_of c.args.self.now.rows c.args.block)
 within_row g c =
-    concerned_within (concerned g (goal.at.In-Some-next g c).After-concerned-concerned) (requestor_within g c) c.in-Some-next.core c.in-Some-next.ensures.some.2
+    concerned_within (concerned g (goal.at.In-Some-next g c).After-concerned-concerned) (waits_within _ _ _ c.requires.waits) c.in-Some-next.core c.in-Some-next.ensures.some.2
 
 pub state-state-requires-clause-core : goal.state-state-requires-clause-core
 state-state-requires-clause-core g c = within_row g (goal.at.state-state-requires-clause-core g c).In-Some-next
@@ -62,13 +59,9 @@ returns-in-Send-action-clause-sender g c =
 
 pub loop-core-init : goal.loop-core-init
 loop-core-init g c =
-    let d = (goal.at.loop-core-init g c).In-Some in
-    let held = memory_line c.args.memory.now c.args.block in
-    let before = free_picture (row_of c.args.self.now.rows c.args.block) held in (
-      Silent-none c.args.protocol before c.args.requestor c.args.request c.in-Some.row.action c.in-Some.row.next
-          (memory_row g d) c.in_default-action.not-Send,
-      omega arith,
-    )
+    let before = free_picture (row_of c.args.self.now.rows c.args.block) (memory_line c.args.memory.now c.args.block) in
+    let row = memory_row g (goal.at.loop-core-init g c).In-Some in
+    (Silent-none c.args.protocol before c.args.requestor c.args.request c.in-Some.row.action c.in-Some.row.next row c.in_default-action.not-Send, omega arith)
 
 pub loop-core-preserved : goal.loop-core-preserved
 loop-core-preserved g c =
@@ -95,7 +88,7 @@ unreachable-requires-2 g c =
     Silent-all c.args.protocol before c.args.requestor c.args.request silent c.requires.line
 
 pub concerned-concerned-requires-clause-requestor : goal.concerned-concerned-requires-clause-requestor
-concerned-concerned-requires-clause-requestor g c = waits_within (row_of c.args.self.now.rows c.args.block) c.args.requestor c.args.request c.requires.waits
+concerned-concerned-requires-clause-requestor g c = waits_within _ _ _ c.requires.waits
 
 pub loop-core-smaller : goal.loop-core-smaller
 loop-core-smaller g c =
