@@ -85,8 +85,7 @@ module _ (s : Situation) (core block word : ℕ) (asking : Op) (answer : Reply) 
       let h = rw (sym (same_Some _ _ e)) at taken in
       let words : h.1.0.before ≡ t.1.before = same_Some _ _ (sym h.1.0.kept ∙ t.1.kept) in
       rw (← (performs-one word asking t.1.before h.0 value h.1.0.after t.1.after (rw words at h.1.0.performed) t.1.performed)) h.1.2
-  taken-adds (Issue request next) t row e held taken = (rw (sym (same_Some _ _ e)) at taken).2
-  taken-adds (Drop next) t row e held taken = (rw (sym (same_Some _ _ e)) at taken).2
+  taken-adds _ t row e held taken = (rw (sym (same_Some _ _ e)) at taken).2
 
   ask-adds : (new : Situation) (asked : Asked) → TakesAsk s.protocol (held_by (picture_of s block) core) word asking asked
       → IsAbsent s core block asking answer new added ⊎ Asks s core block word asking answer new added → added ≡ entry_of_ask s.log core block word asking asked

@@ -35,8 +35,7 @@ shown-none (suc room) = refl
 
 shown_at : (queues : List Waiting) (line_rooms : List ℕ) (core : ℕ) → slice_index (shown_line_rooms queues line_rooms) core ≡ shown_line_room (slice_index_or queues core no_queue).room (slice_index_or line_rooms core 0)
 shown_at [] line_rooms core = refl
-shown_at (q ∷ qs) [] zero = sym (shown-none q.room)
-shown_at (q ∷ qs) [] (suc core) = sym (shown-none (slice_index_or qs core no_queue).room)
+shown_at (q ∷ qs) [] core = sym (shown-none (slice_index_or (q ∷ qs) core no_queue).room)
 shown_at (q ∷ qs) (s ∷ ss) zero = refl
 shown_at (q ∷ qs) (s ∷ ss) (suc core) = shown_at qs ss core
 

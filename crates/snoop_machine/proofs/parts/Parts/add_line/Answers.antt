@@ -17,14 +17,11 @@ rows g c = c.put_ahead.ensures.rows ∙ c.reserve.ensures.rows
 pub invariant_of-self-2 : goal.invariant_of-self-2
 invariant_of-self-2 g c =
     let core = c.args.core in
-    let after = c.reserve.new.self in
     record {
       sound = rw (rows g (goal.at.invariant_of-self-2 g c).After-put_ahead) (IsSound-room c.self.invariant.sound c.reserve-2.new.self core _
           (core_in c.self.invariant c.self.view_is core c.requires.core) c.reserve-2.ensures.queue refl c.reserve-2.ensures.transactions);
       sized = sized_on _ _ c.self.invariant.sized refl
-          (ap (λ (lines : List (List ℕ)). length lines) c.put_ahead.ensures.lines
-          ∙ (length-set after.lines core _ ∙ ap (λ (lines : List (List ℕ)). length lines) c.reserve.ensures.lines))
-          (refl, refl) (refl, refl, refl);
+          (rw (c.put_ahead.ensures.lines, length-set, c.reserve.ensures.lines) refl) (refl, refl) (refl, refl, refl);
     }
 
 pub returns-in_err-reserve-clause-full : goal.returns-in_err-reserve-clause-full
