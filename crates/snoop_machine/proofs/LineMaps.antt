@@ -6,7 +6,8 @@ use Rattle.std.proofs.lemmas.Bool.{true_from_ne_false}
 use Rattle.std.proofs.lemmas.List.{length-map, get_or_read}
 use Rattle.std.proofs.lemmas.Map.Made.{is_some-lookup}
 use Rattle.snoop_machine.proofs.Common.{CacheState, I, Line, Contents, no_cache, line_in, blocks_of, lines_held, Held, AreLines, held, MayMoveTo, is_among, gone, row_of, line_at, Holders}
-use Rattle.snoop_machine.proofs.MapRows.{within-rows, line-rows, line-none, row-rows, blocks-at, spare-at, found-lookup}
+use Rattle.snoop_machine.proofs.ProperLines.{is_none}
+use Rattle.snoop_machine.proofs.MapRows.{within-rows, line-rows, line-none, row-rows, blocks-at, spare-at}
 
 -- a core's map and its line of a block, where callers see both
 pub record IsMap (caches : List Contents) (holders : List Holders) (now : Held) (core block : ℕ) (map : Contents) : Type 0 where
@@ -63,8 +64,8 @@ module _ {caches : List Contents} {holders : List Holders} (lines : AreLines cac
   -- where the map has no line the core is in I
   pub none_held : (core block : ℕ) → is_some (lookup (nat_eq block) (slice_index_or caches core no_cache).entries) ≡ false → (line_at now.rows core block).state ≡ I
   none_held core block none =
-      let nothing = found-lookup (slice_index_or caches core no_cache).entries block none in
-      ap (λ (x : Line). x.state) (sym (ap (λ (h : Held). line_at h.rows core block) view) ∙ line-none (length holders) caches core block nothing)
+      ap (λ (x : Line). x.state) (sym (ap (λ (h : Held). line_at h.rows core block) view) ∙ line-none (length holders) caches core block
+      (rw (is_none (lookup (nat_eq block) (slice_index_or caches core no_cache).entries) none) refl))
 
   -- where the core holds the block the map has a line
   pub held_placed : (core block : ℕ) → (line_at now.rows core block).state ≢ I → is_some (lookup (nat_eq block) (slice_index_or caches core no_cache).entries) ≡ true

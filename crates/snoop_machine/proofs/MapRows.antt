@@ -1,5 +1,5 @@
 -- The lines of maps as rows, and what one write does to them.
-use Rattle.std.proofs.Common.{◌≡◌, ℕ, zero, suc, ◌<◌, false, List, [], ◌∷◌, ◌++◌, length, replicate, is_some, refl, sym, ◌∙◌, ap, inl, inr, arith}
+use Rattle.std.proofs.Common.{◌≡◌, ℕ, zero, suc, ◌<◌, false, List, [], ◌∷◌, ◌++◌, length, replicate, refl, sym, ◌∙◌, ap, inl, inr, arith}
 use Rattle.std.specs.Prelude.{slice_index_or, slice_set, map, nat_eq, unwrap_or}
 use Rattle.std.specs.Map.{lookup}
 use Rattle.std.specs.List.{range_with_len}
@@ -9,7 +9,6 @@ use Rattle.std.proofs.lemmas.Bool.{cases_lt, ne_eqb}
 use Rattle.std.proofs.lemmas.List.{map-set, length-map, length-set, get_or_past, get_or-replicate, length-replicate}
 use Rattle.std.proofs.lemmas.List.FromFn.{length-map-range_with_len, get_or-map-range_with_len, fill_by_all}
 use Rattle.snoop_machine.proofs.Common.{has, Line, held_at, nothing_held, keeps, Contents, no_cache, line_in, blocks_of, lines_held, AreHolders, HaveMoved, held_by_block, line_at, with_line_at, Holders}
-use Rattle.snoop_machine.proofs.ProperLines.{is_none}
 use Rattle.snoop_model.specs.Invariant.Fits.{is_owner}
 use Rattle.snoop_machine.proofs.EachPlace.{each_place}
 
@@ -114,10 +113,6 @@ spare-at caches core = get_or-map (λ (cache : Contents). cache.spare) caches co
 
 pub length-blocks_of : (cache : Contents) → length (blocks_of cache) ≡ length cache.entries
 length-blocks_of cache = length-map cache.entries (λ (e : ℕ × Line). e.0)
-
--- a line that holds something is found
-pub found-lookup : (entries : List (ℕ × Line)) (block : ℕ) → is_some (lookup (nat_eq block) entries) ≡ false → unwrap_or (lookup (nat_eq block) entries) nothing_held ≡ nothing_held
-found-lookup entries block none = rw (is_none (lookup (nat_eq block) entries) none) refl
 
 -- maps with the same entries have the same lines
 pub line-same : (new old : Contents) → new.entries ≡ old.entries → (block : ℕ) → line_in new block ≡ line_in old block

@@ -5,8 +5,7 @@ use Rattle.snoop_machine.proofs.Common.{Protocol, waiting_request, I, Request, P
 use Rattle.snoop_model.proofs.Tables.Rows.{fill-waits, IsProper-fill}
 
 pub Arrives-put : (closing : Open) (p : Protocol) (log : List Item) (caches : List Line) → closing.request ≡ PutM → ArrivesFor closing.request closing p log caches caches None
-Arrives-put closing p log caches put =
-    rw put (refl, refl)
+Arrives-put closing p log caches put = rw put (refl, refl)
 
 arrives_get : (q : Request) (closing : Open) (p : Protocol) (log : List Item) (old new : List Line) (did : Option Did) → q ≢ PutM → FillsRequestor closing p log old new did → ArrivesFor q closing p log old new did
 arrives_get PutM closing p log old new did get fills = absurd (get refl)

@@ -16,16 +16,14 @@ pub record Going (old : Standing) (steps : List Step) (taken : ℕ) (new : Stand
   pub many : taken ≡ count_by is_ok outcomes
   pub keeps : MachineKeeps new.situation
 
-counted : (outcomes : List (Result Reply Refused)) (outcome : Result Reply Refused) → count_by is_ok (outcomes ++ outcome ∷ []) ≡ count_by is_ok outcomes + count_by is_ok (outcome ∷ [])
-counted outcomes outcome = sum_by-append (λ x. cond (is_ok x) 1 0) outcomes (outcome ∷ [])
-
 -- one step more of a list
 pub goes_on : (old middle new : Standing) (steps : List Step) (i : ℕ) (d : Step) (taken : ℕ) (result : Result Reply Refused) → i < length steps
     → Going old (take i steps) taken middle
     → Answers middle (get_or steps i d) result new → (count : ℕ) → count ≡ taken + count_by is_ok (result ∷ []) → Going old (take (i + 1) steps) count new
 goes_on old middle new steps i d taken result within so_far goes count more =
     let keeps = step_keeps middle new (get_or steps i d) result so_far.keeps goes in
-    let all = counted so_far.outcomes result in
+    let all : count_by is_ok (so_far.outcomes ++ result ∷ []) ≡ count_by is_ok so_far.outcomes + count_by is_ok (result ∷ []) =
+    sum_by-append (λ x. cond (is_ok x) 1 0) so_far.outcomes (result ∷ []) in
     let was = so_far.many in
     rw (take_more steps i d within) (record {
       outcomes = so_far.outcomes ++ result ∷ [];
