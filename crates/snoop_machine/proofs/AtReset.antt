@@ -1,15 +1,10 @@
 -- The parts of a machine fit together at reset.
-use Rattle.std.proofs.Common.{◌≡◌, ℕ, List, [], ◌∷◌, length, replicate, Option, Some, None, refl, sym, ◌∙◌, ap, arith, inl, inr}
+use Rattle.std.proofs.Common.{◌≡◌, ℕ, List, [], ◌∷◌, length, replicate, Option, None, refl, ◌∙◌, ap, arith, inl, inr}
 use Rattle.std.specs.Prelude.{slice_index_or, All}
 use Rattle.std.proofs.lemmas.Bool.{cases_lt}
 use Rattle.std.proofs.lemmas.List.{length-replicate, get_or-replicate, get_or_past}
 use Rattle.std.proofs.lemmas.List.Elements.{All-head, All-tail}
-use Rattle.snoop_trace.specs.Extent.{Extent}
-use Rattle.snoop_bus.specs.Traffic.{Open, Traffic, Waiting, no_queue, waiting_of, transaction_on}
-use Rattle.snoop_model.specs.Pictures.Lines.{Line}
-use Rattle.snoop_model.specs.Pictures.Picture.{held_at, nothing_held}
-use Rattle.snoop_machine.specs.PartsView.{queues_of, IsSound}
-use Rattle.snoop_machine.specs.Lines.{line_at}
+use Rattle.snoop_machine.proofs.Common.{Extent, Open, Traffic, Waiting, no_queue, waiting_of, transaction_on, Line, held_at, nothing_held, line_at, queues_of, IsSound}
 use Rattle.snoop_model.proofs.Lists.Facts.{replicated}
 
 pub queues_of-reset : (queues : List Waiting) → All (λ q. q.requests ≡ []) queues → queues_of queues ≡ replicate (length queues) []
@@ -43,6 +38,6 @@ module _ (shape : Extent) (bus : Traffic) (long : length bus.queues ≡ shape.co
     queues = long;
     transactions = ap length closed ∙ length-replicate shape.blocks None;
     proper = λ k b. (rw (line_is k b) (record { kept = refl; waiting = refl }));
-    opened = λ b t h. (let clash : ◌≡◌ {A = Option Open} None (Some t) = sym (transaction_is b) ∙ h in cc);
+    opened = λ b t h. cc (transaction_is b);
     waits = λ k b. rw (queue_is k, line_is k b) refl;
   }

@@ -3,23 +3,10 @@ use Rattle.std.proofs.Common.{◌≡◌, ◌<◌, ℕ, ◌-◌, List, ◌++◌, 
 use Rattle.std.specs.Prelude.{option_map, slice_set}
 use Rattle.std.proofs.lemmas.Option.{same_Some}
 use Rattle.std.proofs.lemmas.List.{length-set, length-append}
+use Rattle.snoop_machine.proofs.Common.{Came, Did, Item, Open, transaction_on, ArrivesFor, RespondMove, came_of, written, Line, MemLine, Picture, picture_of, LosesLines, Held, KeepsMapsRoom, LinesGo, row_of, memory_line, Fields, standing, IsSound, IsWhole, IsClosing, Standing, KeepsRoom}
 use Rattle.snoop_rules.specs.declared.names.MemCell.{MemCell}
-use Rattle.snoop_history.specs.declared.items.Came.{Came}
-use Rattle.snoop_history.specs.declared.items.Did.{Did}
-use Rattle.snoop_history.specs.declared.items.Item.{Item}
 use Rattle.snoop_history.specs.declared.items.Item.TheVariants as item
-use Rattle.snoop_bus.specs.Traffic.{Open, transaction_on}
 use Rattle.snoop_model.specs.declared.replies.Reply.TheVariants as reply
-use Rattle.snoop_model.specs.Pictures.Lines.{Line, MemLine}
-use Rattle.snoop_model.specs.Pictures.Picture.{Picture}
-use Rattle.snoop_model.specs.Pictures.Situation.{picture_of}
-use Rattle.snoop_machine.specs.Standing.{Standing, KeepsRoom}
-use Rattle.snoop_model.specs.Moves.Move.{ArrivesFor, RespondMove, came_of, written}
-use Rattle.snoop_machine.specs.Following.{LosesLines}
-use Rattle.snoop_machine.specs.Lines.{Held, KeepsMapsRoom, LinesGo, row_of}
-use Rattle.snoop_machine.specs.PartsView.{Fields, standing, IsSound, IsWhole}
-use Rattle.snoop_machine.specs.Memory.{memory_line}
-use Rattle.snoop_machine.specs.Plan.{IsClosing}
 use Rattle.snoop_machine.proofs.Following.{follows-rows}
 use Rattle.snoop_machine.proofs.Soundness.{IsSound-close}
 use Rattle.snoop_machine.proofs.Room.{keeps_room}
@@ -34,6 +21,15 @@ pub record Closes (m : Fields) (now : Standing) (came : Came) (memory : MemCell)
   pub found : IsClosing now.situation came memory
   pub is_open : transaction_on m.bus came.block ≡ Some closing
 
+module _ {count : ℕ} {m : Fields} (whole : IsWhole count m) {now : Standing} (view : standing m ≡ now) {came : Came} {memory : MemCell}
+    (found : IsClosing now.situation came memory) where
+  -- its transaction is open
+  pub never_none : transaction_on m.bus came.block ≡ None → ⊥
+  never_none none = let clash = rw (seen whole view came.block, none) at found.opened in cc
+
+  abbrev pub as_closes : {closing : Open} → came.block < now.situation.shape.blocks → transaction_on m.bus came.block ≡ Some closing → Closes m now came memory closing
+  as_closes within is_open = record { count = count; whole = whole; view = view; within = within; found = found; is_open = is_open }
+
 module _ {m : Fields} {now : Standing} {came : Came} {memory : MemCell} {closing : Open} (closes : Closes m now came memory closing) where
   -- callers see it open
   pub opened : (picture_of now.situation came.block).transaction ≡ Some closing
@@ -42,6 +38,10 @@ module _ {m : Fields} {now : Standing} {came : Came} {memory : MemCell} {closing
   -- the response is its
   pub header : came_of closing ≡ came
   header = same_Some _ _ (sym (ap (option_map came_of) opened) ∙ closes.found.opened)
+
+  -- its core is one that there is
+  pub in_cores : closing.core < now.situation.shape.cores
+  in_cores = rw (← header) at closes.found.core
 
   -- memory's line of the block then
   abbrev pub settled : MemLine
@@ -70,7 +70,8 @@ module _ {m : Fields} {now : Standing} {came : Came} {memory : MemCell} {closing
   room_after lines did room line_rooms =
       let had : 0 < m.log.room = rw (← closes.view) at room in
       let long = length-append m.log.items (item.Came came did ∷ []) in
-      keeps_room m (closed lines did) now closes.view (omega arith) (λ core. omega arith) line_rooms
+      let after = closed lines did in
+      keeps_room closes.whole closes.view lines after.memory after.bus after.log (omega arith) (λ core. omega arith) line_rooms
 
   -- the block's picture is written
   abbrev pub next : List Line → Picture

@@ -1,25 +1,13 @@
 -- The cores that a request concerns; each other core's row changes nothing and sends nothing.
-use Rattle.std.proofs.Common.{◌≡◌, ◌≢◌, ℕ, ◌<◌, List, length, true, false, None, Some, refl, sym, ap, ◌∙◌, arith, inl, inr}
+use Rattle.std.proofs.Common.{◌≡◌, ◌≢◌, ℕ, ◌<◌, List, length, true, false, Some, refl, sym, ap, ◌∙◌, arith, inl, inr}
 use Rattle.std.proofs.lemmas.Bool.{ne_eqb, cases_lt}
 use Rattle.std.proofs.lemmas.List.{get_or_past}
-use Rattle.snoop_trace.specs.declared.protocol.Protocol.{Protocol}
-use Rattle.snoop_rules.specs.declared.names.Request.{Request}
-use Rattle.snoop_rules.specs.declared.names.Request.TheVariants.{GetS, GetM, PutM}
-use Rattle.snoop_rules.specs.declared.names.CacheState.{CacheState}
+use Rattle.snoop_machine.proofs.Common.{Protocol, Cell, seen_by, other, waiting_request, CacheState, Request, PutM, has, TakesRow, Line, held_at, nothing_held, IsProper, concerns}
 use Rattle.snoop_rules.specs.declared.names.CacheState.TheVariants as state
 use Rattle.snoop_rules.specs.declared.names.CacheAction.{CacheAction}
 use Rattle.snoop_rules.specs.declared.names.CacheAction.TheVariants as action
-use Rattle.snoop_rules.specs.Cell.{Cell}
-use Rattle.snoop_rules.specs.Waits.{waiting_request}
-use Rattle.snoop_rules.specs.Takers.{seen_by, other}
-use Rattle.snoop_model.specs.Pictures.Lines.{Line}
-use Rattle.snoop_model.specs.Pictures.Picture.{held_at, nothing_held}
-use Rattle.snoop_model.specs.Pictures.Proper.{IsProper}
 use Rattle.snoop_model.specs.Invariant.Fits.{is_owner}
-use Rattle.snoop_model.specs.Moves.Move.{TakesRow}
 use Rattle.snoop_model.specs.Moves.LookUps.{HasRow}
-use Rattle.snoop_blocks.specs.CoreSet.{has}
-use Rattle.snoop_machine.specs.Holders.{concerns}
 use Rattle.snoop_machine.proofs.ProperLines.{moves_to_same}
 
 still : (p : Protocol) (s : CacheState) (q : Request) → concerns q s ≡ false → HasRow p s (other q) → Cell p s (other q) action.None s
@@ -28,9 +16,8 @@ still p s q h there = (let row = there.1 in grind arith)
 
 none_concerned : (q : Request) → concerns q state.I ≡ false
 unfolding is_owner
-none_concerned GetS = refl
-none_concerned GetM = refl
 none_concerned PutM = refl
+none_concerned _ = refl
 
 -- a set of the requestor and of the cores that its request concerns
 pub record AreConcerned (lines : List Line) (core : ℕ) (q : Request) (set : List ℕ) : Type 0 where
@@ -66,9 +53,7 @@ module _ {lines : List Line} {core : ℕ} {q : Request} {set : List ℕ} (concer
 pub waits_within : (lines : List Line) (core : ℕ) (q : Request) → waiting_request (held_at lines core).state ≡ Some q → core < length lines
 waits_within lines core q waits = elim (cases_lt core (length lines)) [
   | inl less ↦ less
-  | inr past ↦
-      let none : waiting_request (held_at lines core).state ≡ None = rw (get_or_past lines core nothing_held past) refl in
-      cc
+  | inr past ↦ (let none = rw (get_or_past lines core nothing_held past) at waits in cc)
 ]
 
 -- a core in I stays there at an Order

@@ -2,16 +2,9 @@
 use Rattle.std.proofs.Common.{◌≡◌, ◌≢◌, ℕ, ◌+◌, ◌<◌, List, length, sym, ◌∙◌, ap, arith, inl, inr, refl}
 use Rattle.std.specs.Prelude.{slice_index_or, slice_set}
 use Rattle.std.proofs.lemmas.List.{get_or-set_same}
-use Rattle.snoop_rules.specs.declared.names.CacheState.TheVariants.{I}
-use Rattle.snoop_model.specs.Pictures.Lines.{Line}
-use Rattle.snoop_model.specs.Pictures.Picture.{Picture, held_by}
-use Rattle.snoop_model.specs.Pictures.Situation.{state_of, nothing_there}
-use Rattle.snoop_machine.specs.Standing.{Standing, line_count}
-use Rattle.snoop_machine.specs.PartsView.{Fields, standing, IsWhole}
-use Rattle.snoop_machine.specs.Lines.{Held, LinesGo, WritesLine, gone, row_of}
-use Rattle.snoop_machine.specs.Following.{LosesLines}
+use Rattle.snoop_machine.proofs.Common.{I, Line, Picture, held_by, state_of, nothing_there, LosesLines, Held, LinesGo, WritesLine, gone, row_of, Fields, standing, IsWhole, Standing, line_count}
 use Rattle.snoop_machine.proofs.EachPlace.{each_place}
-use Rattle.snoop_machine.proofs.PictureViews.{state_seen, core_in, block_in, has_picture}
+use Rattle.snoop_machine.proofs.PictureViews.{state_seen, rows_in, row_in, has_picture}
 use Rattle.snoop_machine.proofs.LineMaps.{gone-one, gone-cases}
 use Rattle.snoop_machine.proofs.LinesGoing.{LinesGo-none, LinesGo-more, row_after}
 
@@ -50,7 +43,6 @@ module _ {count : ℕ} {m : Fields} (whole : IsWhole count m) {old : Standing} (
       → next.caches ≡ slice_set (row_of m.lines.rows block) core line
       → (k : ℕ) → LosesLines old new k
   follows-set {core} moved in_cores row =
-      let in_blocks = block_in whole view block within in
-      let rows_in : block < length m.lines.rows = rw whole.sound.rows in_blocks in
-      let row_in : core < length (row_of m.lines.rows block) = rw (whole.sound.row block in_blocks) (core_in whole view core in_cores) in
-      follows-rows (row ∙ sym (row_after moved rows_in)) (LinesGo-more moved rows_in m.lines (LinesGo-none block m.lines) row_in refl)
+      let in_rows = rows_in whole view block within in
+      follows-rows (row ∙ sym (row_after moved in_rows))
+      (LinesGo-more moved in_rows m.lines (LinesGo-none block m.lines) (row_in whole view core block in_cores within) refl)

@@ -3,23 +3,11 @@ use Rattle.std.proofs.Common.{◌≡◌, ℕ, ◌+◌, ◌<◌, length, sym, ◌
 use Rattle.std.proofs.lemmas.Bool.{cases_eq}
 use Rattle.std.proofs.lemmas.List.{get_or-set_other}
 use Rattle.std.specs.Prelude.{slice_index}
-use Rattle.snoop_bus.specs.Queues.{queue_of}
-use Rattle.snoop_trace.specs.declared.step.Step.{Step}
+use Rattle.snoop_machine.proofs.Common.{Step, Item, queue_of, FirstMove, Picture, held_by, with_line, Situation, picture_of, state_of, nothing_there, Reply, LosesLines, AddsLines, NeedsLine, MovesToI, HoldsOn, IsPlan, IsPlanFor, planned_step, Standing, KeepsRoom, line_count, Issue, Plan}
 use Rattle.snoop_trace.specs.declared.step.Step.TheVariants as step
 use Rattle.snoop_rules.specs.declared.names.CacheAction.TheVariants as action
-use Rattle.snoop_history.specs.declared.items.Item.{Item}
-use Rattle.snoop_model.specs.declared.replies.Reply.{Reply}
-use Rattle.snoop_model.specs.Pictures.Picture.{Picture, held_by, with_line}
-use Rattle.snoop_model.specs.Pictures.Situation.{Situation, picture_of, state_of, nothing_there}
-use Rattle.snoop_model.specs.Moves.Move.{FirstMove}
-use Rattle.snoop_machine.specs.Standing.{Standing, KeepsRoom, line_count}
-use Rattle.snoop_machine.specs.Holding.{NeedsLine, MovesToI, HoldsOn}
 use Rattle.snoop_model.proofs.Tables.EvictInI.{no_row}
-use Rattle.snoop_machine.specs.declared.ask.Asked.TheVariants.{Issue}
-use Rattle.snoop_machine.specs.declared.plan.Plan.{Plan}
 use Rattle.snoop_machine.specs.declared.plan.Plan.TheVariants as plan
-use Rattle.snoop_machine.specs.Plan.{IsPlan, IsPlanFor, planned_step}
-use Rattle.snoop_machine.specs.Following.{LosesLines, AddsLines}
 
 -- a core that leaves I on a block moves to I on none
 stays_out : (before : Standing) (new : Situation) (taking : Step) (core : ℕ) (answer : Reply) (entry : Option Item) → FirstMove before.situation taking answer new entry → NeedsLine before taking core → ¬ MovesToI before.situation new core

@@ -1,3 +1,4 @@
+pub mod Common
 pub mod EachPlace
 pub mod Queues
 pub mod Soundness

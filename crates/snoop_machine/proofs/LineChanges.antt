@@ -4,14 +4,7 @@ use Rattle.std.specs.Prelude.{slice_index_or, slice_set, nat_eq, map, is_some}
 use Rattle.std.specs.Map.{lookup}
 use Rattle.std.proofs.lemmas.List.{length-set, map-set, set-get_or, get_or-set_same, get_or-set_other}
 use Rattle.std.proofs.lemmas.Map.Made.{is_some-lookup}
-use Rattle.snoop_rules.specs.declared.names.CacheState.{CacheState}
-use Rattle.snoop_rules.specs.declared.names.CacheState.TheVariants.{I}
-use Rattle.snoop_machine.specs.declared.holders.Holders.{Holders}
-use Rattle.snoop_model.specs.Pictures.Lines.{Line}
-use Rattle.snoop_model.specs.Pictures.Proper.{IsProper}
-use Rattle.snoop_machine.specs.Holders.{HaveFollowed}
-use Rattle.snoop_machine.specs.Cache.{Contents, no_cache, line_or_nothing, line_in, blocks_of, KeepsMapRoom}
-use Rattle.snoop_machine.specs.Lines.{Held, AreLines, KeepsMapsRoom, WritesLine, held, held_by_block, gone, line_at, with_line_at}
+use Rattle.snoop_machine.proofs.Common.{CacheState, I, Line, IsProper, Contents, no_cache, line_or_nothing, line_in, blocks_of, KeepsMapRoom, HaveFollowed, Held, AreLines, KeepsMapsRoom, WritesLine, held, held_by_block, gone, line_at, with_line_at, Holders}
 use Rattle.snoop_machine.proofs.EachPlace.{each_place}
 use Rattle.snoop_machine.proofs.MapRows.{rows-set, blocks-at, spare-at, length-blocks_of}
 use Rattle.snoop_machine.proofs.LineMaps.{IsMap, blocks_seen, spare_seen, maps-long, gone-none, gone-one, is_I}
@@ -57,31 +50,29 @@ pub record HasWritten (caches : List Contents) (holders : List Holders) (now : H
   pub room : KeepsMapRoom old new
 
 module _ {caches : List Contents} {holders : List Holders} {now : Held} {core block : ℕ} {line : Line} {old new : Contents} {after : List Holders}
-    (wrote : HasWritten caches holders now core block line old new after) (lines : AreLines caches holders) (view : held caches holders ≡ now) where
+    (wrote : HasWritten caches holders now core block line old new after) where
   elsewhere : (b : ℕ) → nat_eq block b ≡ false → line_in new b ≡ line_in (slice_index_or caches core no_cache) b
   elsewhere b ne = ap line_or_nothing (wrote.others b ne) ∙ ap (λ (cache : Contents). line_in cache b) wrote.map.read
 
   pub lines_after : AreLines (slice_set caches core new) after
   lines_after =
-      AreLines-followed lines core new wrote.map.in_cores block line after wrote.map.in_blocks wrote.proper wrote.here elsewhere wrote.followed
+      AreLines-followed wrote.map.lines core new wrote.map.in_cores block line after wrote.map.in_blocks wrote.proper wrote.here elsewhere wrote.followed
 
   rows_wrote : held_by_block (length after) (slice_set caches core new) ≡ with_line_at now.rows core block line
   rows_wrote =
-      ap (λ (l : List Holders). held_by_block (length l) (slice_set caches core new)) wrote.followed.set
-      ∙ (ap (λ (n : ℕ). held_by_block n (slice_set caches core new)) (length-set holders block wrote.followed.moved)
-      ∙ (rows-set (length holders) caches core block new line wrote.map.in_blocks wrote.here elsewhere
-      ∙ ap (λ (h : Held). with_line_at h.rows core block line) view))
+      rw (wrote.followed.set, length-set holders block wrote.followed.moved, ← wrote.map.view)
+      (rows-set (length holders) caches core block new line wrote.map.in_blocks wrote.here elsewhere)
 
   -- the blocks that the maps have lines for now
   lines_set : map blocks_of (slice_set caches core new) ≡ slice_set now.lines core (blocks_of new)
-  lines_set = map-set blocks_of caches core new ∙ ap (λ (h : Held). slice_set h.lines core (blocks_of new)) view
+  lines_set = map-set blocks_of caches core new ∙ ap (λ (h : Held). slice_set h.lines core (blocks_of new)) wrote.map.view
 
   -- those that the core's has, now and before
   blocks_now : slice_index_or (map blocks_of (slice_set caches core new)) core [] ≡ blocks_of new
-  blocks_now = rw lines_set (get_or-set_same now.lines core (blocks_of new) [] (rw (maps-long lines view) wrote.map.in_cores))
+  blocks_now = rw lines_set (get_or-set_same now.lines core (blocks_of new) [] (rw (maps-long wrote.map.lines wrote.map.view) wrote.map.in_cores))
 
   blocks_were : slice_index_or now.lines core [] ≡ blocks_of old
-  blocks_were = sym (ap blocks_of wrote.map.read ∙ blocks_seen lines view core)
+  blocks_were = sym (ap blocks_of wrote.map.read ∙ blocks_seen wrote.map.lines wrote.map.view core)
 
   pub writes : WritesLine core block line now (held (slice_set caches core new) after)
   writes =
@@ -104,5 +95,5 @@ module _ {caches : List Contents} {holders : List Holders} {now : Held} {core bl
           | inr went ↦ (let one = went.0 in let fewer = went.2 in let count = length-blocks_of new in let had = length-blocks_of old in omega arith)
         ]);
         others = λ k ne. rw lines_set (get_or-set_other now.lines core k (blocks_of new) [] ne);
-        room = spares_kept lines view core new after wrote.map.in_cores (rw wrote.map.read at wrote.room);
+        room = spares_kept wrote.map.lines wrote.map.view core new after wrote.map.in_cores (rw wrote.map.read at wrote.room);
       }

@@ -1,20 +1,18 @@
 -- The lines that callers see, in the maps.
-use Rattle.std.proofs.Common.{◌≡◌, ◌≢◌, ℕ, ◌<◌, true, false, List, [], length, is_some, refl, sym, ◌∙◌, ap, inl, inr, ◌⊎◌, arith, get_or}
+use Rattle.std.proofs.Common.{◌≡◌, ◌≢◌, ℕ, ◌<◌, true, false, List, [], length, is_some, refl, sym, ◌∙◌, ap, inl, inr, ◌⊎◌, get_or}
 use Rattle.std.specs.Prelude.{slice_index_or, map, nat_eq}
 use Rattle.std.specs.Map.{lookup}
 use Rattle.std.proofs.lemmas.Bool.{true_from_ne_false}
 use Rattle.std.proofs.lemmas.List.{length-map, get_or_read}
 use Rattle.std.proofs.lemmas.Map.Made.{is_some-lookup}
-use Rattle.snoop_rules.specs.declared.names.CacheState.{CacheState}
-use Rattle.snoop_rules.specs.declared.names.CacheState.TheVariants.{I}
-use Rattle.snoop_model.specs.Pictures.Lines.{Line}
-use Rattle.snoop_machine.specs.declared.holders.Holders.{Holders}
-use Rattle.snoop_machine.specs.Cache.{Contents, no_cache, line_in, blocks_of, lines_held}
-use Rattle.snoop_machine.specs.Lines.{Held, AreLines, held, MayMoveTo, is_among, is_invalid, gone, row_of, line_at}
-use Rattle.snoop_machine.proofs.MapRows.{within-rows, line-rows, line-none, row-rows, blocks-at, spare-at, found-lookup}
+use Rattle.snoop_machine.proofs.Common.{CacheState, I, Line, Contents, no_cache, line_in, blocks_of, lines_held, Held, AreLines, held, MayMoveTo, is_among, gone, row_of, line_at, Holders}
+use Rattle.snoop_machine.proofs.ProperLines.{is_none}
+use Rattle.snoop_machine.proofs.MapRows.{within-rows, line-rows, line-none, row-rows, blocks-at, spare-at}
 
 -- a core's map and its line of a block, where callers see both
 pub record IsMap (caches : List Contents) (holders : List Holders) (now : Held) (core block : ℕ) (map : Contents) : Type 0 where
+  pub lines : AreLines caches holders
+  pub view : held caches holders ≡ now
   pub in_blocks : block < length holders
   pub in_cores : core < length caches
   pub read : map ≡ slice_index_or caches core no_cache
@@ -55,21 +53,19 @@ module _ {caches : List Contents} {holders : List Holders} (lines : AreLines cac
       let within = in_rows core block in_blocks in_cores in
       let read = get_or_read caches core map within.1 found no_cache in
       record {
+        lines = lines;
+        view = view;
         in_blocks = within.0;
         in_cores = within.1;
         read = read;
         was = ap (λ (cache : Contents). line_in cache block) read ∙ line_seen core block within.0;
       }
 
-  -- there are few cores
-  pub core_few : {core block : ℕ} {map : Contents} → IsMap caches holders now core block map → core < 256
-  core_few its = let few = lines.few in let within = its.in_cores in omega arith
-
   -- where the map has no line the core is in I
   pub none_held : (core block : ℕ) → is_some (lookup (nat_eq block) (slice_index_or caches core no_cache).entries) ≡ false → (line_at now.rows core block).state ≡ I
   none_held core block none =
-      let nothing = found-lookup (slice_index_or caches core no_cache).entries block none in
-      ap (λ (x : Line). x.state) (sym (ap (λ (h : Held). line_at h.rows core block) view) ∙ line-none (length holders) caches core block nothing)
+      ap (λ (x : Line). x.state) (sym (ap (λ (h : Held). line_at h.rows core block) view) ∙ line-none (length holders) caches core block
+      (rw (is_none (lookup (nat_eq block) (slice_index_or caches core no_cache).entries) none) refl))
 
   -- where the core holds the block the map has a line
   pub held_placed : (core block : ℕ) → (line_at now.rows core block).state ≢ I → is_some (lookup (nat_eq block) (slice_index_or caches core no_cache).entries) ≡ true
@@ -84,13 +80,10 @@ pub is_I : (s : CacheState) → (s ≡ I) ⊎ (s ≢ I)
 is_I I = inl refl
 is_I _ = inr (λ e. cc)
 
-is_invalid-I : (s : CacheState) → s ≢ I → is_invalid s ≡ false
-is_invalid-I I ne = absurd (ne refl)
-is_invalid-I _ ne = refl
-
 -- no line goes to a state that is not I
 pub gone-none : (old new : CacheState) → new ≢ I → gone old new ≡ 0
-gone-none old new ne = rw (is_invalid-I new ne) refl
+gone-none old I ne = absurd (ne refl)
+gone-none old _ ne = refl
 
 -- nor where the line stays
 pub gone-same : (s : CacheState) → gone s s ≡ 0
@@ -98,11 +91,11 @@ gone-same s = elim (is_I s) [ inl e ↦ rw e refl | inr ne ↦ gone-none s s ne 
 
 -- one goes from another state to I
 pub gone-one : (old new : CacheState) → old ≢ I → new ≡ I → gone old new ≡ 1
-gone-one old new ne e = rw (e, is_invalid-I old ne) refl
+gone-one I new ne e = absurd (ne refl)
+gone-one _ new ne e = rw e refl
 
 -- one goes, or none
 pub gone-cases : (old new : CacheState) → ((old ≢ I) × (new ≡ I) × (gone old new ≡ 1)) ⊎ (gone old new ≡ 0)
-gone-cases old new = elim (is_I new) [
-  | inr ne ↦ inr (gone-none old new ne)
-  | inl e ↦ elim (is_I old) [ inl was ↦ inr (rw (was, e) refl) | inr ne ↦ inl (ne, e, gone-one old new ne e) ]
-]
+gone-cases I I = inr refl
+gone-cases _ I = inl ((λ e. cc), refl, refl)
+gone-cases _ _ = inr refl

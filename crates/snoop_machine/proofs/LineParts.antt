@@ -1,17 +1,10 @@
 -- What holds between the maps and the holders, after one map has changed.
-use Rattle.std.proofs.Common.{◌≡◌, ℕ, ◌<◌, false, List, length, refl, sym, ◌∙◌, ap, inl, inr}
+use Rattle.std.proofs.Common.{◌≡◌, ℕ, ◌<◌, false, List, length, refl, sym, ◌∙◌, ap, inl, inr, arith}
 use Rattle.std.specs.Prelude.{slice_index_or, slice_set, nat_eq}
 use Rattle.std.proofs.lemmas.Bool.{cases_eq, ne_eqb}
 use Rattle.std.proofs.lemmas.List.{length-set, set-get_or}
-use Rattle.snoop_rules.specs.declared.names.CacheState.{CacheState}
-use Rattle.snoop_model.specs.Pictures.Lines.{Line}
-use Rattle.snoop_model.specs.Pictures.Picture.{held_at}
-use Rattle.snoop_model.specs.Pictures.Proper.{IsProper, keeps}
+use Rattle.snoop_machine.proofs.Common.{CacheState, Line, held_at, IsProper, keeps, Contents, no_cache, line_in, lines_held, AreHolders, HaveFollowed, StandsAs, no_holders, Held, AreLines, Holders}
 use Rattle.snoop_model.specs.Invariant.Fits.{is_owner}
-use Rattle.snoop_machine.specs.declared.holders.Holders.{Holders}
-use Rattle.snoop_machine.specs.Holders.{AreHolders, HaveFollowed, StandsAs, no_holders}
-use Rattle.snoop_machine.specs.Cache.{Contents, no_cache, line_in, lines_held}
-use Rattle.snoop_machine.specs.Lines.{Held, AreLines}
 use Rattle.snoop_machine.proofs.EachPlace.{each_place}
 use Rattle.snoop_machine.proofs.LineMaps.{IsMap}
 use Rattle.snoop_machine.proofs.MapRows.{line-row, row-same, row-set, length-row, AreHolders-moved}
@@ -55,15 +48,17 @@ module _ {caches : List Contents} {holders : List Holders} (lines : AreLines cac
             (λ b ne lt. rw (row-same caches core b new (elsewhere b ne)) (lines.indexed b (rw (length-set holders block moved) at lt)));
       })
 
--- the holders of a block have each core as its line says
-pub stands : {caches : List Contents} {holders : List Holders} (lines : AreLines caches holders) {now : Held} {core block : ℕ} {old : Contents}
-    → IsMap caches holders now core block old
-    → (before : CacheState) → before ≡ (line_in old block).state → StandsAs core before (slice_index_or holders block no_holders)
-stands {caches} lines {core} {block} its before was =
-    let sets = lines.indexed block its.in_blocks in
-    let stood : (held_at (lines_held caches block) core).state ≡ before = ap (λ (x : Line). x.state) (line-row caches core block)
-    ∙ sym (was ∙ ap (λ (cache : Contents). (line_in cache block).state) its.read) in
-    (sets.owners core ∙ ap is_owner stood, sets.readers core ∙ ap keeps stood)
+module _ {caches : List Contents} {holders : List Holders} {now : Held} {core block : ℕ} {old : Contents} (its : IsMap caches holders now core block old) where
+  -- there are few cores
+  pub core_few : core < 256
+  core_few = let few = its.lines.few in let within = its.in_cores in omega arith
+
+  -- the holders of the block have the core as its line says
+  pub stands : (before : CacheState) → before ≡ (line_in old block).state → StandsAs core before (slice_index_or holders block no_holders)
+  stands before was =
+      let sets = its.lines.indexed block its.in_blocks in
+      let stood : (held_at (lines_held caches block) core).state ≡ before = rw (line-row caches core block, ← its.read) (sym was) in
+      (sets.owners core ∙ ap is_owner stood, sets.readers core ∙ ap keeps stood)
 
 -- the holders follow a core that stays
 pub followed-still : (core block : ℕ) (state : CacheState) (holders : List Holders) → StandsAs core state (slice_index_or holders block no_holders) → HaveFollowed core block state holders holders

@@ -3,9 +3,7 @@ use Rattle.std.proofs.Common.{◌≡◌, ℕ, ◌+◌, ◌<◌, ◌≤◌, List,
 use Rattle.std.specs.Prelude.{slice_index_or, slice_set}
 use Rattle.std.proofs.lemmas.Bool.{cases_eq}
 use Rattle.std.proofs.lemmas.List.{get_or-set_same}
-use Rattle.snoop_model.specs.Pictures.Lines.{Line}
-use Rattle.snoop_model.specs.Pictures.Picture.{nothing_held}
-use Rattle.snoop_machine.specs.Lines.{Held, KeepsMapsRoom, LinesGo, WritesLine, gone, row_of, line_at}
+use Rattle.snoop_machine.proofs.Common.{Line, nothing_held, Held, KeepsMapsRoom, LinesGo, WritesLine, gone, row_of, line_at}
 use Rattle.snoop_machine.proofs.EachPlace.{each_place}
 use Rattle.snoop_machine.proofs.LineMaps.{gone-same}
 

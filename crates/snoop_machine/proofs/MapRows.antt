@@ -1,22 +1,15 @@
 -- The lines of maps as rows, and what one write does to them.
-use Rattle.std.proofs.Common.{◌≡◌, ℕ, zero, suc, ◌<◌, false, List, [], ◌∷◌, ◌++◌, length, replicate, Option, None, Some, is_some, refl, sym, ◌∙◌, ap, inl, inr, arith}
+use Rattle.std.proofs.Common.{◌≡◌, ℕ, zero, suc, ◌<◌, false, List, [], ◌∷◌, ◌++◌, length, replicate, refl, sym, ◌∙◌, ap, inl, inr, arith}
 use Rattle.std.specs.Prelude.{slice_index_or, slice_set, map, nat_eq, unwrap_or}
 use Rattle.std.specs.Map.{lookup}
 use Rattle.std.specs.List.{range_with_len}
 use Rattle.std.proofs.Math.ListN.{get_or-map}
 use Rattle.std.proofs.Math.Seq.{map-set_same}
 use Rattle.std.proofs.lemmas.Bool.{cases_lt, ne_eqb}
-use Rattle.std.proofs.lemmas.List.{ext_get_or, map-set, length-map, length-set, get_or_past, get_or-replicate, length-replicate}
-use Rattle.std.proofs.lemmas.List.FromFn.{length-map-range_with_len, get_or-map-range_with_len}
-use Rattle.snoop_model.specs.Pictures.Lines.{Line}
-use Rattle.snoop_model.specs.Pictures.Picture.{held_at, nothing_held}
-use Rattle.snoop_model.specs.Pictures.Proper.{keeps}
+use Rattle.std.proofs.lemmas.List.{map-set, length-map, length-set, get_or_past, get_or-replicate, length-replicate}
+use Rattle.std.proofs.lemmas.List.FromFn.{length-map-range_with_len, get_or-map-range_with_len, fill_by_all}
+use Rattle.snoop_machine.proofs.Common.{has, Line, held_at, nothing_held, keeps, Contents, no_cache, line_in, blocks_of, lines_held, AreHolders, HaveMoved, held_by_block, line_at, with_line_at, Holders}
 use Rattle.snoop_model.specs.Invariant.Fits.{is_owner}
-use Rattle.snoop_blocks.specs.CoreSet.{has}
-use Rattle.snoop_machine.specs.declared.holders.Holders.{Holders}
-use Rattle.snoop_machine.specs.Holders.{AreHolders, HaveMoved}
-use Rattle.snoop_machine.specs.Cache.{Contents, no_cache, line_in, blocks_of, lines_held}
-use Rattle.snoop_machine.specs.Lines.{held_by_block, line_at, with_line_at}
 use Rattle.snoop_machine.proofs.EachPlace.{each_place}
 
 length-rows : (blocks : ℕ) (caches : List Contents) → length (held_by_block blocks caches) ≡ blocks
@@ -49,15 +42,13 @@ pub rows-set : (blocks : ℕ) (caches : List Contents) (core block : ℕ) (new :
     → held_by_block blocks (slice_set caches core new) ≡ with_line_at (held_by_block blocks caches) core block line
 rows-set blocks caches core block new line inside here others =
     let rows = held_by_block blocks caches in
-    let after = slice_set caches core new in
     let row = slice_set (slice_index_or rows block []) core line in
-    let long_rows : length rows ≡ blocks = length-rows blocks caches in
-    let long : length (held_by_block blocks after) ≡ blocks = length-rows blocks after in
-    ext_get_or [] (held_by_block blocks after) (slice_set rows block row) (long ∙ sym (length-set rows block row ∙ long_rows))
-    (λ b h. each_place (λ b its. b < blocks → slice_index_or (held_by_block blocks after) b [] ≡ its) rows block row [] (omega arith)
-    (λ lt. rw (row-rows blocks after block lt, row-rows blocks caches block lt) (row-set caches core block new line here))
-    (λ b ne lt. rw (row-rows blocks after b lt, row-rows blocks caches b lt)
-    (row-same caches core b new (others b (ne_eqb block b (λ e. ne (sym e)))))) b (omega arith))
+    let after = slice_set caches core new in
+    let long : length rows ≡ blocks = length-rows blocks caches in
+    sym (fill_by_all (lines_held after) (slice_set rows block row) blocks [] (length-set rows block row ∙ long)
+    (each_place (λ b its. b < blocks → its ≡ lines_held after b) rows block row [] (omega arith)
+    (λ lt. rw (row-rows blocks caches block lt) (sym (row-set caches core block new line here)))
+    (λ b ne lt. row-rows blocks caches b lt ∙ sym (row-same caches core b new (others b (ne_eqb block b (λ e. ne (sym e))))))))
 
 -- a place within the rows is within the maps
 pub within-rows : (blocks : ℕ) (caches : List Contents) (core block : ℕ) → block < length (held_by_block blocks caches) → core < length (slice_index_or (held_by_block blocks caches) block [])
@@ -110,11 +101,8 @@ row-empty (cache ∷ caches) empty block = rw (empty 0, row-empty caches (λ cor
 pub rows-empty : (caches : List Contents) → ((core : ℕ) → (slice_index_or caches core no_cache).entries ≡ []) → (blocks : ℕ)
     → held_by_block blocks caches ≡ replicate blocks (replicate (length caches) nothing_held)
 rows-empty caches empty blocks =
-    ext_get_or [] (held_by_block blocks caches) (replicate blocks (replicate (length caches) nothing_held))
-    (length-rows blocks caches ∙ sym (length-replicate blocks _))
-    (λ b h.
-    let within = rw (length-rows blocks caches) at h in
-    rw (row-rows blocks caches b within, row-empty caches empty b, get_or-replicate blocks b (replicate (length caches) nothing_held) [] within) refl)
+    sym (fill_by_all (lines_held caches) (replicate blocks (replicate (length caches) nothing_held)) blocks [] (length-replicate blocks _)
+    (λ b within. get_or-replicate blocks b (replicate (length caches) nothing_held) [] within ∙ sym (row-empty caches empty b)))
 
 -- the blocks that a core's map has a line for
 pub blocks-at : (caches : List Contents) (core : ℕ) → slice_index_or (map blocks_of caches) core [] ≡ blocks_of (slice_index_or caches core no_cache)
@@ -125,14 +113,6 @@ spare-at caches core = get_or-map (λ (cache : Contents). cache.spare) caches co
 
 pub length-blocks_of : (cache : Contents) → length (blocks_of cache) ≡ length cache.entries
 length-blocks_of cache = length-map cache.entries (λ (e : ℕ × Line). e.0)
-
--- a line that holds something is found
-pub found-lookup : (entries : List (ℕ × Line)) (block : ℕ) → is_some (lookup (nat_eq block) entries) ≡ false → unwrap_or (lookup (nat_eq block) entries) nothing_held ≡ nothing_held
-found-lookup entries block none = go (lookup (nat_eq block) entries) none
-  where
-    go : (o : Option Line) → is_some o ≡ false → unwrap_or o nothing_held ≡ nothing_held
-    go None e = refl
-    go (Some line) e = cc
 
 -- maps with the same entries have the same lines
 pub line-same : (new old : Contents) → new.entries ≡ old.entries → (block : ℕ) → line_in new block ≡ line_in old block

@@ -2,18 +2,9 @@
 use Rattle.std.proofs.Common.{◌≡◌, ℕ, ◌<◌, zero, suc, List, [], ◌∷◌, length, replicate, Option, None, refl, sym, ◌∙◌, ap, arith}
 use Rattle.std.specs.Prelude.{slice_index_or, slice_set}
 use Rattle.std.proofs.lemmas.List.{set-get_or}
-use Rattle.snoop_trace.specs.Extent.{Extent}
-use Rattle.snoop_trace.specs.Words.{Data, zero_words}
+use Rattle.snoop_machine.proofs.Common.{Data, zero_words, Open, Line, Picture, held_by, with_line, picture_of, state_of, nothing_there, line_at, row_of, with_line_at, memory_line, Fields, standing, pictures_of, IsSized, IsWhole, Standing}
 use Rattle.snoop_rules.specs.declared.names.MemState.{MemState}
 use Rattle.snoop_rules.specs.declared.names.MemState.TheVariants.{IorS}
-use Rattle.snoop_bus.specs.Traffic.{Open}
-use Rattle.snoop_model.specs.Pictures.Lines.{Line}
-use Rattle.snoop_model.specs.Pictures.Picture.{Picture, held_by, with_line}
-use Rattle.snoop_model.specs.Pictures.Situation.{picture_of, state_of, nothing_there}
-use Rattle.snoop_machine.specs.Standing.{Standing}
-use Rattle.snoop_machine.specs.Lines.{line_at, row_of, with_line_at}
-use Rattle.snoop_machine.specs.PartsView.{Fields, standing, pictures_of, IsSized, IsWhole}
-use Rattle.snoop_machine.specs.Memory.{memory_line}
 
 pictures-get : (rows : List (List Line)) (states : List MemState) (values : List Data) (transactions : List (Option Open)) (block : ℕ)
     → length states ≡ length rows → length values ≡ length rows → length transactions ≡ length rows
@@ -72,17 +63,30 @@ module _ {count : ℕ} {m : Fields} (whole : IsWhole count m) {now : Standing} (
   pub state_seen : (core block : ℕ) → state_of now.situation core block ≡ (line_at m.lines.rows core block).state
   state_seen core block = ap (λ (x : Line). x.state) (line_seen core block)
 
+  -- the protocol, and how many words a block has
+  pub protocol_seen : m.protocol ≡ now.situation.protocol
+  protocol_seen = ap (λ (s : Standing). s.situation.protocol) view
+
+  pub words_seen : now.situation.shape.words ≡ count
+  words_seen = sym (ap (λ (s : Standing). s.situation.shape.words) view) ∙ whole.sized.held
+
   pub core_in : (core : ℕ) → core < now.situation.shape.cores → core < m.shape.cores
   core_in core within = rw (← view) at within
 
   pub block_in : (block : ℕ) → block < now.situation.shape.blocks → block < m.shape.blocks
   block_in block within = rw (← view) at within
 
+  -- where a block and a core stand in the rows
+  pub rows_in : (block : ℕ) → block < now.situation.shape.blocks → block < length m.lines.rows
+  rows_in block within = rw whole.sound.rows (block_in block within)
+
+  pub row_in : (core block : ℕ) → core < now.situation.shape.cores → block < now.situation.shape.blocks → core < length (row_of m.lines.rows block)
+  row_in core block in_cores within = rw (whole.sound.row block (block_in block within)) (core_in core in_cores)
+
   pub has_picture : (block : ℕ) → block < now.situation.shape.blocks → block < length (standing m).situation.pictures
   has_picture block within =
       let long = pictures-length m.lines.rows m.memory.states m.memory.words m.bus.transactions states_long values_long transactions_long in
-      let rows = whole.sound.rows in
-      let inside = block_in block within in
+      let inside = rows_in block within in
       omega arith
 
   -- all that is shown of a block is written
@@ -109,12 +113,12 @@ pub sized_on : {count : ℕ} (m n : Fields) → IsSized count m → n.shape ≡ 
     → (n.log.cores ≡ m.log.cores) × (n.log.blocks ≡ m.log.blocks) × (n.log.words ≡ m.log.words) → IsSized count n
 sized_on m n sized shape lines memory log = record {
   few = rw shape sized.few;
-  lines = lines ∙ (sized.lines ∙ ap (λ (e : Extent). e.cores) (sym shape));
-  states = memory.0 ∙ (sized.states ∙ ap (λ (e : Extent). e.blocks) (sym shape));
-  values = memory.1 ∙ (sized.values ∙ ap (λ (e : Extent). e.blocks) (sym shape));
-  cores = log.0 ∙ (sized.cores ∙ ap (λ (e : Extent). e.cores) (sym shape));
-  blocks = log.1 ∙ (sized.blocks ∙ ap (λ (e : Extent). e.blocks) (sym shape));
-  words = log.2 ∙ (sized.words ∙ ap (λ (e : Extent). e.words) (sym shape));
-  held = ap (λ (e : Extent). e.words) shape ∙ sized.held;
+  lines = cc;
+  states = cc;
+  values = cc;
+  cores = cc;
+  blocks = cc;
+  words = cc;
+  held = cc;
   few_words = sized.few_words;
 }

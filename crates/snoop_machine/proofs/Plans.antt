@@ -3,40 +3,15 @@ use Rattle.std.proofs.Common.{◌≡◌, ◌≢◌, ℕ, ◌<◌, List, Option, 
 use Rattle.std.proofs.lemmas.Option.{same_Some}
 use Rattle.std.specs.Prelude.{option_map}
 use Rattle.std.specs.Option.{option_map_or}
-use Rattle.snoop_history.specs.declared.items.Came.{Came}
-use Rattle.snoop_trace.specs.Words.{HasWord}
-use Rattle.snoop_trace.specs.declared.step.Op.{Op}
+use Rattle.snoop_machine.proofs.Common.{HasWord, Protocol, Op, Step, cell_of, CacheCell, CacheState, Request, PutM, Came, Did, Item, Open, Performs, Takes, Fills, ArrivesFor, IsAbsent, Asks, RespondMove, FirstMove, came_of, next_did, Refuses, RefusedFor, Line, held_at, held_by, Situation, picture_of, IsHead, Access, Refused, NoCore, NoBlock, Stalled, NothingWaiting, BusTaken, NoTransaction, NoMemory, Reply, IsPlan, IsPlanFor, HasRoom, planned_step, room_for, room_for_ask, entry_of, entry_of_ask, room_to, IsFull, IsPrepared, Standing, Absent, Issue, Drop, Plan}
 use Rattle.snoop_trace.specs.declared.step.Op.TheVariants as op
 use Rattle.snoop_trace.specs.declared.step.Step.TheVariants as step
-use Rattle.snoop_trace.specs.declared.step.Step.{Step}
-use Rattle.snoop_trace.specs.declared.protocol.Protocol.{Protocol}
-use Rattle.snoop_rules.specs.declared.names.CacheState.{CacheState}
 use Rattle.snoop_rules.specs.declared.names.CacheAction.TheVariants as action
-use Rattle.snoop_rules.specs.declared.names.Request.{Request}
-use Rattle.snoop_rules.specs.declared.names.Request.TheVariants.{PutM}
-use Rattle.snoop_rules.specs.Cell.{cell_of}
-use Rattle.snoop_rules.specs.declared.names.CacheCell.{CacheCell}
 use Rattle.snoop_rules.specs.Takers.{asked as event_asked}
-use Rattle.snoop_history.specs.declared.items.Did.{Did}
-use Rattle.snoop_history.specs.declared.items.Item.{Item}
-use Rattle.snoop_bus.specs.Traffic.{Open}
-use Rattle.snoop_model.specs.declared.access.Access.{Access}
-use Rattle.snoop_model.specs.Pictures.Lines.{Line}
 use Rattle.snoop_machine.specs.declared.ask.Asked.{Asked}
-use Rattle.snoop_machine.specs.declared.ask.Asked.TheVariants.{Absent, Hit, Issue, Drop}
-use Rattle.snoop_machine.specs.declared.plan.Plan.{Plan}
+use Rattle.snoop_machine.specs.declared.ask.Asked.TheVariants.{Hit}
 use Rattle.snoop_machine.specs.declared.plan.Plan.TheVariants as plan
-use Rattle.snoop_model.specs.declared.replies.Reply.{Reply}
-use Rattle.snoop_model.specs.declared.replies.Refused.{Refused}
-use Rattle.snoop_model.specs.declared.replies.Refused.TheVariants.{NoCore, NoBlock, Stalled, NothingWaiting, BusTaken, NoTransaction, NoMemory}
-use Rattle.snoop_machine.specs.Standing.{Standing}
-use Rattle.snoop_model.specs.Pictures.Picture.{held_at, held_by}
-use Rattle.snoop_model.specs.Pictures.Situation.{Situation, picture_of, IsHead}
 use Rattle.snoop_machine.specs.Asked.{TakesAsk, RefusesAsk}
-use Rattle.snoop_model.specs.Moves.Move.{Performs, Takes, Fills, FillsRequestor, ArrivesFor, IsAbsent, Asks, RespondMove, FirstMove, came_of, next_did}
-use Rattle.snoop_model.specs.Moves.Refuses.{Refuses, RefusedFor}
-use Rattle.snoop_machine.specs.Prepared.{room_to, IsFull, IsPrepared}
-use Rattle.snoop_machine.specs.Plan.{IsPlan, IsPlanFor, HasRoom, HasRoomToAsk, planned_step, room_for, room_for_ask, entry_of, entry_of_ask}
 
 -- the row that an Ask has; where it is Absent there is none
 abbrev row_of : Asked → Option CacheCell
@@ -46,10 +21,10 @@ row_of (Issue request next) = Some (record { action = action.Issue request; next
 row_of (Drop next) = Some (record { action = action.Drop; next = next })
 
 row_found : (p : Protocol) (line : Line) (word : ℕ) (asking : Op) (asked : Asked) → TakesAsk p line word asking asked
-    → cell_of p line.state (event_asked asking) ≡ row_of asked
+    → row_of asked ≡ cell_of p line.state (event_asked asking)
 row_found p line word asking Absent t = rw (t.1, t.0) refl
-row_found p line word asking (Hit next value) t = t.0
-row_found p line word asking _ t = t
+row_found p line word asking (Hit next value) t = sym t.0
+row_found p line word asking _ t = sym t
 
 never_stalls : (asked : Asked) (next : CacheState) → row_of asked ≡ Some (record { action = action.Stall; next = next }) → ⊥
 never_stalls Absent next e = cc
@@ -85,7 +60,7 @@ plan-allowed s (plan.Ask core block word asking asked) h = go
     go : (cause : Refused) → ¬ Refuses s (step.Ask core block word asking) cause
     go NoCore g = let within = h.0.0 in absurd (omega arith)
     go NoBlock g = let within = h.0.1 in elim g.1 [ inl past ↦ absurd (omega arith) | inr none ↦ none h.3 ]
-    go (Stalled state) g = never_stalls asked g.2.0 (sym (row_found s.protocol (held_by (picture_of s block) core) word asking asked h.1) ∙ g.2.1)
+    go (Stalled state) g = never_stalls asked g.2.0 (row_found s.protocol (held_by (picture_of s block) core) word asking asked h.1 ∙ g.2.1)
     go _ g = g
 plan-allowed s (plan.Order core request block from payload memory) h = order-allowed s core block request h.0 h.1.head h.1.free
 plan-allowed s (plan.Writeback came memory) h = respond-allowed s came h.0 h.1.opened
@@ -94,8 +69,7 @@ plan-allowed s (plan.Fill came memory filled) h = respond-allowed s came h.0 h.1
 -- an operation on one value loads or stores one value
 performs-one : (word : ℕ) (asking : Op) (words : List ℕ) (v w : ℕ) (m n : List ℕ) → Performs word asking words v m → Performs word asking words w n → v ≡ w
 performs-one word op.Evict words v w m n p q = absurd p
-performs-one word op.Load words v w m n p q = p.0 ∙ sym q.0
-performs-one word (op.Store stored) words v w m n p q = p.0 ∙ sym q.0
+performs-one word _ words v w m n p q = p.0 ∙ sym q.0
 
 -- an Ask adds the item that was found
 module _ (s : Situation) (core block word : ℕ) (asking : Op) (answer : Reply) (added : Option Item) where
@@ -111,25 +85,21 @@ module _ (s : Situation) (core block word : ℕ) (asking : Op) (answer : Reply) 
       let h = rw (sym (same_Some _ _ e)) at taken in
       let words : h.1.0.before ≡ t.1.before = same_Some _ _ (sym h.1.0.kept ∙ t.1.kept) in
       rw (← (performs-one word asking t.1.before h.0 value h.1.0.after t.1.after (rw words at h.1.0.performed) t.1.performed)) h.1.2
-  taken-adds (Issue request next) t row e held taken = (rw (sym (same_Some _ _ e)) at taken).2
-  taken-adds (Drop next) t row e held taken = (rw (sym (same_Some _ _ e)) at taken).2
+  taken-adds _ t row e held taken = (rw (sym (same_Some _ _ e)) at taken).2
 
   ask-adds : (new : Situation) (asked : Asked) → TakesAsk s.protocol (held_by (picture_of s block) core) word asking asked
       → IsAbsent s core block asking answer new added ⊎ Asks s core block word asking answer new added → added ≡ entry_of_ask s.log core block word asking asked
   ask-adds new asked t (inl absent) =
-      absent.4 ∙ sym (none-added asked (sym (row_found s.protocol (held_by (picture_of s block) core) word asking asked t) ∙ rw (absent.1, absent.0) refl))
+      absent.4 ∙ sym (none-added asked (row_found s.protocol (held_by (picture_of s block) core) word asking asked t ∙ rw (absent.1, absent.0) refl))
   ask-adds new asked t (inr asks) =
-      taken-adds asked t asks.row (sym (row_found s.protocol (held_by (picture_of s block) core) word asking asked t) ∙ asks.is_row) asks.held asks.taken
-
-fills_of : (q : Request) (closing : Open) (p : Protocol) (log : List Item) (old new : List Line) (did : Option Did) → q ≢ PutM → ArrivesFor q closing p log old new did → FillsRequestor closing p log old new did
-fills_of PutM closing p log old new did get fills = absurd (get refl)
-fills_of _ closing p log old new did get fills = fills
+      taken-adds asked t asks.row (row_found s.protocol (held_by (picture_of s block) core) word asking asked t ∙ asks.is_row) asks.held asks.taken
 
 -- the requestor performs the operation that waits
-fills-adds : (closing : Open) (p : Protocol) (log : List Item) (old new : List Line) (did : Option Did) (line : Line) (asking : Access) (value : ℕ)
-    → FillsRequestor closing p log old new did → Fills closing p (held_at old closing.core) line asking value
+fills-adds : (q : Request) (closing : Open) (p : Protocol) (log : List Item) (old new : List Line) (did : Option Did) (line : Line) (asking : Access) (value : ℕ)
+    → q ≢ PutM → ArrivesFor q closing p log old new did → Fills closing p (held_at old closing.core) line asking value
     → did ≡ Some (next_did log closing.core closing.block asking.word asking.op value false)
-fills-adds closing p log old new did line asking value f t =
+fills-adds PutM closing p log old new did line asking value get f t = absurd (get refl)
+fills-adds _ closing p log old new did line asking value get f t =
     let same : f.asking ≡ asking = same_Some _ _ (sym f.fills.waited ∙ t.waited) in
     let its = performs-one asking.word asking.op closing.value f.value value f.fills.after t.after (rw same at f.fills.performed) t.performed in
     rw (← same, ← its) f.logged
@@ -155,10 +125,8 @@ plan-adds s (plan.Writeback came memory) h answer new added m =
 plan-adds s (plan.Fill came memory filled) h answer new added m =
     let its = its_response h.1.opened m.1.1 in
     let responds = m.1.1.responds in
-    let fills = fills_of m.1.1.closing.request m.1.1.closing s.protocol s.log (picture_of s m.0).caches responds.next.caches m.1.1.did
-    (λ e. h.2 (sym (ap (λ (x : Came). x.request) its) ∙ e)) responds.requestor in
-    let did = fills-adds m.1.1.closing s.protocol s.log (picture_of s m.0).caches responds.next.caches m.1.1.did _ filled.access filled.value fills
-    (rw (m.1.1.on_block, responds.opened) at h.3) in
+    let did = fills-adds m.1.1.closing.request m.1.1.closing s.protocol s.log (picture_of s m.0).caches responds.next.caches m.1.1.did _ filled.access filled.value
+    (λ e. h.2 (sym (ap (λ (x : Came). x.request) its) ∙ e)) responds.requestor (rw (m.1.1.on_block, responds.opened) at h.3) in
     rw (← its, ← did) m.1.1.logged
 
 -- for how many more of an Ask there is room, by its row
@@ -171,7 +139,7 @@ room_is before core block _ = refl
 plan-room : (before : Standing) (x : Plan) → IsPlan before.situation x → 0 < room_for before x → ¬ IsFull before (planned_step x)
 plan-room before (plan.Ask core block word asking asked) h some full =
     let s = before.situation in
-    let row = sym (row_found s.protocol (held_by (picture_of s block) core) word asking asked h.1) ∙ full.1.1.0 in
+    let row = row_found s.protocol (held_by (picture_of s block) core) word asking asked h.1 ∙ full.1.1.0 in
     let room : room_for_ask before core block asked ≡ room_to full.0 before core block =
     room_is before core block asked ∙ ap (λ (o : Option CacheCell). option_map_or (λ row. room_to row.action before core block) o 1) row in
     let none = full.1.1.1 in
@@ -180,24 +148,19 @@ plan-room before _ h some full = absurd (omega arith)
 
 -- where the plan has no room the step has none
 plan-full : (before : Standing) (x : Plan) → IsPlan before.situation x → room_for before x ≡ 0 → IsFull before (planned_step x)
-plan-full before (plan.Ask core block word asking Absent) h none = absurd (omega arith)
 plan-full before (plan.Ask core block word asking (Hit next value)) h none = (action.Hit, (next, (h.1.0, none)))
 plan-full before (plan.Ask core block word asking (Issue request next)) h none = (action.Issue request, (next, (h.1, none)))
-plan-full before (plan.Ask core block word asking (Drop next)) h none = absurd (omega arith)
+plan-full before (plan.Ask core block word asking _) h none = absurd (omega arith)
 plan-full before _ h none = none
 
 pub IsFull-plan : (before : Standing) (taking : Step) (x : Plan) → IsPlanFor before.situation taking x → room_for before x ≡ 0 → IsFull before taking
 IsFull-plan before taking x h none = rw h.0 at (plan-full before x h.1 none)
 
-ask-room : (before : Standing) (core block : ℕ) (asked : Asked) → HasRoomToAsk before core block asked → 0 < room_for_ask before core block asked
-ask-room before core block Absent h = omega arith
-ask-room before core block (Hit next value) h = h
-ask-room before core block (Issue request next) h = rw (h.0) h.1
-ask-room before core block (Drop next) h = omega arith
-
 -- where the room for a plan was made there is room for one such step at least
 some-room : (before : Standing) (x : Plan) → HasRoom before x → 0 < room_for before x
-some-room before (plan.Ask core block word asking asked) h = ask-room before core block asked h
+some-room before (plan.Ask core block word asking (Hit next value)) h = h
+some-room before (plan.Ask core block word asking (Issue request next)) h = rw h.0 h.1
+some-room before (plan.Ask core block word asking _) h = omega arith
 some-room before _ h = h
 
 -- a planned step is refused as out of memory alone

@@ -1,27 +1,19 @@
 -- What is so of a proper line.
 use Rattle.std.proofs.Common.{◌≡◌, Option, None, Some, false, refl, sym, ◌∙◌, ap}
 use Rattle.std.specs.Prelude.{is_some, option_map}
+use Rattle.snoop_machine.proofs.Common.{Protocol, Cell, cell_of, CacheCell, CacheState, moves_to, Line, kept_on, nothing_held, IsProper, keeps, request_for, missed_request, Access, changed, words_after}
 use Rattle.snoop_trace.specs.declared.words.Words.{Words}
-use Rattle.snoop_trace.specs.declared.protocol.Protocol.{Protocol}
 use Rattle.snoop_trace.specs.declared.protocol.Protocol.TheVariants.{Msi, Mesi}
 use Rattle.snoop_trace.specs.declared.step.Op.TheVariants as op
-use Rattle.snoop_rules.specs.Cell.{Cell, cell_of}
-use Rattle.snoop_rules.specs.declared.names.CacheCell.{CacheCell}
 use Rattle.snoop_rules.specs.declared.names.CacheAction.TheVariants as action
 use Rattle.snoop_rules.specs.declared.names.CacheEvent.TheVariants as event
-use Rattle.snoop_rules.specs.declared.names.CacheState.{CacheState}
 use Rattle.snoop_rules.specs.declared.names.CacheState.TheVariants as state
-use Rattle.snoop_model.specs.declared.access.Access.{Access}
-use Rattle.snoop_model.specs.Pictures.Lines.{Line}
-use Rattle.snoop_model.specs.Pictures.Picture.{kept_on, nothing_held}
-use Rattle.snoop_model.specs.Pictures.Proper.{IsProper, keeps, request_for, missed_request}
-use Rattle.snoop_model.specs.Moves.Move.{moves_to}
-use Rattle.snoop_machine.specs.Cache.{changed, words_after}
 use Rattle.snoop_machine.specs.declared.cache.LineChange.TheVariants.{Hit}
 
-nothing_kept : (kept : Option Words) → is_some kept ≡ false → kept ≡ None
-nothing_kept None e = refl
-nothing_kept (Some v) e = cc
+-- where there is no value
+pub is_none : {X : Type 0} (o : Option X) → is_some o ≡ false → o ≡ None
+is_none None e = refl
+is_none (Some x) e = cc
 
 nothing_waits : (waiting : Option Access) → option_map (λ access. request_for access.op) waiting ≡ None → waiting ≡ None
 nothing_waits None e = refl
@@ -30,7 +22,7 @@ nothing_waits (Some access) e = cc
 -- a proper line in I holds nothing
 pub settled : (line : Line) → IsProper line → line.state ≡ state.I → line ≡ nothing_held
 settled line proper e =
-    let kept : line.kept ≡ None = nothing_kept line.kept (proper.kept ∙ ap keeps e) in
+    let kept : line.kept ≡ None = is_none line.kept (proper.kept ∙ ap keeps e) in
     let waiting : line.waiting ≡ None = nothing_waits line.waiting (proper.waiting ∙ ap missed_request e) in
     λ i. record { state = e i; kept = kept i; waiting = waiting i }
 
@@ -39,9 +31,9 @@ pub moves_to_same : (line : Line) → IsProper line → moves_to line.state line
 moves_to_same line proper = let kept : kept_on line.state line.kept ≡ line.kept = go line.state line.kept proper.kept in rw kept refl
   where
     go : (s : CacheState) (kept : Option Words) → is_some kept ≡ keeps s → kept_on s kept ≡ kept
-    go state.I kept e = sym (nothing_kept kept e)
-    go state.ImAd kept e = sym (nothing_kept kept e)
-    go state.IiA kept e = sym (nothing_kept kept e)
+    go state.I kept e = sym (is_none kept e)
+    go state.ImAd kept e = sym (is_none kept e)
+    go state.IiA kept e = sym (is_none kept e)
     go _ kept e = refl
 
 -- the next state of a row that is a hit, or this one

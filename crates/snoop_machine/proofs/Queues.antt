@@ -5,18 +5,10 @@ use Rattle.std.specs.List.{prefix_len}
 use Rattle.std.proofs.Math.ListN.{get_or-map}
 use Rattle.std.proofs.Math.Seq.{map-set_same}
 use Rattle.std.proofs.lemmas.Bool.{cases_eq, cases_lt, eq-eqb, ne_eqb, false≢true}
-use Rattle.std.proofs.lemmas.Option.{same_Some}
+use Rattle.std.proofs.lemmas.Option.{same_Some, slice_get-map}
 use Rattle.std.proofs.lemmas.List.{append-nil, get_or_past, length-map, map-append, map-set}
 use Rattle.std.proofs.lemmas.List.Elements.{filter-append}
-use Rattle.snoop_trace.specs.Extent.{Extent}
-use Rattle.snoop_rules.specs.declared.names.Request.{Request}
-use Rattle.snoop_rules.specs.Waits.{waiting_request}
-use Rattle.snoop_bus.specs.Traffic.{Traffic, Waiting, no_queue, waiting_of, head_of}
-use Rattle.snoop_bus.specs.Queues.{queue_of, after_issue, after_order, place_in}
-use Rattle.snoop_model.specs.Pictures.Lines.{Line}
-use Rattle.snoop_model.specs.Pictures.Picture.{held_at, nothing_held}
-use Rattle.snoop_machine.specs.Lines.{line_at}
-use Rattle.snoop_machine.specs.PartsView.{queues_of, requests_for, IsSound}
+use Rattle.snoop_machine.proofs.Common.{Extent, waiting_request, Request, queue_of, after_issue, after_order, place_in, Traffic, Waiting, no_queue, waiting_of, head_of, Line, line_at, queues_of, requests_for, IsSound}
 
 abbrev pub blocks_of : List (Request × ℕ) → List ℕ
 blocks_of requests = map (λ (r : Request × ℕ). r.1) requests
@@ -86,10 +78,6 @@ first_of : (rs : List (Request × ℕ)) (block : ℕ) → slice_get (blocks_of r
 first_of [] block h = cc
 first_of (x ∷ xs) block h = (x.0, ap (λ (b : ℕ). let r : Option (Request × ℕ) = Some (x.0, b) in r) (same_Some _ _ h))
 
-shows_first : (rs : List (Request × ℕ)) → slice_get (blocks_of rs) 0 ≡ option_map (λ (r : Request × ℕ). r.1) (slice_get rs 0)
-shows_first [] = refl
-shows_first (x ∷ xs) = refl
-
 nothing_for : (rs : List (Request × ℕ)) (block : ℕ) → slice_get rs 0 ≡ None → requests_for block rs ≡ []
 nothing_for [] block none = refl
 nothing_for (x ∷ xs) block none = cc
@@ -110,22 +98,18 @@ module _ {shape : Extent} {caches : List (List Line)} {bus : Traffic} (sound : I
 
   pub idle_from_head : head_of bus core ≡ None → (block : ℕ) (request : Request) → waiting_request (line_at caches core block).state ≡ Some request → ⊥
   idle_from_head head block request waits =
-      let none = sym (nothing_for (waiting_of bus core).requests block head) ∙ sound.waits core block in
-      let clash = rw waits at none in
+      let none = rw waits at (sym (nothing_for (waiting_of bus core).requests block head) ∙ sound.waits core block) in
       cc
 
 -- what the queue that callers see shows first
 pub first_shown : (bus : Traffic) (core : ℕ) → slice_get (queue_of (queues_of bus.queues) core) 0 ≡ option_map (λ (r : Request × ℕ). r.1) (head_of bus core)
-first_shown bus core = rw (queue_of-queues_of bus.queues core) (shows_first (waiting_of bus core).requests)
+first_shown bus core = rw (queue_of-queues_of bus.queues core) (slice_get-map (λ (r : Request × ℕ). r.1) (waiting_of bus core).requests 0)
 
 -- a core waits on no block that there is not
 pub within_from_waits : (caches : List (List Line)) (core block : ℕ) (request : Request) → waiting_request (line_at caches core block).state ≡ Some request → block < length caches
 within_from_waits caches core block request waits = elim (cases_lt block (length caches)) [
   | inl lt ↦ lt
-  | inr ge ↦
-      let e : line_at caches core block ≡ nothing_held = ap (λ (r : List Line). held_at r core) (get_or_past caches block [] ge) in
-      let clash : ◌≡◌ {A = Option Request} None (Some request) = sym (ap (λ (x : Line). waiting_request x.state) e) ∙ waits in
-      cc
+  | inr past ↦ (let none = rw (get_or_past caches block [] past) at waits in cc)
 ]
 
 pub some_first : (rs : List (Request × ℕ)) → (is_some (slice_get rs 0) ≡ true → 0 < length (blocks_of rs)) × (0 < length (blocks_of rs) → is_some (slice_get rs 0) ≡ true)

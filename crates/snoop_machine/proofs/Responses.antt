@@ -1,24 +1,11 @@
 -- What a response brings to the caches, from what it does to one line.
 use Rattle.std.proofs.Common.{◌≡◌, ◌≢◌, ℕ, false, List, Some, None, Option, refl, ◌∙◌, ap}
 use Rattle.std.specs.Prelude.{slice_set}
-use Rattle.snoop_trace.specs.declared.protocol.Protocol.{Protocol}
-use Rattle.snoop_rules.specs.declared.names.CacheState.TheVariants.{I}
-use Rattle.snoop_rules.specs.Waits.{waiting_request}
-use Rattle.snoop_rules.specs.declared.names.Request.{Request}
-use Rattle.snoop_rules.specs.declared.names.Request.TheVariants.{PutM}
-use Rattle.snoop_history.specs.declared.items.Did.{Did}
-use Rattle.snoop_history.specs.declared.items.Item.{Item}
-use Rattle.snoop_bus.specs.Traffic.{Open}
-use Rattle.snoop_model.specs.Pictures.Lines.{Line}
-use Rattle.snoop_model.specs.declared.access.Access.{Access}
-use Rattle.snoop_model.specs.Pictures.Picture.{held_at}
-use Rattle.snoop_model.specs.Pictures.Proper.{IsProper}
-use Rattle.snoop_model.specs.Moves.Move.{Fills, FillsRequestor, ArrivesFor, next_did}
+use Rattle.snoop_machine.proofs.Common.{Protocol, waiting_request, I, Request, PutM, Did, Item, Open, Fills, FillsRequestor, ArrivesFor, next_did, Line, held_at, IsProper, Access}
 use Rattle.snoop_model.proofs.Tables.Rows.{fill-waits, IsProper-fill}
 
 pub Arrives-put : (closing : Open) (p : Protocol) (log : List Item) (caches : List Line) → closing.request ≡ PutM → ArrivesFor closing.request closing p log caches caches None
-Arrives-put closing p log caches put =
-    rw put (refl, refl)
+Arrives-put closing p log caches put = rw put (refl, refl)
 
 arrives_get : (q : Request) (closing : Open) (p : Protocol) (log : List Item) (old new : List Line) (did : Option Did) → q ≢ PutM → FillsRequestor closing p log old new did → ArrivesFor q closing p log old new did
 arrives_get PutM closing p log old new did get fills = absurd (get refl)

@@ -3,19 +3,11 @@ use Rattle.std.proofs.Common.{◌≡◌, ◌<◌, take, length, get_or, ℕ, ◌
 use Rattle.std.specs.Prelude.{Result, Ok, Err, is_ok, count_by}
 use Rattle.std.proofs.lemmas.List.Sums.{sum_by-append}
 use Rattle.std.proofs.lemmas.List.{take_more}
-use Rattle.snoop_trace.specs.declared.step.Step.{Step}
-use Rattle.snoop_model.specs.declared.replies.Reply.{Reply}
-use Rattle.snoop_model.specs.declared.replies.Refused.{Refused}
-use Rattle.snoop_model.specs.declared.replies.Refused.TheVariants.{NoMemory}
-use Rattle.snoop_machine.specs.Standing.{Standing}
-use Rattle.snoop_model.specs.Runs.Run.{Goes, RunFrom, RunBy}
-use Rattle.snoop_model.specs.Invariant.Invariant.{Invariant}
-use Rattle.snoop_model.specs.Invariant.MachineKeeps.{MachineKeeps}
+use Rattle.snoop_machine.proofs.Common.{Step, Invariant, MachineKeeps, Goes, RunFrom, RunBy, Refused, NoMemory, Reply, Answers, AnswersSafely, HasRun, Standing}
 use Rattle.snoop_model.proofs.Invariant.Safety.{is_safe}
 use Rattle.snoop_machine.proofs.StepKeeps.{step_keeps}
 use Rattle.snoop_model.proofs.Once.Runs.{run_once}
 use Rattle.snoop_model.proofs.Runs.Along.{run_more, seen_along}
-use Rattle.snoop_machine.specs.Runs.{Answers, AnswersSafely, HasRun}
 
 -- the steps so far
 pub record Going (old : Standing) (steps : List Step) (taken : ℕ) (new : Standing) : Type 0 where
@@ -24,16 +16,14 @@ pub record Going (old : Standing) (steps : List Step) (taken : ℕ) (new : Stand
   pub many : taken ≡ count_by is_ok outcomes
   pub keeps : MachineKeeps new.situation
 
-counted : (outcomes : List (Result Reply Refused)) (outcome : Result Reply Refused) → count_by is_ok (outcomes ++ outcome ∷ []) ≡ count_by is_ok outcomes + count_by is_ok (outcome ∷ [])
-counted outcomes outcome = sum_by-append (λ x. cond (is_ok x) 1 0) outcomes (outcome ∷ [])
-
 -- one step more of a list
 pub goes_on : (old middle new : Standing) (steps : List Step) (i : ℕ) (d : Step) (taken : ℕ) (result : Result Reply Refused) → i < length steps
     → Going old (take i steps) taken middle
     → Answers middle (get_or steps i d) result new → (count : ℕ) → count ≡ taken + count_by is_ok (result ∷ []) → Going old (take (i + 1) steps) count new
 goes_on old middle new steps i d taken result within so_far goes count more =
     let keeps = step_keeps middle new (get_or steps i d) result so_far.keeps goes in
-    let all = counted so_far.outcomes result in
+    let all : count_by is_ok (so_far.outcomes ++ result ∷ []) ≡ count_by is_ok so_far.outcomes + count_by is_ok (result ∷ []) =
+    sum_by-append (λ x. cond (is_ok x) 1 0) so_far.outcomes (result ∷ []) in
     let was = so_far.many in
     rw (take_more steps i d within) (record {
       outcomes = so_far.outcomes ++ result ∷ [];

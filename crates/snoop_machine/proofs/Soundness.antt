@@ -4,21 +4,9 @@ use Rattle.std.specs.Prelude.{option_to_list, slice_set}
 use Rattle.std.proofs.lemmas.Bool.{cases_lt}
 use Rattle.std.proofs.lemmas.Option.{same_Some}
 use Rattle.std.proofs.lemmas.List.{length-set, get_or_past, get_or-set_same, get_or-set_other}
-use Rattle.snoop_trace.specs.Extent.{Extent}
-use Rattle.snoop_trace.specs.Words.{Data}
-use Rattle.snoop_trace.specs.declared.protocol.Protocol.{Protocol}
-use Rattle.snoop_rules.specs.declared.names.Request.{Request}
-use Rattle.snoop_rules.specs.declared.names.Payload.{Payload}
-use Rattle.snoop_rules.specs.Waits.{waiting_request}
-use Rattle.snoop_bus.specs.Traffic.{Open, Traffic, Waiting, Starts, no_queue, waiting_of, head_of, transaction_on}
-use Rattle.snoop_model.specs.Pictures.Lines.{Line}
-use Rattle.snoop_model.specs.Pictures.Picture.{held_at, nothing_held}
-use Rattle.snoop_model.specs.Pictures.Proper.{IsProper}
-use Rattle.snoop_model.specs.Moves.Move.{TakesRows}
+use Rattle.snoop_machine.proofs.Common.{Extent, Data, Protocol, waiting_request, Payload, Request, Open, Traffic, Waiting, Starts, no_queue, waiting_of, head_of, transaction_on, TakesRows, Line, held_at, nothing_held, IsProper, row_of, line_at, with_line_at, requests_for, IsSound, WaitsAs}
 use Rattle.snoop_model.proofs.Tables.Rows.{IsProper-order}
 use Rattle.snoop_model.proofs.Queues.Orders.{own_waits, others_wait}
-use Rattle.snoop_machine.specs.Lines.{row_of, line_at, with_line_at}
-use Rattle.snoop_machine.specs.PartsView.{requests_for, IsSound, WaitsAs}
 use Rattle.snoop_machine.proofs.EachPlace.{each_place}
 use Rattle.snoop_machine.proofs.Queues.{issued_own, issued_other, head_other, head_alone}
 
@@ -43,7 +31,7 @@ module _ {shape : Extent} {caches : List (List Line)} {bus : Traffic} (sound : I
   -- one core has another queue
   module _ (now : Traffic) (core : ℕ) (queue : Waiting) (in_cores : core < shape.cores) (wrote : now.queues ≡ slice_set bus.queues core queue) where
     as_many : length now.queues ≡ shape.cores
-    as_many = ap (λ (queues : List Waiting). length queues) wrote ∙ (length-set bus.queues core queue ∙ sound.queues)
+    as_many = rw (wrote, length-set bus.queues core queue) sound.queues
 
     own_queue : waiting_of now core ≡ queue
     own_queue = rw wrote (get_or-set_same bus.queues core queue no_queue (rw sound.queues in_cores))
@@ -60,7 +48,7 @@ module _ {shape : Extent} {caches : List (List Line)} {bus : Traffic} (sound : I
       rows = sound.rows;
       row = sound.row;
       queues = as_many;
-      transactions = ap (λ (found : List (Option Open)). length found) transactions ∙ sound.transactions;
+      transactions = rw transactions sound.transactions;
       proper = sound.proper;
       opened = rw transactions sound.opened;
       waits = λ k b. each_queue (λ k its. WaitsAs b its (line_at caches k b)) (rw same (sound.waits core b)) (λ k ne. sound.waits k b) k;
@@ -116,7 +104,7 @@ module _ {shape : Extent} {caches : List (List Line)} {bus : Traffic} (sound : I
     IsSound-issue now request room wrote transactions idle waits =
         let queue : Waiting = record { requests = (waiting_of bus core).requests ++ (request, block) ∷ []; room = room } in
         IsSound-placed now (as_many now core queue in_cores wrote)
-        (ap (λ (found : List (Option Open)). length found) transactions ∙ sound.transactions) (rw transactions sound.opened)
+        (rw transactions sound.transactions) (rw transactions sound.opened)
         (rw (own_queue now core queue in_cores wrote, waits) (issued_own (waiting_of bus core).requests request block (rw idle at (sound.waits core block))))
         (λ k ne. rw (other_queue now core queue in_cores wrote k ne) refl)
         (λ k b ne. each_queue now core queue in_cores wrote (λ k its. requests_for b its.requests ≡ requests_for b (waiting_of bus k).requests)
@@ -138,7 +126,7 @@ module _ {shape : Extent} {caches : List (List Line)} {bus : Traffic} (sound : I
             (sound.proper k block))
       ] in
       IsSound-row now block row in_blocks (takes.same_length ∙ wide) proper (as_many now core queue in_cores starts.queues)
-      (ap (λ (found : List (Option Open)). length found) starts.transactions ∙ (length-set bus.transactions block (Some opened) ∙ sound.transactions))
+      (rw (starts.transactions, length-set bus.transactions block (Some opened)) sound.transactions)
       (rw starts.transactions (each_place (λ b found. IsOpened shape b found) bus.transactions block (Some opened) None (rw sound.transactions in_blocks)
       (λ t e. rw (← (same_Some _ _ e)) (refl, in_cores)) (λ b ne. sound.opened b)))
       (each (λ k its. WaitsAs block its (held_at row k))

@@ -2,13 +2,10 @@
 use Rattle.std.proofs.Common.{◌≡◌, ◌∷◌, [], ◌≤◌, ◌+◌, ◌∙◌, List, take, subst, sym, arith}
 use Rattle.std.specs.Prelude.{is_ok, count_by}
 use Rattle.std.proofs.lemmas.List.{take_all}
-use Rattle.snoop_trace.specs.declared.step.Step.{Step}
-use Rattle.snoop_machine.specs.Standing.{Standing}
-use Rattle.snoop_model.specs.Invariant.MachineKeeps.{MachineKeeps}
+use Rattle.snoop_machine.proofs.Common.{Step, MachineKeeps, stand, Standing}
 use Rattle.snoop_model.proofs.Invariant.Safety.{is_safe}
 use Rattle.snoop_machine.proofs.StepKeeps.{answers, steps_stay}
 use Rattle.snoop_machine.proofs.RunSteps.{Going, has_run, goes_on}
-use Rattle.snoop_machine.specs.AnyParts.{stand}
 use Rattle.snoop_machine.proofs.machine.run_steps.Goals.{then-is_ok, else-is_ok, At-loop-step}
 use Rattle.snoop_machine.proofs.machine.run_steps.Goals as goal
 

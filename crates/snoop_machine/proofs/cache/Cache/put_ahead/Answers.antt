@@ -1,11 +1,10 @@
-use Rattle.std.proofs.Common.{◌≡◌, ℕ, List, [], ◌∷◌, ◌++◌, Option, None, Some, false, is_some, ◌<◌, refl, sym, ◌∙◌, ap, subst}
+use Rattle.std.proofs.Common.{ℕ, List, [], ◌∷◌, ◌++◌, ◌∙◌, ap}
 use Rattle.std.specs.Prelude.{Result, Ok, Err, IsOk, OnOk, nat_eq}
 use Rattle.std.specs.Map.{lookup, keys_of}
 use Rattle.std.proofs.lemmas.List.{map-append}
+use Rattle.snoop_machine.proofs.Common.{Line, Contents, blocks_of}
+use Rattle.snoop_machine.proofs.ProperLines.{is_none}
 use Rattle.indexmap.proofs.CallerLemmas.{insert_entry-new}
-use Rattle.indexmap.specs.IndexMap.{spare}
-use Rattle.snoop_model.specs.Pictures.Lines.{Line}
-use Rattle.snoop_machine.specs.Cache.{Contents, blocks_of}
 use Rattle.snoop_machine.proofs.cache.Cache.put_ahead.Goals as goal
 
 -- what holds on success holds of a success
@@ -13,17 +12,13 @@ on_ok : {A B : Type 0} {P : Type 0} (r : Result A B) → OnOk r P → IsOk r →
 on_ok (Ok a) p h = p
 on_ok (Err b) p h = cc
 
-none : (o : Option Line) → is_some o ≡ false → o ≡ None
-none None e = refl
-none (Some line) e = cc
-
 pub returns-clause-blocks : goal.returns-clause-blocks
 returns-clause-blocks g c =
     let m = c.self.inside.lines in
     let block = c.args.block in
-    let room : 0 < spare m = subst (λ (cache : Contents). 0 < cache.spare) (sym c.self.view_is) c.requires.room in
-    let absent : is_some (lookup (nat_eq block) m.entries) ≡ false = subst (λ (cache : Contents). is_some (lookup (nat_eq block) cache.entries) ≡ false) (sym c.self.view_is) c.requires.absent in
+    let room = rw (← c.self.view_is) at c.requires.room in
+    let absent = rw (← c.self.view_is) at c.requires.absent in
     ap (λ (es : List (ℕ × Line)). keys_of es) (on_ok c.insert.result c.insert.ensures.entries (c.insert.ensures.succeeds room))
-    ∙ (ap (λ (es : List (ℕ × Line)). keys_of es) (insert_entry-new nat_eq m block c.nothing.result (none (lookup (nat_eq block) m.entries) absent))
+    ∙ (ap (λ (es : List (ℕ × Line)). keys_of es) (insert_entry-new nat_eq m block c.nothing.result (is_none (lookup (nat_eq block) m.entries) absent))
     ∙ (map-append (λ (e : ℕ × Line). e.0) m.entries ((block, c.nothing.result) ∷ [])
     ∙ ap (λ (cache : Contents). blocks_of cache ++ block ∷ []) c.self.view_is))

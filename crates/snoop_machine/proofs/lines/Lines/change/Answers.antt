@@ -1,10 +1,8 @@
 use Rattle.std.proofs.Common.{◌∙◌, ap, arith, inl, inr}
-use Rattle.snoop_model.specs.Pictures.Lines.{Line}
-use Rattle.snoop_machine.specs.Cache.{changed}
-use Rattle.snoop_machine.specs.Lines.{line_at}
+use Rattle.snoop_machine.proofs.Common.{Line, changed, line_at}
 use Rattle.snoop_machine.proofs.LineChanges.{HasWritten, goes_from, lines_after, writes}
-use Rattle.snoop_machine.proofs.LineMaps.{IsMap, is_map, in_rows, core_few, mover_placed}
-use Rattle.snoop_machine.proofs.LineParts.{stands}
+use Rattle.snoop_machine.proofs.LineMaps.{IsMap, is_map, in_rows, mover_placed}
+use Rattle.snoop_machine.proofs.LineParts.{core_few, stands}
 use Rattle.snoop_machine.proofs.ProperLines.{settled}
 use Rattle.snoop_machine.proofs.lines.Lines.change.Given.{Over}
 use Rattle.snoop_machine.proofs.lines.Lines.change.Goals as goal
@@ -16,8 +14,7 @@ index_mut-cache-requires g c = let within = in_rows c.self.invariant c.self.view
 -- the core's map
 map_of : (g : Over) (c : After-index_mut-cache g)
     → IsMap c.self.inside.caches.items c.self.inside.holders c.args.self.now c.args.core c.args.block c.index_mut-cache.result.now
-map_of g c =
-    is_map c.self.invariant c.self.view_is c.args.core c.args.block c.requires.block c.requires.core c.index_mut-cache.result.now c.index_mut-cache.ensures.value
+map_of g c = is_map c.self.invariant c.self.view_is c.args.core c.args.block c.requires.block c.requires.core _ c.index_mut-cache.ensures.value
 
 -- the line that it has now
 abbrev line : (g : Over) (c : After-index_mut-cache g) → Line
@@ -37,9 +34,9 @@ pub follow-requires : goal.follow-requires
 follow-requires g c =
     let its = map_of g (goal.at.follow-requires g c).After-index_mut-cache in
     record {
-      core = core_few c.self.invariant c.self.view_is its;
+      core = core_few its;
       block = its.in_blocks;
-      stands = stands c.self.invariant its c.change-before.result c.change-before.ensures.before;
+      stands = stands its c.change-before.result c.change-before.ensures.before;
     }
 
 -- the map has the changed line, and the holders have followed
@@ -60,7 +57,7 @@ wrote g c =
     }
 
 pub invariant_of-self : goal.invariant_of-self
-invariant_of-self g c = lines_after (wrote g (goal.at.invariant_of-self g c).After-follow) c.self.invariant c.self.view_is
+invariant_of-self g c = lines_after (wrote g (goal.at.invariant_of-self g c).After-follow)
 
 pub returns : goal.returns
-returns g c = writes (wrote g (goal.at.returns g c).After-follow) c.self.invariant c.self.view_is
+returns g c = writes (wrote g (goal.at.returns g c).After-follow)

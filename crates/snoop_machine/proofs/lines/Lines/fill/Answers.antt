@@ -1,8 +1,8 @@
 use Rattle.std.proofs.Common.{arith, inl}
-use Rattle.snoop_machine.specs.Cache.{filled_line}
+use Rattle.snoop_machine.proofs.Common.{filled_line}
 use Rattle.snoop_machine.proofs.LineChanges.{HasWritten, lines_after, writes}
-use Rattle.snoop_machine.proofs.LineMaps.{IsMap, is_map, in_rows, core_few, held_placed, gone-none}
-use Rattle.snoop_machine.proofs.LineParts.{stands}
+use Rattle.snoop_machine.proofs.LineMaps.{IsMap, is_map, in_rows, held_placed, gone-none}
+use Rattle.snoop_machine.proofs.LineParts.{core_few, stands}
 use Rattle.snoop_machine.proofs.lines.Lines.fill.Given.{Over}
 use Rattle.snoop_machine.proofs.lines.Lines.fill.Goals as goal
 use Rattle.snoop_machine.proofs.lines.Lines.fill.Goals.{After-index_mut-cache, After-follow}
@@ -13,8 +13,7 @@ index_mut-cache-requires g c = let within = in_rows c.self.invariant c.self.view
 -- the core's map
 map_of : (g : Over) (c : After-index_mut-cache g)
     → IsMap c.self.inside.caches.items c.self.inside.holders c.args.self.now c.args.core c.args.block c.index_mut-cache.result.now
-map_of g c =
-    is_map c.self.invariant c.self.view_is c.args.core c.args.block c.requires.block c.requires.core c.index_mut-cache.result.now c.index_mut-cache.ensures.value
+map_of g c = is_map c.self.invariant c.self.view_is c.args.core c.args.block c.requires.block c.requires.core _ c.index_mut-cache.ensures.value
 
 pub fill-before-requires-clause-place : goal.fill-before-requires-clause-place
 fill-before-requires-clause-place g c =
@@ -25,9 +24,9 @@ pub follow-requires : goal.follow-requires
 follow-requires g c =
     let its = map_of g (goal.at.follow-requires g c).After-index_mut-cache in
     record {
-      core = core_few c.self.invariant c.self.view_is its;
+      core = core_few its;
       block = its.in_blocks;
-      stands = stands c.self.invariant its c.fill-before.result c.fill-before.ensures.before;
+      stands = stands its c.fill-before.result c.fill-before.ensures.before;
     }
 
 -- the map has the filled line, and the holders have followed
@@ -46,7 +45,7 @@ wrote g c =
     }
 
 pub invariant_of-self : goal.invariant_of-self
-invariant_of-self g c = lines_after (wrote g (goal.at.invariant_of-self g c).After-follow) c.self.invariant c.self.view_is
+invariant_of-self g c = lines_after (wrote g (goal.at.invariant_of-self g c).After-follow)
 
 pub returns : goal.returns
-returns g c = writes (wrote g (goal.at.returns g c).After-follow) c.self.invariant c.self.view_is
+returns g c = writes (wrote g (goal.at.returns g c).After-follow)

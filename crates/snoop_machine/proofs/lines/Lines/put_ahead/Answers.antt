@@ -1,8 +1,7 @@
 use Rattle.std.proofs.Common.{◌≡◌, ◌<◌, length, refl, ◌∙◌, ap}
 use Rattle.std.specs.Prelude.{slice_index_or}
 use Rattle.std.proofs.lemmas.List.{get_or_read, map-set}
-use Rattle.snoop_machine.specs.Cache.{Contents, no_cache, line_in, blocks_of}
-use Rattle.snoop_machine.specs.Lines.{Held}
+use Rattle.snoop_machine.proofs.Common.{Contents, no_cache, line_in, blocks_of, Held}
 use Rattle.snoop_machine.proofs.MapRows.{rows-same}
 use Rattle.snoop_machine.proofs.LineMaps.{in_maps, among_seen, spare_seen, blocks_seen}
 use Rattle.snoop_machine.proofs.LineParts.{AreLines-alike}

@@ -3,8 +3,7 @@ use Rattle.std.specs.Prelude.{slice_index_or, slice_set, map}
 use Rattle.std.specs.Map.{keys_of}
 use Rattle.std.proofs.Math.Seq.{map-set_same}
 use Rattle.std.proofs.lemmas.List.{get_or_read, get_or-set_same, map-set}
-use Rattle.snoop_machine.specs.Cache.{Contents, no_cache, blocks_of}
-use Rattle.snoop_machine.specs.Lines.{Held}
+use Rattle.snoop_machine.proofs.Common.{Contents, no_cache, blocks_of, Held}
 use Rattle.snoop_machine.proofs.MapRows.{rows-same, line-same, spare-at}
 use Rattle.snoop_machine.proofs.LineMaps.{in_maps}
 use Rattle.snoop_machine.proofs.LineParts.{AreLines-alike}

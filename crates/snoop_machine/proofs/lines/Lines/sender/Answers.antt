@@ -1,18 +1,12 @@
 use Rattle.std.proofs.Common.{ℕ, ◌<◌, length, arith, sym, ap, ◌∙◌, Option, Some, None}
-use Rattle.snoop_rules.specs.declared.names.Payload.{Payload}
-use Rattle.snoop_rules.specs.Cell.{Cell}
+use Rattle.snoop_machine.proofs.Common.{Cell, seen_by, at_memory, Payload, free_picture, held_at, Sends, IsOnlySender, row_of, memory_line}
 use Rattle.snoop_rules.specs.MemoryCell.{MemoryCell}
-use Rattle.snoop_rules.specs.Takers.{seen_by, at_memory}
-use Rattle.snoop_model.specs.Pictures.Picture.{free_picture, held_at}
-use Rattle.snoop_model.specs.Pictures.Sends.{Sends, IsOnlySender}
 use Rattle.snoop_model.proofs.Tables.SentBy.{sent_by, sends_row}
 use Rattle.snoop_model.proofs.Lines.TheSender.{Silent-none, Silent-more, Silent-past, Silent-all}
 use Rattle.snoop_machine.proofs.ConcernedCores.{AreConcerned, concerned_within, waits_within, Cell-passed}
 use Rattle.snoop_machine.proofs.lines.Lines.sender.Given.{Over}
 use Rattle.snoop_machine.proofs.lines.Lines.sender.Goals as goal
 use Rattle.snoop_machine.proofs.lines.Lines.sender.Goals.{After-concerned-concerned, In-Some, In-Some-cache_cell, In-Some-next}
-use Rattle.snoop_machine.specs.Lines.{row_of}
-use Rattle.snoop_machine.specs.Memory.{memory_line}
 
 -- memory's row
 memory_row : (g : Over) (c : In-Some g) → MemoryCell c.args.protocol (memory_line c.args.memory.now c.args.block).state
@@ -33,9 +27,6 @@ returns-in-Send-clause-sender g c =
     sends g (goal.at.returns-in-Send-clause-sender g c).In-Some None c.in-Send.payload
     (c.in-Some.row.next, rw c.in-Send.is at (memory_row g (goal.at.returns-in-Send-clause-sender g c).In-Some))
 
-requestor_within : (g : Over) (c : In-Some-next g) → c.args.requestor < length (row_of c.args.self.now.rows c.args.block)
-requestor_within g c = waits_within (row_of c.args.self.now.rows c.args.block) c.args.requestor c.args.request c.requires.waits
-
 -- the set has the cores that the request concerns
 concerned : (g : Over) (c : After-concerned-concerned g)
     → AreConcerned (row_of c.args.self.now.rows c.args.block) c.args.requestor c.args.request c.concerned-concerned.result
@@ -43,7 +34,7 @@ concerned g c = record { own = c.concerned-concerned.ensures.own; others = c.con
 
 within_row : (g : Over) (c : In-Some-next g) → c.in-Some-next.core < length (row_of c.args.self.now.rows c.args.block)
 within_row g c =
-    concerned_within (concerned g (goal.at.In-Some-next g c).After-concerned-concerned) (requestor_within g c) c.in-Some-next.core c.in-Some-next.ensures.some.2
+    concerned_within (concerned g (goal.at.In-Some-next g c).After-concerned-concerned) (waits_within _ _ _ c.requires.waits) c.in-Some-next.core c.in-Some-next.ensures.some.2
 
 pub state-state-requires-clause-core : goal.state-state-requires-clause-core
 state-state-requires-clause-core g c = within_row g (goal.at.state-state-requires-clause-core g c).In-Some-next
@@ -58,7 +49,6 @@ unreachable-requires-in_default-cache_cell g c =
     let core = c.in-Some-next.core in
     let none = rw (c.event_seen.ensures, c.state-state.ensures) at c.in_default-cache_cell.ensures.impossible in
     let there = (c.requires.rows core (within_row g (goal.at.unreachable-requires-in_default-cache_cell g c).In-Some-next)).1 in
-    let clash = sym none ∙ there in
     cc
 
 pub returns-in-Send-action-clause-sender : goal.returns-in-Send-action-clause-sender
@@ -69,13 +59,9 @@ returns-in-Send-action-clause-sender g c =
 
 pub loop-core-init : goal.loop-core-init
 loop-core-init g c =
-    let d = (goal.at.loop-core-init g c).In-Some in
-    let held = memory_line c.args.memory.now c.args.block in
-    let before = free_picture (row_of c.args.self.now.rows c.args.block) held in (
-      Silent-none c.args.protocol before c.args.requestor c.args.request c.in-Some.row.action c.in-Some.row.next
-          (memory_row g d) c.in_default-action.not-Send,
-      omega arith,
-    )
+    let before = free_picture (row_of c.args.self.now.rows c.args.block) (memory_line c.args.memory.now c.args.block) in
+    let row = memory_row g (goal.at.loop-core-init g c).In-Some in
+    (Silent-none c.args.protocol before c.args.requestor c.args.request c.in-Some.row.action c.in-Some.row.next row c.in_default-action.not-Send, omega arith)
 
 pub loop-core-preserved : goal.loop-core-preserved
 loop-core-preserved g c =
@@ -102,7 +88,7 @@ unreachable-requires-2 g c =
     Silent-all c.args.protocol before c.args.requestor c.args.request silent c.requires.line
 
 pub concerned-concerned-requires-clause-requestor : goal.concerned-concerned-requires-clause-requestor
-concerned-concerned-requires-clause-requestor g c = waits_within (row_of c.args.self.now.rows c.args.block) c.args.requestor c.args.request c.requires.waits
+concerned-concerned-requires-clause-requestor g c = waits_within _ _ _ c.requires.waits
 
 pub loop-core-smaller : goal.loop-core-smaller
 loop-core-smaller g c =

@@ -1,9 +1,7 @@
 use Rattle.std.proofs.Common.{◌≤◌, ◌-◌, length}
-use Rattle.snoop_machine.specs.Memory.{memory_line}
-use Rattle.snoop_model.specs.Pictures.Picture.{free_picture}
+use Rattle.snoop_machine.proofs.Common.{free_picture, row_of, memory_line}
 use Rattle.snoop_model.proofs.Lines.TheSender.{SilentBelow}
 use Rattle.snoop_machine.proofs.lines.Lines.sender.Given as goal
-use Rattle.snoop_machine.specs.Lines.{row_of}
 
 abbrev pub invariant-loop-core : goal.invariant-loop-core
 invariant-loop-core g l =

@@ -1,14 +1,8 @@
 use Rattle.std.proofs.Common.{List, sym, ◌∙◌, ap, arith, inl, inr}
-use Rattle.snoop_rules.specs.declared.names.CacheState.{CacheState}
-use Rattle.snoop_rules.specs.Cell.{Cell}
-use Rattle.snoop_machine.specs.declared.holders.Holders.{Holders}
-use Rattle.snoop_model.specs.Moves.Move.{moves_to}
-use Rattle.snoop_model.specs.Pictures.Lines.{Line}
-use Rattle.snoop_machine.specs.Cache.{line_or_nothing}
-use Rattle.snoop_machine.specs.Lines.{line_at}
+use Rattle.snoop_machine.proofs.Common.{Cell, CacheState, moves_to, Line, line_or_nothing, line_at, Holders}
 use Rattle.snoop_machine.proofs.ProperLines.{settled, moves_to_same}
-use Rattle.snoop_machine.proofs.LineMaps.{IsMap, is_map, in_rows, core_few, gone-same, is_I}
-use Rattle.snoop_machine.proofs.LineParts.{stands, followed-still}
+use Rattle.snoop_machine.proofs.LineMaps.{IsMap, is_map, in_rows, gone-same, is_I}
+use Rattle.snoop_machine.proofs.LineParts.{core_few, stands, followed-still}
 use Rattle.snoop_machine.proofs.LineChanges.{HasWritten, goes_from, lines_after, writes}
 use Rattle.snoop_machine.proofs.lines.Lines.take_row.Given.{Over}
 use Rattle.snoop_machine.proofs.lines.Lines.take_row.Goals as goal
@@ -20,8 +14,7 @@ index_mut-cache-requires g c = let within = in_rows c.self.invariant c.self.view
 -- the core's map
 map_of : (g : Over) (c : After-index_mut-cache g)
     → IsMap c.self.inside.caches.items c.self.inside.holders c.args.self.now c.args.core c.args.block c.index_mut-cache.result.now
-map_of g c =
-    is_map c.self.invariant c.self.view_is c.args.core c.args.block c.requires.block c.requires.core c.index_mut-cache.result.now c.index_mut-cache.ensures.value
+map_of g c = is_map c.self.invariant c.self.view_is c.args.core c.args.block c.requires.block c.requires.core _ c.index_mut-cache.ensures.value
 
 pub take_row-requires-clause-row : goal.take_row-requires-clause-row
 take_row-requires-clause-row g c = rw (map_of g (goal.at.take_row-requires-clause-row g c).After-index_mut-cache).was c.requires.row
@@ -30,9 +23,9 @@ pub follow-requires : goal.follow-requires
 follow-requires g c =
     let its = map_of g (goal.at.follow-requires g c).After-index_mut-cache in
     record {
-      core = core_few c.self.invariant c.self.view_is its;
+      core = core_few its;
       block = its.in_blocks;
-      stands = stands c.self.invariant its c.in-Some.before c.in-Some.ensures.moved.from;
+      stands = stands its c.in-Some.before c.in-Some.ensures.moved.from;
     }
 
 -- the map has the line in this state, and these are the holders
@@ -56,7 +49,7 @@ stayed g c =
       others = c.take_row.ensures.others;
       goes = inl (gone-same old.state, c.in_default.ensures.still.places);
       followed = followed-still c.args.core c.args.block old.state c.self.inside.holders
-          (stands c.self.invariant its old.state (sym (ap (λ (x : Line). x.state) its.was)));
+          (stands its old.state (sym (ap (λ (x : Line). x.state) its.was)));
       room = c.take_row.ensures.room;
     }
 
@@ -89,7 +82,7 @@ moved g c =
 
 -- where the line stays
 pub invariant_of-self : goal.invariant_of-self
-invariant_of-self g c = lines_after (stayed g (goal.at.invariant_of-self g c).In_default) c.self.invariant c.self.view_is
+invariant_of-self g c = lines_after (stayed g (goal.at.invariant_of-self g c).In_default)
 
 pub returns-in_default : goal.returns-in_default
 returns-in_default g c =
@@ -99,12 +92,12 @@ returns-in_default g c =
       action = still.row.0;
       next = (line_at c.args.self.now.rows c.args.core c.args.block).state;
       row = rw (map_of g at.After-index_mut-cache).was at (rw still.row.2.1 at still.row.2.0);
-      wrote = writes (stayed g at.In_default) c.self.invariant c.self.view_is;
+      wrote = writes (stayed g at.In_default);
     }
 
 -- where it moves
 pub invariant_of-self-2 : goal.invariant_of-self-2
-invariant_of-self-2 g c = lines_after (moved g (goal.at.invariant_of-self-2 g c).After-follow) c.self.invariant c.self.view_is
+invariant_of-self-2 g c = lines_after (moved g (goal.at.invariant_of-self-2 g c).After-follow)
 
 pub returns : goal.returns
 returns g c =
@@ -113,5 +106,5 @@ returns g c =
       action = c.in-Some.ensures.moved.row.0;
       next = c.in-Some.after;
       row = row_taken g at.In-Some;
-      wrote = writes (moved g at.After-follow) c.self.invariant c.self.view_is;
+      wrote = writes (moved g at.After-follow);
     }

@@ -1,11 +1,8 @@
 use Rattle.std.proofs.Common.{◌≡◌, ◌<◌, List, length, arith, sym, ap, ◌∙◌}
 use Rattle.std.specs.Prelude.{slice_set}
 use Rattle.std.proofs.lemmas.List.{set-set, length-set}
-use Rattle.snoop_model.specs.Pictures.Lines.{Line}
-use Rattle.snoop_model.specs.Pictures.Proper.{IsProper}
-use Rattle.snoop_model.specs.Moves.Move.{moves_to}
+use Rattle.snoop_machine.proofs.Common.{moves_to, Line, IsProper, row_of, line_at}
 use Rattle.snoop_model.proofs.Tables.Rows.{IsProper-order}
-use Rattle.snoop_machine.specs.Lines.{row_of, line_at}
 use Rattle.snoop_machine.proofs.LinesGoing.{LinesGo-more, KeepsMapsRoom-more, row_after}
 use Rattle.snoop_model.proofs.Lines.EachRow.{Taking, Taking-more, Taking-past}
 use Rattle.snoop_machine.proofs.ConcernedCores.{AreConcerned, concerned_within, TakesRow-passed, Cell-leaves}
@@ -31,17 +28,10 @@ so_far g c =
     c.in-Some.ensures.some.0 c.loop-core.invariant.0
 
 in_blocks : (g : Over) (c : In-Some g) → c.args.block < length c.loop-core.self.rows
-in_blocks g c =
-    let same : length c.loop-core.self.rows ≡ length c.args.self.now.rows =
-    ap (λ (rows : List (List Line)). length rows) c.loop-core.invariant.2 ∙ length-set c.args.self.now.rows c.args.block (row_of c.loop-core.self.rows c.args.block) in
-    let within = c.requires.block in
-    omega arith
+in_blocks g c = rw (c.loop-core.invariant.2, length-set c.args.self.now.rows c.args.block (row_of c.loop-core.self.rows c.args.block)) c.requires.block
 
 in_row : (g : Over) (c : In-Some g) → c.in-Some.core < length (row_of c.loop-core.self.rows c.args.block)
-in_row g c =
-    let within = within_row g c in
-    let same_length = c.loop-core.invariant.0.same_length in
-    omega arith
+in_row g c = rw c.loop-core.invariant.0.same_length (within_row g c)
 
 -- the line that is looked at is the one that stood there at first
 first_line : (g : Over) (c : In-Some g) → line_at c.loop-core.self.rows c.in-Some.core c.args.block ≡ line_at c.args.self.now.rows c.in-Some.core c.args.block
@@ -59,15 +49,12 @@ take_row-requires-clause-core g c = in_row g (goal.at.take_row-requires-clause-c
 pub take_row-requires-clause-row : goal.take_row-requires-clause-row
 take_row-requires-clause-row g c =
     let d = (goal.at.take_row-requires-clause-row g c).In-Some in
-    let n = c.in-Some.core in
-    rw c.event_seen.ensures (rw (← (first_line g d)) at (c.requires.rows n (within_row g d)))
+    rw (c.event_seen.ensures, first_line g d) (c.requires.rows c.in-Some.core (within_row g d))
 
 pub take_row-requires-clause-lands : goal.take_row-requires-clause-lands
 take_row-requires-clause-lands g c action next cell =
-    let d = (goal.at.take_row-requires-clause-lands g c).In-Some in
-    let n = c.in-Some.core in
-    let here = line_at c.loop-core.self.rows n c.args.block in
-    IsProper-order c.args.protocol here n c.args.requestor c.args.request action next (proper_line g d) (rw c.event_seen.ensures at cell)
+    IsProper-order c.args.protocol (line_at c.loop-core.self.rows c.in-Some.core c.args.block) c.in-Some.core c.args.requestor c.args.request action next
+    (proper_line g (goal.at.take_row-requires-clause-lands g c).In-Some) (rw c.event_seen.ensures at cell)
 
 pub take_row-requires-clause-absent : goal.take_row-requires-clause-absent
 take_row-requires-clause-absent g c action next cell =

@@ -1,5 +1,5 @@
+use Rattle.snoop_machine.proofs.Common.{stand}
 use Rattle.snoop_model.proofs.Invariant.Safety.{is_safe}
-use Rattle.snoop_machine.specs.AnyParts.{stand}
 use Rattle.snoop_machine.proofs.machine.Machine.coherent.Goals as goal
 
 pub returns : goal.returns

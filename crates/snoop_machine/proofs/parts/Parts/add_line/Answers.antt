@@ -1,11 +1,9 @@
-use Rattle.std.proofs.Common.{◌≡◌, ◌<◌, ◌≤◌, [], ◌∙◌, ℕ, List, ap, length, arith, refl}
+use Rattle.std.proofs.Common.{◌≡◌, [], ◌∙◌, ℕ, List, ap, length, arith, refl}
 use Rattle.std.specs.Prelude.{slice_index_or}
 use Rattle.std.proofs.lemmas.Result.{err_from_is_err_and}
 use Rattle.std.proofs.lemmas.List.{length-set}
-use Rattle.snoop_bus.specs.Traffic.{Waiting, waiting_of}
-use Rattle.snoop_machine.specs.PartsView.{Fields, fields, shown_line_rooms}
-use Rattle.snoop_machine.specs.Lines.{KeepsMapsRoom}
-use Rattle.snoop_machine.proofs.Room.{held_in, held_in-set, keeps_room, shown-same, places-map, places-queue}
+use Rattle.snoop_machine.proofs.Common.{Waiting, waiting_of, KeepsMapsRoom, shown_line_rooms}
+use Rattle.snoop_machine.proofs.Room.{held_in-set, keeps_room, shown-same, places-map, places-queue}
 use Rattle.snoop_machine.proofs.Queues.{queues_of-room}
 use Rattle.snoop_machine.proofs.Soundness.{IsSound-room}
 use Rattle.snoop_machine.proofs.parts.Parts.add_line.Given.{Over}
@@ -19,44 +17,36 @@ rows g c = c.put_ahead.ensures.rows ∙ c.reserve.ensures.rows
 pub invariant_of-self-2 : goal.invariant_of-self-2
 invariant_of-self-2 g c =
     let core = c.args.core in
-    let after = c.reserve.new.self in
     record {
       sound = rw (rows g (goal.at.invariant_of-self-2 g c).After-put_ahead) (IsSound-room c.self.invariant.sound c.reserve-2.new.self core _
           (core_in c.self.invariant c.self.view_is core c.requires.core) c.reserve-2.ensures.queue refl c.reserve-2.ensures.transactions);
       sized = sized_on _ _ c.self.invariant.sized refl
-          (ap (λ (lines : List (List ℕ)). length lines) c.put_ahead.ensures.lines
-          ∙ (length-set after.lines core _ ∙ ap (λ (lines : List (List ℕ)). length lines) c.reserve.ensures.lines))
-          (refl, refl) (refl, refl, refl);
+          (rw (c.put_ahead.ensures.lines, length-set, c.reserve.ensures.lines) refl) (refl, refl) (refl, refl, refl);
     }
 
 pub returns-in_err-reserve-clause-full : goal.returns-in_err-reserve-clause-full
 returns-in_err-reserve-clause-full g c =
-    let m = (fields c.self.inside.protocol c.self.inside.shape c.self.inside.lines c.self.inside.memory c.self.inside.bus c.self.inside.log) in
     let p = err_from_is_err_and c.from_residual.result c.from_residual.ensures.1 in
-    rw (p.1, ← c.self.view_is) (places-map m c.args.core c.in_err-reserve.ensures.full)
+    rw p.1 (places-map c.self.invariant c.self.view_is c.args.core c.in_err-reserve.ensures.full)
 
 pub returns-in_err-reserve-2-clause-full : goal.returns-in_err-reserve-2-clause-full
 returns-in_err-reserve-2-clause-full g c =
-    let m = (fields c.self.inside.protocol c.self.inside.shape c.self.inside.lines c.self.inside.memory c.self.inside.bus c.self.inside.log) in
     let p = err_from_is_err_and c.from_residual-in_err-reserve-2.result c.from_residual-in_err-reserve-2.ensures.1 in
-    rw (p.1, ← c.self.view_is) (places-queue m c.args.core c.in_err-reserve-2.ensures.full)
+    rw p.1 (places-queue c.self.invariant c.self.view_is c.args.core c.in_err-reserve-2.ensures.full)
 
 pub returns-in_err-reserve-2-clause-refused : goal.returns-in_err-reserve-2-clause-refused
 returns-in_err-reserve-2-clause-refused g c =
-    let m = (fields c.self.inside.protocol c.self.inside.shape c.self.inside.lines c.self.inside.memory c.self.inside.bus c.self.inside.log) in
-    let after = c.reserve.new.self in
+    let queues = c.self.inside.bus.queues in
+    let line_rooms = c.self.inside.lines.line_rooms in
     let p = err_from_is_err_and c.from_residual-in_err-reserve-2.result c.from_residual-in_err-reserve-2.ensures.1 in
-    let shown : shown_line_rooms m.bus.queues after.line_rooms ≡ shown_line_rooms m.bus.queues m.lines.line_rooms =
-    ap (λ (line_rooms : List ℕ). shown_line_rooms m.bus.queues line_rooms) c.reserve.ensures.line_rooms ∙ shown-same m.bus.queues m.lines.line_rooms c.args.core _ c.in_err-reserve-2.ensures.full in
+    let shown : shown_line_rooms queues c.reserve.new.self.line_rooms ≡ shown_line_rooms queues line_rooms =
+    rw c.reserve.ensures.line_rooms (shown-same queues line_rooms c.args.core _ c.in_err-reserve-2.ensures.full) in
     rw (p.1, c.in_err-reserve-2.ensures.refused, c.reserve.ensures.rows, c.reserve.ensures.lines, shown) c.self.view_is
 
 pub returns-in_err-reserve-2-clause-room : goal.returns-in_err-reserve-2-clause-room
 returns-in_err-reserve-2-clause-room g c =
-    let m = (fields c.self.inside.protocol c.self.inside.shape c.self.inside.lines c.self.inside.memory c.self.inside.bus c.self.inside.log) in
-    let new : Fields = record m { lines = c.reserve.new.self; bus = c.reserve-2.new.self } in
-    let queues : (core : ℕ) → held_in m.bus.queues core ≤ held_in c.reserve-2.new.self.queues core =
-    λ core. (rw c.in_err-reserve-2.ensures.refused (omega arith)) in
-    keeps_room m new c.args.self.now c.self.view_is (omega arith) queues c.reserve.ensures.room
+    keeps_room c.self.invariant c.self.view_is c.reserve.new.self c.self.inside.memory c.reserve-2.new.self c.self.inside.log (omega arith)
+    (λ core. rw c.in_err-reserve-2.ensures.refused (omega arith)) c.reserve.ensures.room
 
 pub returns-clause-unchanged : goal.returns-clause-unchanged
 returns-clause-unchanged g c =
@@ -66,17 +56,14 @@ returns-clause-unchanged g c =
 
 pub returns-clause-room : goal.returns-clause-room
 returns-clause-room g c =
-    let m = (fields c.self.inside.protocol c.self.inside.shape c.self.inside.lines c.self.inside.memory c.self.inside.bus c.self.inside.log) in
+    let bus = c.self.inside.bus in
     let core = c.args.core in
-    let in_cores = core_in c.self.invariant c.self.view_is core c.requires.core in
-    let in_queues : core < length m.bus.queues = omega (arith, c.self.invariant.sound.queues) in
-    let queue : Waiting = record { requests = (waiting_of m.bus core).requests; room = (waiting_of c.reserve-2.new.self core).room } in
+    let queue : Waiting = record { requests = (waiting_of bus core).requests; room = (waiting_of c.reserve-2.new.self core).room } in
     let more = c.reserve-2.ensures.room in
-    let new : Fields = record m { lines = c.put_ahead.new.self; bus = c.reserve-2.new.self } in
-    let line_rooms : KeepsMapsRoom m.lines new.lines = λ k.
+    let line_rooms : KeepsMapsRoom c.self.inside.lines c.put_ahead.new.self = λ k.
     (let grown = c.reserve.ensures.room k in
     let used = c.put_ahead.ensures.room k in
     let same = ap (λ (lines : List (List ℕ)). length (slice_index_or lines k [])) c.reserve.ensures.lines in
     omega arith) in
-    keeps_room m new c.args.self.now c.self.view_is (omega arith)
-    (rw (← c.reserve-2.ensures.queue) at (held_in-set m.bus.queues core queue in_queues (omega arith))) line_rooms
+    keeps_room c.self.invariant c.self.view_is c.put_ahead.new.self c.self.inside.memory c.reserve-2.new.self c.self.inside.log (omega arith)
+    (held_in-set c.self.invariant c.self.view_is c.reserve-2.new.self core queue c.reserve-2.ensures.queue c.requires.core (omega arith)) line_rooms

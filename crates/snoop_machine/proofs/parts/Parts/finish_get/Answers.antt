@@ -1,16 +1,10 @@
-use Rattle.std.proofs.Common.{◌≡◌, ◌≢◌, ◌<◌, false, length, Some, refl, sym, ◌∙◌, ap, arith}
+use Rattle.std.proofs.Common.{◌≡◌, ◌≢◌, false, Some, refl, sym, ◌∙◌, arith}
 use Rattle.std.specs.Prelude.{slice_set}
-use Rattle.snoop_rules.specs.declared.names.Request.TheVariants.{PutM}
-use Rattle.snoop_model.specs.Pictures.Lines.{Line}
-use Rattle.snoop_model.specs.Moves.Move.{Fills, next_did}
-use Rattle.snoop_machine.specs.Standing.{Standing}
-use Rattle.snoop_machine.specs.Cache.{filled_line}
-use Rattle.snoop_machine.specs.Lines.{row_of, line_at}
-use Rattle.snoop_machine.specs.PartsView.{fields}
-use Rattle.snoop_machine.proofs.Closing.{Closes, opened, header, whole_after, room_after, responded, loses}
+use Rattle.snoop_machine.proofs.Common.{PutM, Fills, next_did, Line, filled_line, row_of, line_at, fields}
+use Rattle.snoop_machine.proofs.Closing.{Closes, as_closes, never_none, opened, header, in_cores, whole_after, room_after, responded, loses}
 use Rattle.snoop_machine.proofs.LinesGoing.{LinesGo-none, LinesGo-more, row_after}
 use Rattle.snoop_machine.proofs.Soundness.{IsSound-line}
-use Rattle.snoop_machine.proofs.PictureViews.{seen, line_seen, core_in, block_in}
+use Rattle.snoop_machine.proofs.PictureViews.{line_seen, core_in, block_in, rows_in, row_in, words_seen}
 use Rattle.snoop_machine.proofs.Responses.{Arrives-get, IsProper-filled, waits-filled, held-filled}
 use Rattle.snoop_machine.proofs.parts.Parts.finish_get.Given.{Over}
 use Rattle.snoop_machine.proofs.parts.Parts.finish_get.Goals as goal
@@ -18,18 +12,7 @@ use Rattle.snoop_machine.proofs.parts.Parts.finish_get.Goals.{In-Some}
 
 abbrev closes : (g : Over) (c : In-Some g)
     → Closes (fields c.self.inside.protocol c.self.inside.shape c.self.inside.lines c.self.inside.memory c.self.inside.bus c.self.inside.log) c.args.self.now c.args.came c.args.memory c.in-Some.closing
-closes g c = record {
-  count = _;
-  whole = c.self.invariant;
-  view = c.self.view_is;
-  within = c.requires.block;
-  found = c.requires.closing;
-  is_open = sym c.finish.ensures.closed ∙ c.in-Some.is;
-}
-
--- the requestor is a core that there is
-in_cores : (g : Over) (c : In-Some g) → c.in-Some.closing.core < c.args.self.now.situation.shape.cores
-in_cores g c = rw (← header (closes g c)) at c.requires.closing.core
+closes g c = as_closes c.self.invariant c.self.view_is c.requires.closing c.requires.block (sym c.finish.ensures.closed ∙ c.in-Some.is)
 
 -- the requestor's line now
 abbrev line : (g : Over) (c : In-Some g) → Line
@@ -41,19 +24,16 @@ fills : (g : Over) (c : In-Some g)
 fills g c = rw (opened (closes g c), line_seen c.self.invariant c.self.view_is c.in-Some.closing.core c.args.came.block, ← c.self.view_is) at c.requires.filled
 
 pub unreachable-requires : goal.unreachable-requires
-unreachable-requires g c =
-    let clash = rw (seen c.self.invariant c.self.view_is c.args.came.block, ← c.finish.ensures.closed, c.in_default.is) at c.requires.closing.opened in
-    cc
+unreachable-requires g c = never_none c.self.invariant c.self.view_is c.requires.closing (sym c.finish.ensures.closed ∙ c.in_default.is)
 
 pub fill-requires-clause-core : goal.fill-requires-clause-core
 fill-requires-clause-core g c =
-    let d = (goal.at.fill-requires-clause-core g c).In-Some in
-    rw (c.self.invariant.sound.row c.args.came.block (block_in c.self.invariant c.self.view_is c.args.came.block c.requires.block))
-    (core_in c.self.invariant c.self.view_is c.in-Some.closing.core (in_cores g d))
+    row_in c.self.invariant c.self.view_is c.in-Some.closing.core c.args.came.block
+    (in_cores (closes g (goal.at.fill-requires-clause-core g c).In-Some)) c.requires.block
 
 pub fill-requires-clause-word : goal.fill-requires-clause-word
 fill-requires-clause-word g c =
-    let held = sym (ap (λ (x : Standing). x.situation.shape.words) c.self.view_is) ∙ c.self.invariant.sized.held in
+    let held = words_seen c.self.invariant c.self.view_is in
     let word = c.requires.word.0 in
     omega arith
 
@@ -71,7 +51,7 @@ invariant_of-self g c =
     let block = c.args.came.block in
     rw (c.settle.ensures, c.finish.ensures.after, c.push.ensures) (whole_after (closes g d) c.fill.new.self (Some c.next_did-did.result)
     (rw c.fill.ensures.rows (IsSound-line c.self.invariant.sound core block (line g d)
-    (core_in c.self.invariant c.self.view_is core (in_cores g d)) (block_in c.self.invariant c.self.view_is block c.requires.block)
+    (core_in c.self.invariant c.self.view_is core (in_cores (closes g d))) (block_in c.self.invariant c.self.view_is block c.requires.block)
     (IsProper-filled (fills g d)) (waits-filled (fills g d))))
     c.fill.ensures.many)
 
@@ -87,10 +67,8 @@ returns g c =
     let performed : did ≡ next_did c.self.inside.log.items closing.core closing.block access.word access.op c.args.filled.value false =
     rw (← c.self.view_is, ← header (closes g d)) at c.next_did-did.ensures in
     let lines = c.self.inside.lines in
-    let in_block = block_in c.self.invariant c.self.view_is c.args.came.block c.requires.block in
-    let in_rows : c.args.came.block < length lines.rows = rw c.self.invariant.sound.rows in_block in
-    let in_row : closing.core < length row = rw (c.self.invariant.sound.row c.args.came.block in_block)
-    (core_in c.self.invariant c.self.view_is closing.core (in_cores g d)) in
+    let in_rows = rows_in c.self.invariant c.self.view_is c.args.came.block c.requires.block in
+    let in_row = row_in c.self.invariant c.self.view_is closing.core c.args.came.block (in_cores (closes g d)) c.requires.block in
     rw (c.settle.ensures, c.finish.ensures.after, c.push.ensures, ← c.next_did-did.ensures) (record {
       responded = responded (closes g d) filled (slice_set row closing.core (line g d)) (Some did) c.fill.ensures.rows
           (rw performed (Arrives-get closing c.self.inside.protocol c.self.inside.log.items row (line g d) access c.args.filled.value get (fills g d)));

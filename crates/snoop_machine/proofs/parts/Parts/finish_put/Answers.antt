@@ -1,10 +1,8 @@
 use Rattle.std.proofs.Common.{None, [], refl, sym, ◌∙◌}
 use Rattle.std.proofs.lemmas.List.{set-get_or}
-use Rattle.snoop_machine.specs.Lines.{row_of}
-use Rattle.snoop_machine.specs.PartsView.{fields}
-use Rattle.snoop_machine.proofs.Closing.{Closes, header, whole_after, room_after, responded, loses}
+use Rattle.snoop_machine.proofs.Common.{row_of, fields}
+use Rattle.snoop_machine.proofs.Closing.{Closes, as_closes, never_none, header, whole_after, room_after, responded, loses}
 use Rattle.snoop_machine.proofs.LinesGoing.{LinesGo-none}
-use Rattle.snoop_machine.proofs.PictureViews.{seen}
 use Rattle.snoop_machine.proofs.Responses.{Arrives-put}
 use Rattle.snoop_machine.proofs.Room.{KeepsMapsRoom-same}
 use Rattle.snoop_machine.proofs.parts.Parts.finish_put.Given.{Over}
@@ -13,19 +11,10 @@ use Rattle.snoop_machine.proofs.parts.Parts.finish_put.Goals.{In-Some}
 
 abbrev closes : (g : Over) (c : In-Some g)
     → Closes (fields c.self.inside.protocol c.self.inside.shape c.self.inside.lines c.self.inside.memory c.self.inside.bus c.self.inside.log) c.args.self.now c.args.came c.args.memory c.in-Some.closing
-closes g c = record {
-  count = _;
-  whole = c.self.invariant;
-  view = c.self.view_is;
-  within = c.requires.block;
-  found = c.requires.closing;
-  is_open = sym c.finish.ensures.closed ∙ c.in-Some.is;
-}
+closes g c = as_closes c.self.invariant c.self.view_is c.requires.closing c.requires.block (sym c.finish.ensures.closed ∙ c.in-Some.is)
 
 pub unreachable-requires : goal.unreachable-requires
-unreachable-requires g c =
-    let clash = rw (seen c.self.invariant c.self.view_is c.args.came.block, ← c.finish.ensures.closed, c.in_default.is) at c.requires.closing.opened in
-    cc
+unreachable-requires g c = never_none c.self.invariant c.self.view_is c.requires.closing (sym c.finish.ensures.closed ∙ c.in_default.is)
 
 pub invariant_of-self : goal.invariant_of-self
 invariant_of-self g c =

@@ -1,8 +1,7 @@
 use Rattle.std.proofs.Common.{◌≡◌, ℕ, refl, ◌∙◌}
 use Rattle.std.specs.Prelude.{slice_set}
 use Rattle.std.proofs.lemmas.List.{set-get_or}
-use Rattle.snoop_model.specs.Pictures.Picture.{held_by, with_line, nothing_held}
-use Rattle.snoop_model.specs.Pictures.Situation.{Situation, picture_of, nothing_there}
+use Rattle.snoop_machine.proofs.Common.{held_by, with_line, nothing_held, Situation, picture_of, nothing_there}
 use Rattle.snoop_machine.proofs.ProperLines.{loaded_same}
 use Rattle.snoop_machine.proofs.parts.Parts.hit_line.Goals as goal
 

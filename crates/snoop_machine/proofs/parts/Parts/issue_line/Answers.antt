@@ -1,13 +1,7 @@
-use Rattle.std.proofs.Common.{◌≡◌, ◌<◌, ◌+◌, ◌-◌, ◌++◌, ◌∷◌, [], length, refl, arith}
+use Rattle.std.proofs.Common.{◌≡◌, ◌+◌, ◌-◌, ◌++◌, ◌∷◌, [], length, refl, arith}
 use Rattle.std.proofs.lemmas.List.{length-append}
 use Rattle.std.specs.Prelude.{slice_set}
-use Rattle.snoop_bus.specs.Traffic.{Waiting, waiting_of}
-use Rattle.snoop_model.specs.Pictures.Lines.{Line}
-use Rattle.snoop_model.specs.Pictures.Picture.{with_line}
-use Rattle.snoop_machine.specs.Cache.{changed}
-use Rattle.snoop_machine.specs.declared.cache.LineChange.TheVariants.{Wait}
-use Rattle.snoop_machine.specs.Lines.{line_at}
-use Rattle.snoop_machine.specs.PartsView.{Fields, fields, standing, pictures_of}
+use Rattle.snoop_machine.proofs.Common.{Waiting, waiting_of, Line, with_line, changed, line_at, Fields, fields, standing, pictures_of, Wait}
 use Rattle.snoop_machine.proofs.Following.{follows-set}
 use Rattle.snoop_machine.proofs.Soundness.{IsSound-issue}
 use Rattle.snoop_machine.proofs.PictureViews.{seen, line_seen, picture_in, line-written, core_in, block_in, sized_on}
@@ -58,14 +52,12 @@ returns g c =
     let m = parts g d in
     let core = c.args.core in
     let before = waiting_of m.bus core in
-    let in_cores = core_in c.self.invariant c.self.view_is core c.requires.core in
-    let in_queues : core < length m.bus.queues = omega (arith, c.self.invariant.sound.queues) in
     let long : length (queue g d).requests ≡ length before.requests + 1 = length-append before.requests ((c.args.request, c.args.block) ∷ []) in
     let shown = queues_of-issue m.bus.queues core c.args.block (queue g d).room c.args.request in
     record {
       written = rw (← c.self.view_is, seen c.self.invariant refl c.args.block, wrote g d, c.issue.ensures.queue, shown);
-      room = keeps_room m (record m { lines = c.change.new.self; bus = c.issue.new.self }) c.args.self.now c.self.view_is (omega arith)
-          (rw c.issue.ensures.queue (held_in-set m.bus.queues core (queue g d) in_queues (omega arith))) c.change.ensures.room;
+      room = keeps_room c.self.invariant c.self.view_is c.change.new.self m.memory c.issue.new.self m.log (omega arith)
+          (held_in-set c.self.invariant c.self.view_is c.issue.new.self core (queue g d) c.issue.ensures.queue c.requires.core (omega arith)) c.change.ensures.room;
       lines = follows-set c.self.invariant c.self.view_is _ c.args.block (with_line (picture_in m c.args.block) core (line g d)) c.change.new.self c.requires.block
           (wrote g d) refl c.change.ensures c.requires.core refl;
     }

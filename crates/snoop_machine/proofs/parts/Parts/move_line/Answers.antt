@@ -1,13 +1,8 @@
-use Rattle.std.proofs.Common.{sym, ap, ◌∙◌, arith, refl, inl}
-use Rattle.snoop_model.specs.Pictures.Lines.{Line}
-use Rattle.snoop_model.specs.Pictures.Picture.{with_line}
-use Rattle.snoop_machine.specs.Standing.{Standing}
-use Rattle.snoop_machine.specs.Cache.{changed}
-use Rattle.snoop_machine.specs.Lines.{line_at}
-use Rattle.snoop_machine.specs.PartsView.{Fields, fields}
+use Rattle.std.proofs.Common.{◌∙◌, arith, refl, inl}
+use Rattle.snoop_machine.proofs.Common.{Line, with_line, changed, line_at, Fields, fields}
 use Rattle.snoop_machine.proofs.Following.{follows-set}
 use Rattle.snoop_machine.proofs.Soundness.{IsSound-line}
-use Rattle.snoop_machine.proofs.PictureViews.{seen, line_seen, state_seen, picture_in, line-written, core_in, block_in, sized_on}
+use Rattle.snoop_machine.proofs.PictureViews.{seen, line_seen, state_seen, words_seen, picture_in, line-written, core_in, block_in, sized_on}
 use Rattle.snoop_machine.proofs.Room.{keeps_room}
 use Rattle.snoop_machine.proofs.parts.Parts.move_line.Given.{Over}
 use Rattle.snoop_machine.proofs.parts.Parts.move_line.Goals as goal
@@ -22,7 +17,7 @@ abbrev line : (g : Over) (c : After-change g) → Line
 line g c = changed c.args.next c.args.change (line_at c.self.inside.lines.rows c.args.core c.args.block)
 
 pub change-requires-clause-words : goal.change-requires-clause-words
-change-requires-clause-words g c = rw (sym c.self.invariant.sized.held ∙ ap (λ (x : Standing). x.situation.shape.words) c.self.view_is) c.requires.words
+change-requires-clause-words g c = rw (← (words_seen c.self.invariant c.self.view_is)) c.requires.words
 
 pub change-requires-clause-proper : goal.change-requires-clause-proper
 change-requires-clause-proper g c = rw (line_seen c.self.invariant c.self.view_is c.args.core c.args.block) at c.requires.proper
@@ -48,6 +43,6 @@ returns g c =
     let wrote = line-written c.self.invariant refl c.args.block c.change.new.self.rows c.args.core (line g d) c.change.ensures.rows in
     record {
       written = rw (← c.self.view_is, seen c.self.invariant refl c.args.block, wrote);
-      room = keeps_room m (record m { lines = c.change.new.self }) c.args.self.now c.self.view_is (omega arith) (λ core. omega arith) c.change.ensures.room;
+      room = keeps_room c.self.invariant c.self.view_is c.change.new.self m.memory m.bus m.log (omega arith) (λ core. omega arith) c.change.ensures.room;
       lines = follows-set c.self.invariant c.self.view_is _ c.args.block next c.change.new.self c.requires.block wrote refl c.change.ensures c.requires.core refl;
     }

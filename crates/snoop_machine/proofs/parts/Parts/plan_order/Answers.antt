@@ -1,28 +1,19 @@
 use Rattle.std.proofs.Common.{◌≡◌, Option, Some, None, refl, sym, ap, ◌∙◌, false}
 use Rattle.std.specs.Prelude.{ℕ, is_some, option_copied}
-use Rattle.snoop_trace.specs.declared.step.Step.TheVariants.{Order}
-use Rattle.snoop_rules.specs.Takers.{seen_by}
 use Rattle.std.specs.Borrow.{Bor}
-use Rattle.snoop_bus.specs.Traffic.{Open}
-use Rattle.snoop_model.specs.Pictures.Picture.{Picture, free_picture}
-use Rattle.snoop_machine.specs.Standing.{Standing}
-use Rattle.snoop_model.specs.Pictures.Situation.{picture_of}
+use Rattle.snoop_machine.proofs.Common.{Order, seen_by, Open, Picture, free_picture, picture_of, row_of, memory_line, Fields, standing, IsWhole, IsPlan, Standing}
+use Rattle.snoop_machine.proofs.ProperLines.{is_none}
 use Rattle.snoop_model.proofs.Invariant.Coherence.{orders_follow_sender_table, finds_rows}
 use Rattle.snoop_machine.specs.declared.plan.Plan.TheVariants as plan
 use Rattle.snoop_machine.proofs.Plans.{order-allowed}
-use Rattle.snoop_machine.specs.Plan.{IsPlan}
-use Rattle.snoop_machine.specs.PartsView.{Fields, standing, IsWhole}
-use Rattle.snoop_machine.specs.Lines.{row_of}
-use Rattle.snoop_machine.specs.Memory.{memory_line}
 use Rattle.snoop_machine.proofs.parts.Parts.plan_order.Given.{Over}
 use Rattle.snoop_machine.proofs.parts.Parts.plan_order.Goals as goal
 use Rattle.snoop_machine.proofs.parts.Parts.plan_order.Goals.{After-sender-from}
-use Rattle.snoop_machine.proofs.PictureViews.{seen, line_seen}
+use Rattle.snoop_machine.proofs.PictureViews.{seen, line_seen, protocol_seen}
 
 -- a block that was found without an open transaction
 free_copied : (found : Option (Bor Open)) (transaction : Option Open) → option_copied found ≡ transaction → is_some found ≡ false → transaction ≡ None
-free_copied None transaction shown none = sym shown
-free_copied (Some found) transaction shown none = cc
+free_copied found transaction shown none = sym shown ∙ ap option_copied (is_none found none)
 
 -- has this picture
 free_seen : {count : ℕ} {m : Fields} (whole : IsWhole count m) {now : Standing} (view : standing m ≡ now) (block : ℕ)
@@ -40,14 +31,14 @@ pub sender-from-requires-clause-rows : goal.sender-from-requires-clause-rows
 sender-from-requires-clause-rows g c =
     let free = free_copied _ _ c.transaction.ensures.value (sym c.is_some.ensures ∙ c.if-is_some.false) in
     let request = c.in-Some.request in
-    rw (ap (λ (s : Standing). s.situation.protocol) c.self.view_is, sym (ap (λ (x : Picture). x.caches) (seen c.self.invariant c.self.view_is c.in-Some.block)))
+    rw (protocol_seen c.self.invariant c.self.view_is, sym (ap (λ (x : Picture). x.caches) (seen c.self.invariant c.self.view_is c.in-Some.block)))
     (λ k inside. (finds_rows c.args.self.now.situation c.requires.inductive (Order c.args.core)).cache k c.in-Some.block (Some (seen_by k c.args.core request))
     (request, ((c.in-Some.ensures.some.waits, free), refl)))
 
 pub sender-from-requires-clause-line : goal.sender-from-requires-clause-line
 sender-from-requires-clause-line g c =
     let free = free_copied _ _ c.transaction.ensures.value (sym c.is_some.ensures ∙ c.if-is_some.false) in
-    rw (ap (λ (s : Standing). s.situation.protocol) c.self.view_is, free_seen c.self.invariant c.self.view_is c.in-Some.block free)
+    rw (protocol_seen c.self.invariant c.self.view_is, free_seen c.self.invariant c.self.view_is c.in-Some.block free)
     (orders_follow_sender_table c.args.self.now.situation c.requires.inductive c.args.core c.in-Some.block c.in-Some.request
     (c.in-Some.ensures.some.waits, free))
 
@@ -55,7 +46,7 @@ sender-from-requires-clause-line g c =
 plan_is : (g : Over) (c : After-sender-from g) → IsPlan c.args.self.now.situation (plan.Order c.args.core c.in-Some.request c.in-Some.block c.sender-from.result.from c.sender-from.result.payload c.sender-from.result.memory)
 plan_is g c =
     let free = free_copied _ _ c.transaction.ensures.value (sym c.is_some.ensures ∙ c.if-is_some.false) in
-    let protocol = ap (λ (s : Standing). s.situation.protocol) c.self.view_is in
+    let protocol = protocol_seen c.self.invariant c.self.view_is in
     let request = c.in-Some.request in (
       c.requires.core,
       record {

@@ -1,17 +1,8 @@
 use Rattle.std.proofs.Common.{arith, ℕ, ◌≡◌, ◌≢◌, Some, refl, sym, ap, ◌∙◌, subst}
 use Rattle.std.specs.Prelude.{Option, option_copied, option_map}
-use Rattle.snoop_bus.specs.Traffic.{Open}
-use Rattle.snoop_history.specs.declared.items.Came.{Came}
-use Rattle.snoop_model.specs.Moves.Move.{came_of}
-use Rattle.snoop_trace.specs.declared.step.Step.TheVariants.{Respond}
-use Rattle.snoop_rules.specs.declared.names.Request.TheVariants.{PutM}
-use Rattle.snoop_rules.specs.Takers.{arrival, arrival_at_memory}
-use Rattle.snoop_model.specs.Pictures.Lines.{Line}
-use Rattle.snoop_machine.specs.Standing.{Standing}
-use Rattle.snoop_model.specs.Pictures.Situation.{picture_of}
-use Rattle.snoop_model.specs.Pictures.Picture.{held_by}
+use Rattle.snoop_machine.proofs.Common.{Respond, arrival, arrival_at_memory, PutM, Came, Open, came_of, Line, held_by, picture_of, IsClosing}
 use Rattle.snoop_model.proofs.Invariant.Coherence.{finds_rows, sender_within}
-use Rattle.snoop_machine.specs.Plan.{IsClosing}
+use Rattle.snoop_machine.proofs.PictureViews.{protocol_seen, words_seen}
 use Rattle.snoop_machine.proofs.WordsHeld.{waiting_held}
 use Rattle.snoop_machine.proofs.parts.Parts.plan_respond.Given.{Over}
 use Rattle.snoop_machine.proofs.parts.Parts.plan_respond.Goals as goal
@@ -23,7 +14,7 @@ settle-memory-requires g c =
     let block = c.args.block in
     let closing = c.in-Some.closing.now in
     let finds = finds_rows s c.requires.inductive (Respond block) in
-    rw (c.memory_state.ensures, ap (λ (x : Standing). x.situation.protocol) c.self.view_is)
+    rw (c.memory_state.ensures, protocol_seen c.self.invariant c.self.view_is)
     (λ takes. finds.memory block (arrival_at_memory closing.payload)
     (closing, (refl, sym c.transaction.ensures.value ∙ ap option_copied c.in-Some.is, takes, refl)))
 
@@ -34,14 +25,14 @@ fill-filled-requires-clause-possible g c =
     let get : closing.request ≢ PutM = c.in_default-request.not-PutM in
     let line = held_by (picture_of s c.args.block) closing.core in
     let finds = finds_rows s c.requires.inductive (Respond c.args.block) in
-    rw (c.line-found.ensures.line, ap (λ (x : Standing). x.situation.protocol) c.self.view_is)
+    rw (c.line-found.ensures.line, protocol_seen c.self.invariant c.self.view_is)
     (finds.cache closing.core c.args.block (arrival closing.payload)
     (closing, (refl, sym c.transaction.ensures.value ∙ ap option_copied c.in-Some.is, refl, get, refl)))
 
 pub fill-filled-requires-clause-word : goal.fill-filled-requires-clause-word
 fill-filled-requires-clause-word g c =
-    let held = sym (ap (λ (x : Standing). x.situation.shape.words) c.self.view_is) ∙ c.self.invariant.sized.held in
-    rw c.line-found.ensures.line (waiting_held c.args.self.now.situation _ c.in-Some.closing.now.core c.args.block held c.requires.inductive)
+    rw c.line-found.ensures.line (waiting_held c.args.self.now.situation _ c.in-Some.closing.now.core c.args.block
+    (words_seen c.self.invariant c.self.view_is) c.requires.inductive)
 
 -- the transaction is open
 opened : (g : Over) (c : After-came-came g) → (picture_of c.args.self.now.situation c.args.block).transaction ≡ Some c.in-Some.closing.now
@@ -60,7 +51,7 @@ closes g c =
       opened = subst (λ (b : ℕ). option_map came_of (picture_of s b).transaction ≡ Some (came_of closing)) (sym here) (ap (λ (o : Option Open). option_map came_of o) (opened g c));
       core = c.in-Some.ensures.within.1;
       sender = sender_within s c.requires.inductive c.args.block closing (opened g c);
-      settles = rw here (rw (c.memory_state.ensures, ap (λ (x : Standing). x.situation.protocol) c.self.view_is) at c.settle-memory.ensures);
+      settles = rw here (rw (c.memory_state.ensures, protocol_seen c.self.invariant c.self.view_is) at c.settle-memory.ensures);
     })
 
 pub returns-in-PutM-clause-found : goal.returns-in-PutM-clause-found
@@ -78,7 +69,7 @@ returns-clause-found g c =
     let closing = c.in-Some.closing.now in
     let get : closing.request ≢ PutM = c.in_default-request.not-PutM in
     let filled = c.fill-filled.result in
-    let fills = rw (c.line-found.ensures.line, ap (λ (x : Standing). x.situation.protocol) c.self.view_is) at c.fill-filled.ensures in
+    let fills = rw (c.line-found.ensures.line, protocol_seen c.self.invariant c.self.view_is) at c.fill-filled.ensures in
     let waits = ap (λ (x : Line). x.waiting) (sym c.line-found.ensures.line) ∙ c.fill-filled.ensures.waited in
     let here = its g d in
     let inside = c.requires.block in (

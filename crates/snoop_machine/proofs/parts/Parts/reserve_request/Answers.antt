@@ -1,9 +1,8 @@
-use Rattle.std.proofs.Common.{◌<◌, ap, length, arith, refl}
-use Rattle.snoop_bus.specs.Traffic.{Waiting, waiting_of}
+use Rattle.std.proofs.Common.{ap, arith, refl}
+use Rattle.snoop_machine.proofs.Common.{Waiting, waiting_of}
 use Rattle.snoop_machine.proofs.Room.{held_in-set, keeps_room, KeepsMapsRoom-same}
 use Rattle.snoop_machine.proofs.Queues.{queues_of-room}
 use Rattle.snoop_machine.proofs.Soundness.{IsSound-room}
-use Rattle.snoop_machine.specs.PartsView.{Fields, fields}
 use Rattle.snoop_machine.proofs.parts.Parts.reserve_request.Goals as goal
 use Rattle.snoop_machine.proofs.PictureViews.{core_in, sized_on}
 
@@ -22,12 +21,9 @@ returns-clause-unchanged g c =
 
 pub returns-clause-room : goal.returns-clause-room
 returns-clause-room g c =
-    let m = (fields c.self.inside.protocol c.self.inside.shape c.self.inside.lines c.self.inside.memory c.self.inside.bus c.self.inside.log) in
+    let lines = c.self.inside.lines in
     let core = c.args.core in
-    let in_cores = core_in c.self.invariant c.self.view_is core c.requires in
-    let in_queues : core < length m.bus.queues = omega (arith, c.self.invariant.sound.queues) in
-    let queue : Waiting = record { requests = (waiting_of m.bus core).requests; room = (waiting_of c.reserve.new.self core).room } in
+    let queue : Waiting = record { requests = (waiting_of c.self.inside.bus core).requests; room = (waiting_of c.reserve.new.self core).room } in
     let more = c.reserve.ensures.room in
-    let new : Fields = record m { bus = c.reserve.new.self } in
-    keeps_room m new c.args.self.now c.self.view_is (omega arith)
-    (rw (← c.reserve.ensures.queue) at (held_in-set m.bus.queues core queue in_queues (omega arith))) (KeepsMapsRoom-same m.lines)
+    keeps_room c.self.invariant c.self.view_is lines c.self.inside.memory c.reserve.new.self c.self.inside.log (omega arith)
+    (held_in-set c.self.invariant c.self.view_is c.reserve.new.self core queue c.reserve.ensures.queue c.requires (omega arith)) (KeepsMapsRoom-same lines)

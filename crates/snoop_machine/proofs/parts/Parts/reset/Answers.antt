@@ -1,10 +1,8 @@
-use Rattle.snoop_model.specs.Pictures.Picture.{first_memory, nothing_held}
-use Rattle.snoop_machine.specs.Memory.{MemTables}
 use Rattle.std.proofs.Common.{rules, ℕ, List, [], length, replicate, refl, ap, ◌∙◌, None}
-use Rattle.snoop_trace.specs.Words.{zero_words}
 use Rattle.snoop_history.specs.Journal.{Journal}
 use Rattle.std.specs.Prelude.{slice_index_or}
 use Rattle.std.proofs.lemmas.List.{length-replicate}
+use Rattle.snoop_machine.proofs.Common.{zero_words, first_memory, nothing_held}
 use Rattle.snoop_model.proofs.Lists.Facts.{replicated}
 use Rattle.snoop_machine.proofs.AtReset.{IsSound-reset, queues_of-reset}
 use Rattle.snoop_machine.proofs.parts.Parts.reset.Goals as goal
@@ -15,10 +13,9 @@ invariant_of-result g c =
     record {
       sized = record {
         few = search rules;
-        lines = ap (λ (l : List (List ℕ)). length l) c.in_ok-lines.ensures.lines ∙ length-replicate c.args.shape.cores [];
-        states = ap (λ (m : MemTables). length m.states) c.in_ok-memory.ensures
-            ∙ (length-replicate c.blocks-2.result c.first_state.result ∙ c.blocks-2.ensures.value);
-        values = ap (λ (m : MemTables). length m.words) c.in_ok-memory.ensures ∙ (length-replicate c.blocks-2.result zero_words ∙ c.blocks-2.ensures.value);
+        lines = rw c.in_ok-lines.ensures.lines (length-replicate c.args.shape.cores []);
+        states = rw c.in_ok-memory.ensures (length-replicate c.blocks-2.result c.first_state.result ∙ c.blocks-2.ensures.value);
+        values = rw c.in_ok-memory.ensures (length-replicate c.blocks-2.result zero_words ∙ c.blocks-2.ensures.value);
         cores = ap (λ (j : Journal). j.cores) c.in_ok-log.ensures;
         blocks = ap (λ (j : Journal). j.blocks) c.in_ok-log.ensures;
         words = ap (λ (j : Journal). j.words) c.in_ok-log.ensures;

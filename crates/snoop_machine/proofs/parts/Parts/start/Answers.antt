@@ -1,21 +1,8 @@
 use Rattle.std.proofs.Common.{◌≡◌, ℕ, List, ◌<◌, ◌-◌, ◌++◌, ◌∷◌, [], length, drop, Option, Some, ◌∙◌, refl, sym, ap, arith}
 use Rattle.std.specs.Prelude.{slice_set}
-use Rattle.std.specs.Option.{ForSome}
 use Rattle.std.proofs.lemmas.List.{length-set, length-append, length-drop, set-get_or}
-use Rattle.snoop_trace.specs.declared.protocol.Protocol.{Protocol}
-use Rattle.snoop_rules.specs.declared.names.Payload.{Payload}
-use Rattle.snoop_rules.specs.declared.names.Request.{Request}
+use Rattle.snoop_machine.proofs.Common.{zero_words, Open, Waiting, waiting_of, head_of, Starts, MemLine, Picture, picture_of, row_of, MemTables, memory_line, Fields, fields, standing, pictures_of, Standing}
 use Rattle.snoop_history.specs.declared.items.Item.TheVariants as item
-use Rattle.snoop_bus.specs.Traffic.{Open, Waiting, waiting_of, head_of, Starts}
-use Rattle.snoop_model.specs.Pictures.Lines.{MemLine}
-use Rattle.snoop_model.specs.Pictures.Picture.{Picture}
-use Rattle.snoop_model.specs.Pictures.Sends.{Sends}
-use Rattle.snoop_model.specs.Pictures.Situation.{picture_of}
-use Rattle.snoop_machine.specs.Standing.{Standing}
-use Rattle.snoop_machine.specs.Lines.{row_of}
-use Rattle.snoop_machine.specs.PartsView.{Fields, fields, standing, pictures_of}
-use Rattle.snoop_machine.specs.Memory.{MemTables, memory_line}
-use Rattle.snoop_trace.specs.Words.{zero_words}
 use Rattle.snoop_machine.proofs.Following.{follows-rows}
 use Rattle.snoop_machine.proofs.PictureViews.{seen, line_seen, picture-written, core_in, block_in, sized_on}
 use Rattle.snoop_machine.proofs.Queues.{head_from_line, head_alone, queues_of-order}
@@ -42,11 +29,6 @@ start-requires-clause-free g c =
     rw (head g (goal.at.start-requires-clause-free g c).After-words_sent-words)
     (sym (ap (λ (x : Picture). x.transaction) (seen c.self.invariant c.self.view_is c.args.block)) ∙ c.requires.free)
 
--- a core that sends is one of the picture
-sender_in : (p : Protocol) (before : Picture) (core : ℕ) (request : Request) (from : Option ℕ) (payload : Payload) → Sends p before core request from payload
-    → ForSome from (λ sender. sender < length before.caches)
-sender_in p before core request from payload sends = λ sender is. (rw is at sends).0
-
 pub words_sent-words-requires-clause-sender : goal.words_sent-words-requires-clause-sender
 words_sent-words-requires-clause-sender g c =
     let s = c.args.self.now.situation in
@@ -54,7 +36,7 @@ words_sent-words-requires-clause-sender g c =
     ap (λ (x : Picture). length x.caches) (seen c.self.invariant c.self.view_is c.args.block)
     ∙ (c.self.invariant.sound.row c.args.block (block_in c.self.invariant c.self.view_is c.args.block c.requires.head.within)
     ∙ ap (λ (x : Standing). x.situation.shape.cores) c.self.view_is) in
-    rw (← wide) (sender_in s.protocol (picture_of s c.args.block) c.args.core c.args.request c.args.from c.args.payload c.requires.sender.sends)
+    rw (← wide) (λ sender is. (rw is at c.requires.sender.sends).0)
 
 -- the parts before it
 abbrev parts : (g : Over) (c : After-start g) → Fields
@@ -116,19 +98,11 @@ returns g c =
     let its = head g (goal.at.returns g c).After-words_sent-words in
     let left = queues_of-order m.bus.queues core block (queue g d).room c.args.request its
     (head_alone c.self.invariant.sound core c.args.request block its).1 in
-    let in_cores = core_in c.self.invariant c.self.view_is core c.requires.core in
-    let in_queues : core < length m.bus.queues = omega (arith, c.self.invariant.sound.queues) in
     let fewer = length-drop 1 before.requests in
     let more = (starts g d).more in
     let items = m.log.items ++ item.Sent (record { core = core; request = c.args.request; block = block }) ∷ [] in
     let long = length-append m.log.items (item.Sent (record { core = core; request = c.args.request; block = block }) ∷ []) in
     let room : 0 < m.log.room = rw (← c.self.view_is) at c.requires.room in
-    let new : Fields = record m {
-      lines = c.take_rows.new.self;
-      memory = c.move_to.new.self;
-      bus = c.start.new.self;
-      log = record m.log { items = items; room = m.log.room - 1 };
-    } in
     record {
       ordered = rw (← c.self.view_is) (record {
         ready = (rw (← c.self.view_is) at c.requires.head.waits, rw (← c.self.view_is) at c.requires.free);
@@ -142,7 +116,8 @@ returns g c =
         opened = ap (λ (x : List ℕ). let o : Option Open = Some (record (opened g d) { value = x }) in o) (rw (← c.self.view_is) at c.words_sent-words.ensures);
         after = rw (wrote g d, (starts g d).queues, left, c.push.ensures);
       });
-      room = rw c.push.ensures (keeps_room m new c.args.self.now c.self.view_is (omega arith)
-          (rw (starts g d).queues (held_in-set m.bus.queues core (queue g d) in_queues (omega arith))) c.take_rows.ensures.room);
+      room = rw c.push.ensures (keeps_room c.self.invariant c.self.view_is c.take_rows.new.self c.move_to.new.self c.start.new.self
+          (record m.log { items = items; room = m.log.room - 1 }) (omega arith)
+          (held_in-set c.self.invariant c.self.view_is c.start.new.self core (queue g d) (starts g d).queues c.requires.core (omega arith)) c.take_rows.ensures.room);
       lines = follows-rows c.self.invariant c.self.view_is _ block (next g d) c.take_rows.new.self c.requires.head.within (wrote g d) refl refl c.take_rows.ensures.lines;
     }

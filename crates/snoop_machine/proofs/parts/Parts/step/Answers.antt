@@ -1,6 +1,6 @@
 use Rattle.std.proofs.Common.{refl}
 use Rattle.std.proofs.lemmas.Result.{err_from_is_err_and}
-use Rattle.snoop_machine.specs.Plan.{entry_of}
+use Rattle.snoop_machine.proofs.Common.{entry_of}
 use Rattle.snoop_machine.proofs.StepKeeps.{prepared-log}
 use Rattle.snoop_machine.proofs.Plans.{RefusedFor-memory, IsFull-plan}
 use Rattle.snoop_machine.proofs.Holding.{HoldsOn-taken, KeepsRoom-taken}

@@ -1,8 +1,6 @@
 use Rattle.std.proofs.Common.{sym, ap, ◌∙◌}
 use Rattle.std.specs.Prelude.{is_some}
-use Rattle.snoop_bus.specs.Traffic.{waiting_of}
-use Rattle.snoop_bus.specs.Queues.{queue_of}
-use Rattle.snoop_machine.specs.Standing.{Standing}
+use Rattle.snoop_machine.proofs.Common.{queue_of, waiting_of, Standing}
 use Rattle.snoop_machine.proofs.Queues.{queue_of-queues_of, some_first}
 use Rattle.snoop_machine.proofs.parts.Parts.waiting.Goals as goal
 
