@@ -1,13 +1,8 @@
 -- What can be counted of steps that come after others; sums of counts over causes, and over parts of a run.
 use Rattle.std.proofs.Common.{◌≡◌, ℕ, suc, ◌+◌, Bool, get_or, true, false, cond, List, [], ◌∷◌, ◌++◌, All, filter, length, length-append, map, refl, arith, append_assoc, append-nil}
 use Rattle.std.specs.Prelude.{◌||◌, ◌&&◌, Option, Some, None, Result, option_to_list, if◌then◌else◌}
-use Rattle.std.specs.Option.{option_map_or}
-use Rattle.std.proofs.lemmas.List.Elements.{All-append, All-head, All-map, All-nil, All-tail, filter-append}
-use Rattle.snoop_trace.specs.declared.step.Step.{Step}
-use Rattle.snoop_history.specs.declared.items.Did.{Did}
-use Rattle.snoop_history.specs.declared.items.Item.{Item}
-use Rattle.snoop_model.specs.declared.replies.Refused.{Refused}
-use Rattle.snoop_model.specs.declared.replies.Reply.{Reply}
+use Rattle.std.proofs.lemmas.List.Elements.{All-map, filter-append}
+use Rattle.snoop_engine.proofs.Common.{All-append, All-head, All-nil, All-tail, Did, Item, Refused, Reply, Step, option_map_or}
 use Rattle.snoop_engine.specs.Frames.{Frame}
 use Rattle.snoop_engine.specs.Taken.{lines_of_step}
 use Rattle.snoop_engine.specs.declared.taken.Taken.{Taken}

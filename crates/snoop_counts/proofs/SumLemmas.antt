@@ -1,49 +1,25 @@
 -- Sums of counts over cores, over blocks, and over the words of a block: those of the report, and of what cores do to others.
 use Rattle.std.proofs.Common.{◌≡◌, ℕ, zero, suc, ◌+◌, ◌<◌, Bool, true, false, cond, List, [], ◌∷◌, ◌++◌, All, filter, length, length-append, get_or, map, refl, sym, ap, append_assoc, append-nil, ◌∙◌, inl, inr, arith, ◌*◌, ◌^◌, ◌≤◌}
 use Rattle.std.specs.Prelude.{◌&&◌, ◌==◌, IsSomeAnd, Option, Some, None, Result, Ok, Err, nat_lt, option_to_list, slice_get, is_some, not}
-use Rattle.std.specs.List.{flat_map, range_with_len, sum_by}
+use Rattle.std.specs.List.{flat_map, sum_by}
 use Rattle.std.specs.Option.{ForSome}
-use Rattle.std.proofs.lemmas.Bool.{and_left, and_from, and_right, cases_eq, cases_lt, eq-eqb, false≢true, lt-ltb, ne_eqb}
-use Rattle.std.proofs.lemmas.Bool.Decides.{nat_tests}
-use Rattle.std.proofs.lemmas.List.Elements.{All-append, All-cons, All-head, All-nil, All-tail, filter-append, filter_agree}
+use Rattle.std.proofs.lemmas.Bool.{and_left, and_from, and_right, eq-eqb, false≢true, lt-ltb, ne_eqb}
+use Rattle.std.proofs.lemmas.List.Elements.{filter-append, filter_agree}
 use Rattle.std.proofs.lemmas.List.Folds.{fold-map, fold_stays}
 use Rattle.std.proofs.lemmas.List.Sums.{length-filter, sum_by_from}
-use Rattle.std.proofs.lemmas.Option.{same_Some}
 use Rattle.std.proofs.Math.Bool.{or-false}
-use Rattle.std.proofs.lemmas.List.{get_or_past}
 use Rattle.std.proofs.lemmas.Nat.{mul-add-lt, mul-le, same_from_place}
-use Rattle.snoop_trace.specs.Extent.{Extent, IsWithinLimits}
-use Rattle.snoop_trace.specs.declared.step.Op.{Op}
-use Rattle.snoop_trace.specs.declared.step.Step.{Step}
-use Rattle.snoop_trace.specs.declared.step.Step.TheVariants.{Ask, Order, Respond}
-use Rattle.snoop_trace.specs.declared.protocol.Protocol.{Protocol}
+use Rattle.snoop_model.proofs.Common.{CacheAction, Payload, Takes, came_of, nothing_there}
+use Rattle.snoop_engine.proofs.Common.{All-append, All-cons, All-head, All-nil, All-tail, ArrivesFor, Ask, CacheEvent, CacheState, ConsultsCache, Did, Extent, FirstMove, GoesFirst, I, Item, Line, Op, Open, Order, Picture, Protocol, PutM, Refused, Reply, Request, Respond, Situation, Step, arrival, asked, cases_eq, cases_lt, get_or_past, held_by, nat_tests, nothing_held, picture_of, range_with_len, reset, same_Some, state_of, waiting_request}
+use Rattle.snoop_trace.specs.Extent.{IsWithinLimits}
 use Rattle.snoop_trace.specs.declared.step.Op.TheVariants as op
-use Rattle.snoop_rules.specs.declared.names.CacheAction.{CacheAction}
 use Rattle.snoop_rules.specs.declared.names.CacheAction.TheVariants as action
-use Rattle.snoop_rules.specs.declared.names.CacheState.{CacheState}
-use Rattle.snoop_rules.specs.declared.names.Request.{Request}
-use Rattle.snoop_rules.specs.declared.names.Request.TheVariants.{PutM}
-use Rattle.snoop_rules.specs.declared.names.CacheEvent.{CacheEvent}
 use Rattle.snoop_rules.specs.declared.names.CacheEvent.TheVariants.{OtherGetM}
-use Rattle.snoop_rules.specs.declared.names.CacheState.TheVariants.{I, S, SmAd}
-use Rattle.snoop_rules.specs.declared.names.Payload.{Payload}
+use Rattle.snoop_rules.specs.declared.names.CacheState.TheVariants.{S, SmAd}
 use Rattle.snoop_rules.specs.declared.names.Payload.TheVariants.{Data}
-use Rattle.snoop_rules.specs.Takers.{arrival, asked}
-use Rattle.snoop_rules.specs.Waits.{waiting_request}
 use Rattle.snoop_history.specs.Totals.{how_many, totals_of, is_put_m, performed}
 use Rattle.snoop_history.specs.Within.{IsItemWithin, block_of}
-use Rattle.snoop_history.specs.declared.items.Did.{Did}
-use Rattle.snoop_history.specs.declared.items.Item.{Item}
 use Rattle.snoop_history.specs.declared.items.Item.TheVariants as item
-use Rattle.snoop_bus.specs.Traffic.{Open}
-use Rattle.snoop_model.specs.Moves.Move.{ArrivesFor, Takes, came_of, FirstMove}
-use Rattle.snoop_model.specs.Pictures.Lines.{Line}
-use Rattle.snoop_model.specs.Pictures.Picture.{held_by, Picture, nothing_held}
-use Rattle.snoop_model.specs.Pictures.Situation.{Situation, picture_of, reset, nothing_there, state_of}
-use Rattle.snoop_model.specs.Runs.Run.{GoesFirst}
-use Rattle.snoop_model.specs.declared.replies.Refused.{Refused}
-use Rattle.snoop_model.specs.declared.replies.Reply.{Reply}
-use Rattle.snoop_model.specs.Moves.LookUps.{ConsultsCache}
 use Rattle.snoop_model.specs.Invariant.WellKept.{IsShaped}
 use Rattle.snoop_model.proofs.Invariant.Runs.{reset_invariant}
 use Rattle.snoop_model.proofs.Queues.Moves.{keeps_well, starts_well}

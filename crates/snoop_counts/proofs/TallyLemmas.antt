@@ -1,15 +1,14 @@
 -- Rows of counters, and how they go up.
 use Rattle.std.proofs.Common.{◌≡◌, ℕ, ◌+◌, ◌<◌, Bool, true, false, cond, List, [], ◌∷◌, ◌++◌, filter, length, get_or, get_or-set_other, map, take, refl, sym, ap, append_assoc, subst, ◌∙◌, inl, inr, arith}
 use Rattle.std.specs.Prelude.{◌&&◌, ◌==◌, Option, Some, None, Ok, Err, fold, option_map, slice_get, if◌then◌else◌}
-use Rattle.std.specs.Option.{option_map_or}
 use Rattle.std.proofs.Math.Bool.{and-true}
 use Rattle.std.proofs.lemmas.Bool.{and_left, and_right, cases_Bool}
-use Rattle.std.proofs.lemmas.Bool.Decides.{nat_tests}
 use Rattle.std.proofs.lemmas.Grind.{get_or-set_at}
-use Rattle.std.proofs.lemmas.List.{length-set, take_more}
+use Rattle.std.proofs.lemmas.List.{length-set}
 use Rattle.std.proofs.lemmas.List.Folds.{fold_stays}
 use Rattle.std.proofs.lemmas.List.Sums.{length-filter, sum_by_push}
-use Rattle.std.proofs.lemmas.Option.{gets, same_Some, slice_get-map, slice_get_within}
+use Rattle.std.proofs.lemmas.Option.{gets, slice_get-map, slice_get_within}
+use Rattle.snoop_engine.proofs.Common.{nat_tests, option_map_or, same_Some, take_more}
 use Rattle.snoop_history.specs.Journal.{counted}
 use Rattle.snoop_history.specs.Totals.{capped}
 use Rattle.snoop_history.specs.declared.items.Item.TheVariants as item
