@@ -1,5 +1,5 @@
 -- What can be counted of steps that come after others; sums of counts over causes, and over parts of a run.
-use Rattle.std.proofs.Common.{◌≡◌, ℕ, suc, ◌+◌, Bool, get_or, true, false, cond, List, [], ◌∷◌, ◌++◌, All, filter, length, length-append, map, refl, arith, append_assoc, append-nil}
+use Rattle.std.proofs.Common.{◌≡◌, ℕ, suc, ◌+◌, Bool, get_or, true, false, cond, List, [], ◌∷◌, ◌++◌, All, length, length-append, map, refl, arith, append_assoc, append-nil}
 use Rattle.std.specs.Prelude.{◌||◌, ◌&&◌, Option, Some, None, Result, option_to_list, if◌then◌else◌}
 use Rattle.std.proofs.lemmas.List.Elements.{All-map, filter-append}
 use Rattle.snoop_engine.proofs.Common.{All-append, All-head, All-nil, All-tail, Did, Item, Refused, Reply, Step, option_map_or}

@@ -7,7 +7,7 @@ use Rattle.std.proofs.lemmas.List.{drop-append-le, drop_all, take-append-drop, t
 use Rattle.snoop_model.specs.Pictures.Situation.{Situation}
 use Rattle.snoop_engine.specs.Frames.{Frame}
 use Rattle.snoop_counts.specs.BySteps.{seen_last, steps_fields, steps_left, steps_line, steps_shown}
-use Rattle.snoop_counts.specs.Happenings.{seen_after, seen_in}
+use Rattle.snoop_counts.specs.Happenings.{seen_in}
 use Rattle.snoop_counts.proofs.LawLemmas.{seen_on}
 
 -- one step more

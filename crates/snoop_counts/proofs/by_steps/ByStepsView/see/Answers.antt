@@ -1,4 +1,4 @@
-use Rattle.std.proofs.Common.{◌≡◌, ◌-◌, ◌%◌, ◌<◌, append-nil, sym, arith}
+use Rattle.std.proofs.Common.{◌≡◌, ◌<◌, append-nil, sym, arith}
 use Rattle.std.specs.Int.NonZero.{non_zero_u64_get}
 use Rattle.snoop_engine.specs.Views.{frame_seen}
 use Rattle.snoop_counts.specs.declared.count.Subjects.TheVariants.{Machine}
