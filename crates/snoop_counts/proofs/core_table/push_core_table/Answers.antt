@@ -1,9 +1,11 @@
-use Rattle.std.proofs.Common.{◌≡◌, ◌∙◌, append_assoc, arith}
+use Rattle.std.proofs.Common.{◌≡◌, ◌++◌, ◌∙◌, append_assoc, arith}
 use Rattle.snoop_engine.proofs.RangeLemmas.{range_piece}
+use Rattle.snoop_counts.specs.CoreTable.{core_header, core_line}
 use Rattle.snoop_counts.proofs.core_table.push_core_table.Goals as goal
 
 pub loop-core-preserved : goal.loop-core-preserved
-loop-core-preserved c seen far = range_piece _ _ _ _ _ (c.loop-core.invariant seen far) (c.in_ok-push_core.ensures c.args.cores seen far c.loop-core-test.true)
+loop-core-preserved c seen far =
+    range_piece (core_line seen) c.loop-core.core (c.args.out.now.items ++ core_header) _ _ (c.loop-core.invariant seen far) (c.in_ok-push_core.ensures c.args.cores seen far c.loop-core-test.true)
 
 pub returns : goal.returns
 returns c seen far =

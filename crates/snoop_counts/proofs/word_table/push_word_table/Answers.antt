@@ -1,9 +1,11 @@
-use Rattle.std.proofs.Common.{◌≡◌, ◌∙◌, append_assoc, arith}
+use Rattle.std.proofs.Common.{◌≡◌, ◌++◌, ◌∙◌, append_assoc, arith}
 use Rattle.snoop_engine.proofs.RangeLemmas.{range_piece}
+use Rattle.snoop_counts.specs.ByWord.{word_header, word_lines}
 use Rattle.snoop_counts.proofs.word_table.push_word_table.Goals as goal
 
 pub loop-block-preserved : goal.loop-block-preserved
-loop-block-preserved c seen far = range_piece _ _ _ _ _ (c.loop-block.invariant seen far) (c.in_ok-push_words.ensures seen far)
+loop-block-preserved c seen far =
+    range_piece (word_lines c.args.shape seen) c.loop-block.block (c.args.out.now.items ++ word_header) _ _ (c.loop-block.invariant seen far) (c.in_ok-push_words.ensures seen far)
 
 pub returns : goal.returns
 returns c seen far =
