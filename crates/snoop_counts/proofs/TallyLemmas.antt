@@ -161,8 +161,7 @@ all_tried (happening.Line step (Err refused) line why) whose s n = simp (no_row 
 
 -- one more happening
 one_more : (p : Happening → Bool) (all : List Happening) (seen : Happening) → length (filter p (all ++ seen ∷ [])) ≡ length (filter p all) + cond (p seen) 1 0
-one_more p all seen =
-    length-filter p (all ++ seen ∷ []) ∙ sum_by_push (λ h. cond (p h) 1 0) all seen ∙ ap (λ (n : ℕ). n + cond (p seen) 1 0) (sym (length-filter p all))
+one_more p all seen = rw (length-filter p (all ++ seen ∷ []), length-filter p all) (sum_by_push (λ h. cond (p h) 1 0) all seen)
 
 counted_capped : (n : ℕ) (b : Bool) → counted (capped n) b ≡ capped (n + cond b 1 0)
 counted_capped n true = omega arith
