@@ -1,10 +1,9 @@
 -- Tables: the text of some counters; which blocks the table by block has.
 use Rattle.std.proofs.Common.{◌≡◌, ℕ, zero, suc, ◌+◌, ◌<◌, ◌≤◌, Bool, true, cond, List, [], ◌∷◌, ◌++◌, All, map, refl, sym, ap, arith}
 use Rattle.std.specs.Prelude.{fold, Option, Some, None, if◌then◌else◌}
-use Rattle.std.specs.List.{range_with_len}
-use Rattle.std.proofs.lemmas.List.{map-append}
-use Rattle.std.proofs.lemmas.List.Elements.{All-cons, All-filter, All-head, All-map, All-nil, All-tail, All-take, filter-append, filter_passes}
+use Rattle.std.proofs.lemmas.List.Elements.{All-filter, All-map, All-take, filter-append, filter_passes}
 use Rattle.std.proofs.lemmas.List.Sorted.{All-permutation, IsPermutation-insert}
+use Rattle.snoop_engine.proofs.Common.{All-cons, All-head, All-nil, All-tail, map-append, range_with_len}
 use Rattle.snoop_engine.proofs.RangeLemmas.{more_from_zero}
 use Rattle.snoop_counts.specs.ByBlock.{blocks_named, blocks_shown, placed, ranked, with_requests}
 use Rattle.snoop_counts.specs.Counted.{is_named}

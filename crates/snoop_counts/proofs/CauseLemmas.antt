@@ -4,8 +4,7 @@ use Rattle.std.specs.Prelude.{◌||◌, cond, not, reverse, Option, if◌then◌
 use Rattle.std.specs.List.{list_any, position_or_len}
 use Rattle.std.proofs.lemmas.List.{reverse-append}
 use Rattle.std.proofs.lemmas.List.Folds.{list_any-append}
-use Rattle.snoop_history.specs.declared.items.Did.{Did}
-use Rattle.snoop_model.specs.Pictures.Situation.{Situation}
+use Rattle.snoop_engine.proofs.Common.{Did, Situation}
 use Rattle.snoop_engine.specs.Frames.{Frame, FramesFrom}
 use Rattle.snoop_engine.specs.Taken.{lines_of_step}
 use Rattle.snoop_engine.specs.declared.taken.Taken.{Taken}

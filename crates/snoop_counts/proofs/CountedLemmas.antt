@@ -1,12 +1,7 @@
 -- What a count of items alone counts of a line: nothing.
 use Rattle.std.proofs.Common.{◌≡◌, Bool, false, refl, ◌∙◌}
 use Rattle.std.specs.Prelude.{◌||◌, Option, Some, None, Result, Ok}
-use Rattle.std.specs.Option.{option_map_or}
-use Rattle.snoop_trace.specs.declared.step.Step.{Step}
-use Rattle.snoop_rules.specs.declared.names.CacheEvent.{CacheEvent}
-use Rattle.snoop_rules.specs.declared.names.CacheState.{CacheState}
-use Rattle.snoop_model.specs.declared.replies.Refused.{Refused}
-use Rattle.snoop_model.specs.declared.replies.Reply.{Reply}
+use Rattle.snoop_engine.proofs.Common.{CacheEvent, CacheState, Refused, Reply, Step, option_map_or}
 use Rattle.snoop_engine.specs.declared.taken.Taken.{Taken}
 use Rattle.snoop_engine.specs.declared.taken.Taken.TheVariants.{Core}
 use Rattle.snoop_counts.specs.Counted.{counts, counts_cause, counts_lines, counts_refusal, counts_row, has_row, is_refused}

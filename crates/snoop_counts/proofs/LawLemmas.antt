@@ -1,30 +1,34 @@
--- Sums of counts: over causes, over parts of a run, and over cores and blocks.
-use Rattle.std.proofs.Common.{◌≡◌, ℕ, suc, ◌+◌, Bool, get_or, true, false, cond, List, [], ◌∷◌, ◌++◌, All, filter, length, length-append, map, refl, arith}
+-- What can be counted of steps that come after others; sums of counts over causes, and over parts of a run.
+use Rattle.std.proofs.Common.{◌≡◌, ℕ, suc, ◌+◌, Bool, get_or, true, false, cond, List, [], ◌∷◌, ◌++◌, All, length, length-append, map, refl, arith, append_assoc, append-nil}
 use Rattle.std.specs.Prelude.{◌||◌, ◌&&◌, Option, Some, None, Result, option_to_list, if◌then◌else◌}
-use Rattle.std.specs.Option.{option_map_or}
-use Rattle.std.proofs.lemmas.List.Elements.{All-append, All-head, All-map, All-nil, All-tail, filter-append}
-use Rattle.snoop_trace.specs.declared.step.Step.{Step}
-use Rattle.snoop_history.specs.declared.items.Did.{Did}
-use Rattle.snoop_history.specs.declared.items.Item.{Item}
-use Rattle.snoop_model.specs.declared.replies.Refused.{Refused}
-use Rattle.snoop_model.specs.declared.replies.Reply.{Reply}
+use Rattle.std.proofs.lemmas.List.Elements.{All-map, filter-append}
+use Rattle.snoop_engine.proofs.Common.{All-append, All-head, All-nil, All-tail, Did, Item, Refused, Reply, Step, option_map_or}
 use Rattle.snoop_engine.specs.Frames.{Frame}
 use Rattle.snoop_engine.specs.Taken.{lines_of_step}
 use Rattle.snoop_engine.specs.declared.taken.Taken.{Taken}
 use Rattle.snoop_engine.specs.declared.taken.Taken.TheVariants.{Core}
 use Rattle.snoop_counts.specs.Causes.{cause_of, item_of, operation_in}
-use Rattle.snoop_counts.specs.Counted.{counts_cause, is_counted, is_miss}
+use Rattle.snoop_counts.specs.Counted.{counts_cause, is_counted, is_miss, times_counted}
 use Rattle.snoop_counts.specs.Happenings.{happenings, seen_after, seen_in}
 use Rattle.snoop_counts.specs.Laws.{CausesAreAll, PartsAddUp}
 use Rattle.snoop_counts.specs.declared.count.Cause.{Cause}
 use Rattle.snoop_counts.specs.declared.count.Cause.TheVariants as cause
+use Rattle.snoop_counts.specs.declared.count.Count.{Count}
 use Rattle.snoop_counts.specs.declared.count.Count.TheVariants as count
 use Rattle.snoop_counts.specs.declared.count.Happening.{Happening}
 use Rattle.snoop_counts.specs.declared.count.Happening.TheVariants as happening
 use Rattle.snoop_counts.specs.declared.count.Subjects.{Subjects}
 use Rattle.snoop_counts.specs.declared.count.Subjects.TheVariants as subjects
 use Rattle.snoop_counts.proofs.CountedLemmas.{not_refused}
-use Rattle.snoop_counts.proofs.ViewLemmas.{seen_cut}
+
+-- what can be counted of steps that are cut in two
+pub seen_cut : (earlier first rest : List Frame) → seen_after earlier (first ++ rest) ≡ seen_after earlier first ++ seen_after (earlier ++ first) rest
+seen_cut earlier [] rest = rw append-nil
+seen_cut earlier (f ∷ fs) rest = rw (seen_cut (earlier ++ f ∷ []) fs rest) (simp append_assoc)
+
+-- one frame more
+pub seen_on : (earlier frames : List Frame) (frame : Frame) → seen_after earlier (frames ++ frame ∷ []) ≡ seen_after earlier frames ++ seen_in (earlier ++ frames) frame
+seen_on earlier frames frame = rw (seen_cut earlier frames (frame ∷ []), append-nil (seen_in (earlier ++ frames) frame)) refl
 
 -- parts add up
 pub parts_add_up : PartsAddUp
@@ -38,15 +42,6 @@ once b = cond b 1 0
 pub kept_if : {X : Type 0} (b : Bool) (x : X) (xs : List X) → length (cond b (x ∷ xs) xs) ≡ once b + length xs
 kept_if true x xs = omega arith
 kept_if b x xs = omega arith
-
--- of each element one test passes as often as four others together
-module _ {X : Type 0} (p a b c d : X → Bool) where
-  abbrev Splits : X → Type 0
-  Splits x = once (p x) ≡ once (a x) + once (b x) + once (c x) + once (d x)
-
-  split_sum : (xs : List X) → All Splits xs → length (filter p xs) ≡ length (filter a xs) + length (filter b xs) + length (filter c xs) + length (filter d xs)
-  split_sum [] all = refl
-  split_sum (x ∷ xs) all = let here = All-head Splits x xs all in let rest = split_sum xs (All-tail Splits x xs all) in simp kept_if (omega arith)
 
 -- what holds of each line with its cause, and of each item, holds of all that can be counted
 pub all_seen : (P : Happening → Type 0) (earlier frames : List Frame)
@@ -74,8 +69,19 @@ of_miss false true cause.Cold = refl
 of_miss mine true why = refl
 
 module _ (whose : Subjects) (subject : ℕ) where
+  abbrev times_one : Count → Happening → ℕ
+  times_one c seen = once (is_counted whose subject c seen)
+
   abbrev HasOneCause : Happening → Type 0
-  HasOneCause = Splits (is_counted whose subject count.Misses) (is_counted whose subject count.Cold) (is_counted whose subject count.GivenUp) (is_counted whose subject count.TrueSharing) (is_counted whose subject count.FalseSharing)
+  HasOneCause seen = times_one count.Misses seen ≡ times_one count.Cold seen + times_one count.GivenUp seen + times_one count.TrueSharing seen + times_one count.FalseSharing seen
+
+  abbrev times : List Happening → Count → ℕ
+  times all c = times_counted whose all subject c
+
+  one_cause : (all : List Happening) → All HasOneCause all
+      → times all count.Misses ≡ times all count.Cold + times all count.GivenUp + times all count.TrueSharing + times all count.FalseSharing
+  one_cause [] has = refl
+  one_cause (x ∷ xs) has = let here = All-head HasOneCause x xs has in let rest = one_cause xs (All-tail HasOneCause x xs has) in simp kept_if (omega arith)
 
 -- a line has them for whomever it is counted
 line_has : (whose : Subjects) (subject : ℕ) (earlier : List Frame) (operation : Option Did) (step : Step) (outcome : Result Reply Refused) (line : Taken)
@@ -87,7 +93,6 @@ line_has whose subject earlier operation step outcome line = simp (not_refused o
 
 pub causes_are_all : CausesAreAll
 causes_are_all frames whose subject =
-    split_sum (is_counted whose subject count.Misses) (is_counted whose subject count.Cold) (is_counted whose subject count.GivenUp)
-    (is_counted whose subject count.TrueSharing) (is_counted whose subject count.FalseSharing) (happenings frames)
+    one_cause whose subject (happenings frames)
     (all_seen (HasOneCause whose subject) [] frames (λ k f low before j line in_lines. line_has whose subject before (operation_in (get_or frames k f)) _ _ _)
     (λ entry. refl))

@@ -1,10 +1,8 @@
 pub mod CountedLemmas
 pub mod TallyLemmas
-pub mod ViewLemmas
 pub mod BlockLemmas
 pub mod RankingLemmas
 pub mod CauseLemmas
 pub mod WindowLemmas
 pub mod LawLemmas
-pub mod TotalLemmas
 pub mod SumLemmas

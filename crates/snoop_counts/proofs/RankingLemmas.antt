@@ -4,9 +4,9 @@ use Rattle.std.specs.Prelude.{◌==◌, fold, nat_lt, not, position, unwrap_or}
 use Rattle.std.specs.List.{position_or_len}
 use Rattle.std.specs.Cmp.{IsStrictWeakOrder}
 use Rattle.std.specs.List.Sorted.{IsSortedBy, IsStableBy, ties}
-use Rattle.std.proofs.lemmas.Bool.{cases_lt, eqb-true, le-ltb, lt-ltb, ltb-false}
+use Rattle.std.proofs.lemmas.Bool.{cases_lt, eq-eqb, eqb-true, le-ltb, lt-ltb, ltb-false, ne_eqb}
 use Rattle.std.proofs.lemmas.Bool.Decides.{nat_tests}
-use Rattle.std.proofs.lemmas.List.Elements.{All-cons, All-filter, All-head, All-nil, All-tail, All-weaker, filter-append}
+use Rattle.std.proofs.lemmas.List.Elements.{All-cons, All-filter, All-head, All-nil, All-tail, All-weaker, filter-append, filter_agree}
 use Rattle.std.proofs.lemmas.List.Sums.{prefix_len-le-length}
 use Rattle.std.proofs.lemmas.List.Sorted.{IsStrictWeakOrder-by_number, IsStrictWeakOrder-flip, sorted_far}
 use Rattle.snoop_counts.specs.ByBlock.{placed, ranked}
@@ -18,10 +18,10 @@ abbrev pub goes_before : Ranked → Ranked → Bool
 goes_before one other = nat_lt other.requests one.requests
 
 abbrev tied : Ranked → Ranked → Bool
-tied one other = ties goes_before one other
+tied one other = one.requests == other.requests
 
 -- those that tie have as many requests
-tied_is : (one other : Ranked) → tied one other ≡ (one.requests == other.requests)
+tied_is : (one other : Ranked) → ties goes_before one other ≡ tied one other
 tied_is one other = grind (arith, nat_tests)
 
 -- no block has more requests than one before it
@@ -43,12 +43,6 @@ bounded one rest o os e falls =
     let P : Ranked → Type 0 = λ x. x.requests ≤ o.requests in
     All-head P one rest (subst (All P) (sym e) (All-filter (tied one) P (o ∷ os) (All-cons P o os (omega arith) falls.0)))
 
-is_tied : (one other : Ranked) → one.requests ≡ other.requests → tied one other ≡ true
-is_tied one other same = grind (arith, nat_tests)
-
-is_untied : (one other : Ranked) → (one.requests ≡ other.requests → ⊥) → tied one other ≡ false
-is_untied one other apart = grind (arith, nat_tests)
-
 cons_rest : (b o : Ranked) (bs os : List Ranked) (t : Bool) → cond t (b ∷ bs) bs ≡ cond t (o ∷ os) os → bs ≡ os
 cons_rest b o bs os true e = cc
 cons_rest b o bs os false e = e
@@ -56,15 +50,15 @@ cons_rest b o bs os false e = e
 -- two lists that fall, in which those that tie with any one are the same, are the same
 same_blocks : (blocks others : List Ranked) → Falls blocks → Falls others → ((one : Ranked) → filter (tied one) blocks ≡ filter (tied one) others) → blocks ≡ others
 same_blocks [] [] falls fall same = refl
-same_blocks [] (o ∷ os) falls fall same = let none = rw (is_tied o o refl) at (same o) in cc
-same_blocks (b ∷ bs) [] falls fall same = let none = rw (is_tied b b refl) at (same b) in cc
+same_blocks [] (o ∷ os) falls fall same = let none = rw (eq-eqb o.requests o.requests refl) at (same o) in cc
+same_blocks (b ∷ bs) [] falls fall same = let none = rw (eq-eqb b.requests b.requests refl) at (same b) in cc
 same_blocks (b ∷ bs) (o ∷ os) falls fall same =
-    let here : b ∷ filter (tied b) bs ≡ filter (tied b) (o ∷ os) = rw (is_tied b b refl) at (same b) in
-    let there : o ∷ filter (tied o) os ≡ filter (tied o) (b ∷ bs) = rw (is_tied o o refl) at (sym (same o)) in
+    let here : b ∷ filter (tied b) bs ≡ filter (tied b) (o ∷ os) = rw (eq-eqb b.requests b.requests refl) at (same b) in
+    let there : o ∷ filter (tied o) os ≡ filter (tied o) (b ∷ bs) = rw (eq-eqb o.requests o.requests refl) at (sym (same o)) in
     let up = bounded b (filter (tied b) bs) o os here fall in
     let down = bounded o (filter (tied o) os) b bs there falls in
     let even : b.requests ≡ o.requests = omega arith in
-    let first : b ∷ filter (tied b) bs ≡ o ∷ filter (tied b) os = rw (is_tied b o even) at here in
+    let first : b ∷ filter (tied b) bs ≡ o ∷ filter (tied b) os = rw (eq-eqb b.requests o.requests even) at here in
     let head : b ≡ o = cc in
     let rest : (one : Ranked) → filter (tied one) bs ≡ filter (tied one) os = λ one.
     cons_rest b o (filter (tied one) bs) (filter (tied one) os) (tied one b)
@@ -104,7 +98,7 @@ none_tied one [] less = refl
 none_tied one (block ∷ blocks) less =
     let P : Ranked → Type 0 = λ later. later.requests < one.requests in
     let head = All-head P block blocks less in
-    rw (is_untied one block (λ same. absurd (omega arith))) (none_tied one blocks (All-tail P block blocks less))
+    rw (ne_eqb one.requests block.requests (λ same. omega arith)) (none_tied one blocks (All-tail P block blocks less))
 
 -- where no other ties with the last, it may stand first
 moved_on : (t : Bool) (next : Ranked) (others : List Ranked) → (t ≡ true → others ≡ []) → cond t (next ∷ others) others ≡ others ++ cond t (next ∷ []) []
@@ -118,7 +112,7 @@ ties_placed one (b ∷ bs) next falls = rw (placed_on b bs next) (elim (cases_lt
   | inl less ↦
       let P : Ranked → Type 0 = λ later. later.requests < one.requests in
       let none : tied one next ≡ true → filter (tied one) (b ∷ bs) ≡ [] = λ ties.
-      let same = eqb-true one.requests next.requests (sym (tied_is one next) ∙ ties) in
+      let same = eqb-true one.requests next.requests ties in
       none_tied one (b ∷ bs) (All-cons P b bs (omega arith) (All-weaker (λ x. x.requests ≤ b.requests) P (λ x le. omega arith) bs falls.0)) in
       rw (lt-ltb b.requests next.requests less)
       (moved_on (tied one next) next (filter (tied one) (b ∷ bs)) none ∙ sym (filter-append (tied one) (b ∷ bs) (next ∷ [])))
@@ -143,4 +137,5 @@ order = IsStrictWeakOrder-flip (λ (x y : Ranked). nat_lt x.requests y.requests)
 pub sorted_is_ranked : (blocks sorted : List Ranked) → IsSortedBy goes_before sorted → IsStableBy goes_before blocks sorted → sorted ≡ ranked blocks
 sorted_is_ranked blocks sorted up stable =
     same_blocks sorted (ranked blocks) (falls_from_sorted sorted (sorted_far goes_before order sorted up)) (falls_ranked [] blocks tt)
-    (λ one. stable one ∙ sym (ties_ranked one [] blocks tt))
+    (λ one. sym (filter_agree (ties goes_before one) (tied one) (tied_is one) sorted) ∙ stable one ∙ filter_agree (ties goes_before one) (tied one) (tied_is one) blocks
+    ∙ sym (ties_ranked one [] blocks tt))

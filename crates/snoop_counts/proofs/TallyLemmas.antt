@@ -1,15 +1,14 @@
 -- Rows of counters, and how they go up.
 use Rattle.std.proofs.Common.{◌≡◌, ℕ, ◌+◌, ◌<◌, Bool, true, false, cond, List, [], ◌∷◌, ◌++◌, filter, length, get_or, get_or-set_other, map, take, refl, sym, ap, append_assoc, subst, ◌∙◌, inl, inr, arith}
 use Rattle.std.specs.Prelude.{◌&&◌, ◌==◌, Option, Some, None, Ok, Err, fold, option_map, slice_get, if◌then◌else◌}
-use Rattle.std.specs.Option.{option_map_or}
 use Rattle.std.proofs.Math.Bool.{and-true}
 use Rattle.std.proofs.lemmas.Bool.{and_left, and_right, cases_Bool}
-use Rattle.std.proofs.lemmas.Bool.Decides.{nat_tests}
 use Rattle.std.proofs.lemmas.Grind.{get_or-set_at}
-use Rattle.std.proofs.lemmas.List.{length-set, take_more}
+use Rattle.std.proofs.lemmas.List.{length-set}
 use Rattle.std.proofs.lemmas.List.Folds.{fold_stays}
 use Rattle.std.proofs.lemmas.List.Sums.{length-filter, sum_by_push}
-use Rattle.std.proofs.lemmas.Option.{gets, same_Some, slice_get-map, slice_get_within}
+use Rattle.std.proofs.lemmas.Option.{gets, slice_get-map, slice_get_within}
+use Rattle.snoop_engine.proofs.Common.{nat_tests, option_map_or, same_Some, take_more}
 use Rattle.snoop_history.specs.Journal.{counted}
 use Rattle.snoop_history.specs.Totals.{capped}
 use Rattle.snoop_history.specs.declared.items.Item.TheVariants as item
@@ -162,8 +161,7 @@ all_tried (happening.Line step (Err refused) line why) whose s n = simp (no_row 
 
 -- one more happening
 one_more : (p : Happening → Bool) (all : List Happening) (seen : Happening) → length (filter p (all ++ seen ∷ [])) ≡ length (filter p all) + cond (p seen) 1 0
-one_more p all seen =
-    length-filter p (all ++ seen ∷ []) ∙ sum_by_push (λ h. cond (p h) 1 0) all seen ∙ ap (λ (n : ℕ). n + cond (p seen) 1 0) (sym (length-filter p all))
+one_more p all seen = rw (length-filter p (all ++ seen ∷ []), length-filter p all) (sum_by_push (λ h. cond (p h) 1 0) all seen)
 
 counted_capped : (n : ℕ) (b : Bool) → counted (capped n) b ≡ capped (n + cond b 1 0)
 counted_capped n true = omega arith

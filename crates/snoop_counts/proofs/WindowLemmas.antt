@@ -1,5 +1,5 @@
 -- The last so many steps, and one step more.
-use Rattle.std.proofs.Common.{◌≡◌, ℕ, suc, ◌+◌, ◌-◌, ◌%◌, ◌<◌, ◌≤◌, ◌⊎◌, Bool, List, [], ◌∷◌, ◌++◌, drop, length, length-append, take, sym, ap, ◌∙◌, inl, inr, arith}
+use Rattle.std.proofs.Common.{◌≡◌, ℕ, suc, ◌+◌, ◌-◌, ◌%◌, ◌<◌, ◌≤◌, ◌⊎◌, Bool, List, [], ◌∷◌, ◌++◌, drop, length, length-append, refl, take, sym, ap, ◌∙◌, inl, inr, arith}
 use Rattle.std.specs.Prelude.{if◌then◌else◌}
 use Rattle.std.proofs.Math.Nat.{mod-eq_of_lt, mod-le, mod-lt, mod_self, suc-mod}
 use Rattle.std.proofs.lemmas.Bool.{cases_eq, eq-eqb, ne_eqb}
@@ -7,8 +7,8 @@ use Rattle.std.proofs.lemmas.List.{drop-append-le, drop_all, take-append-drop, t
 use Rattle.snoop_model.specs.Pictures.Situation.{Situation}
 use Rattle.snoop_engine.specs.Frames.{Frame}
 use Rattle.snoop_counts.specs.BySteps.{seen_last, steps_fields, steps_left, steps_line, steps_shown}
-use Rattle.snoop_counts.specs.Happenings.{seen_after, seen_in}
-use Rattle.snoop_counts.proofs.ViewLemmas.{seen_on}
+use Rattle.snoop_counts.specs.Happenings.{seen_in}
+use Rattle.snoop_counts.proofs.LawLemmas.{seen_on}
 
 -- one step more
 pub seen_last_more : (size : ℕ) (frames : List Frame) (frame : Frame) → size ≤ length frames → seen_last (size + 1) (frames ++ frame ∷ []) ≡ seen_last size frames ++ seen_in frames frame
@@ -28,13 +28,10 @@ pub left_over : (n every : ℕ) → 0 < every → (((n + 1) % every ≡ 0) × (n
 left_over n every some =
     let below : n % every < every = mod-lt n some in
     let up : n + 1 ≡ suc n = omega arith in
-    let next : (n + 1) % every ≡ suc (n % every) % every = ap (λ (k : ℕ). k % every) up ∙ suc-mod n every in
+    let next : (n + 1) % every ≡ suc (n % every) % every = rw up (suc-mod n every) in
     elim (cases_eq (n % every + 1) every) [
-      | inl e ↦ let same : suc (n % every) ≡ every = omega arith in inl (next ∙ ap (λ (k : ℕ). k % every) same ∙ mod_self every, e)
-      | inr ne ↦
-          let less : suc (n % every) < every = omega arith in
-          let same : suc (n % every) ≡ n % every + 1 = omega arith in
-          inr (next ∙ mod-eq_of_lt less ∙ same)
+      | inl e ↦ let same : suc (n % every) ≡ every = omega arith in inl (next ∙ rw same (mod_self every), e)
+      | inr ne ↦ let less : suc (n % every) < every = omega arith in inr (next ∙ mod-eq_of_lt less ∙ omega arith)
     ]
 
 module _ (every : ℕ) (some : 0 < every) (frames : List Frame) (frame : Frame) where
@@ -68,13 +65,12 @@ module _ (every : ℕ) (some : 0 < every) (frames : List Frame) (frame : Frame) 
     -- a line
     pub line_now : number % every ≡ 0 → (first : ℕ) → first ≡ number - (every - 1) → steps_fields first number (seen_last (length frames % every) frames ++ seen_in frames frame) ≡ steps_shown every frames frame
     line_now zero first begins =
-        let last : number ≡ length next = is ∙ sym (longer ∙ omega arith) in
         let from : first ≡ length next + 1 - every = omega (arith, some, longer, begins, is) in
         let size : length frames % every + 1 ≡ every = elim (left_over (length frames) every some) [
           | inl z ↦ z.1
           | inr e ↦ absurd (let none : length frames % every + 1 ≡ 0 = sym e ∙ sym left_is ∙ zero in omega arith)
         ] in
-        (λ i. steps_fields (from i) (last i) (counted_more i)) ∙ ap (λ (k : ℕ). steps_fields (length next + 1 - every) (length next) (seen_last k next)) size
+        (λ i. steps_fields (from i) (numbered i) (counted_more i)) ∙ ap (λ (k : ℕ). steps_fields (length next + 1 - every) (length next) (seen_last k next)) size
         ∙ ap (λ (b : Bool). if b then steps_line every next else []) (sym (eq-eqb ((length frames + 1) % every) 0 (sym left_is ∙ zero)))
 
     -- and nothing since
@@ -83,9 +79,7 @@ module _ (every : ℕ) (some : 0 < every) (frames : List Frame) (frame : Frame) 
 
 -- before the first step
 pub none_begun : (size : ℕ) → seen_last size [] ≡ []
-none_begun size =
-    let k : ℕ = length {A = Frame} [] - size in
-    ap (λ (l : List Frame). seen_after (take k []) l) (drop_all k [] (omega arith))
+none_begun size = rw (drop_all {X = Frame} (length {A = Frame} [] - size) [] (omega arith)) refl
 
 -- the steps that are left over at the end
 pub left_line : (every : ℕ) (frames : List Frame) (final : Situation) (steps get first : ℕ) → steps ≡ length frames → get ≡ every → 0 < steps % get → first ≡ steps - (steps % get - 1)

@@ -57,11 +57,11 @@ fn push_sharing(
         → OnOk result (out.new.items ≡ out.old.items ++ sharing_fields cores seen block) }
 {
     push_byte(out, b',')?;
-    push_decimal(out, tally.cores(block, cores))?;
+    push_decimal(out, tally.named.of(block, cores))?;
     push_byte(out, b',')?;
-    push_decimal(out, tally.readers(block, cores))?;
+    push_decimal(out, tally.readers.of(block, cores))?;
     push_byte(out, b',')?;
-    push_decimal(out, tally.writers(block, cores))
+    push_decimal(out, tally.writers.of(block, cores))
 }
 
 // Appends the line of a block that a line of a step names.

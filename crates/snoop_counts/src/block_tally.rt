@@ -1,9 +1,7 @@
 //! What the table by block counts.
 ghost use Rattle.std.specs.Prelude.{◌≡◌, ◌<◌, ◌≤◌, ◌++◌, ◌∷◌, [], ℕ, List, IfOk};
 ghost use Rattle.snoop_counts.specs.BlockTally.{CountsBlocks};
-ghost use Rattle.snoop_counts.specs.Sharers.{sharers};
 ghost use Rattle.snoop_counts.specs.Tally.{IsRowOf};
-ghost use Rattle.snoop_counts.specs.declared.count.Count.TheVariants as count;
 ghost use Rattle.snoop_counts.specs.declared.count.Happening.{Happening as Seen};
 ghost use Rattle.snoop_counts.specs.declared.count.Subjects.TheVariants.{Blocks};
 
@@ -17,9 +15,9 @@ use std::alloc::Global;
 #[derive(Drop)]
 pub(crate) struct BlockTally {
     tally: Tally,
-    named: Sharers,
-    readers: Sharers,
-    writers: Sharers,
+    pub(crate) named: Sharers,
+    pub(crate) readers: Sharers,
+    pub(crate) writers: Sharers,
 }
 
 impl BlockTally {
@@ -59,26 +57,5 @@ impl BlockTally {
         ensures { (blocks : ℕ) (seen : List Seen) → CountsBlocks blocks seen self.now → block < blocks → IsRowOf Blocks seen block result }
     {
         self.tally.named(block)
-    }
-
-    /// How many of so many cores a line of the block names.
-    pub(crate) fn cores(&self, block: u32, cores: u32) -> u64
-        ensures { (blocks : ℕ) (seen : List Seen) → CountsBlocks blocks seen self.now → block < blocks → cores ≤ 256 → result ≡ sharers Blocks count.Lines cores seen block }
-    {
-        self.named.of(block, cores)
-    }
-
-    /// How many of them performed a load of it.
-    pub(crate) fn readers(&self, block: u32, cores: u32) -> u64
-        ensures { (blocks : ℕ) (seen : List Seen) → CountsBlocks blocks seen self.now → block < blocks → cores ≤ 256 → result ≡ sharers Blocks count.Loads cores seen block }
-    {
-        self.readers.of(block, cores)
-    }
-
-    /// How many of them performed a store in it.
-    pub(crate) fn writers(&self, block: u32, cores: u32) -> u64
-        ensures { (blocks : ℕ) (seen : List Seen) → CountsBlocks blocks seen self.now → block < blocks → cores ≤ 256 → result ≡ sharers Blocks count.Stores cores seen block }
-    {
-        self.writers.of(block, cores)
     }
 }

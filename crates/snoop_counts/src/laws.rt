@@ -1,5 +1,6 @@
 //! What holds of all tables of counts. These functions do nothing: a proof calls them for what they ensure.
-ghost use Rattle.std.specs.Prelude.{List, ℕ};
+ghost use Rattle.std.specs.Prelude.{All, List, ℕ};
+ghost use Rattle.snoop_history.specs.Within.{IsItemWithin};
 ghost use Rattle.snoop_model.specs.Pictures.Situation.{reset};
 ghost use Rattle.snoop_engine.specs.Frames.{Frame, FramesFrom};
 ghost use Rattle.snoop_counts.specs.Laws.{CausesAreAll, DoneIsSuffered, PartsAddUp, SumsAreTotals, WordsAddUp};
@@ -7,14 +8,23 @@ ghost use Rattle.snoop_counts.specs.Happenings.{happenings};
 
 use snoop_machine::Machine;
 
+// The items of a machine's history are within its shape.
+fn kept(machine: &Machine)
+    ensures { All (IsItemWithin machine.now.situation.shape.cores machine.now.situation.shape.blocks machine.now.situation.shape.words) machine.now.situation.log }
+{
+    machine.log().kept();
+}
+
 /// Of each core, block and word, and of the machine, `misses` is the sum of `cold`, `given_up`, `true_sharing` and
 /// `false_sharing`.
+#[tactic(auto, using(crate::proofs::LawLemmas::causes_are_all))]
 pub fn causes()
     ensures { CausesAreAll }
 {}
 
 /// Steps that are cut in two have the counts of both parts together. So the counts of the lines by steps add up to those of the
 /// whole run.
+#[tactic(auto, using(crate::proofs::LawLemmas::parts_add_up))]
 pub fn parts()
     ensures { PartsAddUp }
 {}
@@ -25,7 +35,7 @@ pub fn sums(machine: &Machine)
     ensures { (frames : List Frame) → FramesFrom (reset machine.now.situation.protocol machine.now.situation.shape) frames machine.now.situation
         → SumsAreTotals machine.now.situation.shape frames machine.now.situation.log }
 {
-    machine.log().kept();
+    kept(machine);
 }
 
 /// Of a machine that some steps have led to: over all cores, `invalidates` has the sum of `invalidated`, and `supplied` that
@@ -34,7 +44,7 @@ pub fn others(machine: &Machine)
     ensures { (frames : List Frame) → FramesFrom (reset machine.now.situation.protocol machine.now.situation.shape) frames machine.now.situation
         → DoneIsSuffered machine.now.situation.shape frames }
 {
-    machine.log().kept();
+    kept(machine);
 }
 
 /// Of a machine that some steps have led to: over the words of each block, the counts of the words have the sums that the block
@@ -44,5 +54,5 @@ pub fn words(machine: &Machine)
         → (block : ℕ) → WordsAddUp machine.now.situation.shape (happenings frames) block }
 {
     machine.shape().within_limits();
-    machine.log().kept();
+    kept(machine);
 }

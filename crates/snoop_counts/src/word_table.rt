@@ -42,11 +42,11 @@ fn push_word_sharing(
 {
     let cores = shape.cores();
     push_byte(out, b',')?;
-    push_decimal(out, tally.cores(place, cores))?;
+    push_decimal(out, tally.cores.of(place, cores))?;
     push_byte(out, b',')?;
-    push_decimal(out, tally.readers(place, cores))?;
+    push_decimal(out, tally.readers.of(place, cores))?;
     push_byte(out, b',')?;
-    push_decimal(out, tally.writers(place, cores))
+    push_decimal(out, tally.writers.of(place, cores))
 }
 
 // Appends the line of a word.

@@ -3,11 +3,9 @@ ghost use Rattle.std.specs.Prelude.{◌≡◌, ◌<◌, ◌≤◌, ◌*◌, ◌+
 ghost use Rattle.snoop_trace.specs.Extent.{Extent};
 ghost use Rattle.snoop_counts.specs.ByWord.{is_shared};
 ghost use Rattle.snoop_counts.specs.Counted.{counted_of, place_of_word};
-ghost use Rattle.snoop_counts.specs.Sharers.{sharers};
 ghost use Rattle.snoop_counts.specs.Tally.{counter_in};
 ghost use Rattle.snoop_counts.specs.WordTally.{CountsWords};
 ghost use Rattle.snoop_counts.specs.declared.count.Count.{Count as Counted};
-ghost use Rattle.snoop_counts.specs.declared.count.Count.TheVariants as count;
 ghost use Rattle.snoop_counts.specs.declared.count.Happening.{Happening as Seen};
 ghost use Rattle.snoop_counts.specs.declared.count.Subjects.TheVariants.{Words as OfWords};
 
@@ -22,9 +20,9 @@ use std::alloc::Global;
 pub(crate) struct WordTally {
     tally: Tally,
     shared: Sharers,
-    cores: Sharers,
-    readers: Sharers,
-    writers: Sharers,
+    pub(crate) cores: Sharers,
+    pub(crate) readers: Sharers,
+    pub(crate) writers: Sharers,
 }
 
 impl WordTally {
@@ -79,29 +77,5 @@ impl WordTally {
             → IsSomeAnd result (λ row. (counted : Counted) → counter_in row counted ≡ counted_of (OfWords shape.words) seen place counted) }
     {
         self.tally.row(place)
-    }
-
-    /// How many of so many cores performed an operation on the word at this place.
-    pub(crate) fn cores(&self, place: u32, cores: u32) -> u64
-        ensures { (shape : Extent) (seen : List Seen) → CountsWords shape seen self.now → place < shape.blocks * shape.words → cores ≤ 256
-            → result ≡ sharers (OfWords shape.words) count.Operations cores seen place }
-    {
-        self.cores.of(place, cores)
-    }
-
-    /// How many of them performed a load of it.
-    pub(crate) fn readers(&self, place: u32, cores: u32) -> u64
-        ensures { (shape : Extent) (seen : List Seen) → CountsWords shape seen self.now → place < shape.blocks * shape.words → cores ≤ 256
-            → result ≡ sharers (OfWords shape.words) count.Loads cores seen place }
-    {
-        self.readers.of(place, cores)
-    }
-
-    /// How many of them performed a store in it.
-    pub(crate) fn writers(&self, place: u32, cores: u32) -> u64
-        ensures { (shape : Extent) (seen : List Seen) → CountsWords shape seen self.now → place < shape.blocks * shape.words → cores ≤ 256
-            → result ≡ sharers (OfWords shape.words) count.Stores cores seen place }
-    {
-        self.writers.of(place, cores)
     }
 }

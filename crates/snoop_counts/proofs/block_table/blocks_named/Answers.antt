@@ -3,4 +3,4 @@ use Rattle.snoop_counts.proofs.block_table.blocks_named.Goals as goal
 
 pub loop-block-preserved : goal.loop-block-preserved
 loop-block-preserved c seen far =
-    named_more seen c.loop-block.block c.loop-block.named.items c.push_named.new.named.items (c.loop-block.invariant seen far) (c.in_ok-push_named.ensures c.args.blocks seen far c.loop-block-test.true)
+    named_more seen _ _ _ (c.loop-block.invariant seen far) (c.in_ok-push_named.ensures c.args.blocks seen far c.loop-block-test.true)

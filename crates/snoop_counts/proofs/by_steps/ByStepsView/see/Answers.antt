@@ -1,4 +1,4 @@
-use Rattle.std.proofs.Common.{◌≡◌, ◌-◌, ◌%◌, ◌<◌, append-nil, sym, ap, ◌∙◌, arith}
+use Rattle.std.proofs.Common.{◌≡◌, ◌<◌, append-nil, sym, arith}
 use Rattle.std.specs.Int.NonZero.{non_zero_u64_get}
 use Rattle.snoop_engine.specs.Views.{frame_seen}
 use Rattle.snoop_counts.specs.declared.count.Subjects.TheVariants.{Machine}
@@ -9,39 +9,37 @@ pub returns-then-seen-every-ne0 : goal.returns-then-seen-every-ne0
 returns-then-seen-every-ne0 c first frames before has next =
     let machine = c.args.machine.now.situation in
     let frame = frame_seen before c.args.seen machine in
-    let number = c.args.seen.number in
     let every = non_zero_u64_get first.every in
-    let get : c.get-every.result ≡ every = c.get-every.ensures.value ∙ ap (λ x. non_zero_u64_get x) has.every in
+    let get : c.get-every.result ≡ every = rw has.every at c.get-every.ensures.value in
     let some : 0 < every = omega (arith, get, c.get-every.ensures.nonzero) in
     let watched = c.in_ok-see.ensures machine.protocol machine.shape frames before machine has.watched next c.log.ensures.items in
-    let counted = rw (c.happenings.ensures ∙ watched.1) at (c.add_all.ensures Machine 1 _ (rw c.in-Some.is at has.counted)) in
-    let not : number % every ≡ 0 → ⊥ = λ e. c.if-seen-every-ne0.true ((λ i. number % get i) ∙ e) in (
+    let counted = rw (c.happenings.ensures, watched.1) at (c.add_all.ensures Machine 1 _ (rw c.in-Some.is at has.counted)) in
+    let not = rw get at c.if-seen-every-ne0.true in (
       record {
         every = has.every;
-        steps = numbered every some frames frame number next.number;
+        steps = numbered every some frames frame c.args.seen.number next.number;
         watched = watched.0;
-        counted = rw (goes_on every some frames frame number next.number not) at counted;
+        counted = rw (goes_on every some frames frame c.args.seen.number next.number not) at counted;
       },
-      rw (nothing_yet every some frames frame number next.number not) (sym (append-nil c.args.out.now.items)),
+      rw (nothing_yet every some frames frame c.args.seen.number next.number not) (sym (append-nil c.args.out.now.items)),
     )
 
 pub returns-in_ok-push_steps-in-Some : goal.returns-in_ok-push_steps-in-Some
 returns-in_ok-push_steps-in-Some c first frames before has next =
     let machine = c.args.machine.now.situation in
     let frame = frame_seen before c.args.seen machine in
-    let number = c.args.seen.number in
     let every = non_zero_u64_get first.every in
-    let get : c.get-every.result ≡ every = c.get-every.ensures.value ∙ ap (λ x. non_zero_u64_get x) has.every in
+    let get : c.get-every.result ≡ every = rw has.every at c.get-every.ensures.value in
     let some : 0 < every = omega (arith, get, c.get-every.ensures.nonzero) in
     let watched = c.in_ok-see.ensures machine.protocol machine.shape frames before machine has.watched next c.log.ensures.items in
-    let counted = rw (c.happenings.ensures ∙ watched.1) at (c.add_all.ensures Machine 1 _ (rw c.in-Some.is at has.counted)) in
-    let zero : number % every ≡ 0 = rw get at c.if-seen-every-ne0.false in
-    let begins : c.first_of.result ≡ number - (every - 1) = rw get at c.first_of.ensures in (
+    let counted = rw (c.happenings.ensures, watched.1) at (c.add_all.ensures Machine 1 _ (rw c.in-Some.is at has.counted)) in
+    let zero = rw get at c.if-seen-every-ne0.false in
+    let begins = rw get at c.first_of.ensures in (
       record {
         every = has.every;
-        steps = numbered every some frames frame number next.number;
+        steps = numbered every some frames frame c.args.seen.number next.number;
         watched = watched.0;
-        counted = rw (← begins_anew every some frames frame number next.number zero) (c.restart.ensures Machine _ counted);
+        counted = rw (← begins_anew every some frames frame c.args.seen.number next.number zero) (c.restart.ensures Machine _ counted);
       },
-      rw (← line_now every some frames frame number next.number zero c.first_of.result begins) (c.in_ok-push_steps-in-Some.ensures _ counted),
+      rw (← line_now every some frames frame c.args.seen.number next.number zero c.first_of.result begins) (c.in_ok-push_steps-in-Some.ensures _ counted),
     )

@@ -1,13 +1,11 @@
-use Rattle.std.proofs.Common.{◌++◌, take}
 use Rattle.std.proofs.lemmas.List.{take_all}
 use Rattle.snoop_counts.proofs.TallyLemmas.{one_happening_more}
 use Rattle.snoop_counts.proofs.word_tally.WordTally.add_all.Goals as goal
 
 pub loop-happening-preserved : goal.loop-happening-preserved
 loop-happening-preserved c shape seen before =
-    let all = c.args.happenings.now in
-    let i = c.loop-happening.happening-index in
-    rw (one_happening_more seen all i _ c.loop-happening-test.true) at (c.add.ensures shape (seen ++ take i all) (c.loop-happening.invariant shape seen before))
+    rw (one_happening_more seen c.args.happenings.now c.loop-happening.happening-index _ c.loop-happening-test.true) at
+    (c.add.ensures shape _ (c.loop-happening.invariant shape seen before))
 
 pub returns : goal.returns
 returns c shape seen before =

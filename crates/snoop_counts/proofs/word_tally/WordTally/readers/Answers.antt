@@ -1,7 +1,0 @@
-use Rattle.std.proofs.Common.{◌*◌}
-use Rattle.snoop_counts.specs.declared.count.Count.TheVariants.{Loads}
-use Rattle.snoop_counts.specs.declared.count.Subjects.TheVariants.{Words}
-use Rattle.snoop_counts.proofs.word_tally.WordTally.readers.Goals as goal
-
-pub returns : goal.returns
-returns c shape seen far there few = c.of.ensures (Words shape.words) Loads (shape.blocks * shape.words) seen far.readers there few
