@@ -58,13 +58,27 @@ HEAD = """# The theorem
 
 {doc}
 
-The machine has one bus for all caches and memory. A request is ordered some time after it was
-issued, and a block has one open transaction at a time. A **situation** is all that is seen of it:
-of each block its **picture** (a line for each core, memory's, and the open transaction), each
-core's queue of requests, and the **log**, the history of what was performed. Flat memory is what
-the stores of a history leave. A core may load a block where its table has a hit for a load, and
-store where it has one for a store. The prover of the Rattle toolchain has checked the theorem, and
-docs/PROVED.md says what is trusted.
+MSI and MESI are protocols for caches that share one bus with memory; MESI also has E, for a copy
+that is clean and the only one. Each cache has a controller, and so has memory, with a table: a
+**row** for what it may meet in a state. A pair without a row is an **impossible cell**.
+
+A machine begins at **reset**, with empty caches and a memory of 0, and takes **steps** of three
+kinds. At an **Ask** a core asks its cache to load, to store or to give a block up. A load or store
+**hits** where the cache may do it at once. Where it misses, and where a copy has to be written
+back, the cache issues a request, which waits in the core's queue; with it waits the load or store.
+An **Order** puts a waiting request on the bus: all controllers see it, one of them sends a message,
+and the block has an open **transaction**, whose **requestor** is the core of the request. A
+**Respond** brings the message, with data or without, to the requestor, to memory or to both, and
+closes the transaction; a block has one at a time. A step is taken, with a reply, or refused, and
+changes nothing then: that is its **outcome**.
+
+A **situation** is all that is seen of a machine: of each block its **picture** (a line for each
+core, which may keep a copy of the block's words, memory's line, and the open transaction), each
+core's queue, and the **log**, the history of what was done. Flat memory is what the stores of a
+history leave. A core may load a block where its table has a hit for a load, and store where it has
+one for a store.
+
+The prover of the Rattle toolchain has checked the theorem, and docs/PROVED.md says what is trusted.
 
 ```rust
 {contract}
@@ -86,12 +100,16 @@ core that is to read its own store waits for it. Nothing is said of the order of
 operations on different blocks, of time, nor that a request is ever ordered or answered: an
 operation that is not lost may wait for ever. But no machine gets stuck, out of memory aside: by
 `moves` an open transaction can be answered, and once none is open the head of any queue can be
-ordered.
+ordered (a table that stalled each Ask would have nothing to order: these tables stall only where a
+request waits or is open).
 
-What only the moves below say, and no clause: what an eviction leaves, and which request an issue
-names. Who sends a message is part of a move; the target that a row names is not looked at: memory
-takes the message of every PutM, and that of another request where its state waits for one
-(`takes_payload`).
+What only the tables and the moves below say, and no clause: which operations stall, what an
+eviction leaves, in which order the blocks stand in a queue, and of which core, request and block
+the history has an Order or a response (`told` says that an operation which a response performed is
+of its core and block). Which operation that is, and a load's value, follow from `once` and `legal`.
+Who sends a message is part of a move; the target that a row names is not looked at: memory takes
+the message of every PutM, and that of another request where its state waits for one
+(`takes_payload`). That the rows of the table of senders are all reached is not said.
 
 That the code takes such steps and no others is proved of `Machine::step` and `run_steps`
 (docs/PROVED.md), and why all this holds is in docs/COHERENCE.md. `tools/theorem.py --write` makes
@@ -109,12 +127,13 @@ do; a field that is no fact, as `done` of `IsSenderLine`, is a value that has to
 `{{A : Type 0}}` is a type that follows from the other arguments. `declared.` stands before a type as
 the code declares it. A member of a type may stand with a short name of its type before it, as
 `op.Load`, `state.ImAd`, `mem.IorS` or `reply.Hit`, and what it carries follows it in order, as in
-`Ask core block word op`; `Nothing` is a controller's `None`. Each cache is a controller, and memory
-is one. A row is what a controller's table has for one state and one event; where it has none, the
-cell is impossible (an Evict in I asks no table). At an Order only a row's next state counts, and
-whether it sends. States are printed with underscores elsewhere: `ImAd` is IM_AD. A block is free
-where no transaction is open on it. The log is the history. What the types' comments say of texts is
-in docs/TEXTS.md.
+`Ask core block word op`; `Nothing` is a controller's `None` (`mem_action.None` is memory's). `data`
+begins a type by its members. `++` and `∷` bind more strongly than `≡`, this than `×`, and this than
+`→`. An Evict in I asks no table. At an Order only a row's next state counts, and whether it sends.
+States are printed with underscores elsewhere: `ImAd` is IM_AD. A block is free where no transaction
+is open on it, a copy clean where memory has the same words, and a writeback is a PutM with data.
+The "oldest request" of a type's comment is the one that the code orders; the theorem is about every
+order. What the types' comments say of texts is in docs/TEXTS.md.
 
 `(a, b)` is a pair. Between facts `A × B` is "A and B", between types it is their pairs;
 `(x : T) × P` "there is an x with P", `(x : T) → P` "P for every x", `A → B` "if A then B", `¬ A`
