@@ -1,12 +1,14 @@
 -- What one frame more adds to what is drawn.
-use Rattle.std.proofs.Common.{◌≡◌, ℕ, ◌+◌, ◌-◌, ◌≤◌, true, false, List, [], ◌∷◌, ◌++◌, length, refl, append-nil, arith}
-use Rattle.snoop_engine.proofs.Common.{Extent, Protocol, length_push, reset}
+use Rattle.std.proofs.Common.{◌≡◌, ℕ, ◌+◌, ◌-◌, ◌<◌, ◌≤◌, Bool, true, false, if◌then◌else◌, List, [], ◌∷◌, ◌++◌, length, take_all, filter, nat_le, refl, append-nil, arith}
+use Rattle.std.proofs.lemmas.Bool.{and_left, lt-leb}
+use Rattle.std.proofs.lemmas.List.{length_push, take-append-le}
+use Rattle.std.proofs.lemmas.List.Elements.{filter-append}
+use Rattle.snoop_engine.proofs.Common.{Extent, Protocol, reset}
 use Rattle.snoop_engine.specs.Chosen.{Chosen}
 use Rattle.snoop_engine.specs.Frames.{Frame}
-use Rattle.snoop_engine.specs.Numbered.{Numbered}
+use Rattle.snoop_engine.specs.Numbered.{Numbered, numbered_from}
 use Rattle.snoop_engine.specs.Views.{block_of_step}
-use Rattle.snoop_svg.proofs.KeptLemmas.{kept_on, led_comes, led_stays, none_kept, not_before}
-use Rattle.snoop_engine.proofs.NumberedLemmas.{not_within, numbered}
+use Rattle.snoop_engine.proofs.NumberedLemmas.{led_on, not_within, numbered, numbered_on}
 use Rattle.snoop_svg.specs.Drawings.{drawn, has_row, last_above, row_above}
 use Rattle.snoop_svg.specs.Sheets.{AfterSteps}
 
@@ -14,10 +16,21 @@ use Rattle.snoop_svg.specs.Sheets.{AfterSteps}
 abbrev pub after : ℕ → Frame → AfterSteps
 after number frame = record { number = number; situation = frame.after }
 
+-- which frames a test keeps, with one frame more
+kept_on : (p : Numbered → Bool) (frames : List Frame) (frame : Frame)
+    → filter p (numbered_from 1 (frames ++ frame ∷ [])) ≡ filter p (numbered_from 1 frames) ++ (if p (numbered (1 + length frames) frame) then numbered (1 + length frames) frame ∷ [] else [])
+kept_on p frames frame = rw (numbered_on 1 frames frame, filter-append p)
+
+none_from : (choice : Chosen) (number : ℕ) (frames : List Frame) → number + length frames ≤ choice.from → filter (has_row choice) (numbered_from number frames) ≡ []
+none_from choice number [] few = refl
+none_from choice number (f ∷ fs) few =
+    let low : number < choice.from = omega arith in
+    let off : has_row choice (numbered number f) ≡ false = not_within choice (block_of_step f.before f.step) number (and_left (nat_le choice.from number) (nat_le number choice.to) (lt-leb choice.from number low)) in
+    rw off (none_from choice (number + 1) fs (omega arith))
+
 -- nothing is drawn before the first number
 pub none_yet : (choice : Chosen) (frames : List Frame) → 1 + length frames ≤ choice.from → drawn choice frames ≡ []
-none_yet choice frames few =
-    none_kept (has_row choice) choice.from 1 frames (λ n low. not_within choice (block_of_step n.frame.before n.frame.step) n.number (not_before choice n.number low)) few
+none_yet choice frames few = none_from choice 1 frames few
 
 last_on : (above : AfterSteps) (ns : List Numbered) (n : Numbered) → last_above above (ns ++ n ∷ []) ≡ after n.number n.frame
 last_on above [] n = refl
@@ -32,7 +45,7 @@ module _ (choice : Chosen) (protocol : Protocol) (shape : Extent) (frames : List
   pub standing_starts : choice.from ≡ 2 + length frames → row_above choice protocol shape (frames ++ frame ∷ []) ≡ after (1 + length frames) frame
   standing_starts next =
       let number : choice.from - 1 ≡ 1 + length frames = omega arith in
-      rw (none_yet choice (frames ++ frame ∷ []) (omega (arith, length_push frames frame)), led_comes (reset protocol shape) choice.from frames frame next, number) refl
+      rw (none_yet choice (frames ++ frame ∷ []) (omega (arith, length_push frames frame)), take_all (choice.from - 1) (frames ++ frame ∷ []) (omega (arith, length_push frames frame)), led_on, number) refl
 
   -- the frame is drawn
   module _ (on : has_row choice (numbered (1 + length frames) frame) ≡ true) where
@@ -48,4 +61,6 @@ module _ (choice : Chosen) (protocol : Protocol) (shape : Extent) (frames : List
     drawn_stays = rw (kept_on (has_row choice) frames frame, off, append-nil) refl
 
     pub standing_stays : choice.from ≤ 1 + length frames → row_above choice protocol shape (frames ++ frame ∷ []) ≡ row_above choice protocol shape frames
-    standing_stays late = rw (drawn_stays, led_stays (reset protocol shape) choice.from frames frame late) refl
+    standing_stays late =
+        let short : choice.from - 1 ≤ length frames = omega arith in
+        rw (drawn_stays, take-append-le (choice.from - 1) frames (frame ∷ []) short) refl

@@ -1,4 +1,1 @@
-pub mod KeptLemmas
 pub mod DrawnLemmas
-pub mod SeenLemmas
-pub mod FrameLemmas
