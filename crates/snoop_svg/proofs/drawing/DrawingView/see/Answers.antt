@@ -57,18 +57,17 @@ module _ {first old : Drawing} {protocol : Protocol} {shape : Extent} {frames : 
         }
 
 -- two facts on a value that is there
-on_ok_two : {T E P Q R : Type 0} (r : Result T E) → (P → Q → R) → OnOk r P → OnOk r Q → OnOk r R
-on_ok_two (Ok a) f p q = f p q
-on_ok_two (Err e) f p q = tt
+on_ok_two : {T E P Q R : Type 0} (r : Result T E) → OnOk r P → OnOk r Q → (P → Q → R) → OnOk r R
+on_ok_two (Ok a) p q f = f p q
+on_ok_two (Err e) p q f = tt
 
 pub returns-then-is_first_after : goal.returns-then-is_first_after
 returns-then-is_first_after c first frames before has next =
     let from = first.plan.choice.from in
     let test : (1 + length frames + 1 == from) ≡ true = rw (c.choice-choice.ensures, has.plan, next.number) at (sym c.is_first_after.ensures ∙ c.if-is_first_after.true) in
     let comes : from ≡ 2 + length frames = omega (arith, eqb-true (1 + length frames + 1) from test) in
-    on_ok_two c.start.result
+    on_ok_two c.start.result (rw next.number at c.start.ensures.below) (rw (has.plan, next.number) at c.start.ensures.text)
     (λ stands e. (seen_start (frame_seen before c.args.seen c.args.machine.now.situation) has c.start.ensures.plan.0 c.start.ensures.plan.1 comes stands, rw test e))
-    (rw next.number at c.start.ensures.below) (rw (has.plan, next.number) at c.start.ensures.text)
 
 pub returns-then-has_step : goal.returns-then-has_step
 returns-then-has_step c first frames before has next =
@@ -80,7 +79,8 @@ returns-then-has_step c first frames before has next =
     let on : has_row choice (numbered (1 + length frames) frame) ≡ true =
     rw (c.choice-choice.ensures, has.plan, next.number, next.block) at (sym c.has_step.ensures ∙ c.if-has_step.true) in
     let few : c.args.self.now.place ≤ first.plan.paper.shown = omega (arith, has.place) in
-    on_ok_two c.push_drawn.result
+    on_ok_two c.push_drawn.result (rw has.plan at (c.push_drawn.ensures.place (rw has.plan few)))
+    (rw (has.plan, next.number, next.block, next.lines) at (c.push_drawn.ensures.row (row_above choice s.protocol s.shape frames) (λ low. stands_above frame has on (rw has.plan at low))))
     (λ place row. (
       seen_drawn frame has on c.push_drawn.ensures.plan place row.0,
       elim (cases_lt c.args.self.now.place first.plan.paper.shown) [
@@ -90,8 +90,6 @@ returns-then-has_step c first frames before has next =
             (rw (le-ltb c.args.self.now.place first.plan.paper.shown high) at row.1)
       ],
     ))
-    (rw has.plan at (c.push_drawn.ensures.place (rw has.plan few)))
-    (rw (has.plan, next.number, next.block, next.lines) at (c.push_drawn.ensures.row (row_above choice s.protocol s.shape frames) (λ low. stands_above frame has on (rw has.plan at low))))
 
 pub returns-else-has_step : goal.returns-else-has_step
 returns-else-has_step c first frames before has next =
