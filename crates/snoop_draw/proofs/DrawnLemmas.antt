@@ -1,9 +1,6 @@
 -- Another definition of the text that is shown of the run of some steps.
 use Rattle.std.proofs.Common.{◌≡◌, ℕ, List, Option}
-use Rattle.snoop_trace.specs.Extent.{Extent}
-use Rattle.snoop_trace.specs.declared.protocol.Protocol.{Protocol}
-use Rattle.snoop_trace.specs.declared.step.Step.{Step}
-use Rattle.snoop_model.specs.Pictures.Situation.{Situation}
+use Rattle.snoop_engine.proofs.Common.{Extent, Protocol, Situation, Step}
 use Rattle.snoop_engine.specs.Frames.{AreFrames, Frame}
 use Rattle.snoop_engine.specs.SimulatedView.{BeginsToShow, ShowsRun}
 

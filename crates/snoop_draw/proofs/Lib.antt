@@ -1,3 +1,2 @@
 pub mod RangeLemmas
 pub mod DrawnLemmas
-pub mod PanelLemmas

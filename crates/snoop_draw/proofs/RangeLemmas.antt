@@ -1,8 +1,7 @@
 -- Ranges, one number more.
 use Rattle.std.proofs.Common.{◌≡◌, ℕ, ◌+◌, Bool, if◌then◌else◌, List, [], ◌∷◌, ◌++◌, filter, flat_map, sym}
-use Rattle.std.specs.List.{range_with_len}
-use Rattle.std.proofs.lemmas.List.{flat_map_more}
 use Rattle.std.proofs.lemmas.List.Elements.{filter-append}
+use Rattle.snoop_engine.proofs.Common.{flat_map_more, range_with_len}
 use Rattle.snoop_engine.proofs.RangeLemmas.{more_from_zero}
 
 -- one number more of a range

@@ -1,27 +1,20 @@
 use Rattle.std.proofs.Common.{◌≡◌, ◌&&◌, nat_lt, Bool, true, false, cond, Option, Some, None, unwrap_or, refl, sym, ap, ◌∙◌}
-use Rattle.std.proofs.lemmas.Bool.{false≢true}
-use Rattle.snoop_trace.specs.declared.protocol.Protocol.{Protocol}
-use Rattle.snoop_trace.specs.declared.protocol.Protocol.TheVariants.{Msi, Mesi}
-use Rattle.snoop_rules.specs.Cell.{cell_of}
+use Rattle.snoop_model.proofs.Common.{CacheAction, CacheCell, CacheState, Protocol, cell_of, state_of}
+use Rattle.snoop_engine.proofs.Common.{I, Mesi, Msi}
 use Rattle.snoop_rules.specs.Possible.{MayLoad, MayStore}
-use Rattle.snoop_rules.specs.declared.names.CacheAction.{CacheAction}
 use Rattle.snoop_rules.specs.declared.names.CacheAction.TheVariants.{Hit}
-use Rattle.snoop_rules.specs.declared.names.CacheCell.{CacheCell}
 use Rattle.snoop_rules.specs.declared.names.CacheEvent.TheVariants.{Load, Store}
-use Rattle.snoop_rules.specs.declared.names.CacheState.{CacheState}
-use Rattle.snoop_rules.specs.declared.names.CacheState.TheVariants.{I}
-use Rattle.snoop_model.specs.Pictures.Situation.{state_of}
 use Rattle.snoop_draw.specs.declared.marks.Mark.TheVariants.{Blank, MayRead, MayWrite}
 use Rattle.snoop_draw.specs.Events.{is_hit, is_hit_action, may}
 use Rattle.snoop_draw.proofs.laws.one_edge.Goals as goal
 
 action_is : (act : CacheAction) → is_hit_action act ≡ true → act ≡ Hit
 action_is Hit e = refl
-action_is _ e = absurd (false≢true e)
+action_is _ e = absurd cc
 
 -- a row that is a hit
 hit_row : (row : Option CacheCell) → is_hit row ≡ true → (next : CacheState) × (row ≡ Some (record { action = Hit; next = next }))
-hit_row None e = absurd (false≢true e)
+hit_row None e = absurd cc
 hit_row (Some row) e = (row.next, ap (λ (act : CacheAction). Some (record { action = act; next = row.next })) (action_is row.action e))
 
 writes : (store load : Bool) → cond store MayWrite (cond load MayRead Blank) ≡ MayWrite → store ≡ true

@@ -1,32 +1,10 @@
 use Rattle.std.proofs.Common.{◌≡◌, ℕ, List, [], length, get_or, set, Option, Some, None, Ok, refl, sym, subst, ◌∙◌, inl, inr, arith, false, ◌&&◌, ◌==◌, ◌∷◌, replicate, Result, Err, ap, eq-eqb}
-use Rattle.std.specs.Option.{option_map_or}
 use Rattle.std.proofs.lemmas.Bool.{cases_lt, both_ways, or_parts}
 use Rattle.std.proofs.lemmas.List.{get_or_past, get_or-replicate, length-replicate}
-use Rattle.snoop_trace.specs.declared.protocol.Protocol.{Protocol}
-use Rattle.snoop_trace.specs.declared.protocol.Protocol.TheVariants.{Msi, Mesi}
-use Rattle.snoop_trace.specs.declared.step.Step.{Step}
-use Rattle.snoop_trace.specs.declared.step.Step.TheVariants.{Ask, Order, Respond}
-use Rattle.snoop_trace.specs.Extent.{Extent}
-use Rattle.snoop_rules.specs.Cell.{cell_of}
-use Rattle.snoop_rules.specs.Takers.{arrival}
-use Rattle.snoop_rules.specs.declared.names.CacheCell.{CacheCell}
-use Rattle.snoop_rules.specs.declared.names.CacheEvent.{CacheEvent}
-use Rattle.snoop_rules.specs.declared.names.CacheState.TheVariants.{I}
-use Rattle.snoop_rules.specs.declared.names.Payload.{Payload}
+use Rattle.snoop_engine.proofs.Common.{Ask, CacheCell, CacheEvent, Did, Extent, GetM, GetS, GoesFirst, I, Item, Line, Mesi, Msi, Open, Order, Protocol, PutM, Refused, Reply, Request, Respond, Step, arrival, option_map_or}
 use Rattle.snoop_rules.specs.declared.names.Payload.TheVariants.{Data}
-use Rattle.snoop_rules.specs.declared.names.Request.{Request}
-use Rattle.snoop_rules.specs.declared.names.Request.TheVariants.{GetS, GetM, PutM}
-use Rattle.snoop_history.specs.declared.items.Did.{Did}
-use Rattle.snoop_history.specs.declared.items.Item.{Item}
-use Rattle.snoop_bus.specs.Traffic.{Open}
-use Rattle.snoop_model.specs.Moves.Move.{ArrivesFor, FillsRequestor, TakesRows}
-use Rattle.snoop_model.specs.Pictures.Lines.{Line}
-use Rattle.snoop_model.specs.Pictures.Picture.{Picture, held_at, held_by, nothing_held, with_line}
-use Rattle.snoop_model.specs.Pictures.Situation.{Situation, nothing_there, picture_of, state_of, reset, untouched}
-use Rattle.snoop_model.specs.Runs.Run.{GoesFirst}
-use Rattle.snoop_model.specs.declared.replies.Reply.{Reply}
+use Rattle.snoop_model.proofs.Common.{ArrivesFor, FillsRequestor, Payload, Picture, Situation, TakesRows, cell_of, held_at, held_by, nothing_held, nothing_there, picture_of, reset, state_of, untouched, with_line}
 use Rattle.snoop_model.proofs.Lists.Writes.{set_cases}
-use Rattle.snoop_model.specs.declared.replies.Refused.{Refused}
 use Rattle.snoop_model.proofs.Lists.Facts.{replicated}
 use Rattle.snoop_machine.proofs.ConcernedCores.{Cell-leaves}
 use Rattle.snoop_engine.specs.Frames.{Frame, FramesFrom, steps_of}
@@ -71,56 +49,40 @@ module _ (protocol : Protocol) (old new : List Line) (core : ℕ) (idle : (held_
   arrived GetS closing log did a = filled closing log did a
   arrived GetM closing log did a = filled closing log did a
 
--- the step is the core's Ask for the block
-abbrev IsAskOf : Step → ℕ → ℕ → Type 0
-IsAskOf (Ask asker on word asking) core block = (core ≡ asker) × (block ≡ on)
-IsAskOf (Order requestor) core block = ⊥
-IsAskOf (Respond on) core block = ⊥
+module _ (old : Situation) (block core : ℕ) (idle : state_of old core block ≡ I) where
+  -- one block has a new picture
+  pictured : (b : ℕ) (next : Picture) → (block ≡ b → state_of old core b ≡ I → (held_by next core).state ≡ I)
+      → (held_by (get_or (set old.pictures b next) block nothing_there) core).state ≡ I
+  pictured b next here =
+      set_keeps (λ (p : Picture). (held_by p core).state ≡ I) old.pictures b block next nothing_there idle (λ same. here same (rw same at idle))
 
--- one block has a new picture
-pictured : (old : Situation) (core block b : ℕ) (next : Picture) → state_of old core block ≡ I → (block ≡ b → state_of old core b ≡ I → (held_by next core).state ≡ I)
-    → (held_by (get_or (set old.pictures b next) block nothing_there) core).state ≡ I
-pictured old core block b next idle here =
-    set_keeps (λ (p : Picture). (held_by p core).state ≡ I) old.pictures b block next nothing_there idle (λ same. here same (rw same at idle))
-
--- only an Ask moves its core out of I
-stays_in_i : (old new : Situation) (step : Step) (answer : Reply) → GoesFirst old step (Ok answer) new → (core block : ℕ) → (IsAskOf step core block → ⊥) → state_of old core block ≡ I
-    → state_of new core block ≡ I
-stays_in_i old new (Ask asker on word asking) answer goes core block another idle =
-    let m = goes.1.1.1 in
-    elim m.moves [
-      | inl absent ↦ rw absent.3 idle
-      | inr a ↦ rw a.after (pictured old core block goes.1.0 (with_line (picture_of old goes.1.0) asker a.held) idle
-          (λ same in_it. set_keeps (λ (l : Line). l.state ≡ I) (picture_of old goes.1.0).caches asker core a.held nothing_held in_it
-          (λ also. absurd (another (also, same ∙ sym m.on_block)))))
-    ]
-stays_in_i old new (Order requestor) answer goes core block another idle =
-    let m = goes.1.1.1 in
-    rw m.orders.after (pictured old core block goes.1.0 m.orders.next idle
-    (λ same in_it. row_taken old.protocol (picture_of old goes.1.0).caches m.orders.next.caches core in_it requestor m.request m.orders.taken))
-stays_in_i old new (Respond on) answer goes core block another idle =
-    let m = goes.1.1.1 in
-    rw m.responds.after (pictured old core block goes.1.0 m.responds.next idle
-    (λ same in_it. arrived old.protocol (picture_of old goes.1.0).caches m.responds.next.caches core in_it m.closing.request m.closing old.log m.did m.responds.requestor))
-
-no_ask : (step : Step) (block core : ℕ) → is_ask_for block core step ≡ false → IsAskOf step core block → ⊥
-no_ask (Ask asking on word op) block core never is =
-    both_ways ((on == block) && (asking == core)) never (rw (eq-eqb on block (sym is.1), eq-eqb asking core (sym is.0)) refl)
-no_ask (Order requestor) block core never is = is
-no_ask (Respond on) block core never is = is
-
--- a step that is no Ask of this core for this block
-step_stays : (old new : Situation) (step : Step) (outcome : Result Reply Refused) (block core : ℕ) → GoesFirst old step outcome new
-    → is_ask_for block core step ≡ false → state_of old core block ≡ I → state_of new core block ≡ I
-step_stays old new step (Ok answer) block core goes never idle = stays_in_i old new step answer goes core block (no_ask step block core never) idle
-step_stays old new step (Err cause) block core goes never idle = rw goes.1 idle
+  -- only an Ask moves its core out of I
+  step_stays : (new : Situation) (step : Step) (outcome : Result Reply Refused) → GoesFirst old step outcome new → is_ask_for block core step ≡ false
+      → state_of new core block ≡ I
+  step_stays new step (Err cause) goes never = rw goes.1 idle
+  step_stays new (Ask asker on word op) (Ok answer) goes never =
+      let m = goes.1.1.1 in
+      elim m.moves [
+        | inl absent ↦ rw absent.3 idle
+        | inr a ↦ rw a.after (pictured goes.1.0 (with_line (picture_of old goes.1.0) asker a.held)
+            (λ same in_it. set_keeps (λ (l : Line). l.state ≡ I) (picture_of old goes.1.0).caches asker core a.held nothing_held in_it
+            (λ also. absurd (both_ways ((on == block) && (asker == core)) never (rw (eq-eqb on block (m.on_block ∙ sym same), eq-eqb asker core (sym also)) refl)))))
+      ]
+  step_stays new (Order requestor) (Ok answer) goes never =
+      let m = goes.1.1.1 in
+      rw m.orders.after (pictured goes.1.0 m.orders.next
+      (λ same in_it. row_taken old.protocol (picture_of old goes.1.0).caches m.orders.next.caches core in_it requestor m.request m.orders.taken))
+  step_stays new (Respond on) (Ok answer) goes never =
+      let m = goes.1.1.1 in
+      rw m.responds.after (pictured goes.1.0 m.responds.next
+      (λ same in_it. arrived old.protocol (picture_of old goes.1.0).caches m.responds.next.caches core in_it m.closing.request m.closing old.log m.did m.responds.requestor))
 
 frames_stay : (old : Situation) (frames : List Frame) (final : Situation) (block core : ℕ) → FramesFrom old frames final
     → asks_somewhere (steps_of frames) block core ≡ false → state_of old core block ≡ I → HoldsNothing block core frames
 frames_stay old [] final block core run never idle = tt
 frames_stay old (frame ∷ frames) final block core run never idle =
     let parts = or_parts (is_ask_for block core frame.step) (asks_somewhere (steps_of frames) block core) never in
-    let after = step_stays frame.before frame.after frame.step frame.outcome block core run.0.goes parts.0 (rw run.0.before idle) in
+    let after = step_stays frame.before block core (rw run.0.before idle) frame.after frame.step frame.outcome run.0.goes parts.0 in
     (after, frames_stay frame.after frames final block core run.1 parts.1 after)
 
 at_reset : (protocol : Protocol) (shape : Extent) (block core : ℕ) → state_of (reset protocol shape) core block ≡ I
