@@ -140,5 +140,5 @@ pub record StandsBelow (now : Drawing) (above : AfterSteps) : Type 0 where
 -- the drawing that was begun has seen these frames, and is this now
 pub record HasSeen (first : Drawing) (protocol : Protocol) (shape : Extent) (frames : List Frame) (now : Drawing) : Type 0 where
   pub plan : now.plan ≡ first.plan
-  pub place : now.place ≡ min (length (drawn first.plan.choice frames)) first.plan.paper.shown
-  pub above : first.plan.choice.from ≤ 1 + length frames → length (drawn first.plan.choice frames) ≤ first.plan.paper.shown → StandsBelow now (row_above first.plan.choice protocol shape frames)
+  pub place : now.place ≡ min (length (drawn now.plan.choice frames)) now.plan.paper.shown
+  pub above : now.plan.choice.from ≤ 1 + length frames → length (drawn now.plan.choice frames) ≤ now.plan.paper.shown → StandsBelow now (row_above now.plan.choice protocol shape frames)

@@ -83,7 +83,6 @@ fn add_lanes(
     requires room { start + 12000 * length cores.now < 2 ^ 32 }
     ensures columns { OnOk result (columns.new.items ≡ columns.old.items ++ lanes_from sizes block start start cores.now) }
     ensures next { IfOk result (λ next. next ≡ after_lanes sizes start cores.now) }
-    ensures near { IfOk result (λ next. next ≤ start + 11508 * length cores.now) }
 {
     let mut x = start;
     for core in cores {
@@ -106,8 +105,7 @@ fn add_lanes(
 fn bus_column(sizes: Sizes, block: u32, start: u32, next: u32) -> Column
     requires narrow { AreNarrow sizes }
     requires room { next + 12000 < 2 ^ 32 }
-    ensures column { result ≡ bus_column sizes block start next }
-    ensures near { result.end ≤ next + 11520 }
+    ensures { result ≡ bus_column sizes block start next }
 {
     let x = next + 20;
     Column {
@@ -121,8 +119,7 @@ fn bus_column(sizes: Sizes, block: u32, start: u32, next: u32) -> Column
 fn memory_column(sizes: Sizes, block: u32, start: u32, bus_end: u32) -> Column
     requires narrow { AreNarrow sizes }
     requires room { bus_end + 11900 < 2 ^ 32 }
-    ensures column { result ≡ memory_column sizes block start bus_end }
-    ensures near { result.end ≤ bus_end + 11528 }
+    ensures { result ≡ memory_column sizes block start bus_end }
 {
     let x = bus_end + 28;
     Column {
@@ -144,7 +141,6 @@ fn add_panel(
     requires room { start + 12000 * (length panel.now.cores + 2) < 2 ^ 32 }
     ensures columns { OnOk result (columns.new.items ≡ columns.old.items ++ panel_columns sizes start panel.now) }
     ensures next { IfOk result (λ next. next ≡ after_panel sizes start panel.now) }
-    ensures near { IfOk result (λ next. next ≤ start + 12000 * (length panel.now.cores + 2)) }
 {
     let block = panel.block();
     let next = add_lanes(columns, sizes, block, start, panel.cores())?;

@@ -1,5 +1,5 @@
 //! The drawing of a run: a view.
-ghost use Rattle.std.specs.Prelude.{◌≡◌, ◌≤◌, ◌<◌, ◌+◌, ◌-◌, ◌^◌, ◌%◌, [], ◌++◌, OnOk, min, nat_lt, if◌then◌else◌};
+ghost use Rattle.std.specs.Prelude.{◌≡◌, ◌≤◌, ◌<◌, ◌+◌, ◌-◌, ◌^◌, ◌%◌, ◌++◌, OnOk};
 ghost use Rattle.snoop_model.specs.Pictures.Situation.{Situation};
 ghost use Rattle.snoop_svg.specs.Drawings.{StandsBelow, closing, head_text, is_full, opening, rows_per_sheet, sheet_rows, sheet_start, tail_text, turn_text, turned};
 ghost use Rattle.snoop_svg.specs.Looks.{cells_at};
@@ -204,11 +204,11 @@ impl Drawing {
         seen: &Seen<'_>,
     ) -> Result<(), NoMemory>
         ensures plan { self.new.plan ≡ self.old.plan × self.new.place ≡ self.old.place }
-        ensures row { (above : AfterSteps) → StandsBelow self.old above
-            → OnOk result (StandsBelow self.new (record { number = seen.now.number; situation = machine.now.situation })
-            × (out.new.items ≡ out.old.items
+        ensures below { (above : AfterSteps) → StandsBelow self.old above → OnOk result (StandsBelow self.new (record { number = seen.now.number; situation = machine.now.situation })) }
+        ensures text { (above : AfterSteps) → StandsBelow self.old above
+            → OnOk result (out.new.items ≡ out.old.items
             ++ (turn_text self.old.plan machine.now.situation.protocol machine.now.situation.shape self.old.place above
-            ++ row_text self.old.plan machine.now.situation.shape (row_y (self.old.place % rows_per_sheet self.old.plan.paper.form)) above seen.now.number machine.now.situation seen.now.block seen.now.step seen.now.outcome seen.now.lines.now))) }
+            ++ row_text self.old.plan machine.now.situation.shape (row_y (self.old.place % rows_per_sheet self.old.plan.paper.form)) above seen.now.number machine.now.situation seen.now.block seen.now.step seen.now.outcome seen.now.lines.now)) }
     {
         push_turn(
             out,
@@ -241,14 +241,13 @@ impl Drawing {
         seen: &Seen<'_>,
     ) -> Result<(), NoMemory>
         ensures plan { self.new.plan ≡ self.old.plan }
-        ensures place { self.old.place ≤ self.old.plan.paper.shown → OnOk result (self.new.place ≡ min (self.old.place + 1) self.old.plan.paper.shown) }
-        ensures row { (above : AfterSteps) → (self.old.place < self.old.plan.paper.shown → StandsBelow self.old above)
-            → OnOk result ((self.old.place < self.old.plan.paper.shown → StandsBelow self.new (record { number = seen.now.number; situation = machine.now.situation }))
-            × (out.new.items ≡ out.old.items
-            ++ (if nat_lt self.old.place self.old.plan.paper.shown then
-            (turn_text self.old.plan machine.now.situation.protocol machine.now.situation.shape self.old.place above
-            ++ row_text self.old.plan machine.now.situation.shape (row_y (self.old.place % rows_per_sheet self.old.plan.paper.form)) above seen.now.number machine.now.situation seen.now.block seen.now.step seen.now.outcome seen.now.lines.now)
-            else []))) }
+        ensures place { self.old.place < self.old.plan.paper.shown → OnOk result (self.new.place ≡ self.old.place + 1) }
+        ensures below { (above : AfterSteps) → self.old.place < self.old.plan.paper.shown → StandsBelow self.old above
+            → OnOk result (StandsBelow self.new (record { number = seen.now.number; situation = machine.now.situation })) }
+        ensures shown { (above : AfterSteps) → self.old.place < self.old.plan.paper.shown → StandsBelow self.old above
+            → OnOk result (out.new.items ≡ out.old.items
+            ++ (turn_text self.old.plan machine.now.situation.protocol machine.now.situation.shape self.old.place above
+            ++ row_text self.old.plan machine.now.situation.shape (row_y (self.old.place % rows_per_sheet self.old.plan.paper.form)) above seen.now.number machine.now.situation seen.now.block seen.now.step seen.now.outcome seen.now.lines.now)) }
         ensures blank { self.old.plan.paper.shown ≤ self.old.place → (self.new.place ≡ self.old.place) × (out.new.items ≡ out.old.items) }
     {
         if self.plan.paper().shown <= self.place {

@@ -8,5 +8,5 @@ loop-core-preserved c =
     record {
       columns = rw (c.in_ok-add.ensures, append_assoc) (rw left at c.loop-core.invariant.columns);
       next = rw left at c.loop-core.invariant.next;
-      near = omega (arith, ap length left, c.loop-core.invariant.near, c.requires.narrow.lane);
+      room = omega (arith, ap length left, c.loop-core.invariant.room, c.requires.narrow.lane);
     }

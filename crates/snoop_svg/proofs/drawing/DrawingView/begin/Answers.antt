@@ -1,26 +1,45 @@
-use Rattle.std.proofs.Common.{◌≡◌, ◌<◌, refl, ap, append_assoc, append-nil, arith, eq-eqb, ne_eqb}
+use Rattle.std.proofs.Common.{◌≡◌, ◌<◌, ◌-◌, [], ◌++◌, take, refl, subst, ap, ◌∙◌, append-nil, arith}
+use Rattle.std.proofs.lemmas.Bool.{eq-eqb, ne_eqb}
 use Rattle.std.proofs.lemmas.Result.{on_ok_weaker}
-use Rattle.snoop_svg.proofs.DrawnLemmas.{standing_begins}
+use Rattle.snoop_model.specs.Pictures.Situation.{Situation, reset}
+use Rattle.snoop_engine.specs.Numbered.{led_to}
+use Rattle.snoop_svg.specs.Drawings.{StandsBelow, opening, row_above}
+use Rattle.snoop_svg.specs.Sheets.{AfterSteps, first_row}
+use Rattle.snoop_svg.proofs.TextLemmas.{joined}
 use Rattle.snoop_svg.proofs.drawing.DrawingView.begin.Goals as goal
 
+at_start : Situation → AfterSteps
+at_start s = record { number = 0; situation = s }
+
 pub returns-then-from-eq1-clause-begins : goal.returns-then-from-eq1-clause-begins
+unfolding at_start
 returns-then-from-eq1-clause-begins c =
+    let one : c.args.self.now.plan.choice.from ≡ 1 = omega (arith, c.from.ensures.value, ap (λ choice. choice.from) c.choice.ensures) in
     let s = c.args.machine.now.situation in
-    let choice = c.args.self.now.plan.choice in
-    let one : choice.from ≡ 1 = omega (arith, c.from.ensures.value, ap (λ choice. choice.from) c.choice.ensures) in
+    let same = c.start.ensures.plan.0 in
+    let none : 0 ≡ c.start.new.self.plan.choice.from - 1 = omega (arith, one, ap (λ plan. plan.choice.from) same) in
+    let is_standing : at_start (reset s.protocol s.shape) ≡ row_above c.start.new.self.plan.choice s.protocol s.shape [] =
+    λ i. record { number = none i; situation = led_to (reset s.protocol s.shape) (take (none i) []) } in
     on_ok_weaker c.start.result
     (λ stands. record {
-      plan = c.start.ensures.plan.0;
+      plan = same;
       place = omega (arith, c.start.ensures.plan.1);
-      above = λ late few. rw (standing_begins choice s.protocol s.shape one, ← c.requires) stands;
+      above = λ late few. subst (StandsBelow c.start.new.self) ((λ i. at_start (c.requires i)) ∙ is_standing) stands;
     })
     c.start.ensures.below
 
 pub returns-then-from-eq1-clause-text : goal.returns-then-from-eq1-clause-text
+unfolding at_start
 returns-then-from-eq1-clause-text c =
-    let choice = c.args.self.now.plan.choice in
-    rw (eq-eqb choice.from 1 (omega (arith, c.from.ensures.value, ap (λ choice. choice.from) c.choice.ensures)), ← c.requires)
-    (rw (c.in_ok-begin_sheets.ensures, append_assoc) at c.start.ensures.text)
+    let s = c.args.machine.now.situation in
+    let plan = c.args.self.now.plan in
+    let out = c.args.out.now.items in
+    let one : plan.choice.from ≡ 1 = omega (arith, c.from.ensures.value, ap (λ choice. choice.from) c.choice.ensures) in
+    on_ok_weaker c.start.result
+    (λ e. rw (eq-eqb plan.choice.from 1 one)
+    (joined out (opening plan s.protocol s.shape) (first_row plan (at_start s)) _ _ c.in_ok-begin_sheets.ensures e
+    ∙ (λ i. out ++ (opening plan s.protocol s.shape ++ first_row plan (at_start (c.requires i))))))
+    c.start.ensures.text
 
 pub returns-else-from-eq1-clause-begins : goal.returns-else-from-eq1-clause-begins
 returns-else-from-eq1-clause-begins c =
