@@ -10,9 +10,6 @@ use Rattle.snoop_engine.specs.TrueLines.{DoesNothing}
 use Rattle.snoop_engine.specs.declared.taken.Taken.{Taken}
 use Rattle.snoop_engine.specs.declared.taken.Taken.TheVariants.{Core, Memory}
 
-has_if : {A : Type 0} (b : Bool) (v : A) (f : A → List Taken) (line : Taken) → b ≡ true → Contains (f v) line → Contains (option_map_or f (if b then Some v else None) []) line
-has_if b v f line there has = rw there has
-
 has_one : (line : Taken) → Contains (line ∷ []) line
 has_one line = Contains-push [] line
 
@@ -32,21 +29,15 @@ event_unless op.Evict I h = absurd (h (refl, refl))
 event_unless _ _ h = refl
 
 module _ (s : Situation) (g : Invariant s) where
-  both_there : (core block : ℕ) → core < s.shape.cores → block < s.shape.blocks → nat_lt core s.shape.cores && nat_lt block s.shape.blocks ≡ true
-  both_there core block x y = rw (lt-ltb core s.shape.cores x, lt-ltb block s.shape.blocks y) refl
-
   ask_listed : (core block : ℕ) (asking : Op) → IsWithin s core block → ((asking ≡ op.Evict) × (state_of s core block ≡ I) → ⊥) → Contains (of_ask s core block asking) (Core core block (Some (asked asking)) (state_of s core block))
   ask_listed core block asking within event =
-      has_if (nat_lt core s.shape.cores && nat_lt block s.shape.blocks) (state_of s core block) (λ before. Core core block (event_asked asking before) before ∷ []) _ (both_there core block within.0 within.1)
-      (rw (event_unless asking (state_of s core block) event) (has_one _))
+      rw (lt-ltb core s.shape.cores within.0, lt-ltb block s.shape.blocks within.1, ← event_unless asking (state_of s core block) event) (has_one _)
 
   core_listed : (core block : ℕ) (event : CacheEvent) → core < s.shape.cores → block < s.shape.blocks → Contains (of_core s core block (Some event)) (Core core block (Some event) (state_of s core block))
-  core_listed core block event x y =
-      has_if (nat_lt core s.shape.cores && nat_lt block s.shape.blocks) (state_of s core block) (λ before. Core core block (Some event) before ∷ []) _ (both_there core block x y) (has_one _)
+  core_listed core block event x y = rw (lt-ltb core s.shape.cores x, lt-ltb block s.shape.blocks y) (has_one _)
 
   memory_listed : (block : ℕ) (event : MemEvent) → block < s.shape.blocks → Contains (of_memory s block event) (Memory block event (picture_of s block).memory.state)
-  memory_listed block event y =
-      has_if (nat_lt block s.shape.blocks) (picture_of s block).memory.state (λ before. Memory block event before ∷ []) _ (lt-ltb block s.shape.blocks y) (has_one _)
+  memory_listed block event y = rw (lt-ltb block s.shape.blocks y) (has_one _)
 
   -- a core that holds something is there
   holder_in : (requestor core block : ℕ) → block < s.shape.blocks → (DoesNothing (Order requestor) (state_of s core block) → ⊥) → core < s.shape.cores
@@ -62,11 +53,9 @@ module _ (s : Situation) (g : Invariant s) where
       → Contains (of_request s requestor block request) (Core core block (Some (seen_by core requestor request)) (state_of s core block))
   holder_listed requestor core block request y held =
       let x : core < s.shape.cores = holder_in requestor core block y held in
-      let line : Taken = Core core block (Some (seen_by core requestor request)) (state_of s core block) in
-      let one : Contains (of_holder s requestor block request core) line =
-      has_if (nat_lt core s.shape.cores && nat_lt block s.shape.blocks) (state_of s core block) (λ before. unless_i before (Core core block (Some (seen_by core requestor request)) before)) _ (both_there core block x y) (has_unless_i requestor (state_of s core block) line held) in
-      Contains-append_left (flat_map (of_holder s requestor block request) (range_with_len 0 s.shape.cores)) (of_memory s block (at_memory request)) line
-      (has_in_range (of_holder s requestor block request) line 0 s.shape.cores core (omega arith) (omega arith) one)
+      Contains-append_left (flat_map (of_holder s requestor block request) (range_with_len 0 s.shape.cores)) (of_memory s block (at_memory request)) _
+      (has_in_range (of_holder s requestor block request) _ 0 s.shape.cores core (omega arith) (omega arith)
+      (rw (lt-ltb core s.shape.cores x, lt-ltb block s.shape.blocks y) (has_unless_i requestor (state_of s core block) _ held)))
 
   request_at_memory : (requestor block : ℕ) (request : Request) → block < s.shape.blocks → Contains (of_request s requestor block request) (Memory block (at_memory request) (picture_of s block).memory.state)
   request_at_memory requestor block request y =
@@ -84,9 +73,7 @@ module _ (s : Situation) (g : Invariant s) where
 
   arrival_listed : (block : ℕ) (closing : Open) (event : MemEvent) → block < s.shape.blocks → takes_payload closing.request (picture_of s block).memory.state ≡ true → Some event ≡ arrival_at_memory closing.payload
       → Contains (of_waiting_memory s block closing) (Memory block event (picture_of s block).memory.state)
-  arrival_listed block closing event y takes comes =
-      has_if (nat_lt block s.shape.blocks) (picture_of s block).memory.state
-      (λ before. if takes_payload closing.request before then of_arrival_at_memory s block (arrival_at_memory closing.payload) else []) _ (lt-ltb block s.shape.blocks y) (rw (takes, ← comes) (memory_listed block event y))
+  arrival_listed block closing event y takes comes = rw (lt-ltb block s.shape.blocks y, takes, ← comes) (memory_listed block event y)
 
   respond_lines : (block : ℕ) (closing : Open) (line : Taken) → (picture_of s block).transaction ≡ Some closing → Contains (of_respond s block closing) line → Contains (taken_by s (Respond block)) line
   respond_lines block closing line opened has = rw opened has

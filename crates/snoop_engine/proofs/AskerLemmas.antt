@@ -72,8 +72,7 @@ module _ (old new : Situation) (core block : ℕ) (idle : state_of old core bloc
 
   in_i_after_arrival : (request : Request) (b : ℕ) (closing : Open) (did : Option Did) (next : List Line) → block ≡ b → ArrivesFor request closing old.protocol old.log (picture_of old b).caches next did → (held_at next core).state ≡ I
   in_i_after_arrival PutM b closing did next same f = rw f.0 (idle_in b same)
-  in_i_after_arrival GetS b closing did next same f = in_i_after_fill b closing did next same f
-  in_i_after_arrival GetM b closing did next same f = in_i_after_fill b closing did next same f
+  in_i_after_arrival _ b closing did next same f = in_i_after_fill b closing did next same f
 
   in_i_after_respond : (b : ℕ) (closing : Open) (did : Option Did) → Responds old b closing did new → state_of new core block ≡ I
   in_i_after_respond b closing did r = rw r.after (in_i_of_picture b r.next (λ same. in_i_after_arrival closing.request b closing did r.next.caches same r.requestor))
@@ -106,9 +105,8 @@ follow_other old new step answer sets other are goes = record {
 pub follow_ask : (old new : Situation) (asker on word : ℕ) (asking : Op) (answer : Reply) (sets next : List (List ℕ)) → AreAskers old sets → old.shape.cores ≤ 256
     → GoesFirst old (Ask asker on word asking) (Ok answer) new → Puts on asker sets next → AreAskers new next
 follow_ask old new asker on word asking answer sets next are few goes puts =
-    let m = goes.1.1.1 in
-    let within = m.within in
-    let on_block = m.on_block in
+    let within = goes.1.1.1.within in
+    let on_block = goes.1.1.1.on_block in
     let put : has (set_of next on) asker ≡ true = puts.here (omega arith) (omega arith) in
     record {
       many = rw (puts.many, same_shape old new (Ask asker on word asking) answer goes.0 goes.1) are.many;

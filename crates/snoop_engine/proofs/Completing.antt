@@ -6,7 +6,7 @@ use Rattle.snoop_engine.specs.Courses.{CanEnd, Leading, LeadsOn}
 use Rattle.snoop_engine.specs.InOrder.{EndsInOrder, FollowsInOrder, InOrder, IsInOrder, TakesUpNext, remaining_in_order, row_under_way}
 use Rattle.snoop_engine.specs.Journey.{IsAtTheEnd}
 use Rattle.snoop_engine.specs.UnderWay.{ServesOnly, nothing}
-use Rattle.snoop_engine.specs.Round.{IsEnabled, IsFit, IsOver, Progress, TakesUp, remaining}
+use Rattle.snoop_engine.specs.Round.{Advances, IsEnabled, IsFit, IsOver, Progress, TakesUp, remaining}
 use Rattle.snoop_engine.specs.Serial.{ask_for, is_ask}
 use Rattle.snoop_engine.specs.Served.{ask_of}
 use Rattle.snoop_engine.specs.Todo.{Todo, block_of_work, left_in, nothing_to_do, todo_of, lanes_under_way}
@@ -88,15 +88,8 @@ module _ {s : Situation} {lanes : List Todo} {core : ℕ} {turns : List ℕ} (fi
       enabled,
       λ answer t entry move.
           let new : Progress = record { situation = t; lanes = next; turns = core ∷ turns } in
-          let fewer = leaves_fewer here new step answer entry move takes in (
-            new,
-            (
-              fit_moves fit_next t step answer entry its move,
-              refl,
-              omega (arith, fewer),
-              driver_leads here new step answer (record { entry = entry; move = move; takes_up = takes; fewer = fewer }),
-            ),
-          ),
+          let follows : Advances here step answer new = record { entry = entry; move = move; takes_up = takes; fewer = leaves_fewer here new step answer entry move takes } in
+          (new, (fit_moves fit_next t step answer entry its move, refl, omega (arith, follows.fewer), driver_leads here new step answer follows)),
     ),
   ))
 
@@ -131,13 +124,8 @@ module _ {s : Situation} {lanes : List Todo} {core : ℕ} {turns : List ℕ} (fi
           fit_rest,
           refl,
           omega (arith, as_many),
-          λ steps outcomes final end. record {
-            run = end.run;
-            taken = end.taken;
-            asked = λ k. sym (same k) ∙ end.asked k;
-            quiet = end.quiet;
-            few = (let most = end.few in omega (arith, as_many));
-          },
+          λ steps outcomes final end.
+              record { run = end.run; taken = end.taken; asked = λ k. sym (same k) ∙ end.asked k; quiet = end.quiet; few = omega (arith, end.few, as_many) },
         ),
       ))
     where
