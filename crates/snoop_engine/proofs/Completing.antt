@@ -63,8 +63,7 @@ module _ {D : Type 0} (at : D → Situation) (leads : D → Leading) (left : D �
 -- what is no Ask asks nothing of any core
 no_ask : (step : Step) → is_ask step ≡ false → (core : ℕ) → ask_of core step ≡ None
 no_ask (Ask c block word asking) e core = cc
-no_ask (Order c) e core = refl
-no_ask (Respond block) e core = refl
+no_ask _ e core = refl
 
 -- a driver whose cores go side by side
 abbrev DriverNext : Progress → Type 0

@@ -2,7 +2,7 @@
 use Rattle.std.proofs.Common.{◌≡◌, ◌≢◌, ℕ, zero, suc, ◌+◌, ◌<◌, Bool, true, false, cond, None, List, [], ◌∷◌, ◌++◌, length, map, filter, append-nil, append_assoc, refl, sym, ◌∙◌, ap, arith, inl, inr, get_or, ◌==◌, All, Contains, slice_set}
 use Rattle.snoop_engine.proofs.Common.{cases_eq, cases_lt, length_push, get_or_default, get_or_past, length-map, All-head, All-tail, All-push, Contains-push, Contains-append_left}
 use Rattle.snoop_engine.proofs.Common.{sum_by-cons, Extent, Asked, Op, Row, IsRowWithin, Work, Protocol, reset, turn_rule}
-use Rattle.std.proofs.lemmas.Bool.{eq-eqb, ne_eqb}
+use Rattle.std.proofs.lemmas.Bool.{cases_Bool, eq-eqb, ne_eqb}
 use Rattle.std.proofs.lemmas.List.{length-set, get_or-set_same, get_or-set_other}
 use Rattle.std.proofs.lemmas.List.Elements.{All-map, All-filter, All-weaker}
 use Rattle.std.proofs.lemmas.List.Sums.{sum_by-set}
@@ -85,13 +85,9 @@ module _ {shape : Extent} {all rest : List Asked} {lanes : List Todo} (dealt : D
 -- what a core's rows ask for
 pub works_of_rows : (shape : Extent) (rows : List Row) (core : ℕ) → works_by (map (asked_of shape) rows) core ≡ works_of shape rows core
 works_of_rows shape [] core = refl
-works_of_rows shape (row ∷ rows) core = go (row.core == core) (works_of_rows shape rows core)
-  where
-    go : (own : Bool) → works_by (map (asked_of shape) rows) core ≡ works_of shape rows core
-        → works (cond own (asked_of shape row ∷ filter (λ (a : Asked). a.core == core) (map (asked_of shape) rows)) (filter (λ (a : Asked). a.core == core) (map (asked_of shape) rows)))
-        ≡ map (work_of shape) (cond own (row ∷ filter (λ (r : Row). r.core == core) rows) (filter (λ (r : Row). r.core == core) rows))
-    go true rest = ap (λ (l : List Work). work_of shape row ∷ l) rest
-    go false rest = rest
+works_of_rows shape (row ∷ rows) core =
+    let rest = works_of_rows shape rows core in
+    elim (cases_Bool (row.core == core)) [ inl own ↦ rw own (ap (λ (l : List Work). work_of shape row ∷ l) rest) | inr other ↦ rw other rest ]
 
 -- what is asked for within a shape is within the largest
 pub in_largest : (shape : Extent) (asked : Asked) → IsWithinLimits shape → IsAskedWithin shape asked → IsAskedWithin largest asked

@@ -35,8 +35,7 @@ left_paid old new (Ask core block word asking) takes =
     let own : length (todo_of old core).left ≡ suc (length (todo_of new core).left) = rw (eq-eqb core core refl) at (ap length (takes core)) in
     let others : (k : ℕ) → k ≢ core → length (todo_of old k).left ≡ length (todo_of new k).left = λ k ne. rw (ne_eqb core k (λ e. ne (sym e))) at (ap length (takes k)) in
     omega (arith, left_fewer old new core (omega (arith, own)) others)
-left_paid old new (Order core) takes = omega (arith, left_same old new (λ k. ap length (takes k)))
-left_paid old new (Respond block) takes = omega (arith, left_same old new (λ k. ap length (takes k)))
+left_paid old new _ takes = omega (arith, left_same old new (λ k. ap length (takes k)))
 
 -- each step leaves fewer to come
 pub leaves_fewer : (old new : Progress) (step : Step) (answer : Reply) (entry : Option Item) → FirstMove old.situation step answer new.situation entry

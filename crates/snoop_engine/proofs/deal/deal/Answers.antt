@@ -14,14 +14,8 @@ push-requires c = in_largest c.args.shape c.in-Some.asked c.within_limits.ensure
 pub loop-asked-preserved : goal.loop-asked-preserved
 loop-asked-preserved c = dealt_more c.loop-asked.invariant c.in-Some.ensures.first c.index_mut.result.now c.push.new.self c.index_mut.ensures.value c.in_ok-push.ensures.left c.push.ensures.work
 
-pub returns-clause-cores : goal.returns-clause-cores
-returns-clause-cores c = c.loop-asked.invariant.cores
-
 pub returns-clause-left : goal.returns-clause-left
 returns-clause-left c = (dealt_all c.loop-asked.invariant c.in_default.ensures.none).0
-
-pub returns-clause-idle : goal.returns-clause-idle
-returns-clause-idle c = c.loop-asked.invariant.idle
 
 pub returns-clause-all : goal.returns-clause-all
 returns-clause-all c = (dealt_all c.loop-asked.invariant c.in_default.ensures.none).1

@@ -5,34 +5,20 @@ use Rattle.snoop_engine.proofs.show.show.Goals as goal
 
 pub returns-in_err-askers-clause-front : goal.returns-in_err-askers-clause-front
 returns-in_err-askers-clause-front g c =
-    let s = g.C.Course.situation c.args.course.now in
-    on_err c.from_residual.result _
-    (ends_with_nothing s.protocol s.shape _ _ _ _ c.runs_go_on.ensures (c.can_end.ensures s.protocol s.shape [] [] c.requires) (g.W.Write.contents c.args.writer.now))
+    on_err c.from_residual.result _ (ends_with_nothing _ _ _ _ _ _ c.runs_go_on.ensures (c.can_end.ensures _ _ [] [] c.requires) (g.W.Write.contents c.args.writer.now))
 
 pub returns-in_err-begin-clause-front : goal.returns-in_err-begin-clause-front
 returns-in_err-begin-clause-front g c =
-    let s = g.C.Course.situation c.args.course.now in
-    on_err c.from_residual-in_err-begin.result _
-    (ends_with_nothing s.protocol s.shape _ _ _ _ c.runs_go_on.ensures (c.can_end.ensures s.protocol s.shape [] [] c.requires) (g.W.Write.contents c.args.writer.now))
+    on_err c.from_residual-in_err-begin.result _ (ends_with_nothing _ _ _ _ _ _ c.runs_go_on.ensures (c.can_end.ensures _ _ [] [] c.requires) (g.W.Write.contents c.args.writer.now))
 
 pub loop-step-init : goal.loop-step-init
 loop-step-init g c =
     let s = g.C.Course.situation c.args.course.now in
     let blocks = rw (c.shape.ensures, c.machine.ensures) at c.blocks-2.ensures.value in (
-      showing_none s.protocol s.shape (g.V.View.heading c.args.view.now) (g.V.View.shows c.args.view.now) (λ p s frames. g.V.View.has_seen c.args.view.now p s frames c.begin.new.self) _ s _ _ _
-          c.requires (c.can_end.ensures s.protocol s.shape [] [] c.requires) (rw c.machine-2.ensures at c.in_ok-begin.ensures.begins) c.new-chunk.ensures.items (rw c.machine-2.ensures at c.in_ok-begin.ensures.text),
+      showing_none _ _ _ _ (λ p s frames. g.V.View.has_seen c.args.view.now p s frames c.begin.new.self) _ _ _ _ _ c.requires (c.can_end.ensures s.protocol s.shape [] [] c.requires) (rw c.machine-2.ensures at c.in_ok-begin.ensures.begins) c.new-chunk.ensures.items (rw c.machine-2.ensures at c.in_ok-begin.ensures.text),
       (λ none. none),
       rw c.requires (c.in_ok-askers.ensures s.protocol s.shape (sym blocks)),
     )
-
-pub take_step-requires-clause-found : goal.take_step-requires-clause-found
-take_step-requires-clause-found g c = (c.loop-step.course, c.in-Some.ensures.found)
-
-pub take_step-requires-clause-askers : goal.take_step-requires-clause-askers
-take_step-requires-clause-askers g c = rw c.in-Some.ensures.same c.loop-step.invariant.2
-
-pub take_step-requires-clause-head : goal.take_step-requires-clause-head
-take_step-requires-clause-head g c = rw c.machine-in-Some.ensures at c.head_for-head.ensures
 
 pub returns-in_err-number-clause-front : goal.returns-in_err-number-clause-front
 returns-in_err-number-clause-front g c = on_err c.from_residual-in_err-number.result _ (showing_stop c.loop-step.invariant.0 (g.V.View.ending c.args.view.now) c.runs_go_on.ensures)

@@ -28,6 +28,3 @@ returns-clause-lines c =
     (λ k up. no_line_in_i s c.args.requestor c.args.block c.args.request k (c.loop-core.invariant.1 k (none k up)))
     (λ k up. no_line_past s c.args.requestor c.args.block c.args.request k up) in
     rw (← same) c.loop-core.invariant.0
-
-pub returns-clause-askers : goal.returns-clause-askers
-returns-clause-askers c = c.leave.ensures c.args.machine.now.situation c.requires c.loop-core.invariant.1

@@ -14,6 +14,3 @@ pub loop-step-preserved : goal.loop-step-preserved
 loop-step-preserved c =
     let i = c.loop-step.step-index in
     rw (c.larger-most.ensures, c.loop-step.invariant, c.stored.ensures, take_more c.args.steps.now i (Ask 0 0 0 Load) c.loop-step-test.true) (sym (most_more (take i c.args.steps.now) _))
-
-pub returns : goal.returns
-returns c = c.loop-step.invariant ∙ ap most_stored (take_all c.loop-step.step-index c.args.steps.now c.loop-step-test.false)
