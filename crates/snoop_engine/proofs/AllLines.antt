@@ -1,11 +1,11 @@
 -- No row of a step that is taken is left out of its lines.
-use Rattle.std.proofs.Common.{◌≡◌, ℕ, ◌<◌, ◌≤◌, ◌+◌, Bool, true, zero, suc, List, [], ◌∷◌, Some, None, refl, sym, subst, ◌∙◌, inl, inr, lt-ltb, arith, ◌&&◌, Contains, Ok, nat_lt, slice_get, if◌then◌else◌, flat_map, ap}
-use Rattle.snoop_engine.proofs.Common.{range_with_len, option_map_or, cases_eq, cases_lt, get_or_past, Contains-append_left, Contains-append_right, Contains-push, same_Some, Op, Step, Ask}
+use Rattle.std.proofs.Common.{◌≡◌, ℕ, ◌<◌, ◌≤◌, ◌+◌, true, zero, suc, List, [], ◌∷◌, Some, refl, sym, subst, ◌∙◌, inl, inr, lt-ltb, arith, Contains, Ok, slice_get, flat_map, ap}
+use Rattle.snoop_engine.proofs.Common.{range_with_len, cases_eq, cases_lt, get_or_past, Contains-append_left, Contains-append_right, Contains-push, same_Some, Op, Step, Ask}
 use Rattle.snoop_engine.proofs.Common.{Order, Respond, CacheEvent, CacheState, I, MemEvent, Request, PutM, arrival, arrival_at_memory, asked, at_memory, seen_by, takes_payload}
 use Rattle.snoop_engine.proofs.Common.{waiting_request, queue_of, Open, Reply, Line, nothing_held, Situation, picture_of, state_of, ConsultsCache, ConsultsMemory, IsWithin, TakesFirst}
 use Rattle.snoop_engine.proofs.Common.{GoesFirst, Invariant}
 use Rattle.snoop_trace.specs.declared.step.Op.TheVariants as op
-use Rattle.snoop_engine.specs.Taken.{event_asked, of_arrival_at_memory, of_ask, of_core, of_holder, of_memory, of_request, of_requestor, of_respond, of_waiting_memory, taken_by, unless_i}
+use Rattle.snoop_engine.specs.Taken.{event_asked, of_ask, of_core, of_holder, of_memory, of_request, of_requestor, of_respond, of_waiting_memory, taken_by, unless_i}
 use Rattle.snoop_engine.specs.TrueLines.{DoesNothing}
 use Rattle.snoop_engine.specs.declared.taken.Taken.{Taken}
 use Rattle.snoop_engine.specs.declared.taken.Taken.TheVariants.{Core, Memory}

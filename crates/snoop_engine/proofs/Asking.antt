@@ -1,6 +1,6 @@
 -- Steps that all ask, and what they ask for.
 use Rattle.std.proofs.Common.{◌≡◌, ◌<◌, ◌^◌, List, [], ◌∷◌, ◌++◌, length, map, refl, sym, ◌∙◌, ap, Result, Ok, Err, OnOk, OnErr}
-use Rattle.snoop_engine.proofs.Common.{length-map, map-append, Asked, Step, Ask, Order, Respond}
+use Rattle.snoop_engine.proofs.Common.{length-map, map-append, Asked, Step, Ask}
 use Rattle.snoop_trace.specs.Asked.{step_of}
 use Rattle.snoop_engine.specs.Todo.{asked_by}
 

@@ -1,6 +1,6 @@
 -- From wherever a driver of rows has come, its rows can be served.
 use Rattle.std.proofs.Common.{◌≡◌, ◌⊎◌, ℕ, zero, suc, ◌+◌, ◌/◌, ◌<◌, true, false, Option, Some, None, List, [], ◌∷◌, ◌++◌, length, refl, sym, ◌∙◌, ap, arith, inl, inr, Result, Ok, Err, Contains, IsOk, slice_set}
-use Rattle.snoop_engine.proofs.Common.{cases_eq, All-head, All-nil, All-tail, Contains-append_cases, Extent, word_asked, Row, Step, Ask, Order, Respond, Work, Protocol, Item, Reply, Refused}
+use Rattle.snoop_engine.proofs.Common.{cases_eq, All-head, All-nil, All-tail, Contains-append_cases, Extent, word_asked, Row, Step, Ask, Work, Protocol, Item, Reply, Refused}
 use Rattle.snoop_engine.proofs.Common.{FirstMove, Situation, reset, FirstRunFrom, RunsGoOn, TheRun, IsUnderWay, turn_of}
 use Rattle.snoop_engine.specs.Courses.{CanEnd, Leading, LeadsOn}
 use Rattle.snoop_engine.specs.InOrder.{EndsInOrder, FollowsInOrder, InOrder, IsInOrder, TakesUpNext, remaining_in_order, row_under_way}
@@ -136,10 +136,9 @@ module _ {s : Situation} {lanes : List Todo} {core : ℕ} {turns : List ℕ} (fi
   by_left over [] none = idle over none
   by_left over (work ∷ works) first =
       let lane : Todo = record { left = works; work = Some work } in
-      let asks : Option Step = Some (Ask core work.block work.word work.op) in
       by (slice_set lanes core lane) (Ask core work.block work.word work.op) (fit_begins fit core has_core over (todo_of lanes core) lane refl work first has_turn refl)
       (ap (λ (t : Todo). block_of_work t.work) (lane_put fit core has_core lane))
-      (goes_begun fit core has_core over (todo_of lanes core) lane refl work first asks refl) (takes_first fit core has_core over (todo_of lanes core) lane refl work first asks refl)
+      (goes_begun fit core has_core over (todo_of lanes core) lane refl work first _ refl) (takes_first fit core has_core over (todo_of lanes core) lane refl work first _ refl)
 
   by_step : (work : Work) → (todo_of lanes core).work ≡ Some work → (r : Option Step) → r ≡ turn_of s core work.block work.word work.op true → DriverNext here
   by_step work works None is = by_left (over_now fit core has_core (todo_of lanes core) refl work works None is) (todo_of lanes core).left refl

@@ -1,6 +1,6 @@
 -- Courses, step by step, and the rows that they serve.
-use Rattle.std.proofs.Common.{◌≡◌, ◌==◌, ℕ, ◌+◌, ◌*◌, ◌<◌, Bool, true, false, cond, Option, Some, None, List, [], ◌∷◌, ◌++◌, length, length-append, map, filter, drop, refl, sym, ◌∙◌, ap, arith, append_assoc, append-nil, inl, inr, Result, Ok, IsOk, IfNone, option_to_list}
-use Rattle.snoop_engine.proofs.Common.{length-map, map-append, All-cons, All-nil, Extent, Row, Step, Ask, Order, Respond, Work, Protocol, Item, Reply, Refused, Picture, Situation, reset}
+use Rattle.std.proofs.Common.{◌≡◌, ◌==◌, ℕ, ◌+◌, ◌*◌, ◌<◌, true, cond, Option, Some, None, List, [], ◌∷◌, ◌++◌, length, length-append, map, refl, sym, ◌∙◌, ap, arith, append_assoc, append-nil, inl, inr, Result, Ok, IsOk, IfNone, option_to_list}
+use Rattle.snoop_engine.proofs.Common.{length-map, map-append, All-cons, All-nil, Extent, Row, Step, Ask, Work, Protocol, Item, Reply, Refused, Picture, Situation, reset}
 use Rattle.snoop_engine.proofs.Common.{FirstMove, GoesFirst, TheRun, IsQuiet, steps_paid, turn_rule}
 use Rattle.std.specs.List.{cons_option}
 use Rattle.std.proofs.lemmas.Bool.{cases_Bool}

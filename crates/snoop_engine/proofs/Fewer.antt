@@ -1,6 +1,6 @@
 -- Each step of a driver leaves fewer to come.
 use Rattle.std.proofs.Common.{◌≡◌, ◌≢◌, ℕ, zero, suc, ◌+◌, ◌*◌, ◌<◌, List, [], ◌∷◌, length, ap, refl, sym, arith, Option}
-use Rattle.snoop_engine.proofs.Common.{sum_by-cons, Step, Ask, Order, Respond, Item, Reply, FirstMove, steps_paid, turn_rule}
+use Rattle.snoop_engine.proofs.Common.{sum_by-cons, Step, Ask, Item, Reply, FirstMove, steps_paid, turn_rule}
 use Rattle.std.proofs.lemmas.Bool.{eq-eqb, ne_eqb}
 use Rattle.snoop_engine.specs.Todo.{Todo, todo_of, left_in}
 use Rattle.snoop_engine.specs.Round.{Progress, TakesUp, remaining}

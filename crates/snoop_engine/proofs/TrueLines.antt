@@ -1,7 +1,7 @@
 -- Each line of the frames of a run fits its step.
-use Rattle.std.proofs.Common.{◌≡◌, ◌⊎◌, ℕ, ◌<◌, ◌+◌, Bool, true, false, zero, suc, List, [], ◌∷◌, length, Option, Some, None, refl, sym, ap, ◌∙◌, inl, inr, arith, ◌≢◌, ◌&&◌, ◌||◌, All, IsSomeAnd, MatchBool, Result, Ok, Err, nat_lt, not, if◌then◌else◌, flat_map, subst}
+use Rattle.std.proofs.Common.{◌≡◌, ◌⊎◌, ℕ, ◌<◌, ◌+◌, Bool, true, false, zero, suc, List, [], ◌∷◌, length, Option, Some, None, refl, sym, ap, ◌∙◌, inl, inr, arith, ◌≢◌, ◌||◌, All, IsSomeAnd, MatchBool, Result, Ok, Err, not, if◌then◌else◌, flat_map, subst}
 use Rattle.snoop_engine.proofs.Common.{range_with_len, option_map_or, All-append, All-cons, All-nil, Extent, Protocol, Msi, Mesi, Op, Step, Ask, Order, Respond, CacheCell, CacheEvent}
-use Rattle.snoop_engine.proofs.Common.{CacheState, I, MemEvent, MemState, Request, PutM, arrival, arrival_at_memory, asked, at_memory, seen_by, takes_payload, Did, Item, Open, Reply}
+use Rattle.snoop_engine.proofs.Common.{CacheState, I, MemEvent, Request, PutM, arrival, arrival_at_memory, asked, at_memory, seen_by, takes_payload, Did, Item, Open, Reply}
 use Rattle.snoop_engine.proofs.Common.{Refused, BusTaken, Line, Picture, held_at, held_by, nothing_held, Situation, picture_of, reset, state_of, ConsultsCache, ConsultsMemory, ArrivesFor}
 use Rattle.snoop_engine.proofs.Common.{FillsRequestor, IsAbsent, Asks, IsWithin, Orders, Responds, TakesFirst, GoesFirst, Invariant}
 use denote.Enum.Bare.{same_true, sameb}
@@ -24,7 +24,7 @@ use Rattle.snoop_model.proofs.OneBlock.AfterMoves.{ask_line, order_here, respond
 use Rattle.snoop_model.proofs.Queues.Moves.{keeps_well, starts_well}
 use Rattle.snoop_model.proofs.Runs.GoOn.{IsSteady, steady_on}
 use Rattle.snoop_engine.specs.Frames.{Frame, FramesFrom}
-use Rattle.snoop_engine.specs.Taken.{event_asked, lines_of_step, of_arrival, of_arrival_at_memory, of_ask, of_holder, of_memory, of_request, of_requestor, of_respond, of_waiting_memory, memory_at, refused_by, state_at, unless_i}
+use Rattle.snoop_engine.specs.Taken.{event_asked, lines_of_step, of_arrival, of_arrival_at_memory, of_ask, of_holder, of_memory, of_request, of_requestor, of_respond, of_waiting_memory, refused_by, unless_i}
 use Rattle.snoop_engine.specs.TrueLines.{FitsStep, HasAllLines, ShowsRows, HasTakenRows}
 use Rattle.snoop_engine.proofs.AllLines.{asker_listed, cores_listed, memory_rows_listed}
 use Rattle.snoop_engine.specs.declared.taken.Taken.{Taken}
@@ -239,8 +239,7 @@ step_whole old new (Ask asker on word asking) (Err (Stalled state)) steady goes 
   cores = λ core block event first looks held. asker_listed old asker on word asking steady.0 goes.0.0 core block event looks;
   memory = λ block event first looks. absurd looks;
 }
-step_whole old new (Order core) (Err (Stalled state)) steady goes takes = absurd goes.0
-step_whole old new (Respond block) (Err (Stalled state)) steady goes takes = absurd goes.0
+step_whole old new _ (Err (Stalled state)) steady goes takes = absurd goes.0
 step_whole old new step (Err cause) steady goes takes = absurd takes
 
 -- the frames of a run from a steady machine

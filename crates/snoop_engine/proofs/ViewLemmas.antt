@@ -1,5 +1,5 @@
 -- What is shown of frames: of each by its number, or nothing before the end.
-use Rattle.std.proofs.Common.{◌≡◌, ℕ, ◌+◌, List, [], ◌∷◌, ◌++◌, length, refl, ap, ◌∙◌, arith, flat_map}
+use Rattle.std.proofs.Common.{◌≡◌, ℕ, ◌+◌, List, [], ◌∷◌, ◌++◌, length, refl, ap, arith, flat_map}
 use Rattle.snoop_engine.proofs.Common.{length_push, Situation}
 use Rattle.snoop_engine.specs.Frames.{Frame}
 use Rattle.snoop_engine.specs.Numbered.{Numbered, numbered_from}

@@ -28,8 +28,7 @@ line_texts_on : (shape : Extent) (first rest : List Step) (outcomes more : List 
     → line_texts shape (first ++ rest) (outcomes ++ more) ≡ line_texts shape first outcomes ++ line_texts shape rest more
 line_texts_on shape [] rest [] more old new run = refl
 line_texts_on shape (s ∷ ss) rest (o ∷ os) more old new run = rw (line_texts_on shape ss rest os more run.0 new run.1.1) (simp append_assoc)
-line_texts_on shape [] rest (o ∷ os) more old new run = absurd run
-line_texts_on shape (s ∷ ss) rest [] more old new run = absurd run
+line_texts_on shape _ rest _ more old new run = absurd run
 
 -- the whole output of a run was written, or a beginning of it
 abbrev WritesRun : Extent → Option (List ℕ) → Option (List ℕ) → Leading

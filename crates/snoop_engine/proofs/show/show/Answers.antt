@@ -31,12 +31,10 @@ returns-in_err-see-clause-front g c = on_err c.from_residual-in_err-see.result _
 
 pub loop-step-preserved : goal.loop-step-preserved
 loop-step-preserved g c =
-    let s = g.C.Course.situation c.args.course.now in
-    let head = rw (c.machine-in-Some.ensures, c.in-Some.ensures.same) at c.head_for-head.ensures in
     let far =
     showing_more c.loop-step.invariant.0 (λ p s frames. g.V.View.has_seen c.args.view.now p s frames c.see.new.self) _ _ _ _ c.in_ok-number.ensures (rw c.in-Some.ensures.same at c.in_ok-outcome.ensures.goes)
-    (c.deref.ensures.value ∙ (rw c.in-Some.ensures.same at c.in_ok-outcome.ensures.lines)) (c.block_of-block.ensures (g.C.Course.situation c.loop-step.course) head)
-    (c.in_ok-outcome.ensures.leads c.loop-step.course c.in-Some.ensures.found) (c.can_end-in-Some.ensures s.protocol s.shape) (rw c.machine-in-Some-2.ensures at (c.in_ok-see.ensures c.args.view.now)) in (
+    (c.deref.ensures.value ∙ (rw c.in-Some.ensures.same at c.in_ok-outcome.ensures.lines)) (c.block_of-block.ensures _ (rw (c.machine-in-Some.ensures, c.in-Some.ensures.same) at c.head_for-head.ensures))
+    (c.in_ok-outcome.ensures.leads c.loop-step.course c.in-Some.ensures.found) (c.can_end-in-Some.ensures _ _) (rw c.machine-in-Some-2.ensures at (c.in_ok-see.ensures c.args.view.now)) in (
       showing_spilled far _ _ c.in_ok-spill.ensures.ok,
       (λ none. (c.in_ok-spill.ensures.blamed (c.loop-step.invariant.1 none)).1 (λ failed. cc)),
       c.in_ok-outcome.ensures.askers,
@@ -44,12 +42,10 @@ loop-step-preserved g c =
 
 pub returns-in_err-spill-clause-front : goal.returns-in_err-spill-clause-front
 returns-in_err-spill-clause-front g c =
-    let s = g.C.Course.situation c.args.course.now in
-    let head = rw (c.machine-in-Some.ensures, c.in-Some.ensures.same) at c.head_for-head.ensures in
     let far =
     showing_more c.loop-step.invariant.0 (λ p s frames. g.V.View.has_seen c.args.view.now p s frames c.see.new.self) _ _ _ _ c.in_ok-number.ensures (rw c.in-Some.ensures.same at c.in_ok-outcome.ensures.goes)
-    (c.deref.ensures.value ∙ (rw c.in-Some.ensures.same at c.in_ok-outcome.ensures.lines)) (c.block_of-block.ensures (g.C.Course.situation c.loop-step.course) head)
-    (c.in_ok-outcome.ensures.leads c.loop-step.course c.in-Some.ensures.found) (c.can_end-in-Some.ensures s.protocol s.shape) (rw c.machine-in-Some-2.ensures at (c.in_ok-see.ensures c.args.view.now)) in
+    (c.deref.ensures.value ∙ (rw c.in-Some.ensures.same at c.in_ok-outcome.ensures.lines)) (c.block_of-block.ensures _ (rw (c.machine-in-Some.ensures, c.in-Some.ensures.same) at c.head_for-head.ensures))
+    (c.in_ok-outcome.ensures.leads c.loop-step.course c.in-Some.ensures.found) (c.can_end-in-Some.ensures _ _) (rw c.machine-in-Some-2.ensures at (c.in_ok-see.ensures c.args.view.now)) in
     on_err c.from_residual-in_err-spill.result _ (showing_cut far (g.V.View.ending c.args.view.now) c.runs_go_on.ensures _ c.in_err-spill.ensures.front)
 
 pub returns-in_err-end-clause-front : goal.returns-in_err-end-clause-front
