@@ -1,17 +1,14 @@
 -- No row of a step that is taken is left out of its lines.
-use Rattle.std.proofs.Common.{◌≡◌, ℕ, ◌<◌, ◌≤◌, ◌+◌, Bool, true, zero, suc, List, [], ◌∷◌, Some, None, refl, sym, subst, ◌∙◌, inl, inr, lt-ltb, arith, ◌&&◌, Contains, Ok, nat_lt, slice_get, if◌then◌else◌, flat_map, ap}
-use Rattle.snoop_engine.proofs.Common.{range_with_len, option_map_or, cases_eq, cases_lt, get_or_past, Contains-append_left, Contains-append_right, Contains-push, same_Some, Op, Step, Ask}
+use Rattle.std.proofs.Common.{◌≡◌, ℕ, ◌<◌, ◌≤◌, ◌+◌, true, zero, suc, List, [], ◌∷◌, Some, refl, sym, subst, ◌∙◌, inl, inr, lt-ltb, arith, Contains, Ok, slice_get, flat_map, ap}
+use Rattle.snoop_engine.proofs.Common.{range_with_len, cases_eq, cases_lt, get_or_past, Contains-append_left, Contains-append_right, Contains-push, same_Some, Op, Step, Ask}
 use Rattle.snoop_engine.proofs.Common.{Order, Respond, CacheEvent, CacheState, I, MemEvent, Request, PutM, arrival, arrival_at_memory, asked, at_memory, seen_by, takes_payload}
 use Rattle.snoop_engine.proofs.Common.{waiting_request, queue_of, Open, Reply, Line, nothing_held, Situation, picture_of, state_of, ConsultsCache, ConsultsMemory, IsWithin, TakesFirst}
 use Rattle.snoop_engine.proofs.Common.{GoesFirst, Invariant}
 use Rattle.snoop_trace.specs.declared.step.Op.TheVariants as op
-use Rattle.snoop_engine.specs.Taken.{event_asked, of_arrival_at_memory, of_ask, of_core, of_holder, of_memory, of_request, of_requestor, of_respond, of_waiting_memory, taken_by, unless_i}
+use Rattle.snoop_engine.specs.Taken.{event_asked, of_ask, of_core, of_holder, of_memory, of_request, of_requestor, of_respond, of_waiting_memory, taken_by, unless_i}
 use Rattle.snoop_engine.specs.TrueLines.{DoesNothing}
 use Rattle.snoop_engine.specs.declared.taken.Taken.{Taken}
 use Rattle.snoop_engine.specs.declared.taken.Taken.TheVariants.{Core, Memory}
-
-has_if : {A : Type 0} (b : Bool) (v : A) (f : A → List Taken) (line : Taken) → b ≡ true → Contains (f v) line → Contains (option_map_or f (if b then Some v else None) []) line
-has_if b v f line there has = rw there has
 
 has_one : (line : Taken) → Contains (line ∷ []) line
 has_one line = Contains-push [] line
@@ -32,21 +29,15 @@ event_unless op.Evict I h = absurd (h (refl, refl))
 event_unless _ _ h = refl
 
 module _ (s : Situation) (g : Invariant s) where
-  both_there : (core block : ℕ) → core < s.shape.cores → block < s.shape.blocks → nat_lt core s.shape.cores && nat_lt block s.shape.blocks ≡ true
-  both_there core block x y = rw (lt-ltb core s.shape.cores x, lt-ltb block s.shape.blocks y) refl
-
   ask_listed : (core block : ℕ) (asking : Op) → IsWithin s core block → ((asking ≡ op.Evict) × (state_of s core block ≡ I) → ⊥) → Contains (of_ask s core block asking) (Core core block (Some (asked asking)) (state_of s core block))
   ask_listed core block asking within event =
-      has_if (nat_lt core s.shape.cores && nat_lt block s.shape.blocks) (state_of s core block) (λ before. Core core block (event_asked asking before) before ∷ []) _ (both_there core block within.0 within.1)
-      (rw (event_unless asking (state_of s core block) event) (has_one _))
+      rw (lt-ltb core s.shape.cores within.0, lt-ltb block s.shape.blocks within.1, ← event_unless asking (state_of s core block) event) (has_one _)
 
   core_listed : (core block : ℕ) (event : CacheEvent) → core < s.shape.cores → block < s.shape.blocks → Contains (of_core s core block (Some event)) (Core core block (Some event) (state_of s core block))
-  core_listed core block event x y =
-      has_if (nat_lt core s.shape.cores && nat_lt block s.shape.blocks) (state_of s core block) (λ before. Core core block (Some event) before ∷ []) _ (both_there core block x y) (has_one _)
+  core_listed core block event x y = rw (lt-ltb core s.shape.cores x, lt-ltb block s.shape.blocks y) (has_one _)
 
   memory_listed : (block : ℕ) (event : MemEvent) → block < s.shape.blocks → Contains (of_memory s block event) (Memory block event (picture_of s block).memory.state)
-  memory_listed block event y =
-      has_if (nat_lt block s.shape.blocks) (picture_of s block).memory.state (λ before. Memory block event before ∷ []) _ (lt-ltb block s.shape.blocks y) (has_one _)
+  memory_listed block event y = rw (lt-ltb block s.shape.blocks y) (has_one _)
 
   -- a core that holds something is there
   holder_in : (requestor core block : ℕ) → block < s.shape.blocks → (DoesNothing (Order requestor) (state_of s core block) → ⊥) → core < s.shape.cores
@@ -62,11 +53,9 @@ module _ (s : Situation) (g : Invariant s) where
       → Contains (of_request s requestor block request) (Core core block (Some (seen_by core requestor request)) (state_of s core block))
   holder_listed requestor core block request y held =
       let x : core < s.shape.cores = holder_in requestor core block y held in
-      let line : Taken = Core core block (Some (seen_by core requestor request)) (state_of s core block) in
-      let one : Contains (of_holder s requestor block request core) line =
-      has_if (nat_lt core s.shape.cores && nat_lt block s.shape.blocks) (state_of s core block) (λ before. unless_i before (Core core block (Some (seen_by core requestor request)) before)) _ (both_there core block x y) (has_unless_i requestor (state_of s core block) line held) in
-      Contains-append_left (flat_map (of_holder s requestor block request) (range_with_len 0 s.shape.cores)) (of_memory s block (at_memory request)) line
-      (has_in_range (of_holder s requestor block request) line 0 s.shape.cores core (omega arith) (omega arith) one)
+      Contains-append_left (flat_map (of_holder s requestor block request) (range_with_len 0 s.shape.cores)) (of_memory s block (at_memory request)) _
+      (has_in_range (of_holder s requestor block request) _ 0 s.shape.cores core (omega arith) (omega arith)
+      (rw (lt-ltb core s.shape.cores x, lt-ltb block s.shape.blocks y) (has_unless_i requestor (state_of s core block) _ held)))
 
   request_at_memory : (requestor block : ℕ) (request : Request) → block < s.shape.blocks → Contains (of_request s requestor block request) (Memory block (at_memory request) (picture_of s block).memory.state)
   request_at_memory requestor block request y =
@@ -84,9 +73,7 @@ module _ (s : Situation) (g : Invariant s) where
 
   arrival_listed : (block : ℕ) (closing : Open) (event : MemEvent) → block < s.shape.blocks → takes_payload closing.request (picture_of s block).memory.state ≡ true → Some event ≡ arrival_at_memory closing.payload
       → Contains (of_waiting_memory s block closing) (Memory block event (picture_of s block).memory.state)
-  arrival_listed block closing event y takes comes =
-      has_if (nat_lt block s.shape.blocks) (picture_of s block).memory.state
-      (λ before. if takes_payload closing.request before then of_arrival_at_memory s block (arrival_at_memory closing.payload) else []) _ (lt-ltb block s.shape.blocks y) (rw (takes, ← comes) (memory_listed block event y))
+  arrival_listed block closing event y takes comes = rw (lt-ltb block s.shape.blocks y, takes, ← comes) (memory_listed block event y)
 
   respond_lines : (block : ℕ) (closing : Open) (line : Taken) → (picture_of s block).transaction ≡ Some closing → Contains (of_respond s block closing) line → Contains (taken_by s (Respond block)) line
   respond_lines block closing line opened has = rw opened has
@@ -97,6 +84,10 @@ pub asker_listed : (s : Situation) (asker on word : ℕ) (asking : Op) → Invar
 asker_listed s asker on word asking g within core block event looks =
     rw (same_Some _ _ looks.3, looks.0, looks.1) (ask_listed s g asker on asking within (rw (looks.0, looks.1) at looks.2))
 
+-- the block of an Order is there
+order_within : (s new : Situation) (requestor : ℕ) (answer : Reply) → GoesFirst s (Order requestor) (Ok answer) new → (block : ℕ) → TakesFirst s (Order requestor) block → block < s.shape.blocks
+order_within s new requestor answer goes block first = rw (same_Some _ _ (sym goes.1.1.0 ∙ first)) at goes.1.1.1.within.1
+
 -- where the move of a step is, each row that a core looks up is listed
 pub cores_listed : (s new : Situation) (step : Step) (answer : Reply) → Invariant s → GoesFirst s step (Ok answer) new → (core block : ℕ) (event : CacheEvent) → TakesFirst s step block → ConsultsCache s step core block (Some event)
     → (DoesNothing step (state_of s core block) → ⊥) → Contains (taken_by s step) (Core core block (Some event) (state_of s core block))
@@ -105,9 +96,7 @@ cores_listed s new (Ask asker on word asking) answer g goes core block event fir
     let within : IsWithin s asker on = subst (λ (b : ℕ). IsWithin s asker b) (sym m.1.1.on_block) m.1.1.within in
     asker_listed s asker on word asking g within core block event looks
 cores_listed s new (Order requestor) answer g goes core block event first looks held =
-    let m = goes.1 in
-    let same : m.0 ≡ block = same_Some _ _ (sym m.1.0 ∙ first) in
-    let y : block < s.shape.blocks = rw same at m.1.1.within.1 in
+    let y = order_within s new requestor answer goes block first in
     rw (same_Some _ _ looks.1.1) (order_lines s g requestor block looks.0 _ first looks.1.0.0 (holder_listed s g requestor core block looks.0 y held))
 cores_listed s new (Respond on) answer g goes core block event first looks held =
     let m = goes.1.1.1 in
@@ -123,9 +112,7 @@ pub memory_rows_listed : (s new : Situation) (step : Step) (answer : Reply) → 
     → Contains (taken_by s step) (Memory block event (picture_of s block).memory.state)
 memory_rows_listed s new (Ask asker on word asking) answer g goes block event first looks = absurd looks
 memory_rows_listed s new (Order requestor) answer g goes block event first looks =
-    let m = goes.1 in
-    let same : m.0 ≡ block = same_Some _ _ (sym m.1.0 ∙ first) in
-    let y : block < s.shape.blocks = rw same at m.1.1.within.1 in
+    let y = order_within s new requestor answer goes block first in
     rw (same_Some _ _ looks.1.1) (order_lines s g requestor block looks.0 _ first looks.1.0.0 (request_at_memory s g requestor block looks.0 y))
 memory_rows_listed s new (Respond on) answer g goes block event first looks =
     let m = goes.1.1.1 in

@@ -1,7 +1,7 @@
 -- Only an Ask moves its core out of I.
-use Rattle.std.proofs.Common.{◌≡◌, ◌⊎◌, ℕ, ◌≤◌, Bool, true, false, List, [], length, Some, None, Option, refl, sym, ap, ◌∙◌, inl, inr, arith, ◌==◌, ◌&&◌, ◌%◌, IfNone, IfSome, Ok, nat_lt, slice_get, slice_index_or, slice_set, if◌then◌else◌}
+use Rattle.std.proofs.Common.{◌≡◌, ◌⊎◌, ℕ, ◌≤◌, Bool, true, false, List, [], length, Some, None, Option, refl, sym, ap, ◌∙◌, inl, inr, arith, ◌==◌, ◌&&◌, ◌%◌, Ok, nat_lt, slice_get, slice_index_or, slice_set, if◌then◌else◌}
 use Rattle.snoop_engine.proofs.Common.{option_map_or, cases_lt, get_or_past, Protocol, Msi, Mesi, Op, Step, Ask, Order, Respond, CacheCell, CacheEvent, CacheState, I, Request, GetS}
-use Rattle.snoop_engine.proofs.Common.{GetM, PutM, arrival, seen_by, Did, Item, queue_of, Open, Situation, picture_of, state_of, Reply, Line, Picture, held_at, held_by, nothing_held}
+use Rattle.snoop_engine.proofs.Common.{PutM, arrival, seen_by, Did, Item, Open, Situation, picture_of, state_of, Reply, Line, Picture, held_at, held_by, nothing_held}
 use Rattle.snoop_engine.proofs.Common.{ArrivesFor, FillsRequestor, IsAbsent, Asks, Orders, Responds, GoesFirst}
 use Rattle.std.proofs.lemmas.Bool.{le-ltb}
 use Rattle.snoop_rules.specs.declared.names.Payload.{Payload}
@@ -9,12 +9,12 @@ use Rattle.snoop_rules.specs.declared.names.Payload.TheVariants.{Data}
 use Rattle.snoop_rules.specs.Cell.{cell_of}
 use Rattle.snoop_rules.specs.Takers.{other, own}
 use Rattle.snoop_blocks.specs.CoreSet.{Puts, has, set_of}
-use Rattle.snoop_model.specs.Pictures.Situation.{IsHead, nothing_there}
+use Rattle.snoop_model.specs.Pictures.Situation.{nothing_there}
 use Rattle.snoop_model.specs.Pictures.Picture.{with_line}
 use Rattle.snoop_model.proofs.Lists.Writes.{set_cases}
 use Rattle.std.proofs.lemmas.Nat.Bits.{bit_at-zero}
 use Rattle.std.proofs.lemmas.Option.{get_or_from_slice_get, unwrap_or-slice_get}
-use Rattle.snoop_engine.specs.Askers.{AreAskers, AreOthersInI, IsHeadFor}
+use Rattle.snoop_engine.specs.Askers.{AreAskers, AreOthersInI}
 use Rattle.snoop_engine.specs.Taken.{of_holder, unless_i}
 use Rattle.snoop_engine.specs.declared.taken.Taken.{Taken}
 use Rattle.snoop_engine.specs.declared.taken.Taken.TheVariants.{Core}
@@ -72,8 +72,7 @@ module _ (old new : Situation) (core block : ℕ) (idle : state_of old core bloc
 
   in_i_after_arrival : (request : Request) (b : ℕ) (closing : Open) (did : Option Did) (next : List Line) → block ≡ b → ArrivesFor request closing old.protocol old.log (picture_of old b).caches next did → (held_at next core).state ≡ I
   in_i_after_arrival PutM b closing did next same f = rw f.0 (idle_in b same)
-  in_i_after_arrival GetS b closing did next same f = in_i_after_fill b closing did next same f
-  in_i_after_arrival GetM b closing did next same f = in_i_after_fill b closing did next same f
+  in_i_after_arrival _ b closing did next same f = in_i_after_fill b closing did next same f
 
   in_i_after_respond : (b : ℕ) (closing : Open) (did : Option Did) → Responds old b closing did new → state_of new core block ≡ I
   in_i_after_respond b closing did r = rw r.after (in_i_of_picture b r.next (λ same. in_i_after_arrival closing.request b closing did r.next.caches same r.requestor))
@@ -81,8 +80,7 @@ module _ (old new : Situation) (core block : ℕ) (idle : state_of old core bloc
 -- the step is the core's Ask for the block
 abbrev IsAskOf : Step → ℕ → ℕ → Type 0
 IsAskOf (Ask asker on word asking) core block = (core ≡ asker) × (block ≡ on)
-IsAskOf (Order requestor) core block = ⊥
-IsAskOf (Respond on) core block = ⊥
+IsAskOf _ core block = ⊥
 
 stays_in_i : (old new : Situation) (step : Step) (answer : Reply) → GoesFirst old step (Ok answer) new → (core block : ℕ) → (IsAskOf step core block → ⊥) → state_of old core block ≡ I → state_of new core block ≡ I
 stays_in_i old new (Ask asker on word asking) answer goes core block another idle =
@@ -106,9 +104,8 @@ follow_other old new step answer sets other are goes = record {
 pub follow_ask : (old new : Situation) (asker on word : ℕ) (asking : Op) (answer : Reply) (sets next : List (List ℕ)) → AreAskers old sets → old.shape.cores ≤ 256
     → GoesFirst old (Ask asker on word asking) (Ok answer) new → Puts on asker sets next → AreAskers new next
 follow_ask old new asker on word asking answer sets next are few goes puts =
-    let m = goes.1.1.1 in
-    let within = m.within in
-    let on_block = m.on_block in
+    let within = goes.1.1.1.within in
+    let on_block = goes.1.1.1.on_block in
     let put : has (set_of next on) asker ≡ true = puts.here (omega arith) (omega arith) in
     record {
       many = rw (puts.many, same_shape old new (Ask asker on word asking) answer goes.0 goes.1) are.many;
@@ -129,11 +126,6 @@ no_line_in_i s requestor block request core is =
 -- nor has a core that is not there
 pub no_line_past : (s : Situation) (requestor block : ℕ) (request : Request) (core : ℕ) → s.shape.cores ≤ core → of_holder s requestor block request core ≡ []
 no_line_past s requestor block request core past = rw (le-ltb core s.shape.cores past) refl
-
--- the head that a machine answers is that of an Order
-pub head_is : (s : Situation) (core : ℕ) (found : Option (Request × ℕ)) → IfSome found (λ head. IsHead s core head.0 head.1) → IfNone found (slice_get (queue_of s.queues core) 0 ≡ None) → IsHeadFor s (Order core) found
-head_is s core None some none = none
-head_is s core (Some head) some none = some
 
 has_nothing : (core : ℕ) → has [] core ≡ false
 unfolding has

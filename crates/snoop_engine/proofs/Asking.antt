@@ -1,6 +1,6 @@
 -- Steps that all ask, and what they ask for.
 use Rattle.std.proofs.Common.{◌≡◌, ◌<◌, ◌^◌, List, [], ◌∷◌, ◌++◌, length, map, refl, sym, ◌∙◌, ap, Result, Ok, Err, OnOk, OnErr}
-use Rattle.snoop_engine.proofs.Common.{length-map, map-append, Asked, Step, Ask, Order, Respond}
+use Rattle.snoop_engine.proofs.Common.{length-map, map-append, Asked, Step, Ask}
 use Rattle.snoop_trace.specs.Asked.{step_of}
 use Rattle.snoop_engine.specs.Todo.{asked_by}
 
@@ -11,8 +11,7 @@ asked_more old new asked is = ap asked_by is ∙ go old
     go : (steps : List Step) → asked_by (steps ++ step_of asked ∷ []) ≡ asked_by steps ++ asked ∷ []
     go [] = refl
     go (Ask core block word asking ∷ steps) = ap (λ (l : List Asked). record { core = core; work = record { block = block; word = word; op = asking } } ∷ l) (go steps)
-    go (Order core ∷ steps) = go steps
-    go (Respond block ∷ steps) = go steps
+    go (_ ∷ steps) = go steps
 
 -- and all steps ask still
 pub all_ask : (old new : List Step) (asked : Asked) → old ≡ map step_of (asked_by old) → new ≡ old ++ step_of asked ∷ [] → new ≡ map step_of (asked_by new)

@@ -1,12 +1,12 @@
 -- From wherever a driver of rows has come, its rows can be served.
 use Rattle.std.proofs.Common.{◌≡◌, ◌⊎◌, ℕ, zero, suc, ◌+◌, ◌/◌, ◌<◌, true, false, Option, Some, None, List, [], ◌∷◌, ◌++◌, length, refl, sym, ◌∙◌, ap, arith, inl, inr, Result, Ok, Err, Contains, IsOk, slice_set}
-use Rattle.snoop_engine.proofs.Common.{cases_eq, All-head, All-nil, All-tail, Contains-append_cases, Extent, word_asked, Row, Step, Ask, Order, Respond, Work, Protocol, Item, Reply, Refused}
+use Rattle.snoop_engine.proofs.Common.{cases_eq, All-head, All-nil, All-tail, Contains-append_cases, Extent, word_asked, Row, Step, Ask, Work, Protocol, Item, Reply, Refused}
 use Rattle.snoop_engine.proofs.Common.{FirstMove, Situation, reset, FirstRunFrom, RunsGoOn, TheRun, IsUnderWay, turn_of}
 use Rattle.snoop_engine.specs.Courses.{CanEnd, Leading, LeadsOn}
 use Rattle.snoop_engine.specs.InOrder.{EndsInOrder, FollowsInOrder, InOrder, IsInOrder, TakesUpNext, remaining_in_order, row_under_way}
 use Rattle.snoop_engine.specs.Journey.{IsAtTheEnd}
 use Rattle.snoop_engine.specs.UnderWay.{ServesOnly, nothing}
-use Rattle.snoop_engine.specs.Round.{IsEnabled, IsFit, IsOver, Progress, TakesUp, remaining}
+use Rattle.snoop_engine.specs.Round.{Advances, IsEnabled, IsFit, IsOver, Progress, TakesUp, remaining}
 use Rattle.snoop_engine.specs.Serial.{ask_for, is_ask}
 use Rattle.snoop_engine.specs.Served.{ask_of}
 use Rattle.snoop_engine.specs.Todo.{Todo, block_of_work, left_in, nothing_to_do, todo_of, lanes_under_way}
@@ -63,8 +63,7 @@ module _ {D : Type 0} (at : D → Situation) (leads : D → Leading) (left : D �
 -- what is no Ask asks nothing of any core
 no_ask : (step : Step) → is_ask step ≡ false → (core : ℕ) → ask_of core step ≡ None
 no_ask (Ask c block word asking) e core = cc
-no_ask (Order c) e core = refl
-no_ask (Respond block) e core = refl
+no_ask _ e core = refl
 
 -- a driver whose cores go side by side
 abbrev DriverNext : Progress → Type 0
@@ -88,15 +87,8 @@ module _ {s : Situation} {lanes : List Todo} {core : ℕ} {turns : List ℕ} (fi
       enabled,
       λ answer t entry move.
           let new : Progress = record { situation = t; lanes = next; turns = core ∷ turns } in
-          let fewer = leaves_fewer here new step answer entry move takes in (
-            new,
-            (
-              fit_moves fit_next t step answer entry its move,
-              refl,
-              omega (arith, fewer),
-              driver_leads here new step answer (record { entry = entry; move = move; takes_up = takes; fewer = fewer }),
-            ),
-          ),
+          let follows : Advances here step answer new = record { entry = entry; move = move; takes_up = takes; fewer = leaves_fewer here new step answer entry move takes } in
+          (new, (fit_moves fit_next t step answer entry its move, refl, omega (arith, follows.fewer), driver_leads here new step answer follows)),
     ),
   ))
 
@@ -131,13 +123,8 @@ module _ {s : Situation} {lanes : List Todo} {core : ℕ} {turns : List ℕ} (fi
           fit_rest,
           refl,
           omega (arith, as_many),
-          λ steps outcomes final end. record {
-            run = end.run;
-            taken = end.taken;
-            asked = λ k. sym (same k) ∙ end.asked k;
-            quiet = end.quiet;
-            few = (let most = end.few in omega (arith, as_many));
-          },
+          λ steps outcomes final end.
+              record { run = end.run; taken = end.taken; asked = λ k. sym (same k) ∙ end.asked k; quiet = end.quiet; few = omega (arith, end.few, as_many) },
         ),
       ))
     where
@@ -149,10 +136,9 @@ module _ {s : Situation} {lanes : List Todo} {core : ℕ} {turns : List ℕ} (fi
   by_left over [] none = idle over none
   by_left over (work ∷ works) first =
       let lane : Todo = record { left = works; work = Some work } in
-      let asks : Option Step = Some (Ask core work.block work.word work.op) in
       by (slice_set lanes core lane) (Ask core work.block work.word work.op) (fit_begins fit core has_core over (todo_of lanes core) lane refl work first has_turn refl)
       (ap (λ (t : Todo). block_of_work t.work) (lane_put fit core has_core lane))
-      (goes_begun fit core has_core over (todo_of lanes core) lane refl work first asks refl) (takes_first fit core has_core over (todo_of lanes core) lane refl work first asks refl)
+      (goes_begun fit core has_core over (todo_of lanes core) lane refl work first _ refl) (takes_first fit core has_core over (todo_of lanes core) lane refl work first _ refl)
 
   by_step : (work : Work) → (todo_of lanes core).work ≡ Some work → (r : Option Step) → r ≡ turn_of s core work.block work.word work.op true → DriverNext here
   by_step work works None is = by_left (over_now fit core has_core (todo_of lanes core) refl work works None is) (todo_of lanes core).left refl

@@ -1,8 +1,9 @@
 -- Courses, step by step, and the rows that they serve.
-use Rattle.std.proofs.Common.{◌≡◌, ◌==◌, ℕ, ◌+◌, ◌*◌, ◌<◌, Bool, true, false, cond, Option, Some, None, List, [], ◌∷◌, ◌++◌, length, length-append, map, filter, drop, refl, sym, ◌∙◌, ap, arith, append_assoc, append-nil, get_or, Result, Ok, IsOk, IfNone, option_to_list}
-use Rattle.snoop_engine.proofs.Common.{length-map, map-append, All-cons, All-nil, Extent, Row, Step, Ask, Order, Respond, Work, Protocol, Item, Reply, Refused, Picture, Situation, reset}
+use Rattle.std.proofs.Common.{◌≡◌, ◌==◌, ℕ, ◌+◌, ◌*◌, ◌<◌, true, cond, Option, Some, None, List, [], ◌∷◌, ◌++◌, length, length-append, map, refl, sym, ◌∙◌, ap, arith, append_assoc, append-nil, inl, inr, Result, Ok, IsOk, IfNone, option_to_list}
+use Rattle.snoop_engine.proofs.Common.{length-map, map-append, All-cons, All-nil, Extent, Row, Step, Ask, Work, Protocol, Item, Reply, Refused, Picture, Situation, reset}
 use Rattle.snoop_engine.proofs.Common.{FirstMove, GoesFirst, TheRun, IsQuiet, steps_paid, turn_rule}
 use Rattle.std.specs.List.{cons_option}
+use Rattle.std.proofs.lemmas.Bool.{cases_Bool}
 use Rattle.std.proofs.lemmas.List.Folds.{sum_by-replicate}
 use Rattle.snoop_model.specs.Pictures.Situation.{untouched}
 use Rattle.snoop_model.specs.Turns.Serving.{has_transaction, steps_owed}
@@ -123,14 +124,12 @@ driver_serves {outcomes = outcomes} {final = final} begins end = let served = dr
 -- an Ask pays for three steps
 paid_asks : (step : Step) → steps_paid step ≡ 3 * length (all_asks (step ∷ []))
 paid_asks (Ask core block word asking) = refl
-paid_asks (Order core) = refl
-paid_asks (Respond block) = refl
+paid_asks _ = refl
 
 -- the Asks of one step more at the head
 all_asks_first : (step : Step) (steps : List Step) → all_asks (step ∷ steps) ≡ all_asks (step ∷ []) ++ all_asks steps
 all_asks_first (Ask core block word asking) steps = refl
-all_asks_first (Order core) steps = refl
-all_asks_first (Respond block) steps = refl
+all_asks_first _ steps = refl
 
 module _ (old new : InOrder) (step : Step) (answer : Reply) (follows : FollowsInOrder old step answer new) where
   -- fewer steps may still come
@@ -147,11 +146,11 @@ module _ (old new : InOrder) (step : Step) (answer : Reply) (follows : FollowsIn
 
     at_rest : (before after : List Step) (x : Step) → step ∷ steps ≡ before ++ x ∷ after → is_ask x ≡ true → LeadsToRest old.situation before
     at_rest [] after x split its =
-        let same_step : step ≡ x = ap (λ (l : List Step). get_or l 0 x) split in
+        let same_step : step ≡ x = cc in
         record { outcomes = []; reached = old.situation; run = refl; quiet = follows.takes_up.rest (rw same_step its) }
     at_rest (b ∷ bs) after x split its =
-        let same_step : step ≡ b = ap (λ (l : List Step). get_or l 0 x) split in
-        let later = h.apart bs after x (ap (λ (l : List Step). drop 1 l) split) its in
+        let same_step : step ≡ b = cc in
+        let later = h.apart bs after x (cc) its in
         rw (← same_step) (record { outcomes = Ok answer ∷ later.outcomes; reached = later.reached; run = (new.situation, ((follows.entry, follows.move), later.run)); quiet = later.quiet })
 
     pub in_order_leads : EndsInOrder old (step ∷ steps) (Ok answer ∷ outcomes) final
@@ -178,18 +177,14 @@ in_order_ends old none quiet = record {
 asks_among : (core : ℕ) (steps : List Step) → asks_of steps core ≡ asks_of (all_asks steps) core
 asks_among core [] = refl
 asks_among core (Ask c block word asking ∷ steps) = ap (cons_option (ask_of core (Ask c block word asking))) (asks_among core steps)
-asks_among core (Order c ∷ steps) = asks_among core steps
-asks_among core (Respond block ∷ steps) = asks_among core steps
+asks_among core (_ ∷ steps) = asks_among core steps
 
 -- those of the rows are the core's works
 asks_of_rows : (shape : Extent) (core : ℕ) (rows : List Row) → asks_of (map (ask_for shape) rows) core ≡ works_of shape rows core
 asks_of_rows shape core [] = refl
-asks_of_rows shape core (row ∷ rows) = go (row.core == core) (asks_of_rows shape core rows)
-  where
-    go : (own : Bool) → asks_of (map (ask_for shape) rows) core ≡ works_of shape rows core → cons_option (cond {A = Option Work} own (Some (work_of shape row)) None) (asks_of (map (ask_for shape) rows) core)
-        ≡ map (work_of shape) (cond own (row ∷ filter (λ (r : Row). r.core == core) rows) (filter (λ (r : Row). r.core == core) rows))
-    go true rest = ap (λ (l : List Work). work_of shape row ∷ l) rest
-    go false rest = rest
+asks_of_rows shape core (row ∷ rows) =
+    let rest = asks_of_rows shape core rows in
+    elim (cases_Bool (row.core == core)) [ inl own ↦ rw own (ap (λ (l : List Work). work_of shape row ∷ l) rest) | inr other ↦ rw other rest ]
 
 module _ {protocol : Protocol} {shape : Extent} {rows : List Row} {start : InOrder} (at : start.situation ≡ reset protocol shape) (left : start.left ≡ rows)
     {steps : List Step} {outcomes : List (Result Reply Refused)} {final : Situation} (end : EndsInOrder start steps outcomes final) where

@@ -1,8 +1,8 @@
 -- What dealing the rows to their cores gives.
-use Rattle.std.proofs.Common.{◌≡◌, ◌≢◌, ℕ, zero, suc, ◌+◌, ◌<◌, Bool, true, false, cond, None, List, [], ◌∷◌, ◌++◌, length, map, filter, append-nil, append_assoc, refl, sym, ◌∙◌, ap, arith, inl, inr, get_or, ◌==◌, All, Contains, slice_set}
+use Rattle.std.proofs.Common.{◌≡◌, ◌≢◌, ℕ, zero, suc, ◌+◌, ◌<◌, Bool, None, List, [], ◌∷◌, ◌++◌, length, map, filter, append_assoc, refl, sym, ◌∙◌, ap, arith, inl, inr, get_or, ◌==◌, All, Contains, slice_set}
 use Rattle.snoop_engine.proofs.Common.{cases_eq, cases_lt, length_push, get_or_default, get_or_past, length-map, All-head, All-tail, All-push, Contains-push, Contains-append_left}
 use Rattle.snoop_engine.proofs.Common.{sum_by-cons, Extent, Asked, Op, Row, IsRowWithin, Work, Protocol, reset, turn_rule}
-use Rattle.std.proofs.lemmas.Bool.{eq-eqb, ne_eqb}
+use Rattle.std.proofs.lemmas.Bool.{cases_Bool, eq-eqb, ne_eqb}
 use Rattle.std.proofs.lemmas.List.{length-set, get_or-set_same, get_or-set_other}
 use Rattle.std.proofs.lemmas.List.Elements.{All-map, All-filter, All-weaker}
 use Rattle.std.proofs.lemmas.List.Sums.{sum_by-set}
@@ -13,7 +13,7 @@ use Rattle.snoop_trace.specs.declared.step.Op.TheVariants as op
 use Rattle.snoop_trace.proofs.WordPlaces.{asked_within}
 use Rattle.snoop_engine.specs.Round.{IsFit, IsWorkWithin}
 use Rattle.snoop_engine.specs.Packed.{largest}
-use Rattle.snoop_engine.specs.Todo.{IsAskedWithin, Todo, todo_of, nothing_to_do, lanes_under_way, left_in, work_of, works, works_by, works_of}
+use Rattle.snoop_engine.specs.Todo.{IsAskedWithin, Todo, todo_of, nothing_to_do, lanes_under_way, left_in, work_of, works_by, works_of}
 
 -- all asks but those that are left have been dealt
 pub record Dealt (shape : Extent) (all rest : List Asked) (lanes : List Todo) : Type 0 where
@@ -51,7 +51,7 @@ module _ {shape : Extent} {all rest : List Asked} {lanes : List Todo} (dealt : D
     pub first_within : IsAskedWithin shape asked
     first_within = All-head (IsAskedWithin shape) asked more (rw first at dealt.within)
 
-    pub has_lane : asked.core < length lanes
+    has_lane : asked.core < length lanes
     has_lane = let cores = dealt.cores in omega (arith, first_within.0)
 
     -- it was put last into its core's lane
@@ -78,20 +78,12 @@ module _ {shape : Extent} {all rest : List Asked} {lanes : List Todo} (dealt : D
           within = All-tail (IsAskedWithin shape) asked more (rw first at dealt.within);
         }
 
-  -- all were dealt
-  pub dealt_all : rest ≡ [] → ((core : ℕ) → (todo_of lanes core).left ≡ works_by all core) × (left_in lanes ≡ length all)
-  dealt_all none = (λ core. rw (none, append-nil) at (dealt.left core), (let long : left_in lanes + 0 ≡ length all = rw none at dealt.counted in omega arith))
-
 -- what a core's rows ask for
 pub works_of_rows : (shape : Extent) (rows : List Row) (core : ℕ) → works_by (map (asked_of shape) rows) core ≡ works_of shape rows core
 works_of_rows shape [] core = refl
-works_of_rows shape (row ∷ rows) core = go (row.core == core) (works_of_rows shape rows core)
-  where
-    go : (own : Bool) → works_by (map (asked_of shape) rows) core ≡ works_of shape rows core
-        → works (cond own (asked_of shape row ∷ filter (λ (a : Asked). a.core == core) (map (asked_of shape) rows)) (filter (λ (a : Asked). a.core == core) (map (asked_of shape) rows)))
-        ≡ map (work_of shape) (cond own (row ∷ filter (λ (r : Row). r.core == core) rows) (filter (λ (r : Row). r.core == core) rows))
-    go true rest = ap (λ (l : List Work). work_of shape row ∷ l) rest
-    go false rest = rest
+works_of_rows shape (row ∷ rows) core =
+    let rest = works_of_rows shape rows core in
+    elim (cases_Bool (row.core == core)) [ inl own ↦ rw own (ap (λ (l : List Work). work_of shape row ∷ l) rest) | inr other ↦ rw other rest ]
 
 -- what is asked for within a shape is within the largest
 pub in_largest : (shape : Extent) (asked : Asked) → IsWithinLimits shape → IsAskedWithin shape asked → IsAskedWithin largest asked
@@ -113,9 +105,8 @@ left_of_rows shape rows asks lanes is left counted =
 
 -- a word below the shape's is there
 word_there : (shape : Extent) (word : ℕ) (asking : Op) → IsWithinLimits shape → word < shape.words → HasWord shape word asking
-word_there shape word op.Load limits few = (few, omega (arith, limits.words.1))
-word_there shape word (op.Store stored) limits few = (few, omega (arith, limits.words.1))
 word_there shape word op.Evict limits few = tt
+word_there shape word _ limits few = (few, omega (arith, limits.words.1))
 
 -- each work is of a block and a word that there are
 pub works_within : (protocol : Protocol) (shape : Extent) (asks : List Asked) (core : ℕ) → IsWithinLimits shape → All (IsAskedWithin shape) asks

@@ -88,10 +88,6 @@ module _ {s : Situation} {lanes : List Todo} {turns : List ℕ} (fit : IsFit s l
         | inr ne ↦ rw (ne_eqb core k (λ e. ne (sym e)), lane_apart next k ne)
       ])
 
--- what lies within a shape lies within the same shape
-todo_along : (s t : Situation) (todo : Todo) → t.shape ≡ s.shape → IsTodoWithin s todo → IsTodoWithin t todo
-todo_along s t todo e h = record { left = rw e h.left; work = rw e h.work }
-
 -- a move keeps what holds between turns
 pub fit_moves : {s : Situation} {lanes : List Todo} {turns : List ℕ} → IsFit s lanes turns → (t : Situation) (step : Step) (answer : Reply) (entry : Option Item)
     → IsUnderWay (lanes_under_way lanes) step → FirstMove s step answer t entry → IsFit t lanes turns
@@ -99,7 +95,7 @@ fit_moves {s} {lanes} fit t step answer entry its move =
     let e = same_shape s t step answer entry move in
     record {
       cores = rw e fit.cores;
-      within = λ core. todo_along s t (todo_of lanes core) e (fit.within core);
+      within = λ core. record { left = rw e (fit.within core).left; work = rw e (fit.within core).work };
       serving = turn_rule.serves_on s t (lanes_under_way lanes) (lanes_under_way lanes) step answer entry fit.serving move (λ k b h. h) its;
       kept = turn_rule.keeps_well s t step answer entry fit.kept move;
       few = rw e fit.few;

@@ -1,6 +1,6 @@
 -- Each step of a driver leaves fewer to come.
 use Rattle.std.proofs.Common.{◌≡◌, ◌≢◌, ℕ, zero, suc, ◌+◌, ◌*◌, ◌<◌, List, [], ◌∷◌, length, ap, refl, sym, arith, Option}
-use Rattle.snoop_engine.proofs.Common.{sum_by-cons, Step, Ask, Order, Respond, Item, Reply, FirstMove, steps_paid, turn_rule}
+use Rattle.snoop_engine.proofs.Common.{sum_by-cons, Step, Ask, Item, Reply, FirstMove, steps_paid, turn_rule}
 use Rattle.std.proofs.lemmas.Bool.{eq-eqb, ne_eqb}
 use Rattle.snoop_engine.specs.Todo.{Todo, todo_of, left_in}
 use Rattle.snoop_engine.specs.Round.{Progress, TakesUp, remaining}
@@ -35,8 +35,7 @@ left_paid old new (Ask core block word asking) takes =
     let own : length (todo_of old core).left ≡ suc (length (todo_of new core).left) = rw (eq-eqb core core refl) at (ap length (takes core)) in
     let others : (k : ℕ) → k ≢ core → length (todo_of old k).left ≡ length (todo_of new k).left = λ k ne. rw (ne_eqb core k (λ e. ne (sym e))) at (ap length (takes k)) in
     omega (arith, left_fewer old new core (omega (arith, own)) others)
-left_paid old new (Order core) takes = omega (arith, left_same old new (λ k. ap length (takes k)))
-left_paid old new (Respond block) takes = omega (arith, left_same old new (λ k. ap length (takes k)))
+left_paid old new _ takes = omega (arith, left_same old new (λ k. ap length (takes k)))
 
 -- each step leaves fewer to come
 pub leaves_fewer : (old new : Progress) (step : Step) (answer : Reply) (entry : Option Item) → FirstMove old.situation step answer new.situation entry

@@ -15,12 +15,11 @@ are_the_run protocol shape steps frames final are = rw are.whole at (frames_run 
 -- a run has its frames
 pub framed : (steps : List Step) (outcomes : List (Result Reply Refused)) (old new : Situation) → FirstRunFrom old steps outcomes new → (frames : List Frame) × ((steps_of frames ≡ steps) × FramesFrom old frames new)
 framed [] [] old new run = ([], (refl, run))
-framed [] (o ∷ os) old new run = absurd run
-framed (s ∷ ss) [] old new run = absurd run
 framed (s ∷ ss) (o ∷ os) old new run =
     let rest = framed ss os run.0 new run.1.1 in
     let frame : Frame = record { step = s; outcome = o; before = old; after = run.0 } in
     (frame ∷ rest.0, (ap (λ (l : List Step). s ∷ l) rest.1.0, (record { before = refl; goes = run.1.0 }, rest.1.1)))
+framed _ _ old new run = absurd run
 
 -- frames, and then frames from where they led
 pub frames_on : (first rest : List Frame) (old middle new : Situation) → FramesFrom old first middle → FramesFrom middle rest new → FramesFrom old (first ++ rest) new

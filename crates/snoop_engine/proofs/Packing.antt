@@ -14,9 +14,8 @@ first_on (x ∷ xs) more few = refl
 -- no more than one of a list's elements, dropped from a longer list
 dropped_on : (n : ℕ) (xs more : List ℕ) → n ≤ 1 → n ≤ length xs → drop n (xs ++ more) ≡ drop n xs ++ more
 dropped_on zero xs more one few = refl
-dropped_on (suc zero) [] more one few = absurd (omega arith)
 dropped_on (suc zero) (x ∷ xs) more one few = refl
-dropped_on (suc (suc n)) xs more one few = absurd (omega arith)
+dropped_on _ xs more one few = absurd (omega arith)
 
 few_words : (k : Kind) → worded_by k ≤ 1
 few_words kind.Load = omega arith
@@ -47,8 +46,6 @@ stored_more (k ∷ ks) h = let more = stored_more ks h in omega arith
 pub steps_more : (hs : List Head) (ws vs : List ℕ) (h : Head) (mw mv : List ℕ) → worded_in hs ≡ length ws → stored_in hs ≡ length vs
     → steps_in (hs ++ h ∷ []) (ws ++ mw) (vs ++ mv) ≡ steps_in hs ws vs ++ step_of_head h (slice_index_or mw 0 0) (slice_index_or mv 0 0) ∷ []
 steps_more [] [] [] h mw mv e f = refl
-steps_more [] (w ∷ ws) vs h mw mv e f = absurd (omega arith)
-steps_more [] [] (v ∷ vs) h mw mv e f = absurd (omega arith)
 steps_more (k ∷ ks) ws vs h mw mv e f =
     let w : worded_by k.kind ≤ length ws = omega (arith, e) in
     let v : stored_by k.kind ≤ length vs = omega (arith, f) in
@@ -60,6 +57,7 @@ steps_more (k ∷ ks) ws vs h mw mv e f =
       dropped_on (stored_by k.kind) vs mv (few_values k.kind) v,
       steps_more ks (drop (worded_by k.kind) ws) (drop (stored_by k.kind) vs) h mw mv rest_w rest_v,
     )
+steps_more _ ws vs h mw mv e f = absurd (omega arith)
 
 -- as many words and values stand in a queue as its heads have
 pub worded_after : (hs : List Head) (ws more : List ℕ) (h : Head) → worded_by h.kind ≡ length more → worded_in hs ≡ length ws → worded_in (hs ++ h ∷ []) ≡ length (ws ++ more)

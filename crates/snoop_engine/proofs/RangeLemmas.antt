@@ -1,5 +1,5 @@
 -- Ranges: a list that grows piece by piece, over the numbers from 0; which numbers of a range are kept.
-use Rattle.std.proofs.Common.{◌≡◌, ℕ, zero, suc, ◌+◌, ◌<◌, ◌≤◌, Bool, cond, List, [], ◌∷◌, ◌++◌, append-nil, filter, refl, sym, ap, ◌∙◌, inl, inr, arith, flat_map}
+use Rattle.std.proofs.Common.{◌≡◌, ℕ, zero, suc, ◌+◌, ◌<◌, ◌≤◌, Bool, List, [], ◌∷◌, ◌++◌, append-nil, filter, refl, sym, ap, ◌∙◌, inl, inr, arith, flat_map}
 use Rattle.snoop_engine.proofs.Common.{range_with_len, cases_lt, flat_map_more}
 use Rattle.std.proofs.lemmas.List.{map-id}
 use Rattle.std.proofs.lemmas.List.FromFn.{map-range_with_len_more}
@@ -11,9 +11,7 @@ more_from_zero n =
 
 -- the piece of the next number comes after the pieces so far
 pub range_piece : {A : Type 0} (f : ℕ → List A) (i : ℕ) (before now next : List A) → now ≡ before ++ flat_map f (range_with_len 0 i) → next ≡ now ++ f i → next ≡ before ++ flat_map f (range_with_len 0 (i + 1))
-range_piece {A} f i before now next far e =
-    e ∙ ap (λ (t : List A). t ++ f i) far ∙ flat_map_more f before (range_with_len 0 i) i
-    ∙ ap (λ (ks : List ℕ). before ++ flat_map f ks) (sym (more_from_zero i))
+range_piece f i before now next far e = rw (e, far, more_from_zero i) (flat_map_more f before (range_with_len 0 i) i)
 
 -- numbers that give nothing may be left out at the end
 pub range_stops : {A : Type 0} (f : ℕ → List A) (a b : ℕ) → a ≤ b → ((k : ℕ) → a ≤ k → k < b → f k ≡ []) → flat_map f (range_with_len 0 b) ≡ flat_map f (range_with_len 0 a)
@@ -24,10 +22,7 @@ range_stops {A} f a (suc b) le none = elim (cases_lt b a) [
       let next : suc b ≡ b + 1 = omega arith in
       let last : b < suc b = omega arith in
       ap (λ (n : ℕ). flat_map f (range_with_len 0 n)) next
-      ∙ (ap (λ (ks : List ℕ). flat_map f ks) (more_from_zero b)
-      ∙ (sym (flat_map_more f [] (range_with_len 0 b) b)
-      ∙ (ap (λ (t : List A). flat_map f (range_with_len 0 b) ++ t) (none b up last)
-      ∙ (append-nil (flat_map f (range_with_len 0 b)) ∙ range_stops f a b up (λ k low high. none k low (omega arith))))))
+      ∙ rw (more_from_zero b, ← flat_map_more f [] (range_with_len 0 b) b, none b up last, append-nil) (range_stops f a b up (λ k low high. none k low (omega arith)))
 ]
 
 -- ranges give the same up to two numbers, where each number from the lower one on gives nothing
@@ -41,6 +36,4 @@ range_same {A} f a b from_a from_b = elim (cases_lt a b) [
 pub filter_range : (p q : ℕ → Bool) (from n : ℕ) → ((k : ℕ) → from ≤ k → k < from + n → p k ≡ q k) → filter p (range_with_len from n) ≡ filter q (range_with_len from n)
 filter_range p q from zero same = refl
 filter_range p q from (suc n) same =
-    let rest = filter_range p q (from + 1) n (λ k up below. same k (omega arith) (omega arith)) in
-    ap (λ (b : Bool). cond b (from ∷ filter p (range_with_len (from + 1) n)) (filter p (range_with_len (from + 1) n))) (same from (omega arith) (omega arith))
-    ∙ ap (λ (l : List ℕ). cond (q from) (from ∷ l) l) rest
+    rw (same from (omega arith) (omega arith), filter_range p q (from + 1) n (λ k up below. same k (omega arith) (omega arith)))

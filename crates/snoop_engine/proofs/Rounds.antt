@@ -1,12 +1,11 @@
 -- What a round gives, turn by turn.
-use Rattle.std.proofs.Common.{◌≡◌, ◌≢◌, ℕ, ◌<◌, Option, Some, None, refl, IsOk, sym, ◌∙◌, ap, inl, inr, arith, List, [], ◌∷◌, ◌++◌, take, drop, Contains, IfNone, slice_get}
-use Rattle.snoop_engine.proofs.Common.{All-nil, cases_eq, All-append, Contains-append_cases, Contains-append_left, Contains-append_right, Step, Situation, IsQuiet, IsUnderWay, turn_rule}
+use Rattle.std.proofs.Common.{◌≡◌, ℕ, ◌<◌, Option, Some, None, sym, ◌∙◌, ap, inl, inr, arith, List, [], ◌∷◌, ◌++◌, take, drop, Contains, IfNone, slice_get}
+use Rattle.snoop_engine.proofs.Common.{All-append, Contains-append_cases, Contains-append_left, Contains-append_right, Situation, IsQuiet, turn_rule}
 use Rattle.std.proofs.lemmas.List.{take-append-drop}
 use Rattle.std.proofs.lemmas.List.Elements.{All-take, All-drop}
 use Rattle.snoop_model.specs.Turns.Serving.{IsServing}
 use Rattle.snoop_engine.specs.Todo.{Todo, todo_of, lanes_under_way, block_of_work}
-use Rattle.snoop_engine.specs.Journey.{IsAtTheEnd}
-use Rattle.snoop_engine.specs.Round.{Progress, IsFit, IsIdle, IsUnasked, IsEnabled, TakesUp, Finds}
+use Rattle.snoop_engine.specs.Round.{IsFit, IsIdle}
 
 module _ {s : Situation} {lanes : List Todo} {turns : List ℕ} (fit : IsFit s lanes turns) where
   -- the first turn may come last
@@ -43,28 +42,3 @@ module _ {s : Situation} {lanes : List Todo} {turns : List ℕ} (fit : IsFit s l
       none_left : (turns : List ℕ) → slice_get turns 0 ≡ None → (core : ℕ) → Contains turns core → ⊥
       none_left [] h core there = let lt = there.1 in absurd (omega arith)
       none_left (x ∷ xs) h core there = cc
-
-module _ {start loop : Progress} (so_far : IsUnasked start loop) where
-  -- a turn without a step asks nothing
-  pub still_unasked : (core : ℕ) (mid new : Progress) → mid.situation ≡ loop.situation → ((k : ℕ) → k ≢ core → todo_of mid.lanes k ≡ todo_of loop.lanes k)
-      → ((todo_of loop.lanes core).left ≡ []) × IsIdle (todo_of mid.lanes core) → new.situation ≡ mid.situation → new.lanes ≡ mid.lanes → IsUnasked start new
-  still_unasked core mid new same others idle same_too lanes = record {
-    situation = same_too ∙ (same ∙ so_far.situation);
-    left = λ k. rw lanes (elim (cases_eq k core) [
-      | inl e ↦ rw (e, idle.1.0) (sym idle.0 ∙ so_far.left core)
-      | inr ne ↦ rw (others k ne) (so_far.left k)
-    ]);
-  }
-
-  -- a turn with a step finds it
-  pub found_on : (mid passed : Progress) (step : Step) → mid.situation ≡ loop.situation → TakesUp loop.lanes step mid.lanes → IsUnderWay (lanes_under_way mid.lanes) step → IsEnabled mid.situation step
-      → passed.situation ≡ mid.situation → passed.lanes ≡ mid.lanes → Finds start step passed
-  found_on mid passed step same takes its enabled same_too lanes = record {
-    situation = same_too ∙ (same ∙ so_far.situation);
-    takes_up = rw lanes (λ core. sym (so_far.left core) ∙ takes core);
-    under_way = rw lanes its;
-    enabled = rw same_too enabled;
-  }
-
-  pub done_now : ((core : ℕ) → (todo_of loop.lanes core).left ≡ []) × IsQuiet loop.situation → IsAtTheEnd start [] [] start.situation
-  done_now done = record { run = refl; taken = All-nil IsOk; asked = λ core. sym (so_far.left core) ∙ done.0 core; quiet = rw so_far.situation at done.1; few = omega arith }

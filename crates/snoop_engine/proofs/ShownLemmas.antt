@@ -1,5 +1,5 @@
 -- The frames that a view was shown: what was written of them, or stands in the chunk.
-use Rattle.std.proofs.Common.{◌≡◌, ℕ, ◌+◌, List, [], ◌∷◌, ◌++◌, length, length-append, Option, refl, sym, ap, ◌∙◌, append_assoc, append-nil, arith, Result, Ok, Err, subst}
+use Rattle.std.proofs.Common.{◌≡◌, ℕ, ◌+◌, List, [], ◌∷◌, ◌++◌, length, length-append, Option, refl, sym, ap, ◌∙◌, append_assoc, append-nil, arith, Result, Ok, Err, IsErrAnd, subst}
 use Rattle.snoop_engine.proofs.Common.{Appends, Extent, AppendsFront, Gathers, Spills, Step, Protocol, WriteFault, gathers_cut, gathers_done, gathers_more, gathers_spilled, gathers_stop}
 use Rattle.snoop_engine.proofs.Common.{appends_none_of, Reply, Refused, Situation, reset, GoesFirst, RunsGoOn, TheRun}
 use Rattle.snoop_trace.specs.declared.fault.WriteFault.TheVariants as write
@@ -24,6 +24,14 @@ pub shown_on : (shows : List Frame → Frame → List ℕ) (before first rest : 
 shown_on shows before [] rest = rw (append-nil before)
 shown_on shows before (f ∷ fs) rest = rw (shown_on shows (before ++ f ∷ []) fs rest) (simp append_assoc)
 
+-- what is shown of frames that are a run
+module _ {protocol : Protocol} {shape : Extent} {text : List Frame → Situation → List ℕ} {steps : List Step} {frames : List Frame} {final : Situation} (are : AreFrames protocol shape steps frames final) {a b : Option (List ℕ)} where
+  shows_run : Appends a b (text frames final) → ShowsRun protocol shape text steps a b
+  shows_run output = record { frames = frames; final = final; run = are; taken = are_the_run protocol shape steps frames final are; rows = lines_fit protocol shape frames final are.run; output = output }
+
+  begins_to_show : AppendsFront a b (text frames final) → BeginsToShow protocol shape text steps a b
+  begins_to_show output = record { frames = frames; final = final; run = are; taken = are_the_run protocol shape steps frames final are; rows = lines_fit protocol shape frames final are.run; output = output }
+
 module _ (protocol : Protocol) (shape : Extent) (heading : List ℕ) (shows : List Frame → Frame → List ℕ) (ending : List Frame → Situation → List ℕ) where
   -- some frames were shown, and the run goes on
   begins_on : RunsGoOn → (steps left : List Step) (outcomes : List (Result Reply Refused)) (frames : List Frame) (to : Situation) (a b : Option (List ℕ))
@@ -37,14 +45,7 @@ module _ (protocol : Protocol) (shape : Extent) (heading : List ℕ) (shows : Li
         whole = rw (steps_of_on frames more.0, are.whole, more.1.0);
         run = frames_on frames more.0 (reset protocol shape) to further.1.0 are.run more.1.1;
       } in
-      record {
-        frames = frames ++ more.0;
-        final = further.1.0;
-        run = all;
-        taken = are_the_run protocol shape (steps ++ left) (frames ++ more.0) further.1.0 all;
-        rows = lines_fit protocol shape (frames ++ more.0) further.1.0 all.run;
-        output = simp (shown_on shows [] frames more.0, append_assoc) (simp append_assoc at (cut (shown shows frames more.0 ++ ending (frames ++ more.0) further.1.0)));
-      }
+      begins_to_show all (simp (shown_on shows [] frames more.0, append_assoc) (simp append_assoc at (cut (shown shows frames more.0 ++ ending (frames ++ more.0) further.1.0))))
 
   -- nothing was written
   pub begins_nothing : (steps : List Step) → RunsGoOn → (a : Option (List ℕ)) → BeginsToShow protocol shape (view_text heading shows ending) steps a a
@@ -114,18 +115,12 @@ module _ {protocol : Protocol} {shape : Extent} {heading : Protocol → Extent �
         are = record { whole = steps_of_on far.frames (frame ∷ []) ∙ ap (λ (l : List Step). l ++ what.step ∷ []) far.are.whole; run = run };
         has_seen = one.0;
         lines = simp (shown_on (shows protocol shape) [] far.frames (frame ∷ []), append-nil, ← append_assoc)
-            (gathers_more a b chunk grown (heading protocol shape ++ shown (shows protocol shape) [] far.frames) (shows protocol shape far.frames frame) far.lines one.1);
+            (gathers_more a b chunk grown _ _ far.lines one.1);
       }
 
   pub showing_spilled : (c : Option (List ℕ)) (left : List ℕ) → Spills b chunk c left → Showing protocol shape heading shows seen first now number to a c left
-  showing_spilled c left spills = record {
-    along = far.along;
-    frames = far.frames;
-    counted = far.counted;
-    are = far.are;
-    has_seen = far.has_seen;
-    lines = gathers_spilled a b c chunk left (heading protocol shape ++ shown (shows protocol shape) [] far.frames) far.lines spills;
-  }
+  showing_spilled c left spills =
+      record { along = far.along; frames = far.frames; counted = far.counted; are = far.are; has_seen = far.has_seen; lines = gathers_spilled a b c chunk left _ far.lines spills }
 
   module _ (ending : Protocol → Extent → List Frame → Situation → List ℕ) where
     abbrev text : List Frame → Situation → List ℕ
@@ -141,11 +136,11 @@ module _ {protocol : Protocol} {shape : Extent} {heading : Protocol → Extent �
 
     -- a stop before a write
     pub showing_stop : RunsGoOn → LeadsToEndWith first (λ steps _ _. BeginsToShow protocol shape text steps a b)
-    showing_stop go_on = stopped go_on b (λ rest. gathers_stop a b chunk (heading protocol shape ++ shown (shows protocol shape) [] far.frames) rest far.lines)
+    showing_stop go_on = stopped go_on b (λ rest. gathers_stop a b chunk _ rest far.lines)
 
     -- a stop in a write of the chunk
     pub showing_cut : RunsGoOn → (c : Option (List ℕ)) → AppendsFront b c chunk → LeadsToEndWith first (λ steps _ _. BeginsToShow protocol shape text steps a c)
-    showing_cut go_on c cut = stopped go_on c (λ rest. gathers_cut a b c chunk (heading protocol shape ++ shown (shows protocol shape) [] far.frames) rest far.lines cut)
+    showing_cut go_on c cut = stopped go_on c (λ rest. gathers_cut a b c chunk _ rest far.lines cut)
 
     -- what the view does at the end
     abbrev pub Ends : List ℕ → Protocol → Extent → Type 0
@@ -156,31 +151,17 @@ module _ {protocol : Protocol} {shape : Extent} {heading : Protocol → Extent �
       all_lines =
           let keeps = frames_keep far.frames (reset protocol shape) to far.are.run in
           let here : Ends grown protocol shape = subst (λ (p : Protocol). Ends grown p shape) keeps.0 (subst (λ (s : Extent). Ends grown to.protocol s) keeps.1 ends) in
-          gathers_more a b chunk grown (heading protocol shape ++ shown (shows protocol shape) [] far.frames) (ending protocol shape far.frames to) far.lines (here far.frames far.has_seen far.are.run)
+          gathers_more a b chunk grown _ _ far.lines (here far.frames far.has_seen far.are.run)
 
       -- all was written
       pub showing_done : (c : Option (List ℕ)) → Appends b c grown → LeadsToEndWith first (λ steps _ _. ShowsRun protocol shape text steps a c)
       showing_done c all =
-          ends_here far.along (λ steps _ _. ShowsRun protocol shape text steps a c) final over (record {
-            frames = far.frames;
-            final = to;
-            run = far.are;
-            taken = are_the_run protocol shape far.along.steps far.frames to far.are;
-            rows = lines_fit protocol shape far.frames to far.are.run;
-            output = gathers_done a b c grown (text far.frames to) all_lines all;
-          })
+          ends_here far.along (λ steps _ _. ShowsRun protocol shape text steps a c) final over (shows_run far.are (gathers_done a b c grown (text far.frames to) all_lines all))
 
       -- the last write was cut
       pub showing_cut_at_end : (c : Option (List ℕ)) → AppendsFront b c grown → LeadsToEndWith first (λ steps _ _. BeginsToShow protocol shape text steps a c)
       showing_cut_at_end c cut =
-          ends_here far.along (λ steps _ _. BeginsToShow protocol shape text steps a c) final over (record {
-            frames = far.frames;
-            final = to;
-            run = far.are;
-            taken = are_the_run protocol shape far.along.steps far.frames to far.are;
-            rows = lines_fit protocol shape far.frames to far.are.run;
-            output = rw append-nil at (gathers_cut a b c grown (text far.frames to) [] all_lines cut);
-          })
+          ends_here far.along (λ steps _ _. BeginsToShow protocol shape text steps a c) final over (begins_to_show far.are (rw append-nil at (gathers_cut a b c grown (text far.frames to) [] all_lines cut)))
 
 -- a failed write, or out of memory, after the whole text was read
 pub simulates_view_front : (protocol : Protocol) (shape : Extent) (input : Input) (text : List Frame → Situation → List ℕ) (bytes : Option (List ℕ)) (steps : List Step) (fault : WriteFault) (result : Result (Unit {0}) SimFault) (old new : Option (List ℕ))
@@ -188,14 +169,20 @@ pub simulates_view_front : (protocol : Protocol) (shape : Extent) (input : Input
 simulates_view_front protocol shape input text bytes steps write.Write result old new e gives begins = rw e (steps, (gives, begins))
 simulates_view_front protocol shape input text bytes steps write.NoMemory result old new e gives begins = rw e (steps, (gives, begins))
 
+-- the same, by what is known of the fault
+pub view_faulted : {protocol : Protocol} {shape : Extent} {text : List Frame → Situation → List ℕ} {steps : List Step} {old new : Option (List ℕ)} (input : Input) (bytes : Option (List ℕ)) (result : Result (Unit {0}) SimFault) (fault : WriteFault)
+    → IsErrAnd result (λ made. made ≡ fault_of_write fault) → GivesSteps protocol shape input bytes steps → BeginsToShow protocol shape text steps old new → SimulatesView protocol shape input text bytes result old new
+view_faulted input bytes (Err made) fault is gives begins = simulates_view_front _ _ _ _ _ _ fault _ _ _ (ap (λ (f : SimFault). Err f) is) gives begins
+view_faulted input bytes (Ok u) fault is gives begins = absurd is
+
 -- another definition of the same text
 module _ (protocol : Protocol) (shape : Extent) (one other : List Frame → Situation → List ℕ)
     (same : (steps : List Step) (frames : List Frame) (final : Situation) → AreFrames protocol shape steps frames final → one frames final ≡ other frames final) where
   same_shown : (steps : List Step) (a b : Option (List ℕ)) → ShowsRun protocol shape one steps a b → ShowsRun protocol shape other steps a b
-  same_shown steps a b h = record { frames = h.frames; final = h.final; run = h.run; taken = h.taken; rows = h.rows; output = rw (same steps h.frames h.final h.run) at h.output }
+  same_shown steps a b h = shows_run h.run (rw (same steps h.frames h.final h.run) at h.output)
 
   pub same_begun : (steps : List Step) (a b : Option (List ℕ)) → BeginsToShow protocol shape one steps a b → BeginsToShow protocol shape other steps a b
-  same_begun steps a b h = record { frames = h.frames; final = h.final; run = h.run; taken = h.taken; rows = h.rows; output = rw (same steps h.frames h.final h.run) at h.output }
+  same_begun steps a b h = begins_to_show h.run (rw (same steps h.frames h.final h.run) at h.output)
 
   pub same_view : (input : Input) (bytes : Option (List ℕ)) (result : Result (Unit {0}) SimFault) (a b : Option (List ℕ))
       → SimulatesView protocol shape input one bytes result a b → SimulatesView protocol shape input other bytes result a b

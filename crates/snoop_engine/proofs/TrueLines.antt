@@ -1,7 +1,7 @@
 -- Each line of the frames of a run fits its step.
-use Rattle.std.proofs.Common.{◌≡◌, ◌⊎◌, ℕ, ◌<◌, ◌+◌, Bool, true, false, zero, suc, List, [], ◌∷◌, length, Option, Some, None, refl, sym, ap, ◌∙◌, inl, inr, arith, ◌≢◌, ◌&&◌, ◌||◌, All, IsSomeAnd, MatchBool, Result, Ok, Err, nat_lt, not, if◌then◌else◌, flat_map, subst}
+use Rattle.std.proofs.Common.{◌≡◌, ◌⊎◌, ℕ, ◌<◌, ◌+◌, Bool, true, false, zero, suc, List, [], ◌∷◌, length, Option, Some, None, refl, sym, ap, ◌∙◌, inl, inr, arith, ◌≢◌, ◌||◌, All, IsSomeAnd, MatchBool, Result, Ok, Err, not, if◌then◌else◌, flat_map, subst}
 use Rattle.snoop_engine.proofs.Common.{range_with_len, option_map_or, All-append, All-cons, All-nil, Extent, Protocol, Msi, Mesi, Op, Step, Ask, Order, Respond, CacheCell, CacheEvent}
-use Rattle.snoop_engine.proofs.Common.{CacheState, I, MemEvent, MemState, Request, PutM, arrival, arrival_at_memory, asked, at_memory, seen_by, takes_payload, Did, Item, Open, Reply}
+use Rattle.snoop_engine.proofs.Common.{CacheState, I, MemEvent, Request, PutM, arrival, arrival_at_memory, asked, at_memory, seen_by, takes_payload, Did, Item, Open, Reply}
 use Rattle.snoop_engine.proofs.Common.{Refused, BusTaken, Line, Picture, held_at, held_by, nothing_held, Situation, picture_of, reset, state_of, ConsultsCache, ConsultsMemory, ArrivesFor}
 use Rattle.snoop_engine.proofs.Common.{FillsRequestor, IsAbsent, Asks, IsWithin, Orders, Responds, TakesFirst, GoesFirst, Invariant}
 use denote.Enum.Bare.{same_true, sameb}
@@ -24,7 +24,7 @@ use Rattle.snoop_model.proofs.OneBlock.AfterMoves.{ask_line, order_here, respond
 use Rattle.snoop_model.proofs.Queues.Moves.{keeps_well, starts_well}
 use Rattle.snoop_model.proofs.Runs.GoOn.{IsSteady, steady_on}
 use Rattle.snoop_engine.specs.Frames.{Frame, FramesFrom}
-use Rattle.snoop_engine.specs.Taken.{event_asked, lines_of_step, of_arrival, of_arrival_at_memory, of_ask, of_holder, of_memory, of_request, of_requestor, of_respond, of_waiting_memory, memory_at, refused_by, state_at, unless_i}
+use Rattle.snoop_engine.specs.Taken.{event_asked, lines_of_step, of_arrival, of_arrival_at_memory, of_ask, of_holder, of_memory, of_request, of_requestor, of_respond, of_waiting_memory, refused_by, unless_i}
 use Rattle.snoop_engine.specs.TrueLines.{FitsStep, HasAllLines, ShowsRows, HasTakenRows}
 use Rattle.snoop_engine.proofs.AllLines.{asker_listed, cores_listed, memory_rows_listed}
 use Rattle.snoop_engine.specs.declared.taken.Taken.{Taken}
@@ -69,14 +69,6 @@ all_if : {A : Type 0} (P : Taken → Type 0) (b : Bool) (v : A) (f : A → List 
 all_if P true v f h = h
 all_if P false v f h = All-nil P
 
-all_at : (P : Taken → Type 0) (s : Situation) (core block : ℕ) (f : CacheState → List Taken) → All P (f (state_of s core block))
-    → All P (option_map_or f (state_at s core block) [])
-all_at P s core block f h = all_if P (nat_lt core s.shape.cores && nat_lt block s.shape.blocks) (state_of s core block) f h
-
-all_at_memory : (P : Taken → Type 0) (s : Situation) (block : ℕ) (f : MemState → List Taken) → All P (f (picture_of s block).memory.state)
-    → All P (option_map_or f (memory_at s block) [])
-all_at_memory P s block f h = all_if P (nat_lt block s.shape.blocks) (picture_of s block).memory.state f h
-
 all_one : (P : Taken → Type 0) (line : Taken) → P line → All P (line ∷ [])
 all_one P line h = All-cons P line [] h (All-nil P)
 
@@ -101,7 +93,7 @@ module _ (old new : Situation) (step : Step) (outcome : Result Reply Refused) wh
   asker_fits : (core block : ℕ) (asking : Op) (event : Option CacheEvent) → event_asked asking (state_of old core block) ≡ event
       → FitsStep here (Core core block event (state_of old core block)) → All (FitsStep here) (of_ask old core block asking)
   asker_fits core block asking event is line =
-      all_at (FitsStep here) old core block (λ before. Core core block (event_asked asking before) before ∷ []) (all_one (FitsStep here) _ (rw is line))
+      all_if (FitsStep here) _ _ (λ before. Core core block (event_asked asking before) before ∷ []) (all_one (FitsStep here) _ (rw is line))
 
   -- a line of no controller
   nobody_fits : (core block : Option ℕ) → All (FitsStep here) (Nobody core block ∷ [])
@@ -127,8 +119,7 @@ module _ (old new : Situation) (step : Step) (outcome : Result Reply Refused) wh
         → MemoryCell old.protocol (picture_of old block).memory.state event act (picture_of new block).memory.state
         → ConsultsMemory old step block (Some event) → All (FitsStep here) (of_memory old block event)
     memory_fits event act row looks =
-        all_at_memory (FitsStep here) old block (λ before. Memory block event before ∷ [])
-        (all_one (FitsStep here) (Memory block event (picture_of old block).memory.state) (record { first = first; looks = looks; held = refl; action = act; row = row }))
+        all_if (FitsStep here) _ _ (λ before. Memory block event before ∷ []) (all_one (FitsStep here) _ (record { first = first; looks = looks; held = refl; action = act; row = row }))
 
     -- the lines of a move
     ask_fits : (core word : ℕ) (asking : Op) (answer : Reply) (entry : Option Item) → Invariant old → IsWithin old core block
@@ -152,7 +143,7 @@ module _ (old new : Situation) (step : Step) (outcome : Result Reply Refused) wh
         let holder : (k : ℕ) → k < 0 + old.shape.cores → All (FitsStep here) (of_holder old core block request k) = λ k k_in.
         (let row = o.taken.rows k (omega arith) in
         let is : state_of new k block ≡ row.0.next = ap (λ (p : Picture). (held_by p k).state) now ∙ ap (λ (l : Line). l.state) row.2 in
-        all_at (FitsStep here) old k block (λ before. unless_i before (Core k block (Some (seen_by k core request)) before))
+        all_if (FitsStep here) _ _ (λ before. unless_i before (Core k block (Some (seen_by k core request)) before))
         (all_unless_i (FitsStep here) (state_of old k block) _ (row_fits k (seen_by k core request) row.0.action row.0.next row.1 is (looks k)))) in
         let done : (picture_of new block).memory.state ≡ o.memory.0.next = ap (λ (p : Picture). p.memory.state) now ∙ o.memory.2 in
         All-append (FitsStep here) (flat_map (of_holder old core block request) (range_with_len 0 old.shape.cores)) (of_memory old block (at_memory request))
@@ -167,10 +158,9 @@ module _ (old new : Situation) (step : Step) (outcome : Result Reply Refused) wh
     filled_fits closing did next within now f looks =
         let is : state_of new closing.core block ≡ f.fills.row.next =
         ap (λ (p : Picture). (held_by p closing.core).state) now
-        ∙ (ap (λ (l : List Line). (held_at l closing.core).state) f.held
-        ∙ (ap (λ (l : Line). l.state) (get_or-set_same (picture_of old block).caches closing.core f.line nothing_held within) ∙ ap (λ (l : Line). l.state) f.fills.held)) in
+        ∙ ap (λ (l : Line). l.state) (ap (λ (l : List Line). held_at l closing.core) f.held ∙ get_or-set_same (picture_of old block).caches closing.core f.line nothing_held within ∙ f.fills.held) in
         rw f.fills.arrives
-        (all_at (FitsStep here) old closing.core block (λ before. Core closing.core block (Some f.fills.event) before ∷ [])
+        (all_if (FitsStep here) _ _ (λ before. Core closing.core block (Some f.fills.event) before ∷ [])
         (all_one (FitsStep here) _ (row_fits closing.core f.fills.event f.fills.row.action f.fills.row.next f.fills.is_row is (looks f.fills.event (sym f.fills.arrives)))))
 
     requestor_fits : (request : Request) (closing : Open) (did : Option Did) (next : Picture) → closing.core < length (picture_of old block).caches
@@ -199,7 +189,7 @@ module _ (old new : Situation) (step : Step) (outcome : Result Reply Refused) wh
         let settled : Settles old.protocol closing.request closing.payload (picture_of old block).memory.state r.memory.act (picture_of new block).memory.state = subst (λ (p : Picture). Settles old.protocol closing.request closing.payload (picture_of old block).memory.state r.memory.act p.memory.state) (sym now) r.memory.settled in
         All-append (FitsStep here) (of_requestor closing.request old block closing) (of_waiting_memory old block closing)
         (requestor_fits closing.request closing did r.next (omega arith) now r.requestor looks)
-        (all_at_memory (FitsStep here) old block (λ before. if takes_payload closing.request before then of_arrival_at_memory old block (arrival_at_memory closing.payload) else [])
+        (all_if (FitsStep here) _ _ (λ before. if takes_payload closing.request before then of_arrival_at_memory old block (arrival_at_memory closing.payload) else [])
         (settled_fits (takes_payload closing.request (picture_of old block).memory.state) (arrival_at_memory closing.payload) r.memory.act settled memory_looks))
 
 -- an Ask that is an event is looked up
@@ -214,7 +204,7 @@ module _ (old new : Situation) where
       asked_fits old new (Ask core block word asking) (Err (Stalled held)) block tt core asking action.Stall next refuses.2.1
       (rw same (sym (stall_stays old.protocol (state_of old core block) (asked asking) next refuses.2.1))) (asker_looks old core block word asking)
   refused_fits (Order core) (BusTaken block) refuses same =
-      all_at (FitsStep (here old new (Order core) (Err (BusTaken block)))) old core block (λ before. Core core block None before ∷ [])
+      all_if (FitsStep (here old new (Order core) (Err (BusTaken block)))) _ _ (λ before. Core core block None before ∷ [])
       (all_one (FitsStep (here old new (Order core) (Err (BusTaken block)))) _ (idle_fits old new (Order core) (Err (BusTaken block)) core block same))
   refused_fits (Order core) NothingWaiting refuses same = nobody_fits old new (Order core) (Err NothingWaiting) (Some core) None
   refused_fits (Respond block) NoTransaction refuses same = nobody_fits old new (Respond block) (Err NoTransaction) None (Some block)
@@ -249,8 +239,7 @@ step_whole old new (Ask asker on word asking) (Err (Stalled state)) steady goes 
   cores = λ core block event first looks held. asker_listed old asker on word asking steady.0 goes.0.0 core block event looks;
   memory = λ block event first looks. absurd looks;
 }
-step_whole old new (Order core) (Err (Stalled state)) steady goes takes = absurd goes.0
-step_whole old new (Respond block) (Err (Stalled state)) steady goes takes = absurd goes.0
+step_whole old new _ (Err (Stalled state)) steady goes takes = absurd goes.0
 step_whole old new step (Err cause) steady goes takes = absurd takes
 
 -- the frames of a run from a steady machine

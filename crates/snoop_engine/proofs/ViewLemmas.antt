@@ -1,5 +1,5 @@
 -- What is shown of frames: of each by its number, or nothing before the end.
-use Rattle.std.proofs.Common.{◌≡◌, ℕ, ◌+◌, List, [], ◌∷◌, ◌++◌, length, refl, ap, ◌∙◌, arith, flat_map}
+use Rattle.std.proofs.Common.{◌≡◌, ℕ, ◌+◌, List, [], ◌∷◌, ◌++◌, length, refl, ap, arith, flat_map}
 use Rattle.snoop_engine.proofs.Common.{length_push, Situation}
 use Rattle.snoop_engine.specs.Frames.{Frame}
 use Rattle.snoop_engine.specs.Numbered.{Numbered, numbered_from}
@@ -11,8 +11,7 @@ pub shown_numbered : (shows : ℕ → Frame → List ℕ) (before frames : List 
 shown_numbered shows before [] = refl
 shown_numbered shows before (frame ∷ frames) =
     let next : 1 + length (before ++ frame ∷ []) ≡ 1 + length before + 1 = omega (arith, length_push before frame) in
-    ap (λ (t : List ℕ). shows (1 + length before) frame ++ t)
-    (shown_numbered shows (before ++ frame ∷ []) frames ∙ ap (λ (k : ℕ). flat_map (λ (n : Numbered). shows n.number n.frame) (numbered_from k frames)) next)
+    rw (shown_numbered shows (before ++ frame ∷ []) frames, next)
 
 -- nothing is shown
 pub nothing_shown : (before frames : List Frame) → shown (λ (fs : List Frame) (f : Frame). []) before frames ≡ []

@@ -6,5 +6,4 @@ use Rattle.snoop_engine.proofs.counts_text.push_cache_rows.Goals as goal
 
 pub loop-event-preserved : goal.loop-event-preserved
 loop-event-preserved c =
-    piece_more (cache_count_at c.args.protocol (counts_in c.args.tally.now.counters) c.args.state) cache_events c.loop-event.event-index Load c.args.out.now.items c.loop-event.out.items c.push_cache_row.new.out.items
-    c.loop-event-test.true c.loop-event.invariant c.in_ok-push_cache_row.ensures
+    piece_more (cache_count_at c.args.protocol (counts_in c.args.tally.now.counters) c.args.state) cache_events c.loop-event.event-index Load _ _ _ c.loop-event-test.true c.loop-event.invariant c.in_ok-push_cache_row.ensures

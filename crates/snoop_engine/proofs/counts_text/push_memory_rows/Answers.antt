@@ -6,5 +6,4 @@ use Rattle.snoop_engine.proofs.counts_text.push_memory_rows.Goals as goal
 
 pub loop-event-preserved : goal.loop-event-preserved
 loop-event-preserved c =
-    piece_more (memory_count_at c.args.protocol (memory_counts_in c.args.tally.now.counters) c.args.state) memory_events c.loop-event.event-index GetS c.args.out.now.items c.loop-event.out.items c.push_memory_row.new.out.items
-    c.loop-event-test.true c.loop-event.invariant c.in_ok-push_memory_row.ensures
+    piece_more (memory_count_at c.args.protocol (memory_counts_in c.args.tally.now.counters) c.args.state) memory_events c.loop-event.event-index GetS _ _ _ c.loop-event-test.true c.loop-event.invariant c.in_ok-push_memory_row.ensures

@@ -1,5 +1,5 @@
 use Rattle.std.proofs.Common.{[], ◌∷◌, ◌++◌}
-use Rattle.snoop_engine.proofs.CourseLemmas.{leads_all, leads_more}
+use Rattle.snoop_engine.proofs.CourseLemmas.{leads_more}
 use Rattle.snoop_engine.proofs.gather.gather.Goals as goal
 
 pub loop-step-preserved : goal.loop-step-preserved
@@ -7,11 +7,4 @@ loop-step-preserved g c =
     let found = rw c.in-Some.is at c.find.ensures.found in (
       c.loop-step.invariant.0 ++ c.in_ok-take.field-0 ∷ [],
       rw c.in_ok-add.ensures (leads_more (g.C.Course.leads c.args.course.now) (g.C.Course.leads c.loop-step.course) (g.C.Course.leads c.take.new.self) c.loop-step.steps.items c.loop-step.invariant.0 c.in-Some.step c.in_ok-take.field-0 c.loop-step.invariant.1 (c.in_ok-take.ensures.leads c.loop-step.course found)),
-    )
-
-pub returns : goal.returns
-returns g c =
-    let end = g.C.Course.situation c.loop-step.course in (
-      c.loop-step.invariant.0,
-      (end, leads_all (g.C.Course.leads c.args.course.now) (g.C.Course.leads c.loop-step.course) c.loop-step.steps.items c.loop-step.invariant.0 end c.loop-step.invariant.1 (rw c.in_default.is at c.find.ensures.end)),
     )

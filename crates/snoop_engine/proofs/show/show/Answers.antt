@@ -5,34 +5,20 @@ use Rattle.snoop_engine.proofs.show.show.Goals as goal
 
 pub returns-in_err-askers-clause-front : goal.returns-in_err-askers-clause-front
 returns-in_err-askers-clause-front g c =
-    let s = g.C.Course.situation c.args.course.now in
-    on_err c.from_residual.result _
-    (ends_with_nothing s.protocol s.shape _ _ _ _ c.runs_go_on.ensures (c.can_end.ensures s.protocol s.shape [] [] c.requires) (g.W.Write.contents c.args.writer.now))
+    on_err c.from_residual.result _ (ends_with_nothing _ _ _ _ _ _ c.runs_go_on.ensures (c.can_end.ensures _ _ [] [] c.requires) (g.W.Write.contents c.args.writer.now))
 
 pub returns-in_err-begin-clause-front : goal.returns-in_err-begin-clause-front
 returns-in_err-begin-clause-front g c =
-    let s = g.C.Course.situation c.args.course.now in
-    on_err c.from_residual-in_err-begin.result _
-    (ends_with_nothing s.protocol s.shape _ _ _ _ c.runs_go_on.ensures (c.can_end.ensures s.protocol s.shape [] [] c.requires) (g.W.Write.contents c.args.writer.now))
+    on_err c.from_residual-in_err-begin.result _ (ends_with_nothing _ _ _ _ _ _ c.runs_go_on.ensures (c.can_end.ensures _ _ [] [] c.requires) (g.W.Write.contents c.args.writer.now))
 
 pub loop-step-init : goal.loop-step-init
 loop-step-init g c =
     let s = g.C.Course.situation c.args.course.now in
     let blocks = rw (c.shape.ensures, c.machine.ensures) at c.blocks-2.ensures.value in (
-      showing_none s.protocol s.shape (g.V.View.heading c.args.view.now) (g.V.View.shows c.args.view.now) (λ p s frames. g.V.View.has_seen c.args.view.now p s frames c.begin.new.self) _ s _ _ _
-          c.requires (c.can_end.ensures s.protocol s.shape [] [] c.requires) (rw c.machine-2.ensures at c.in_ok-begin.ensures.begins) c.new-chunk.ensures.items (rw c.machine-2.ensures at c.in_ok-begin.ensures.text),
+      showing_none _ _ _ _ (λ p s frames. g.V.View.has_seen c.args.view.now p s frames c.begin.new.self) _ _ _ _ _ c.requires (c.can_end.ensures s.protocol s.shape [] [] c.requires) (rw c.machine-2.ensures at c.in_ok-begin.ensures.begins) c.new-chunk.ensures.items (rw c.machine-2.ensures at c.in_ok-begin.ensures.text),
       (λ none. none),
       rw c.requires (c.in_ok-askers.ensures s.protocol s.shape (sym blocks)),
     )
-
-pub take_step-requires-clause-found : goal.take_step-requires-clause-found
-take_step-requires-clause-found g c = (c.loop-step.course, c.in-Some.ensures.found)
-
-pub take_step-requires-clause-askers : goal.take_step-requires-clause-askers
-take_step-requires-clause-askers g c = rw c.in-Some.ensures.same c.loop-step.invariant.2
-
-pub take_step-requires-clause-head : goal.take_step-requires-clause-head
-take_step-requires-clause-head g c = rw c.machine-in-Some.ensures at c.head_for-head.ensures
 
 pub returns-in_err-number-clause-front : goal.returns-in_err-number-clause-front
 returns-in_err-number-clause-front g c = on_err c.from_residual-in_err-number.result _ (showing_stop c.loop-step.invariant.0 (g.V.View.ending c.args.view.now) c.runs_go_on.ensures)
@@ -45,12 +31,10 @@ returns-in_err-see-clause-front g c = on_err c.from_residual-in_err-see.result _
 
 pub loop-step-preserved : goal.loop-step-preserved
 loop-step-preserved g c =
-    let s = g.C.Course.situation c.args.course.now in
-    let head = rw (c.machine-in-Some.ensures, c.in-Some.ensures.same) at c.head_for-head.ensures in
     let far =
     showing_more c.loop-step.invariant.0 (λ p s frames. g.V.View.has_seen c.args.view.now p s frames c.see.new.self) _ _ _ _ c.in_ok-number.ensures (rw c.in-Some.ensures.same at c.in_ok-outcome.ensures.goes)
-    (c.deref.ensures.value ∙ (rw c.in-Some.ensures.same at c.in_ok-outcome.ensures.lines)) (c.block_of-block.ensures (g.C.Course.situation c.loop-step.course) head)
-    (c.in_ok-outcome.ensures.leads c.loop-step.course c.in-Some.ensures.found) (c.can_end-in-Some.ensures s.protocol s.shape) (rw c.machine-in-Some-2.ensures at (c.in_ok-see.ensures c.args.view.now)) in (
+    (c.deref.ensures.value ∙ (rw c.in-Some.ensures.same at c.in_ok-outcome.ensures.lines)) (c.block_of-block.ensures _ (rw (c.machine-in-Some.ensures, c.in-Some.ensures.same) at c.head_for-head.ensures))
+    (c.in_ok-outcome.ensures.leads c.loop-step.course c.in-Some.ensures.found) (c.can_end-in-Some.ensures _ _) (rw c.machine-in-Some-2.ensures at (c.in_ok-see.ensures c.args.view.now)) in (
       showing_spilled far _ _ c.in_ok-spill.ensures.ok,
       (λ none. (c.in_ok-spill.ensures.blamed (c.loop-step.invariant.1 none)).1 (λ failed. cc)),
       c.in_ok-outcome.ensures.askers,
@@ -58,12 +42,10 @@ loop-step-preserved g c =
 
 pub returns-in_err-spill-clause-front : goal.returns-in_err-spill-clause-front
 returns-in_err-spill-clause-front g c =
-    let s = g.C.Course.situation c.args.course.now in
-    let head = rw (c.machine-in-Some.ensures, c.in-Some.ensures.same) at c.head_for-head.ensures in
     let far =
     showing_more c.loop-step.invariant.0 (λ p s frames. g.V.View.has_seen c.args.view.now p s frames c.see.new.self) _ _ _ _ c.in_ok-number.ensures (rw c.in-Some.ensures.same at c.in_ok-outcome.ensures.goes)
-    (c.deref.ensures.value ∙ (rw c.in-Some.ensures.same at c.in_ok-outcome.ensures.lines)) (c.block_of-block.ensures (g.C.Course.situation c.loop-step.course) head)
-    (c.in_ok-outcome.ensures.leads c.loop-step.course c.in-Some.ensures.found) (c.can_end-in-Some.ensures s.protocol s.shape) (rw c.machine-in-Some-2.ensures at (c.in_ok-see.ensures c.args.view.now)) in
+    (c.deref.ensures.value ∙ (rw c.in-Some.ensures.same at c.in_ok-outcome.ensures.lines)) (c.block_of-block.ensures _ (rw (c.machine-in-Some.ensures, c.in-Some.ensures.same) at c.head_for-head.ensures))
+    (c.in_ok-outcome.ensures.leads c.loop-step.course c.in-Some.ensures.found) (c.can_end-in-Some.ensures _ _) (rw c.machine-in-Some-2.ensures at (c.in_ok-see.ensures c.args.view.now)) in
     on_err c.from_residual-in_err-spill.result _ (showing_cut far (g.V.View.ending c.args.view.now) c.runs_go_on.ensures _ c.in_err-spill.ensures.front)
 
 pub returns-in_err-end-clause-front : goal.returns-in_err-end-clause-front

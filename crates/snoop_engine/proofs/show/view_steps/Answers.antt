@@ -1,14 +1,6 @@
-use Rattle.std.proofs.Common.{inl, inr}
-use Rattle.snoop_engine.proofs.WrittenLemmas.{write_faulted}
+use Rattle.snoop_engine.specs.declared.input.Input.TheVariants.{Steps}
+use Rattle.snoop_engine.proofs.ShownLemmas.{view_faulted}
 use Rattle.snoop_engine.proofs.show.view_steps.Goals as goal
 
 pub returns-in_err-show_script-clause-does : goal.returns-in_err-show_script-clause-does
-returns-in_err-show_script-clause-does g c =
-    let begins = c.in_err-show_script.ensures.front in
-    elim (write_faulted c.in_err-show_script.field-0.0 _ c.from_residual-in_err-show_script.ensures.1) [
-      | inl e ↦ rw e (c.in_ok-script.script, (c.in_ok-script.ensures.read, begins))
-      | inr e ↦ rw e (c.in_ok-script.script, (c.in_ok-script.ensures.read, begins))
-    ]
-
-pub returns-clause-does : goal.returns-clause-does
-returns-clause-does g c = (c.in_ok-script.script, (c.in_ok-script.ensures.read, c.in_ok-show_script.ensures.ok))
+returns-in_err-show_script-clause-does g c = view_faulted Steps _ _ c.in_err-show_script.field-0.0 c.from_residual-in_err-show_script.ensures.1 c.in_ok-script.ensures.read c.in_err-show_script.ensures.front

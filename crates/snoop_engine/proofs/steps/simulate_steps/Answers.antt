@@ -9,6 +9,3 @@ returns-in_err-write_output-clause-does g c =
       | inl e ↦ rw e (c.in_ok-steps.steps, (c.in_ok-steps.ensures.read, begins))
       | inr e ↦ rw e (c.in_ok-steps.steps, (c.in_ok-steps.ensures.read, begins))
     ]
-
-pub returns-clause-does : goal.returns-clause-does
-returns-clause-does g c = (c.in_ok-steps.steps, (c.in_ok-steps.ensures.read, c.in_ok-write_output.ensures.ok))

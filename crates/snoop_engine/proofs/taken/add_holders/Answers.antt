@@ -1,12 +1,9 @@
-use Rattle.std.proofs.Common.{ℕ, List, sym, append-nil, arith}
+use Rattle.std.proofs.Common.{ℕ, List, arith}
 use Rattle.snoop_engine.specs.Taken.{of_holder}
 use Rattle.snoop_engine.specs.declared.taken.Taken.{Taken}
 use Rattle.snoop_engine.proofs.AskerLemmas.{no_line_in_i, no_line_past}
 use Rattle.snoop_engine.proofs.RangeLemmas.{range_piece, range_same, range_stops}
 use Rattle.snoop_engine.proofs.taken.add_holders.Goals as goal
-
-pub loop-core-init : goal.loop-core-init
-loop-core-init c = (sym (append-nil c.args.lines.now.items), c.of-cores.ensures c.args.machine.now.situation c.requires, omega arith)
 
 pub loop-core-preserved : goal.loop-core-preserved
 loop-core-preserved c =
@@ -28,6 +25,3 @@ returns-clause-lines c =
     (λ k up. no_line_in_i s c.args.requestor c.args.block c.args.request k (c.loop-core.invariant.1 k (none k up)))
     (λ k up. no_line_past s c.args.requestor c.args.block c.args.request k up) in
     rw (← same) c.loop-core.invariant.0
-
-pub returns-clause-askers : goal.returns-clause-askers
-returns-clause-askers c = c.leave.ensures c.args.machine.now.situation c.requires c.loop-core.invariant.1

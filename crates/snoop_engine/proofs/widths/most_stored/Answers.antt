@@ -1,6 +1,5 @@
-use Rattle.std.proofs.Common.{◌≡◌, ◌++◌, ◌∷◌, [], List, max, sym, ap, ◌∙◌, take, arith}
+use Rattle.std.proofs.Common.{◌≡◌, ◌++◌, ◌∷◌, [], List, max, sym, take, arith}
 use Rattle.snoop_engine.proofs.Common.{take_more, Step, Ask}
-use Rattle.std.proofs.lemmas.List.{take_all}
 use Rattle.snoop_trace.specs.declared.step.Op.TheVariants.{Load}
 use Rattle.snoop_engine.specs.Widths.{most_stored, stored}
 use Rattle.snoop_engine.proofs.widths.most_stored.Goals as goal
@@ -14,6 +13,3 @@ pub loop-step-preserved : goal.loop-step-preserved
 loop-step-preserved c =
     let i = c.loop-step.step-index in
     rw (c.larger-most.ensures, c.loop-step.invariant, c.stored.ensures, take_more c.args.steps.now i (Ask 0 0 0 Load) c.loop-step-test.true) (sym (most_more (take i c.args.steps.now) _))
-
-pub returns : goal.returns
-returns c = c.loop-step.invariant ∙ ap most_stored (take_all c.loop-step.step-index c.args.steps.now c.loop-step-test.false)

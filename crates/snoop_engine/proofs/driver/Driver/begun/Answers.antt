@@ -1,13 +1,6 @@
 use Rattle.std.proofs.Common.{sym, ◌∙◌}
-use Rattle.snoop_engine.proofs.Driving.{first_in, fit_begins, fit_idles, goes_begun, lane_put, lane_read, takes_first}
+use Rattle.snoop_engine.proofs.Driving.{first_in, fit_begins, fit_idles, goes_begun, lane_read, takes_first}
 use Rattle.snoop_engine.proofs.driver.Driver.begun.Goals as goal
-
-pub returns-in_err-work-clause-idle : goal.returns-in_err-work-clause-idle
-returns-in_err-work-clause-idle c =
-    let core = rw (← c.self.view_is) at c.requires.core in
-    let lane = lane_read c.self.invariant c.args.core core _ c.index_mut.ensures.value in
-    rw (c.from_residual.ensures, ← c.self.view_is, lane, lane_put c.self.invariant c.args.core core c.take_up.new.self)
-    (c.in_err-work.ensures.done, (sym c.in_err-work.ensures.left ∙ c.in_err-work.ensures.done, c.in_err-work.ensures.work))
 
 pub turn_step-requires-clause-block : goal.turn_step-requires-clause-block
 turn_step-requires-clause-block c =

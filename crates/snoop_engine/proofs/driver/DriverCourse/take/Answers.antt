@@ -4,9 +4,6 @@ use Rattle.snoop_engine.proofs.CourseLemmas.{driver_follows, driver_leads}
 use Rattle.snoop_engine.proofs.Driving.{fit_moves}
 use Rattle.snoop_engine.proofs.driver.DriverCourse.take.Goals as goal
 
-pub take_enabled-requires : goal.take_enabled-requires
-take_enabled-requires c = rw (← c.self.view_is) at c.requires.1.enabled
-
 pub invariant_of-self-2 : goal.invariant_of-self-2
 invariant_of-self-2 c =
     let move = c.in_ok-reply.ensures.taken in

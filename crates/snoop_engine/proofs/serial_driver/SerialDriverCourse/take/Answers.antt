@@ -4,9 +4,6 @@ use Rattle.snoop_engine.proofs.CourseLemmas.{fewer_in_order, in_order_follows, i
 use Rattle.snoop_engine.proofs.InOrderLemmas.{in_order_moves}
 use Rattle.snoop_engine.proofs.serial_driver.SerialDriverCourse.take.Goals as goal
 
-pub take_enabled-requires : goal.take_enabled-requires
-take_enabled-requires c = rw (← c.self.view_is) at c.requires.1.enabled
-
 pub invariant_of-self-2 : goal.invariant_of-self-2
 invariant_of-self-2 c =
     let move = c.in_ok-reply.ensures.taken in
