@@ -65,5 +65,5 @@ pub record IsCoherentRun (protocol : Protocol) (shape : Extent) (steps : List St
   pub coherent : IsCoherent s
   -- each load and store whose Ask was taken stands once in the history, or waits
   pub once : Once steps outcomes s
-  -- the history is what the outcomes tell, step by step: a load's reply has the value that stands there
+  -- each step adds to the history what its outcome tells, and its reply is one that it may have: a load's has the value that stands there
   pub told : RunBy Tells [] steps outcomes s.log

@@ -41,8 +41,14 @@ goes_tells old (Ask core on word asking) (Ok answer) new g goes = elim goes.1.1.
 goes_tells old (Order core) (Ok answer) new g goes = rw goes.1.1.answered (goes.1.0, ap (λ (s : Situation). s.log) goes.1.1.orders.after)
 goes_tells old (Respond on) (Ok answer) new g goes =
     let m = goes.1.1 in
-    rw (m.answered, m.on_block, ← g.opened goes.1.0 m.closing m.responds.opened) (m.closing.core, (m.closing.request, ap (λ (s : Situation). s.log) m.responds.after,
-        elim (by_request m.closing.request m.responds.requestor) [ inl put ↦ rw put.2 tt | inr fills ↦ rw fills.logged (refl, refl) ]))
+    rw (m.answered, m.on_block, ← g.opened goes.1.0 m.closing m.responds.opened) (
+      m.closing.core,
+      (
+        m.closing.request,
+        ap (λ (s : Situation). s.log) m.responds.after,
+        elim (by_request m.closing.request m.responds.requestor) [ inl put ↦ rw put.2 tt | inr fills ↦ rw fills.logged (refl, refl, refl) ],
+      ),
+    )
 goes_tells old step (Err cause) new g goes = refusal_tells step cause (ap (λ (s : Situation). s.log) (refusal_same old step cause new goes))
 
 -- a run's history is what its outcomes tell

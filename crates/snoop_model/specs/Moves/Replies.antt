@@ -1,6 +1,6 @@
 -- What is replied to each step, and what that tells of the history.
 -- Source: this project's profile.
-use Rattle.std.specs.Prelude.{◌≡◌, ℕ, true, List, [], ◌∷◌, ◌++◌, Result, Ok, Err, IfSome}
+use Rattle.std.specs.Prelude.{◌≡◌, ℕ, true, false, List, [], ◌∷◌, ◌++◌, Result, Ok, Err, IfSome}
 use Rattle.snoop_trace.specs.declared.step.Op.TheVariants as op
 use Rattle.snoop_trace.specs.declared.step.Step.{Step}
 use Rattle.snoop_trace.specs.declared.step.Step.TheVariants.{Ask, Order, Respond}
@@ -13,7 +13,7 @@ use Rattle.snoop_model.specs.declared.replies.Reply.TheVariants.{Hit, StoreHit, 
 use Rattle.snoop_model.specs.Pictures.Proper.{request_for}
 use Rattle.snoop_model.specs.Moves.Move.{next_did}
 
--- what the outcome of a step tells of the history, and which replies it may have: a hit is the operation that was asked, with the value that a load replied; what is issued is the request that serves it; an Order adds its request, and a Respond its response, of this block and with an operation of the requestor on it, if any; all else adds nothing
+-- what the outcome of a step tells of the history, and which replies it may have: a hit is the operation that was asked, with the value that a load replied; what is issued is the request that serves it; an Order adds the request that was replied, of some block; a Respond adds the response that was replied, to some request for this block, with the operation, if any, of its requestor on the block; all else adds nothing
 abbrev pub Tells : List Item → Step → Result Reply Refused → List Item → Type 0
 Tells past (Ask core block word op.Load) (Ok (Hit value)) log = log ≡ past ++ item.Did (next_did past core block word op.Load value true) ∷ []
 Tells past (Ask core block word (op.Store value)) (Ok StoreHit) log = log ≡ past ++ item.Did (next_did past core block word (op.Store value) value true) ∷ []
@@ -23,6 +23,6 @@ Tells past (Ask core block word op.Evict) (Ok Absent) log = log ≡ past
 Tells past (Order core) (Ok (Ordered request)) log = (block : ℕ) × (log ≡ past ++ item.Sent (record { core = core; request = request; block = block }) ∷ [])
 Tells past (Respond block) (Ok (Came payload from did)) log =
     (core : ℕ) × ((request : Request) × (log ≡ past ++ item.Came (record { core = core; request = request; block = block; from = from; payload = payload }) did ∷ [])
-    × IfSome did (λ performed. (performed.core ≡ core) × (performed.block ≡ block)))
+    × IfSome did (λ performed. (performed.core ≡ core) × (performed.block ≡ block) × (performed.hit ≡ false)))
 Tells past step (Ok answer) log = ⊥
 Tells past step (Err cause) log = log ≡ past

@@ -14,7 +14,7 @@ use Rattle.snoop_model.specs.Runs.Run.{EveryRun}
 abbrev pub RowsAreFound : Type 0
 RowsAreFound = EveryRun (λ protocol shape steps outcomes s. (step : Step) → FindsRows s step)
 
--- the machine is coherent, no step meets an impossible cell, a line keeps words exactly in the states that may read, and its lists are as long as the shape says
+-- the machine is coherent, no step meets an impossible cell, a line keeps words exactly in the states that may read, and the machine's lists are as long as the shape says
 pub record IsSafe (s : Situation) : Type 0 where
   pub coherent : IsCoherent s
   pub finds_rows : (step : Step) → FindsRows s step
