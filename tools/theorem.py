@@ -60,23 +60,26 @@ HEAD = """# The theorem
 
 MSI and MESI are protocols for caches that share one bus with memory; MESI also has E, for a copy
 that is clean and the only one. Each cache has a controller, and so has memory, with a table: a
-**row** for what it may meet in a state. A pair without a row is an **impossible cell**.
+**row** for each event that it may meet in a state. A pair of state and event without a row is an
+**impossible cell**.
 
 A machine begins at **reset**, with empty caches and a memory of 0, and takes **steps** of three
 kinds. At an **Ask** a core asks its cache to load, to store or to give a block up. A load or store
-**hits** where the cache may do it at once. Where it misses, and where a copy has to be written
-back, the cache issues a request, which waits in the core's queue; with it waits the load or store.
-An **Order** puts a waiting request on the bus: all controllers see it, one of them sends a message,
-and the block has an open **transaction**, whose **requestor** is the core of the request. A
-**Respond** brings the message, with data or without, to the requestor, to memory or to both, and
-closes the transaction; a block has one at a time. A step is taken, with a reply, or refused, and
-changes nothing then: that is its **outcome**.
+**hits** where the cache may do it at once. Where it misses, and where a block in E or M is given
+up, the cache issues a request, which waits in the core's queue; a load or store waits until its
+data comes. While a request of the core for the block waits or is open, the cache may take no
+further operation on it: that is a stall. An **Order** puts a waiting request on the bus: all
+controllers see it, one of them sends a message, and the block has an open **transaction**, whose
+**requestor** is the core of the request. A **Respond** brings the message, with data or without, to
+the requestor, to memory or to both, and closes the transaction; a block has one at a time. A step
+is taken, with a reply, or refused for a cause, and changes nothing then. The reply or the cause is
+its **outcome**.
 
-A **situation** is all that is seen of a machine: of each block its **picture** (a line for each
-core, which may keep a copy of the block's words, memory's line, and the open transaction), each
-core's queue, and the **log**, the history of what was done. Flat memory is what the stores of a
-history leave. A core may load a block where its table has a hit for a load, and store where it has
-one for a store.
+A **situation** is all that is seen of a machine: its protocol and shape; of each block its
+**picture**; each core's queue; and the **log**, the history of what was done. A picture has a line
+for each core (its state, the words that it keeps, the operation that waits), memory's line, and the
+open transaction. Flat memory is what the stores of a history leave. A core may load a block where
+its table has a hit for a load, and store where it has one for a store.
 
 The prover of the Rattle toolchain has checked the theorem, and docs/PROVED.md says what is trusted.
 
@@ -103,13 +106,15 @@ operation that is not lost may wait for ever. But no machine gets stuck, out of 
 ordered (a table that stalled each Ask would have nothing to order: these tables stall only where a
 request waits or is open).
 
-What only the tables and the moves below say, and no clause: which operations stall, what an
-eviction leaves, in which order the blocks stand in a queue, and of which core, request and block
-the history has an Order or a response (`told` says that an operation which a response performed is
-of its core and block). Which operation that is, and a load's value, follow from `once` and `legal`.
-Who sends a message is part of a move; the target that a row names is not looked at: memory takes
-the message of every PutM, and that of another request where its state waits for one
-(`takes_payload`). That the rows of the table of senders are all reached is not said.
+What only the tables and the moves below say, and no clause: which operations stall and why a step
+is refused; what an eviction leaves, and whether it is answered Gone, Absent or by a request; in
+which order the blocks stand in a queue; which block and request the item of an Order has in the
+history, and which requestor, request, payload and sender that of a response (`told` says that the
+item and the reply have the same, and that the operation which a response performed is its
+requestor's, on this block, and no hit). Which operation that is, and a load's value, follow from
+`once` and `legal`. Who sends a message is part of a move; the target that a row names is not looked
+at: memory takes the message of every PutM, and that of another request where its state waits for
+one (`takes_payload`). That the rows of the table of senders are all reached is not said.
 
 That the code takes such steps and no others is proved of `Machine::step` and `run_steps`
 (docs/PROVED.md), and why all this holds is in docs/COHERENCE.md. `tools/theorem.py --write` makes
@@ -127,13 +132,13 @@ do; a field that is no fact, as `done` of `IsSenderLine`, is a value that has to
 `{{A : Type 0}}` is a type that follows from the other arguments. `declared.` stands before a type as
 the code declares it. A member of a type may stand with a short name of its type before it, as
 `op.Load`, `state.ImAd`, `mem.IorS` or `reply.Hit`, and what it carries follows it in order, as in
-`Ask core block word op`; `Nothing` is a controller's `None` (`mem_action.None` is memory's). `data`
+`Ask core block word op`; `Nothing`, or `mem_action.None`, is a controller's action `None`. `data`
 begins a type by its members. `++` and `∷` bind more strongly than `≡`, this than `×`, and this than
 `→`. An Evict in I asks no table. At an Order only a row's next state counts, and whether it sends.
 States are printed with underscores elsewhere: `ImAd` is IM_AD. A block is free where no transaction
-is open on it, a copy clean where memory has the same words, and a writeback is a PutM with data.
-The "oldest request" of a type's comment is the one that the code orders; the theorem is about every
-order. What the types' comments say of texts is in docs/TEXTS.md.
+is open on it, a copy clean where memory has the same words, and what a PutM is for is a writeback.
+The "oldest request" of a type's comment is the one that the code orders; the theorem is about
+Orders of any waiting request. What the types' comments say of texts is in docs/TEXTS.md.
 
 `(a, b)` is a pair. Between facts `A × B` is "A and B", between types it is their pairs;
 `(x : T) × P` "there is an x with P", `(x : T) → P` "P for every x", `A → B` "if A then B", `¬ A`
