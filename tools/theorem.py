@@ -67,13 +67,13 @@ A machine begins at **reset**, with empty caches and a memory of 0, and takes **
 kinds. At an **Ask** a core asks its cache to load, to store or to give a block up. A load or store
 **hits** where the cache may do it at once. Where it misses, and where a block in E or M is given
 up, the cache issues a request, which waits in the core's queue; a load or store waits until its
-data comes. While a request of the core for the block waits or is open, the cache may take no
-further operation on it: that is a stall. An **Order** puts a waiting request on the bus: all
-controllers see it, one of them sends a message, and the block has an open **transaction**, whose
-**requestor** is the core of the request. A **Respond** brings the message, with data or without, to
-the requestor, to memory or to both, and closes the transaction; a block has one at a time. A step
-is taken, with a reply, or refused for a cause, and changes nothing then. The reply or the cause is
-its **outcome**.
+data comes. While the core's request for a block waits or is open, the cache may refuse a further
+operation on it, which is a stall. An **Order** puts a waiting request on the bus: all controllers
+see it, one of them sends a message, and the block has an open **transaction**, whose **requestor**
+is the core of the request. A **Respond** brings the message, with data or without, to the
+requestor, to memory or to both, and closes the transaction; a block has one at a time. A step is
+taken, with a reply, or refused for a cause, and changes nothing then. The reply or the cause is its
+**outcome**.
 
 A **situation** is all that is seen of a machine: its protocol and shape; of each block its
 **picture**; each core's queue; and the **log**, the history of what was done. A picture has a line
