@@ -61,19 +61,19 @@ HEAD = """# The theorem
 MSI and MESI are protocols for caches that share one bus with memory; MESI also has E, for a copy
 that is clean and the only one. Each cache has a controller, and so has memory, with a table: a
 **row** for each event that it may meet in a state. A pair of state and event without a row is an
-**impossible cell**.
+**impossible cell** (but giving up a block in I asks no table, and is answered Absent).
 
 A machine begins at **reset**, with empty caches and a memory of 0, and takes **steps** of three
 kinds. At an **Ask** a core asks its cache to load, to store or to give a block up. A load or store
-**hits** where the cache may do it at once. Where it misses, and where a block in E or M is given
-up, the cache issues a request, which waits in the core's queue; a load or store waits until its
-data comes. While the core's request for a block waits or is open, the cache may refuse a further
-operation on it, which is a stall. An **Order** puts a waiting request on the bus: all controllers
-see it, one of them sends a message, and the block has an open **transaction**, whose **requestor**
-is the core of the request. A **Respond** brings the message, with data or without, to the
-requestor, to memory or to both, and closes the transaction; a block has one at a time. A step is
-taken, with a reply, or refused for a cause, and changes nothing then. The reply or the cause is its
-**outcome**.
+**hits** where the cache may do it at once. Where it misses and is not stalled, and where a block in
+E or M is given up, the cache issues a request, which waits in the core's queue; a load or store
+waits until its data comes. While the core's request for a block waits or is open, the cache may
+refuse a further operation on it, which is a stall. An **Order** puts a waiting request on the bus:
+all controllers see it, one of them sends a message, and the block has an open **transaction**,
+whose **requestor** is the core of the request. A **Respond** brings the message, with data or
+without, to the requestor, to memory or to both, and closes the transaction; a block has one at a
+time. A step is taken, with a reply, or refused for a cause, and changes nothing then. The reply or
+the cause is its **outcome**.
 
 A **situation** is all that is seen of a machine: its protocol and shape; of each block its
 **picture**; each core's queue; and the **log**, the history of what was done. A picture has a line
@@ -103,8 +103,8 @@ core that is to read its own store waits for it. Nothing is said of the order of
 operations on different blocks, of time, nor that a request is ever ordered or answered: an
 operation that is not lost may wait for ever. But no machine gets stuck, out of memory aside: by
 `moves` an open transaction can be answered, and once none is open the head of any queue can be
-ordered (a table that stalled each Ask would have nothing to order: these tables stall only where a
-request waits or is open).
+ordered. The tables stall an operation only where a request of its core for the block waits or is
+open.
 
 What only the tables and the moves below say, and no clause: which operations stall and why a step
 is refused; what an eviction leaves, and whether it is answered Gone, Absent or by a request; in
@@ -127,25 +127,25 @@ passed over. Names of facts and types are in CamelCase (`OneWriter`), those of f
 snake_case (`flat`), and `f a b` is `f` of a and b. A definition begins with the types of its
 arguments and of what it is; `Type 0` says that it is a fact or a type. Below stands what it means,
 case by case, the first that fits, with `_` for any value. A record of facts holds where all of them
-do; a field that is no fact, as `done` of `IsSenderLine`, is a value that has to exist.
-`record s {{ .. }}` is s with these fields; with no `s` all of them stand there. `x.log` is a field.
-`{{A : Type 0}}` is a type that follows from the other arguments. `declared.` stands before a type as
-the code declares it. A member of a type may stand with a short name of its type before it, as
-`op.Load`, `state.ImAd`, `mem.IorS` or `reply.Hit`, and what it carries follows it in order, as in
-`Ask core block word op`; `Nothing`, or `mem_action.None`, is a controller's action `None`. `data`
-begins a type by its members. `++` and `∷` bind more strongly than `≡`, this than `×`, and this than
-`→`. An Evict in I asks no table. At an Order only a row's next state counts, and whether it sends.
-States are printed with underscores elsewhere: `ImAd` is IM_AD. A block is free where no transaction
-is open on it, a copy clean where memory has the same words, and what a PutM is for is a writeback.
-The "oldest request" of a type's comment is the one that the code orders; the theorem is about
-Orders of any waiting request. What the types' comments say of texts is in docs/TEXTS.md.
+do; a field that is no fact, as `done` of `IsSenderLine`, is a value that has to exist. `record s {{
+.. }}` is s with these fields; with no `s` all of them stand there. `x.log` is a field. `{{A : Type
+0}}` is a type that follows from the other arguments. `declared.` stands before a type as the code
+declares it. A member of a type may stand with a short name of its type before it, as `op.Load`,
+`state.ImAd`, `mem.IorS` or `reply.Hit`, and what it carries follows it in order, as in `Ask core
+block word op`; `Nothing`, or `mem_action.None`, is a controller's action `None`. `data` begins a
+type by its members. `++` and `∷` bind more strongly than `≡`, this than `×`, and this than `→`. Of
+a row that is taken at an Order its next state counts, and what it sends, if it does. States are
+printed with underscores elsewhere: `ImAd` is IM_AD. A block is free where no transaction is open on
+it, a copy clean where memory has the same words, and what a PutM is for is a writeback. The "oldest
+request" of a type's comment is the one that the code orders; the theorem is about Orders of any
+waiting request. What the types' comments say of texts is in docs/TEXTS.md.
 
 `(a, b)` is a pair. Between facts `A × B` is "A and B", between types it is their pairs;
 `(x : T) × P` "there is an x with P", `(x : T) → P` "P for every x", `A → B` "if A then B", `¬ A`
 "not A", `⊥` what never holds, and `λ x. ..` a function of x.
 
 Look-ups have a default: outside a machine's shape a core holds nothing (state I), no transaction is
-open and memory's words are 0.
+open, and memory is in IorS with words of 0. A block has up to 64 words.
 
 | Written | Means |
 |---|---|
