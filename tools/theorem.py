@@ -127,18 +127,18 @@ passed over. Names of facts and types are in CamelCase (`OneWriter`), those of f
 snake_case (`flat`), and `f a b` is `f` of a and b. A definition begins with the types of its
 arguments and of what it is; `Type 0` says that it is a fact or a type. Below stands what it means,
 case by case, the first that fits, with `_` for any value. A record of facts holds where all of them
-do; a field that is no fact, as `done` of `IsSenderLine`, is a value that has to exist. `record s {{
-.. }}` is s with these fields; with no `s` all of them stand there. `x.log` is a field. `{{A : Type
-0}}` is a type that follows from the other arguments. `declared.` stands before a type as the code
-declares it. A member of a type may stand with a short name of its type before it, as `op.Load`,
-`state.ImAd`, `mem.IorS` or `reply.Hit`, and what it carries follows it in order, as in `Ask core
-block word op`; `Nothing`, or `mem_action.None`, is a controller's action `None`. `data` begins a
-type by its members. `++` and `∷` bind more strongly than `≡`, this than `×`, and this than `→`. Of
-a row that is taken at an Order its next state counts, and what it sends, if it does. States are
-printed with underscores elsewhere: `ImAd` is IM_AD. A block is free where no transaction is open on
-it, a copy clean where memory has the same words, and what a PutM is for is a writeback. The "oldest
-request" of a type's comment is the one that the code orders; the theorem is about Orders of any
-waiting request. What the types' comments say of texts is in docs/TEXTS.md.
+do; a field that is no fact, as `done` of `IsSenderLine`, is a value that has to exist.
+`record s {{ .. }}` is s with these fields; with no `s` all of them stand there. `x.log` is a field.
+`{{A : Type 0}}` is a type that follows from the other arguments. `declared.` stands before a type
+as the code declares it. A member of a type may stand with a short name of its type before it, as
+`op.Load`, `state.ImAd`, `mem.IorS` or `reply.Hit`, and what it carries follows it in order, as in
+`Ask core block word op`; `Nothing`, or `mem_action.None`, is a controller's action `None`. `data`
+begins a type by its members. `++` and `∷` bind more strongly than `≡`, this than `×`, and this than
+`→`. Of a row that is taken at an Order its next state counts, and what it sends, if it does. States
+are printed with underscores elsewhere: `ImAd` is IM_AD. A block is free where no transaction is
+open on it, a copy clean where memory has the same words, and what a PutM is for is a writeback. The
+"oldest request" of a type's comment is the one that the code orders; the theorem is about Orders of
+any waiting request. What the types' comments say of texts is in docs/TEXTS.md.
 
 `(a, b)` is a pair. Between facts `A × B` is "A and B", between types it is their pairs;
 `(x : T) × P` "there is an x with P", `(x : T) → P` "P for every x", `A → B` "if A then B", `¬ A`
