@@ -5,6 +5,7 @@ use Rattle.std.specs.Option.{option_map}
 use Rattle.std.specs.Char.{to_ascii_lowercase}
 use Rattle.std.specs.Str.{bytes_eq}
 use Rattle.std.specs.Str.Parse.{ParsesUnsigned}
+use Rattle.std.proofs.lemmas.Bool.{false_from_ne_true}
 use Rattle.std.proofs.lemmas.Slice.Eq.{bytes_eq-Decides}
 use Rattle.clap.specs.Words.{ReadsOne, first_of, first_value, one_of, one_text, rows_of}
 use Rattle.clap.specs.declared.parser.matches.Found.{Found}
@@ -22,11 +23,7 @@ equal a b e = (bytes_eq-Decides a b).1 e
 
 -- and else unequal
 unequal : (a b : List ℕ) → (a ≡ b → ⊥) → bytes_eq a b ≡ false
-unequal a b ne = go (bytes_eq a b) (bytes_eq-Decides a b).0
-  where
-    go : (r : Bool) → (r ≡ true → a ≡ b) → r ≡ false
-    go true is = absurd (ne (is refl))
-    go false is = refl
+unequal a b ne = false_from_ne_true (bytes_eq a b) (λ is. ne ((bytes_eq-Decides a b).0 is))
 
 -- MESI was named
 pub mesi_named : (f : Found) (name : List ℕ) → first_value f (codes "protocol") ≡ Some name
