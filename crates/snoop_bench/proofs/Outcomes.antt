@@ -19,7 +19,7 @@ use Rattle.snoop_model.specs.declared.replies.Reply.TheVariants as reply
 use Rattle.snoop_model.specs.Moves.Replies.{Tells}
 use Rattle.snoop_model.specs.Pictures.Situation.{Situation, picture_of, state_of}
 use Rattle.snoop_model.specs.Moves.Move.{next_did}
-use Rattle.snoop_model.specs.Runs.Once.{did_it, did_access, same_op, same_access}
+use Rattle.snoop_model.specs.Runs.Once.{did_access}
 use Rattle.snoop_model.specs.Runs.Owed.{IsLast}
 use Rattle.snoop_model.specs.Turns.Turn.{turn_of, step_under_way}
 use Rattle.snoop_model.specs.Turns.TurnLaws.{TurnLaws}
@@ -37,21 +37,18 @@ use Rattle.snoop_bench.specs.Faults.{IsInside}
 use Rattle.snoop_bench.proofs.Cases.{IsCase}
 use Rattle.snoop_bench.proofs.Cases.IsCase.{ordering, helping, ending}
 use Rattle.snoop_bench.proofs.Waiting.{Stepped}
-use Rattle.snoop_bench.proofs.Turning.{Facing, ended, same_op-is}
+use Rattle.snoop_bench.proofs.Turning.{Facing, ended}
 
 is_op : (did : Did) (load : Bool) → did.load ≡ load → IsOp (if load then op.Load else op.Store did.value) did
 is_op did true e = e
 is_op did false e = (e, refl)
 
--- the test that the operation is that of the work
-does : (did : Did) (work : Work) → did_it work.block (access_of work) did ≡ true → Does did work
-does did work e =
-    let parts = and_parts (did.block == work.block) (same_access (access_of work) (did_access did)) e in
-    let rest = and_parts (work.word == did.word) (same_op work.op (did_access did).op) parts.1 in
-    (eqb-true did.block work.block parts.0, sym (eqb-true work.word did.word rest.0), rw (same_op-is work.op (did_access did).op rest.1) (is_op did did.load refl))
+-- an operation that is the access of the work
+does : (did : Did) (work : Work) → did.block ≡ work.block → did_access did ≡ access_of work → Does did work
+does did work on same = (on, ap (λ (a : Access). a.word) same, rw (← ap (λ (a : Access). a.op) same) (is_op did did.load refl))
 
 pub ends_with : (s : Situation) (core : ℕ) (work : Work) → IsLast s core work.block (access_of work) → (did : Did) × EndsWith s core work did
-ends_with s core work last = (last.0, record { last = last.1; does = does last.0 work last.2 })
+ends_with s core work last = (last.0, record { last = last.1; does = does last.0 work last.2 last.3 })
 
 -- a work with no step left is answered by its operation, the last of the core's in the log
 pub finishes : TurnLaws → {s : Situation} {works : List (Option Work)} {core : ℕ} {work : Work} → Facing s works core work None

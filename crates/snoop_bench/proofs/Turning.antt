@@ -1,8 +1,8 @@
 -- Turns keep works under way.
-use Rattle.std.proofs.Common.{◌≡◌, ◌≢◌, ◌⊎◌, ⊎_elim, ℕ, zero, suc, ◌<◌, ◌==◌, inl, inr, Bool, true, true≢false, List, length, replicate, Option, Some, None, refl, sym, ap, ◌∙◌, arith, false}
+use Rattle.std.proofs.Common.{◌≡◌, ◌≢◌, ◌⊎◌, ⊎_elim, ℕ, zero, suc, ◌<◌, ◌==◌, inl, inr, Bool, true, true≢false, cond, List, length, replicate, Option, Some, None, refl, sym, ap, ◌∙◌, arith, false}
 use Rattle.std.specs.Prelude.{slice_set, option_map, ◌&&◌, is_some}
-use Rattle.std.specs.Option.{option_map_or}
-use Rattle.std.proofs.lemmas.Bool.{eq-eqb, eqb-true, ne_eqb, and_parts, cases_eq}
+use Rattle.std.proofs.lemmas.Bool.{eq-eqb, eqb-true, ne_eqb, and_parts, cases_Bool, cases_eq}
+use Rattle.std.proofs.lemmas.Option.{none-some, same_Some}
 use Rattle.std.proofs.lemmas.List.{length-set, length-replicate}
 use Rattle.snoop_trace.specs.Extent.{Extent}
 use Rattle.snoop_trace.specs.Words.{HasWord}
@@ -19,15 +19,15 @@ use Rattle.snoop_model.specs.declared.replies.Reply.{Reply}
 use Rattle.snoop_model.specs.declared.replies.Reply.TheVariants as reply
 use Rattle.snoop_model.specs.Pictures.Lines.{Line}
 use Rattle.snoop_model.specs.Pictures.Situation.{Situation, reset, picture_of, state_of}
-use Rattle.snoop_model.specs.Runs.Once.{waits_for, asks, same_op, same_access}
+use Rattle.snoop_model.specs.Runs.Once.{asked_access}
 use Rattle.snoop_model.specs.Turns.Serving.{IsUnderWay}
 use Rattle.snoop_model.specs.Invariant.WellKept.{IsWellKept}
 use Rattle.snoop_model.specs.Turns.Turn.{turn_of}
 use Rattle.snoop_model.specs.Turns.TurnLaws.{TurnLaws}
 use Rattle.snoop_model.specs.Moves.Refuses.{Refuses}
 use Rattle.snoop_model.proofs.Invariant.Runs.{reset_line}
-use Rattle.snoop_model.proofs.Lists.Facts.{one_if}
 use Rattle.snoop_model.proofs.Turns.ClosedWorks.{has_step}
+use Rattle.snoop_model.proofs.Once.Owed.{waited_or_asked}
 use Rattle.snoop_bench.specs.Works.{access_of, work_at, works_under_way}
 use Rattle.snoop_bench.specs.Outcomes.{works_asked}
 use Rattle.snoop_bench.specs.Locked.{Locked}
@@ -37,11 +37,11 @@ use Rattle.snoop_bench.specs.Turns.{Case}
 use Rattle.snoop_bench.proofs.Cases.{IsCase}
 use Rattle.snoop_bench.proofs.Cases.IsCase.{ordering, helping, ending}
 use Rattle.snoop_bench.proofs.Places.{its_block, changed, unchanged, put_out, has_place, apart}
-use Rattle.snoop_bench.proofs.Waiting.{Stepped, AsksNothing, waited_or_asked, owed_still}
+use Rattle.snoop_bench.proofs.Waiting.{Stepped, AsksNothing, owed_still}
 use Rattle.snoop_rules.specs.Waits.{waiting_request}
 use Rattle.snoop_history.specs.declared.items.Item.{Item}
 use Rattle.snoop_model.specs.Pictures.Picture.{Picture, held_by}
-use Rattle.snoop_model.specs.Moves.Move.{FirstMove}
+use Rattle.snoop_model.specs.Moves.Move.{FirstMove, kept_waiting}
 use Rattle.snoop_model.proofs.OneBlock.OfBlocks.{in_pictures, picture_here}
 use Rattle.snoop_model.proofs.Queues.Responds.{arrives_waits}
 
@@ -50,10 +50,10 @@ record GoOn (works after : List (Option Work)) (step : Step) : Type 0 where
   pub places : length after ≡ length works
   pub stay : (core : ℕ) → work_at works core ≢ None → work_at after core ≡ work_at works core
   pub under : IsUnderWay (works_under_way after) step
-  pub asked : (core block : ℕ) (wanted : Access) → asks core block wanted step ≡ true
+  pub asked : (core block : ℕ) (wanted : Access) → asked_access core block step ≡ Some wanted
       → work_at after core ≡ Some (record { block = block; word = wanted.word; op = wanted.op })
   pub new : (core : ℕ) (work : Work) → work_at after core ≡ Some work → work.op ≢ op.Evict
-      → ((work_at works core ≡ Some work) × AsksNothing core step) ⊎ (asks core work.block (access_of work) step ≡ true)
+      → ((work_at works core ≡ Some work) × AsksNothing core step) ⊎ (asked_access core work.block step ≡ Some (access_of work))
 
 none_some : (o : Option Work) (work : Work) → o ≡ Some work → o ≢ None
 none_some o work e f = cc
@@ -66,7 +66,7 @@ goes_on rule {s} {t} {step} {answer} m works after u g = record {
       (λ core block e. stays core block (work_at works core) refl e ∙ e) g.under;
   waiting = λ core block wanted waits.
       ⊎_elim (λ was. let its = u.waiting core block wanted was in g.stay core (none_some _ _ its) ∙ its) (g.asked core block wanted)
-      (waited_or_asked m core block wanted (omega (arith, waits)));
+      (waited_or_asked s t step answer m.entry m.move m.once core block wanted (inr waits));
   owed = λ core work its isnt.
       ⊎_elim (λ was. owed_still m core works work u was.0 was.1 (u.owed core work was.0 isnt))
       (λ asked. rule.owes s t step answer m.entry m.move m.once core work.block (access_of work) (inr asked)) (g.new core work its isnt);
@@ -79,9 +79,9 @@ goes_on rule {s} {t} {step} {answer} m works after u g = record {
 -- the step of a work under way is no load or store that is asked
 unasked : (works : List (Option Work)) {core block : ℕ} {k : Case} {waits : Bool} {step : Step} → IsCase core block k waits (Some step)
     → ((c : ℕ) → AsksNothing c step) × IsUnderWay (works_under_way works) step
-unasked works ordering = (λ c block wanted. refl, tt)
-unasked works helping = (λ c block wanted. refl, tt)
-unasked works ending = (λ c block wanted. refl, tt)
+unasked works ordering = (λ c block. refl, tt)
+unasked works helping = (λ c block. refl, tt)
+unasked works ending = (λ c block. refl, tt)
 
 -- so it keeps the works
 pub serving_step : TurnLaws → {s t : Situation} {step : Step} {answer : Reply} {core block : ℕ} {k : Case} {waits : Bool} → Stepped s t step answer
@@ -92,7 +92,7 @@ serving_step rule m works u is =
       places = refl;
       stay = λ core busy. refl;
       under = none.1;
-      asked = λ core block wanted e. absurd (true≢false (sym e ∙ none.0 core block wanted));
+      asked = λ core block wanted e. absurd (none-some wanted (sym (none.0 core block) ∙ e));
       new = λ core work its isnt. inl (its, none.0 core);
     })
 
@@ -131,7 +131,7 @@ over_keeps rule {s} {works} {core} {work} f = record {
       f.under.owed c w (sym (unchanged works core c None other) ∙ theirs) isnt;
 }
   where
-    other : (c block : ℕ) (wanted : Access) → waits_for s c block wanted ≡ 1 → c ≢ core
+    other : (c block : ℕ) (wanted : Access) → (held_by (picture_of s block) c).waiting ≡ Some wanted → c ≢ core
     other c block wanted waits same =
         let there : work_at works core ≡ Some (record { block = block; word = wanted.word; op = wanted.op }) =
         ap (work_at works) (sym same) ∙ f.under.waiting c block wanted waits in
@@ -172,29 +172,29 @@ finished rule {s} {t} {works} {core} {work} {k} {step} {answer} ending f waits m
     no_request (Some r) e = absurd (true≢false (sym e))
 
 -- an operation that is asked is that of the work
-pub same_op-is : (wanted asking : Op) → same_op wanted asking ≡ true → wanted ≡ asking
-same_op-is op.Load op.Load e = refl
-same_op-is (op.Store v) (op.Store w) e = ap (λ (n : ℕ). op.Store n) (eqb-true v w e)
-same_op-is wanted asking e = absurd (true≢false (sym e))
+kept_is : (word : ℕ) (asking : Op) (wanted : Access) → kept_waiting word asking ≡ Some wanted → record { word = word; op = asking } ≡ wanted
+kept_is word op.Load wanted e = same_Some _ _ e
+kept_is word (op.Store v) wanted e = same_Some _ _ e
+kept_is word op.Evict wanted e = cc
 
-asked_work : (core c block : ℕ) (wanted : Access) (work : Work) → asks c block wanted (Ask core work.block work.word work.op) ≡ true
+asked_work : (core c block : ℕ) (wanted : Access) (work : Work) → asked_access c block (Ask core work.block work.word work.op) ≡ Some wanted
     → (core ≡ c) × (work ≡ record { block = block; word = wanted.word; op = wanted.op })
-asked_work core c block wanted work e =
-    let first = and_parts (core == c) (work.block == block && same_access wanted (access_of work)) e in
-    let rest = and_parts (work.block == block) (same_access wanted (access_of work)) first.1 in
-    let last = and_parts (wanted.word == work.word) (same_op wanted.op work.op) rest.1 in
-    let b : work.block ≡ block = eqb-true work.block block rest.0 in
-    let w : wanted.word ≡ work.word = eqb-true wanted.word work.word last.0 in
-    let o : wanted.op ≡ work.op = same_op-is wanted.op work.op last.1 in
-    (eqb-true core c first.0, λ i. record { block = b i; word = (sym w) i; op = (sym o) i })
+asked_work core c block wanted work e = elim (cases_Bool (work.block == block && core == c)) [
+  | inl here ↦
+      let parts = and_parts (work.block == block) (core == c) here in
+      let b : work.block ≡ block = eqb-true work.block block parts.0 in
+      let same : record { word = work.word; op = work.op } ≡ wanted = kept_is work.word work.op wanted (rw here at e) in
+      (eqb-true core c parts.1, λ i. record { block = b i; word = (same i).word; op = (same i).op })
+  | inr elsewhere ↦ absurd (none-some wanted (rw elsewhere at e))
+]
 
-same_op_self : (wanted : Op) → wanted ≢ op.Evict → same_op wanted wanted ≡ true
-same_op_self op.Load isnt = refl
-same_op_self (op.Store v) isnt = eq-eqb v v refl
-same_op_self op.Evict isnt = absurd (isnt refl)
-
-pub asks_its : (core : ℕ) (work : Work) → work.op ≢ op.Evict → asks core work.block (access_of work) (Ask core work.block work.word work.op) ≡ true
-asks_its core work isnt = rw (eq-eqb core core refl, eq-eqb work.block work.block refl, eq-eqb work.word work.word refl) (same_op_self work.op isnt)
+pub asks_its : (core : ℕ) (work : Work) → work.op ≢ op.Evict → asked_access core work.block (Ask core work.block work.word work.op) ≡ Some (access_of work)
+asks_its core work isnt = rw (eq-eqb core core refl, eq-eqb work.block work.block refl) (kept work.op isnt)
+  where
+    kept : (asking : Op) → asking ≢ op.Evict → kept_waiting work.word asking ≡ Some (record { word = work.word; op = asking })
+    kept op.Load isnt = refl
+    kept (op.Store v) isnt = refl
+    kept op.Evict isnt = absurd (isnt refl)
 
 -- a core with nothing under way asks
 module _ (rule : TurnLaws) (works : List (Option Work)) (core : ℕ) (work : Work) {s t : Situation} {answer : Reply}
@@ -218,13 +218,17 @@ module _ (rule : TurnLaws) (works : List (Option Work)) (core : ℕ) (work : Wor
     where
       by_core : (c : ℕ) (w : Work) → work_at (slice_set works core (Some work)) c ≡ Some w → w.op ≢ op.Evict → (c ≡ core) ⊎ (c ≢ core)
           → ((work_at works c ≡ Some w) × AsksNothing c (Ask core work.block work.word work.op))
-          ⊎ (asks c w.block (access_of w) (Ask core work.block work.word work.op) ≡ true)
+          ⊎ (asked_access c w.block (Ask core work.block work.word work.op) ≡ Some (access_of w))
       by_core c w theirs isnt (inl same) =
           let there : work_at (slice_set works core (Some work)) core ≡ Some w = ap (work_at (slice_set works core (Some work))) (sym same) ∙ theirs in
           let mine : work ≡ w = cc its in
           inr (rw (same, mine) (asks_its core w isnt))
       by_core c w theirs isnt (inr other) =
-          inl (sym (unchanged works core c (Some work) other) ∙ theirs, λ block wanted. rw (ne_eqb core c (λ same. other (sym same))) refl)
+          inl (sym (unchanged works core c (Some work) other) ∙ theirs, λ block. rw (ne_eqb core c (λ same. other (sym same))) (off (work.block == block)))
+
+      off : (x : Bool) → cond (x && false) (kept_waiting work.word work.op) None ≡ None
+      off true = refl
+      off false = refl
 
   -- one that issued none has no step left
   pub ended : ((request : Request) → answer ≢ reply.Issued request) → turn_of t core work.block work.word work.op true ≡ None
@@ -250,8 +254,7 @@ reset_under_way rule protocol shape = record {
   places = length-replicate shape.cores None;
   serving = (rule.starts_well protocol shape (works_under_way (replicate shape.cores None))).1;
   waiting = λ core block wanted waits.
-      let none = ap (λ (l : Line). option_map_or (λ access. one_if (same_access wanted access)) l.waiting 0) (reset_line protocol shape core block) in
-      absurd (omega (arith, none, waits));
+      absurd (none-some wanted (sym (ap (λ (l : Line). l.waiting) (reset_line protocol shape core block)) ∙ waits));
   owed = λ core work its isnt. absurd (none_some _ work its (nothing shape.cores core));
 }
   where

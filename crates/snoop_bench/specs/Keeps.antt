@@ -3,8 +3,8 @@
 use Rattle.std.specs.Prelude.{◌≡◌, ◌≢◌, ℕ, List, length, Option, Some}
 use Rattle.snoop_trace.specs.declared.step.Op.TheVariants as op
 use Rattle.snoop_model.specs.declared.access.Access.{Access}
-use Rattle.snoop_model.specs.Pictures.Situation.{Situation}
-use Rattle.snoop_model.specs.Runs.Once.{waits_for}
+use Rattle.snoop_model.specs.Pictures.Situation.{Situation, picture_of}
+use Rattle.snoop_model.specs.Pictures.Picture.{held_by}
 use Rattle.snoop_model.specs.Turns.Serving.{IsServing}
 use Rattle.snoop_model.specs.Runs.Owed.{IsOwed}
 use Rattle.snoop_trace.specs.declared.step.Work.{Work}
@@ -22,7 +22,7 @@ pub record AreUnderWay (works : List (Option Work)) (s : Situation) : Type 0 whe
   -- a core waits, and has a transaction open, on no block but that of its work under way
   pub serving : IsServing (works_under_way works) s
   -- an operation that waits is that of the core's work under way
-  pub waiting : (core block : ℕ) (wanted : Access) → waits_for s core block wanted ≡ 1 → work_at works core ≡ Some (record { block = block; word = wanted.word; op = wanted.op })
+  pub waiting : (core block : ℕ) (wanted : Access) → (held_by (picture_of s block) core).waiting ≡ Some wanted → work_at works core ≡ Some (record { block = block; word = wanted.word; op = wanted.op })
   -- the load or store of a work under way waits, or is the core's last operation
   pub owed : (core : ℕ) (work : Work) → work_at works core ≡ Some work → work.op ≢ op.Evict → IsOwed s core work.block (access_of work)
 

@@ -1,25 +1,21 @@
 -- A bench with nothing under way joins the seats.
-use Rattle.std.proofs.Common.{◌≡◌, ℕ, ◌<◌, ◌≤◌, ◌⊎◌, List, length, Option, Some, None, refl, ap, arith, inl, inr, count_by}
-use Rattle.std.specs.Prelude.{slice_index_or}
-use Rattle.std.specs.Option.{option_map_or}
+use Rattle.std.proofs.Common.{◌≡◌, ℕ, ◌<◌, ◌≤◌, ◌⊎◌, List, ◌++◌, length, Option, Some, None, refl, arith, inl, inr, append-nil}
+use Rattle.std.specs.Prelude.{slice_index_or, filter_map}
+use Rattle.std.specs.List.Sorted.{IsPermutation}
 use Rattle.std.proofs.lemmas.Bool.{cases_lt}
 use Rattle.std.proofs.lemmas.Option.{slice_get_past}
 use Rattle.snoop_trace.specs.Extent.{Extent}
 use Rattle.snoop_trace.specs.declared.step.Step.{Step}
-use Rattle.snoop_trace.specs.declared.protocol.Protocol.{Protocol}
 use Rattle.snoop_bus.specs.Queues.{queue_of}
 use Rattle.snoop_history.specs.declared.items.Item.{Item}
-use Rattle.snoop_history.specs.History.{answers_of}
 use Rattle.snoop_model.proofs.Invariant.Safety.{well_kept_in}
-use Rattle.snoop_model.specs.declared.access.Access.{Access}
 use Rattle.snoop_model.specs.Pictures.Situation.{Situation}
 use Rattle.snoop_model.specs.Runs.Safe.{IsSafe}
 use Rattle.snoop_model.specs.Turns.Serving.{IsServing}
 use Rattle.snoop_model.specs.Turns.Quiet.{IsQuiet}
 use Rattle.snoop_model.specs.Turns.TurnLaws.{ComesToRest}
-use Rattle.snoop_model.specs.Runs.Once.{asks, did_it, waits_for, same_access, tally}
-use Rattle.snoop_model.proofs.Lists.Facts.{one_if}
-use Rattle.snoop_model.specs.Runs.Run.{AllTaken}
+use Rattle.snoop_model.specs.Runs.Once.{asked_access, accesses_in, waiting_at}
+use Rattle.snoop_model.specs.Runs.TakenOnce.{TakenOnce}
 use Rattle.snoop_trace.specs.declared.step.Work.{Work}
 use Rattle.snoop_bench.specs.Works.{work_at, works_under_way}
 use Rattle.snoop_bench.specs.Locked.{Locked, IsKept}
@@ -43,18 +39,17 @@ serves_nothing works s size free serving = record {
 
 -- at rest no operation waits, so those asked are those performed
 asked_once : (s : Situation) (steps : List Step) → IsQuiet s
-    → ((core block : ℕ) (wanted : Access) → tally s core block wanted ≡ count_by (asks core block wanted) steps)
-    → (core block : ℕ) (wanted : Access) → count_by (did_it block wanted) (answers_of s.log core) ≡ count_by (asks core block wanted) steps
-asked_once s steps quiet tallied core block wanted =
-    let none : waits_for s core block wanted ≡ 0 = ap (λ (o : Option Access). option_map_or (λ access. one_if (same_access wanted access)) o 0) (quiet.performed core block) in
-    let t = tallied core block wanted in omega (arith, none, t)
+    → ((core block : ℕ) → IsPermutation (filter_map (asked_access core block) steps) (accesses_in s.log core block ++ waiting_at s core block))
+    → (core block : ℕ) → IsPermutation (filter_map (asked_access core block) steps) (accesses_in s.log core block)
+asked_once s steps quiet once core block =
+    rw (quiet.performed core block, append-nil (accesses_in s.log core block)) at (once core block)
 
 pub joins : (b : Locked) (seats : List Seating) (items : List Item) (steps : List Step) → IsKept b → IsSafe b.situation → ComesToRest
-    → ((protocol : Protocol) (shape : Extent) (taken : List Step) (s : Situation) → AllTaken protocol shape taken s → (core block : ℕ) (wanted : Access) → tally s core block wanted ≡ count_by (asks core block wanted) taken)
+    → TakenOnce
     → OneForEach b.situation.shape.cores seats → ((core : ℕ) → core < b.situation.shape.cores → IsFree b seats core)
     → ((core : ℕ) → core < b.situation.shape.cores → IsAnswered b.situation.log seats core)
     → items ≡ b.situation.log → steps ≡ b.steps → IsJoined b.situation.protocol b.situation.shape seats items steps
-joins b seats items steps kept safe rests tallied one_each free answered items_are steps_are = rw (items_are, steps_are) (record {
+joins b seats items steps kept safe rests once one_each free answered items_are steps_are = rw (items_are, steps_are) (record {
   at = b.situation;
   taken = kept.run;
   readable = kept.readable;
@@ -66,7 +61,7 @@ joins b seats items steps kept safe rests tallied one_each free answered items_a
   quiet = quiet;
   one_each = one_each;
   idle = λ k d lt. (free (slice_index_or seats k d).core (one_each.known k d lt)).1 k d lt refl;
-  once = asked_once b.situation b.steps quiet (tallied b.situation.protocol b.situation.shape b.steps b.situation kept.run);
+  once = asked_once b.situation b.steps quiet (once b.situation.protocol b.situation.shape b.steps b.situation kept.run);
 })
   where
     quiet : IsQuiet b.situation

@@ -1,6 +1,7 @@
 -- What a gathering says of the seats and of the lock.
 -- Source: this project's profile.
-use Rattle.std.specs.Prelude.{◌≡◌, ◌≢◌, ◌⊎◌, ℕ, ◌<◌, ◌≤◌, ◌==◌, List, length, take, filter, count_by, All, None, slice_get, slice_index_or}
+use Rattle.std.specs.Prelude.{◌≡◌, ◌≢◌, ◌⊎◌, ℕ, ◌<◌, ◌≤◌, ◌==◌, List, length, take, filter, filter_map, All, None, slice_get, slice_index_or}
+use Rattle.std.specs.List.Sorted.{IsPermutation}
 use Rattle.snoop_trace.specs.Extent.{Extent}
 use Rattle.snoop_trace.specs.Output.{IsReadableStep}
 use Rattle.snoop_trace.specs.declared.step.Step.{Step}
@@ -8,11 +9,10 @@ use Rattle.snoop_trace.specs.declared.protocol.Protocol.{Protocol}
 use Rattle.snoop_history.specs.declared.items.Did.{Did}
 use Rattle.snoop_history.specs.declared.items.Item.{Item}
 use Rattle.snoop_history.specs.History.{Legal, answers_of}
-use Rattle.snoop_model.specs.declared.access.Access.{Access}
 use Rattle.snoop_model.specs.Pictures.Situation.{Situation}
 use Rattle.snoop_model.specs.Runs.Run.{AllTaken}
 use Rattle.snoop_model.specs.Turns.Quiet.{IsQuiet}
-use Rattle.snoop_model.specs.Runs.Once.{asks, did_it}
+use Rattle.snoop_model.specs.Runs.Once.{asked_access, accesses_in}
 use Rattle.snoop_bench.specs.Locked.{Locked, IsKept}
 use Rattle.snoop_bench.specs.Works.{work_at}
 use Rattle.snoop_cores.specs.Seats.{Seating}
@@ -94,7 +94,7 @@ pub record IsJoined (protocol : Protocol) (shape : Extent) (seats : List Seating
   pub one_each : OneForEach shape.cores seats
   pub idle : All (λ seat. seat.pending ≡ None) seats
   -- the loads and stores that the steps ask are the operations of the log, each as often
-  pub once : (core block : ℕ) (wanted : Access) → count_by (did_it block wanted) (answers_of items core) ≡ count_by (asks core block wanted) steps
+  pub once : (core block : ℕ) → IsPermutation (filter_map (asked_access core block) steps) (accesses_in items core block)
 
 -- no core has work under way, and no seat has a pending operation
 abbrev pub IsFreeOfWork : Locked → List Seating → Type 0

@@ -11,7 +11,7 @@ use crate::seat::Seat;
 use crate::shared::Shared;
 use snoop_bench::Bench;
 use snoop_history::{Did, Item, Log};
-use snoop_machine::laws::asked_are_tallied;
+use snoop_machine::laws::taken_once;
 use snoop_machine::turns_are_served;
 use snoop_trace::{NoMemory, Protocol, Shape, Step};
 use std::alloc::Global;
@@ -61,7 +61,7 @@ fn join(alloc: Global, bench: &Bench, seats: &[Seat]) -> Result<Gathered, Gather
     ensures err { IfErr result (λ fault. RefusesJoin bench.now seats.now fault) }
 {
     bench.kept();
-    asked_are_tallied();
+    taken_once();
     turns_are_served();
     if let Some(core) = busy_core(bench, seats) {
         return Err(GatherFault::Pending { core });

@@ -1,13 +1,13 @@
 -- What a legal list and flat memory are after one more item.
 use Rattle.std.proofs.Common.{◌≡◌, ℕ, zero, suc, List, [], ◌∷◌, ◌++◌, take, Option, Some, None, ◌⊎◌, inl, inr, refl, ap, true, false, cond, map}
-use Rattle.std.specs.Prelude.{slice_get, filter, if◌then◌else◌, option_to_list}
+use Rattle.std.specs.Prelude.{slice_get, IfSome, filter, if◌then◌else◌, option_to_list}
 use Rattle.std.specs.Option.{option_map_or}
 use Rattle.std.proofs.lemmas.List.{map-append}
 use Rattle.std.proofs.lemmas.List.Elements.{filter-append}
 use Rattle.snoop_history.specs.declared.items.Item.{Item}
 use Rattle.snoop_history.specs.declared.items.Did.{Did}
 use Rattle.snoop_history.proofs.Pushed.{last_or-append, operations-push}
-use Rattle.snoop_history.specs.History.{Legal, Follows, flat, stores, operations, operation_of, is_store_to, last_or, IsNumbered}
+use Rattle.snoop_history.specs.History.{Legal, IsNext, flat, stores, operations, operation_of, is_store_to, last_or, IsNumbered}
 use Rattle.snoop_history.specs.Within.{IsItemWithin}
 use Rattle.snoop_history.specs.Kept.{IsKeptList}
 
@@ -38,8 +38,8 @@ listed-push cores blocks words items entry kept within numbered =
       in_order = each-grows IsNumbered items entry kept.in_order numbered;
     }
 
-pub legal-grows : (items : List Item) (entry : Item) → Legal items → Follows items entry → Legal (items ++ entry ∷ [])
-legal-grows items entry legal follows = each-grows Follows items entry legal follows
+pub legal-grows : (items : List Item) (entry : Item) → Legal items → IfSome (operation_of entry) (IsNext items) → Legal (items ++ entry ∷ [])
+legal-grows items entry legal next = each-grows (λ past x. IfSome (operation_of x) (IsNext past)) items entry legal next
 
 -- an element of a list stands at the same place of a longer one, after the same elements
 slice_get-front : {A : Type 0} (items rest : List A) (k : ℕ) (x : A) → slice_get items k ≡ Some x →

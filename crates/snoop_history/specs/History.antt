@@ -1,6 +1,6 @@
 -- What a list of items says: its operations, flat memory, and when it is legal.
 -- Source: the data value invariant of "A Primer on Memory Consistency and Cache Coherence", 2nd edition, put as flat memory; numbers and items are this project's profile.
-use Rattle.std.specs.Prelude.{◌≡◌, ℕ, Bool, not, ◌&&◌, ◌==◌, List, [], ◌∷◌, map, length, filter, filter_map, take, Option, Some, None, slice_get, MatchOption, ⊤, IsTrue, if◌then◌else◌}
+use Rattle.std.specs.Prelude.{◌≡◌, ℕ, Bool, not, ◌&&◌, ◌==◌, List, [], ◌∷◌, map, length, filter, filter_map, take, Option, Some, None, slice_get, IfSome, IsTrue, if◌then◌else◌}
 use Rattle.std.specs.List.{range_with_len}
 use Rattle.std.specs.Option.{option_map_or, ForSome}
 use Rattle.snoop_trace.specs.Words.{Data, word_places}
@@ -56,13 +56,9 @@ pub record IsNext (past : List Item) (did : Did) : Type 0 where
   pub numbered : did.number ≡ next_number past did.core
   pub loaded : IsTrue did.load → did.value ≡ flat past did.block did.word
 
--- an item may come next: its operation may, if it has one
-abbrev pub Follows : List Item → Item → Type 0
-Follows past entry = MatchOption (operation_of entry) ⊤ (IsNext past)
-
--- each item follows from the part before it
+-- each operation may come next after the items before it
 abbrev pub Legal : List Item → Type 0
-Legal items = (k : ℕ) (entry : Item) → slice_get items k ≡ Some entry → Follows (take k items) entry
+Legal items = (k : ℕ) (entry : Item) → slice_get items k ≡ Some entry → IfSome (operation_of entry) (IsNext (take k items))
 
 -- the operation of an item carries its core's next number
 abbrev pub IsNumbered : List Item → Item → Type 0

@@ -1,13 +1,13 @@
 //! Laws of histories and boards, for the proofs of callers.
-ghost use Rattle.std.specs.Prelude.{◌≡◌, ℕ, List, [], ◌∷◌, ◌++◌, fold, All};
+ghost use Rattle.std.specs.Prelude.{◌≡◌, ℕ, List, [], ◌∷◌, ◌++◌, fold, All, IfSome};
 ghost use Rattle.snoop_history.specs.declared.items.Item.{Item};
-ghost use Rattle.snoop_history.specs.History.{Legal, Follows, flat, stores};
+ghost use Rattle.snoop_history.specs.History.{Legal, IsNext, operation_of, flat, stores};
 ghost use Rattle.snoop_history.specs.Within.{IsItemWithin, inside};
 ghost use Rattle.snoop_history.specs.Board.{board_of, absorbed};
 
-/// A legal history stays legal when an item that may come next is added.
+/// A legal history stays legal when an item is added whose operation, if any, may come next.
 pub fn legal_grows()
-    ensures { (items : List Item) (entry : Item) → Legal items → Follows items entry → Legal (items ++ entry ∷ []) }
+    ensures { (items : List Item) (entry : Item) → Legal items → IfSome (operation_of entry) (IsNext items) → Legal (items ++ entry ∷ []) }
 {}
 
 /// The first items of a legal history are legal.

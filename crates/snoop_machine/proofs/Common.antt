@@ -29,7 +29,7 @@ pub use Rattle.snoop_model.specs.Pictures.Picture.{Picture, first_memory, free_p
 pub use Rattle.snoop_model.specs.Pictures.Proper.{IsProper, keeps, missed_request, request_for}
 pub use Rattle.snoop_model.specs.Pictures.Sends.{IsOnlySender, Sends}
 pub use Rattle.snoop_model.specs.Pictures.Situation.{IsHead, Situation, nothing_there, picture_of, state_of}
-pub use Rattle.snoop_model.specs.Runs.Run.{Goes, RunBy, RunFrom}
+pub use Rattle.snoop_model.specs.Runs.Run.{Goes, RunBy}
 pub use Rattle.snoop_model.specs.declared.access.Access.{Access}
 pub use Rattle.snoop_model.specs.declared.replies.Refused.{Refused}
 pub use Rattle.snoop_model.specs.declared.replies.Refused.TheVariants.{BusTaken, NoBlock, NoCore, NoMemory, NoTransaction, NothingWaiting, Stalled}

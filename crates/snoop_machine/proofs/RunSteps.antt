@@ -3,7 +3,7 @@ use Rattle.std.proofs.Common.{◌≡◌, ◌<◌, take, length, get_or, ℕ, ◌
 use Rattle.std.specs.Prelude.{Result, Ok, Err, is_ok, count_by}
 use Rattle.std.proofs.lemmas.List.Sums.{sum_by-append}
 use Rattle.std.proofs.lemmas.List.{take_more}
-use Rattle.snoop_machine.proofs.Common.{Step, Invariant, MachineKeeps, Goes, RunFrom, RunBy, Refused, NoMemory, Reply, Answers, AnswersSafely, HasRun, Standing}
+use Rattle.snoop_machine.proofs.Common.{Step, Invariant, MachineKeeps, Goes, RunBy, Refused, NoMemory, Reply, Answers, AnswersSafely, HasRun, Standing}
 use Rattle.snoop_model.proofs.Invariant.Safety.{is_safe}
 use Rattle.snoop_machine.proofs.StepKeeps.{step_keeps}
 use Rattle.snoop_model.proofs.Once.Runs.{run_once}
@@ -38,7 +38,7 @@ goes_so old step (Err NoMemory) new a = ap (λ (s : Standing). s.situation) a.0.
 goes_so old step (Err cause) new a = (a.0.0, ap (λ (s : Standing). s.situation) a.0.2)
 
 -- it is a run, in which each Order is on the block that stands first
-runs_on_run : (steps : List Step) (outcomes : List (Result Reply Refused)) (old new : Standing) → RunBy AnswersSafely old steps outcomes new → RunFrom old.situation steps outcomes new.situation
+runs_on_run : (steps : List Step) (outcomes : List (Result Reply Refused)) (old new : Standing) → RunBy AnswersSafely old steps outcomes new → RunBy Goes old.situation steps outcomes new.situation
 runs_on_run = seen_along AnswersSafely Goes (λ s. s.situation) goes_so
 
 pub has_run : (old new : Standing) (steps : List Step) (taken : ℕ) → Invariant old.situation → Going old steps taken new → HasRun old steps taken new

@@ -2,7 +2,7 @@
 ghost use Rattle.snoop_model.specs.Coherent.{IsCoherentRun};
 ghost use Rattle.snoop_model.specs.Runs.Run.{EveryRun, RunsAreOne, RunsGoOn, TakenBegins, TakenGoesOn};
 ghost use Rattle.snoop_model.specs.Runs.Safe.{RowsAreFound};
-ghost use Rattle.snoop_model.specs.Runs.Tallied.{AskedAreTallied};
+ghost use Rattle.snoop_model.specs.Runs.TakenOnce.{TakenOnce};
 
 /// Every run from reset is coherent, for every number of cores and blocks, under MSI and MESI.
 ///
@@ -40,6 +40,6 @@ pub fn taken_goes_on()
 
 /// Where steps were all taken from reset, each load and store that they ask stands in the history or waits, as often as it was
 /// asked.
-pub fn asked_are_tallied()
-    ensures { AskedAreTallied }
+pub fn taken_once()
+    ensures { TakenOnce }
 {}

@@ -1,13 +1,13 @@
 -- Flat memory and legality after a move's item.
 use Rattle.std.proofs.Common.{◌≡◌, ℕ, ◌<◌, length, arith, Bool, true, false, not, ◌&&◌, cond, eqb, List, [], ◌∷◌, ◌++◌, Option, Some, None, refl, inl, inr, ap, sym, ◌∙◌, subst}
-use Rattle.std.specs.Prelude.{option_to_list, slice_set, ⊤}
+use Rattle.std.specs.Prelude.{option_to_list, slice_set, IfSome, ⊤}
 use Rattle.std.proofs.lemmas.List.{append-nil, ext_get_or, length-set, get_or-set_same, get_or-set_other}
 use Rattle.std.proofs.lemmas.List.FromFn.{length-map-range_with_len, get_or-map-range_with_len}
 use Rattle.std.proofs.lemmas.Bool.Decides.{eqb_tells}
 use Rattle.snoop_trace.specs.Words.{word_at}
 use Rattle.snoop_model.proofs.Common.{Op, Did, Item, next_did}
 use Rattle.snoop_trace.specs.declared.step.Op.TheVariants as op
-use Rattle.snoop_history.specs.History.{operation_of, flat, flat_words, Legal, Follows, IsNext}
+use Rattle.snoop_history.specs.History.{operation_of, flat, flat_words, Legal, IsNext}
 use Rattle.snoop_history.proofs.Legal.{flat-grows, legal-grows}
 use Rattle.snoop_model.proofs.OneBlock.Operation.{did_in, flat_after, IsLawful}
 use Rattle.snoop_model.proofs.Lists.Facts.{either_way}
@@ -74,7 +74,7 @@ flat_logged log (Some entry) block b on = words_pushed log entry b (operation_of
 -- the move's item may come next, if there is one
 abbrev pub FollowsIn : List Item → Option Item → Type 0
 FollowsIn log None = ⊤
-FollowsIn log (Some entry) = Follows log entry
+FollowsIn log (Some entry) = IfSome (operation_of entry) (IsNext log)
 
 pub legal_logged : (log : List Item) (entry : Option Item) → Legal log → FollowsIn log entry → Legal (log ++ option_to_list entry)
 legal_logged log None legal follows = subst Legal (sym (append-nil log)) legal

@@ -5,7 +5,7 @@ use Rattle.std.proofs.lemmas.Option.{same_Some}
 use Rattle.snoop_model.proofs.Common.{Extent, Protocol, Step, Item, Reply, Refused, held_by, Situation, picture_of, state_of, reset, IsProper, keeps, MoveOn}
 use Rattle.snoop_history.specs.History.{flat}
 use Rattle.snoop_model.specs.Coherent.{IsCoherent}
-use Rattle.snoop_model.specs.Runs.Run.{Goes, RunFrom}
+use Rattle.snoop_model.specs.Runs.Run.{Goes, RunBy}
 use Rattle.snoop_model.specs.Invariant.Invariant.{Invariant}
 use Rattle.snoop_model.specs.Invariant.WellKept.{IsWellKept}
 use Rattle.snoop_model.specs.Invariant.MachineKeeps.{AreOnSenderLines, MachineKeeps}
@@ -91,6 +91,6 @@ goes_keeps_all old new step (Ok answer) keeps move = move_keeps_all move.1.0 old
 goes_keeps_all old new step (Err cause) keeps refused = rw (refusal_same old step cause new refused) keeps
 
 -- so does a run
-pub run_keeps_all : (steps : List Step) (outcomes : List (Result Reply Refused)) (old new : Situation) → MachineKeeps old → RunFrom old steps outcomes new
+pub run_keeps_all : (steps : List Step) (outcomes : List (Result Reply Refused)) (old new : Situation) → MachineKeeps old → RunBy Goes old steps outcomes new
     → MachineKeeps new
 run_keeps_all = kept_along Goes MachineKeeps (λ s step outcome t keeps goes. goes_keeps_all s t step outcome keeps goes)

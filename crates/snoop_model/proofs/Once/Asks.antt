@@ -1,90 +1,78 @@
--- How often an operation was done after a move's item, and what an Ask leaves waiting on one line: each load and store is done once or waits.
-use Rattle.std.proofs.Common.{◌≡◌, ℕ, ◌+◌, Bool, true, false, ◌&&◌, cond, eqb, List, [], ◌∷◌, ◌++◌, Option, Some, None, refl, ap, ◌∙◌, arith, sym}
-use Rattle.std.specs.Prelude.{option_to_list, count_by, ⊤, ◌==◌, option_map}
-use Rattle.std.proofs.lemmas.List.Sums.{sum_by-append}
-use Rattle.snoop_model.proofs.Once.Owed.{answers_are}
-use Rattle.snoop_model.proofs.Common.{Did, Item, Access, Protocol, Op, CacheState, CacheAction, Cell, asked, Reply, Line, IsProper, request_for, Takes, Performs, kept_waiting, is_load, next_did}
-use Rattle.snoop_history.specs.History.{answers_of}
+-- What an Ask leaves on one line, and what a move's item adds to a core's operations: each load and store is done once or waits.
+use Rattle.std.proofs.Common.{◌≡◌, ℕ, Bool, true, false, ◌&&◌, cond, eqb, List, [], ◌∷◌, ◌++◌, Option, Some, None, refl, ap, ◌∙◌, sym, append-nil}
+use Rattle.std.specs.Prelude.{option_to_list, filter_map, map, filter, ◌==◌, option_map, ⊤}
+use Rattle.std.specs.List.Sorted.{IsPermutation}
+use Rattle.std.proofs.lemmas.List.Sorted.{IsPermutation-refl, IsPermutation-append_comm}
+use Rattle.snoop_model.proofs.Common.{Did, Item, Access, Protocol, Op, Step, Ask, CacheState, CacheAction, Cell, asked, Reply, Line, IsProper, request_for, Takes, Performs, kept_waiting, next_did}
 use Rattle.snoop_history.proofs.Pushed.{of_core}
-use Rattle.snoop_model.specs.Runs.Once.{same_access, did_access, did_it, same_op}
-use Rattle.snoop_model.proofs.Lists.Facts.{one_if}
+use Rattle.snoop_model.specs.Runs.Once.{asked_access, did_access, accesses_in}
+use Rattle.snoop_model.proofs.Lists.Facts.{either_way}
 use Rattle.snoop_model.proofs.OneBlock.Operation.{did_in}
-use Rattle.std.specs.Option.{option_map_or}
+use Rattle.snoop_model.proofs.Once.Owed.{answers_are}
 use Rattle.snoop_trace.specs.declared.step.Op.TheVariants as op
 use Rattle.snoop_rules.specs.declared.names.CacheAction.TheVariants as action
 use Rattle.snoop_model.proofs.Tables.Rows.{issue-missed, drop_evicts}
 
--- 1 where the operation that was done is this one
-abbrev pub did_so : Access → Option Did → ℕ
-did_so wanted None = 0
-did_so wanted (Some did) = one_if (same_access wanted (did_access did))
+-- the operation that was done, if any
+abbrev pub done : Option Did → List Access
+done did = map did_access (option_to_list did)
 
 -- the operation is this core's on this block, if there is one
 abbrev pub IsBy : ℕ → ℕ → Option Did → Type 0
 IsBy core block None = ⊤
 IsBy core block (Some did) = (did.core ≡ core) × (did.block ≡ block)
 
-pub none_either : (x y : Bool) (z : ℕ) → z ≡ cond x (cond y z z) z
-none_either true true z = refl
-none_either true false z = refl
-none_either false y z = refl
-
-count_one : (block core : ℕ) (wanted : Access) (did : Did) → count_by (did_it block wanted) (of_core core (Some did)) ≡ cond (eqb did.core core) (cond (eqb did.block block) (one_if (same_access wanted (did_access did))) 0) 0
-count_one block core wanted did = go (eqb did.core core) (eqb did.block block) (same_access wanted (did_access did)) refl
+-- what an item has of a core and block: its operation, if it is by this core on this block
+pub accesses_one : (core block c b : ℕ) (entry : Option Item) → IsBy c b (did_in entry) → accesses_in (option_to_list entry) core block ≡ cond (eqb b block && eqb c core) (done (did_in entry)) []
+accesses_one core block c b entry by = rw (answers_are [] entry core) (of_one (did_in entry) by)
   where
-    go : (x y z : Bool) → (did_it block wanted did) ≡ (y && z) → count_by (did_it block wanted) (cond x (did ∷ []) []) ≡ cond x (cond y (one_if z) 0) 0
-    go false y z e = refl
-    go true true true e = rw e refl
-    go true true false e = rw e refl
-    go true false z e = rw e refl
+    of_did : (did : Did) (x y : Bool) → map did_access (filter (λ d. d.block == block) (cond y (did ∷ []) [])) ≡ map did_access (cond y (cond (did.block == block) (did ∷ []) []) [])
+    of_did did x true = refl
+    of_did did x false = refl
 
-count_of : (block core : ℕ) (wanted : Access) (c b : ℕ) (did : Option Did) → IsBy c b did → count_by (did_it block wanted) (of_core core did) ≡ cond (eqb c core) (cond (eqb b block) (did_so wanted did) 0) 0
-count_of block core wanted c b None by = none_either (eqb c core) (eqb b block) 0
-count_of block core wanted c b (Some did) by = rw (← by.0, ← by.1) (count_one block core wanted did)
+    either : (did : Did) (x y : Bool) → map did_access (cond y (cond x (did ∷ []) []) []) ≡ cond (x && y) (did_access did ∷ []) []
+    either did true true = refl
+    either did true false = refl
+    either did false true = refl
+    either did false false = refl
 
--- how often a core did it, with one item more
-pub count_logged : (block core : ℕ) (wanted : Access) (c b : ℕ) (log : List Item) (entry : Option Item) → IsBy c b (did_in entry)
-    → count_by (did_it block wanted) (answers_of (log ++ option_to_list entry) core) ≡ count_by (did_it block wanted) (answers_of log core) + cond (eqb c core) (cond (eqb b block) (did_so wanted (did_in entry)) 0) 0
-count_logged block core wanted c b log entry by =
-    let f = sum_by-append (λ x. cond (did_it block wanted x) 1 0) (answers_of log core) (of_core core (did_in entry)) in
-    rw (answers_are log entry core) (f ∙ ap (λ n. count_by (did_it block wanted) (answers_of log core) + n) (count_of block core wanted c b (did_in entry) by))
+    of_one : (did : Option Did) → IsBy c b did → map did_access (filter (λ d. d.block == block) (of_core core did)) ≡ cond (eqb b block && eqb c core) (done did) []
+    of_one None by = either_way (eqb b block && eqb c core) []
+    of_one (Some did) by = rw (← by.0, ← by.1) (of_did did true (did.core == core) ∙ either did (did.block == block) (did.core == core))
 
-abbrev pub waits_so : Access → Option Access → ℕ
-waits_so wanted waiting = option_map_or (λ access. one_if (same_access wanted access)) waiting 0
-
-pub no_evict : (wanted : Access) (word : ℕ) → one_if (same_access wanted (record { word = word; op = op.Evict })) ≡ 0
-no_evict wanted word = go wanted.op (wanted.word == word)
+-- what an Ask asks of a core and block
+pub asked_one : (core block c b word : ℕ) (asking : Op) → filter_map (asked_access core block) (Ask c b word asking ∷ []) ≡ cond (eqb b block && eqb c core) (option_to_list (kept_waiting word asking)) []
+asked_one core block c b word asking = go (eqb b block && eqb c core) (kept_waiting word asking)
   where
-    go : (o : Op) (x : Bool) → one_if (x && same_op o op.Evict) ≡ 0
-    go op.Evict true = refl
-    go _ true = refl
-    go o false = refl
+    go : (x : Bool) (o : Option Access) → filter_map (λ (step : Step). cond x o None) (Ask c b word asking ∷ []) ≡ cond x (option_to_list o) []
+    go true None = refl
+    go true (Some access) = refl
+    go false o = refl
 
-nothing_so : (wanted : Access) (waiting : Option Access) → option_map (λ access. request_for access.op) waiting ≡ None → waits_so wanted waiting ≡ 0
-nothing_so wanted None h = refl
-nothing_so wanted (Some access) h = cc
+-- where nothing is done, asked or changed, what waited waits
+pub unchanged : (waits : List Access) → IsPermutation (waits ++ []) waits
+unchanged waits = rw (append-nil waits) (IsPermutation-refl waits)
 
-kept_so : (wanted : Access) (word : ℕ) (asking : Op) → waits_so wanted (kept_waiting word asking) ≡ one_if (same_access wanted (record { word = word; op = asking }))
-kept_so wanted word op.Load = refl
-kept_so wanted word (op.Store v) = refl
-kept_so wanted word op.Evict = sym (no_evict wanted word)
-
--- the operation that was done is the one that was asked
-pub performed_so : (wanted : Access) (word : ℕ) (asking : Op) (before : List ℕ) (value : ℕ) (after : List ℕ) (did : Did) → Performs word asking before value after → did.word ≡ word → did.load ≡ is_load asking → did.value ≡ value
-    → one_if (same_access wanted (did_access did)) ≡ one_if (same_access wanted (record { word = word; op = asking }))
-performed_so wanted word op.Load before value after did h is_word is_loaded is_value = rw (is_word, is_loaded) refl
-performed_so wanted word (op.Store stored) before value after did h is_word is_loaded is_value = rw (is_word, is_loaded, is_value, h.0) refl
-performed_so wanted word op.Evict before value after did h is_word is_loaded is_value = absurd h
+-- the operation that was done is the one that was asked, and no eviction
+pub performed_so : (word : ℕ) (asking : Op) (before : List ℕ) (value : ℕ) (after : List ℕ) (log : List Item) (core block : ℕ) (hit : Bool) → Performs word asking before value after
+    → (did_access (next_did log core block word asking value hit) ≡ record { word = word; op = asking }) × (kept_waiting word asking ≡ Some (record { word = word; op = asking }))
+performed_so word op.Load before value after log core block hit h = (refl, refl)
+performed_so word (op.Store stored) before value after log core block hit h = rw h.0 (refl, refl)
+performed_so word op.Evict before value after log core block hit h = absurd h
 
 -- an Ask of one line
 pub line_once : (p : Protocol) (a : CacheAction) (next : CacheState) (log : List Item) (core block word : ℕ) (asking : Op) (old new : Line) (answer : Reply) (entry : Option Item) → IsProper old → Cell p old.state (asked asking) a next → Takes a next log core block word asking old new answer entry
-    → (wanted : Access) → waits_so wanted new.waiting + did_so wanted (did_in entry) ≡ waits_so wanted old.waiting + one_if (same_access wanted (record { word = word; op = asking }))
-line_once p action.Hit next log core block word asking old new answer entry proper row t wanted =
-    let did = performed_so wanted word asking t.1.0.before t.0 t.1.0.after (next_did log core block word asking t.0 true) t.1.0.performed refl refl refl in
-    rw (t.1.0.held, t.1.2) (ap (λ n. waits_so wanted old.waiting + n) did)
-line_once p (action.Issue q) next log core block word asking old new answer entry proper row t wanted =
-    let none = nothing_so wanted old.waiting (proper.waiting ∙ (issue-missed p old.state (asked asking) q next row).0) in
-    rw (t.0, t.2) (omega (arith, none, kept_so wanted word asking))
-line_once p action.Drop next log core block word asking old new answer entry proper row t wanted =
-    rw (t.0, t.2, drop_evicts p old.state asking next row) (omega (arith, no_evict wanted word))
-line_once p _ next log core block word asking old new answer entry proper row t wanted = absurd t
+    → IsPermutation (option_to_list old.waiting ++ option_to_list (kept_waiting word asking)) (done (did_in entry) ++ option_to_list new.waiting)
+line_once p action.Hit next log core block word asking old new answer entry proper row t =
+    let so = performed_so word asking t.1.0.before t.0 t.1.0.after log core block true t.1.0.performed in
+    rw (t.1.0.held, t.1.2, so.0, so.1) (IsPermutation-append_comm (option_to_list old.waiting) (record { word = word; op = asking } ∷ []))
+line_once p (action.Issue q) next log core block word asking old new answer entry proper row t =
+    let none = nothing_waits old.waiting (proper.waiting ∙ (issue-missed p old.state (asked asking) q next row).0) in
+    rw (t.0, t.2, none) (IsPermutation-refl (option_to_list (kept_waiting word asking)))
+  where
+    nothing_waits : (waiting : Option Access) → option_map (λ access. request_for access.op) waiting ≡ None → waiting ≡ None
+    nothing_waits None h = refl
+    nothing_waits (Some access) h = cc
+line_once p action.Drop next log core block word asking old new answer entry proper row t =
+    rw (t.0, t.2, drop_evicts p old.state asking next row) (unchanged (option_to_list old.waiting))
+line_once p _ next log core block word asking old new answer entry proper row t = absurd t

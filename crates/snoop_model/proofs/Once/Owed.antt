@@ -1,25 +1,23 @@
--- What waited, or was asked, waits or is its core's last operation: by the count of `once` alone.
-use Rattle.std.proofs.Common.{◌≡◌, ℕ, ◌+◌, ◌≤◌, ◌⊎◌, inl, inr, Bool, true, false, cond, ◌==◌, List, [], ◌∷◌, ◌++◌, map, Option, Some, None, refl, ap, arith, append-nil}
-use Rattle.std.specs.Prelude.{option_to_list, count_by}
-use Rattle.std.specs.Option.{option_map_or}
-use Rattle.std.proofs.lemmas.List.Sums.{sum_by-append}
-use Rattle.std.proofs.lemmas.Bool.{cases_Bool}
-use Rattle.snoop_model.proofs.Common.{Step, Did, Item, Access, held_by, Situation, picture_of}
+-- What waited, or was asked, waits or is its core's last operation: by `once` alone.
+use Rattle.std.proofs.Common.{◌≡◌, ℕ, zero, suc, ◌⊎◌, inl, inr, ◌==◌, List, [], ◌∷◌, ◌++◌, map, Option, Some, None, refl, ap, ◌∙◌, arith, append-nil}
+use Rattle.std.specs.Prelude.{option_to_list, Ok, Contains, drop, length, filter, filter_map}
+use Rattle.std.specs.List.Sorted.{IsPermutation}
+use Rattle.std.specs.List.{cons_option}
+use Rattle.std.proofs.lemmas.List.Sorted.{Contains-permutation, IsPermutation-sym}
+use Rattle.std.proofs.lemmas.List.Elements.{Contains-append_left, Contains-append_right, Contains-append_cases}
+use Rattle.std.proofs.Math.Seq.{drop-append_seam}
+use Rattle.std.proofs.lemmas.Bool.{cases_Bool, eqb-true}
+use Rattle.std.proofs.lemmas.Option.{same_Some}
+use Rattle.snoop_model.proofs.Common.{Step, Did, Item, Access, Reply, held_by, Situation, picture_of, FirstMove}
 use Rattle.snoop_history.specs.History.{answers_of, last_or}
 use Rattle.snoop_history.proofs.Pushed.{answers_of-push, of_core}
-use Rattle.snoop_model.specs.Runs.Once.{did_it, tally, waits_for, asks, same_access}
-use Rattle.snoop_model.proofs.Lists.Facts.{one_if}
-use Rattle.snoop_model.specs.Runs.Owed.{IsOwed, Owes}
+use Rattle.snoop_model.specs.Runs.Once.{asked_access, did_access, accesses_in, waiting_at, OnceMore}
+use Rattle.snoop_model.specs.Runs.Owed.{IsLast, IsOwed, Owes}
 use Rattle.snoop_model.proofs.OneBlock.Operation.{did_in}
 use Rattle.snoop_model.proofs.Runs.Logged.{move-log}
-use Rattle.snoop_model.proofs.Lists.Writes.{one_small}
-
--- the operation of an item, if there is one
-abbrev pub entry_op : Option Item → Option Did
-entry_op = did_in
 
 -- a core's operations with one item more
-pub answers_are : (log : List Item) (entry : Option Item) (core : ℕ) → answers_of (log ++ option_to_list entry) core ≡ answers_of log core ++ of_core core (entry_op entry)
+pub answers_are : (log : List Item) (entry : Option Item) (core : ℕ) → answers_of (log ++ option_to_list entry) core ≡ answers_of log core ++ of_core core (did_in entry)
 answers_are log None core = rw (append-nil log, append-nil (answers_of log core)) refl
 answers_are log (Some entry) core = answers_of-push log entry core
 
@@ -31,37 +29,72 @@ last_push : (o : Option Did) (xs : List Did) (d : Did) → last_or o (map (λ x.
 last_push o [] d = refl
 last_push o (x ∷ xs) d = last_push (Some x) xs d
 
-pub one_waits : (s : Situation) (core block : ℕ) (wanted : Access) → waits_for s core block wanted ≤ 1
-one_waits s core block wanted = by_op (held_by (picture_of s block) core).waiting
-  where
-    by_op : (o : Option Access) → option_map_or (λ access. one_if (same_access wanted access)) o 0 ≤ 1
-    by_op None = omega arith
-    by_op (Some access) = one_small (same_access wanted access)
+one_in : (o : Option Access) (wanted : Access) → o ≡ Some wanted → Contains (option_to_list o) wanted
+one_in o wanted is = rw is (zero, omega arith, refl)
 
--- more stand in the log or wait than the log had: it waits, or is the core's last operation
-waits_or_last : (s t : Situation) (core block : ℕ) (wanted : Access) (entry : Option Item) → count_by (did_it block wanted) (answers_of s.log core) + 1 ≤ tally t core block wanted → t.log ≡ s.log ++ option_to_list entry → IsOwed t core block wanted
-waits_or_last s t core block wanted entry more log = by_own (of_core core (entry_op entry)) (one_or_none core (entry_op entry)) (rw (← log) at (answers_are s.log entry core))
-  where
-    by_test : (d : Did) (b : Bool) → did_it block wanted d ≡ b → answers_of t.log core ≡ answers_of s.log core ++ d ∷ [] → IsOwed t core block wanted
-    by_test d true e answers = inr (d, rw answers (last_push None (answers_of s.log core) d), e)
-    by_test d false e answers =
-        let counts = sum_by-append (λ (x : Did). cond (did_it block wanted x) 1 0) (answers_of s.log core) (d ∷ []) in
-        let none : count_by (did_it block wanted) (d ∷ []) ≡ 0 = rw e refl in
-        inl (omega (arith, ap (count_by (did_it block wanted)) answers, counts, none, more, one_waits t core block wanted))
+in_one : (o : Option Access) (wanted : Access) → Contains (option_to_list o) wanted → o ≡ Some wanted
+in_one None wanted h = absurd (omega (arith, h.1))
+in_one (Some x) wanted (zero, inside, is) = ap Some is
+in_one (Some x) wanted (suc k, inside, is) = absurd (omega (arith, inside))
 
-    by_own : (own : List Did) → (own ≡ []) ⊎ ((d : Did) × (own ≡ d ∷ [])) → answers_of t.log core ≡ answers_of s.log core ++ own → IsOwed t core block wanted
-    by_own own (inl none) now =
-        let answers = rw (none, append-nil (answers_of s.log core)) at now in
-        inl (omega (arith, ap (count_by (did_it block wanted)) answers, more, one_waits t core block wanted))
-    by_own own (inr (d, is)) now = by_test d (did_it block wanted d) refl (rw is at now)
+cons_one : (o : Option Access) → cons_option o [] ≡ option_to_list o
+cons_one None = refl
+cons_one (Some x) = refl
 
-owed_after : (s t : Situation) (core block : ℕ) (wanted : Access) (entry : Option Item) (step : Step) → tally t core block wanted ≡ tally s core block wanted + count_by (asks core block wanted) (step ∷ []) → t.log ≡ s.log ++ option_to_list entry
-    → (waits_for s core block wanted ≡ 1) ⊎ (asks core block wanted step ≡ true) → IsOwed t core block wanted
-owed_after s t core block wanted entry step same log (inl waits) = waits_or_last s t core block wanted entry (omega (arith, same, waits)) log
-owed_after s t core block wanted entry step same log (inr asked) =
-    let one : count_by (asks core block wanted) (step ∷ []) ≡ 1 = rw asked refl in
-    waits_or_last s t core block wanted entry (omega (arith, same, one)) log
+module _ (s t : Situation) (step : Step) (answer : Reply) (entry : Option Item) (move : FirstMove s step answer t entry) (once : OnceMore s (step ∷ []) (Ok answer ∷ []) t) (core block : ℕ) (wanted : Access) where
+  -- the core's operations after the move
+  pub answers_after : answers_of t.log core ≡ answers_of s.log core ++ of_core core (did_in entry)
+  answers_after = ap (λ (l : List Item). answers_of l core) (move-log s t step answer entry move) ∙ answers_are s.log entry core
+
+  -- those of them on the block
+  abbrev done_here : List Access
+  done_here = map did_access (filter (λ d. d.block == block) (of_core core (did_in entry)))
+
+  balance : IsPermutation (waiting_at s core block ++ option_to_list (asked_access core block step)) (done_here ++ waiting_at t core block)
+  balance =
+      let since : drop (length s.log) t.log ≡ option_to_list entry = rw (move-log s t step answer entry move) (drop-append_seam s.log (option_to_list entry)) in
+      rw (since, answers_are [] entry core, cons_one (asked_access core block step)) at (once core block)
+
+  -- an operation that the move performs, or that waits after it, waited before it or is asked by it
+  pub waited_or_asked : Contains done_here wanted ⊎ ((held_by (picture_of t block) core).waiting ≡ Some wanted)
+      → ((held_by (picture_of s block) core).waiting ≡ Some wanted) ⊎ (asked_access core block step ≡ Some wanted)
+  waited_or_asked now =
+      let there : Contains (done_here ++ waiting_at t core block) wanted = elim now [
+        | inl did ↦ Contains-append_left done_here (waiting_at t core block) wanted did
+        | inr waits ↦ Contains-append_right done_here (waiting_at t core block) wanted (one_in _ wanted waits)
+      ] in
+      let was = Contains-permutation _ _ wanted (IsPermutation-sym _ _ balance) there in
+      elim (Contains-append_cases (waiting_at s core block) (option_to_list (asked_access core block step)) wanted was) [
+        | inl waited ↦ inl (in_one _ wanted waited)
+        | inr asked ↦ inr (in_one _ wanted asked)
+      ]
+
+  -- what waited before it, or is asked by it, is performed by it or waits
+  done_or_waits : ((held_by (picture_of s block) core).waiting ≡ Some wanted) ⊎ (asked_access core block step ≡ Some wanted)
+      → Contains done_here wanted ⊎ ((held_by (picture_of t block) core).waiting ≡ Some wanted)
+  done_or_waits was =
+      let asked = option_to_list (asked_access core block step) in
+      let there : Contains (waiting_at s core block ++ asked) wanted = elim was [
+        | inl waited ↦ Contains-append_left (waiting_at s core block) asked wanted (one_in _ wanted waited)
+        | inr is ↦ Contains-append_right (waiting_at s core block) asked wanted (one_in _ wanted is)
+      ] in
+      elim (Contains-append_cases done_here (waiting_at t core block) wanted (Contains-permutation _ _ wanted balance there)) [
+        | inl did ↦ inl did
+        | inr waits ↦ inr (in_one _ wanted waits)
+      ]
+
+  -- what the move performs is then the core's last operation
+  is_last : Contains done_here wanted → IsLast t core block wanted
+  is_last here = elim (one_or_none core (did_in entry)) [
+    | inl none ↦ absurd (omega (arith, (rw none at here).1))
+    | inr (d, is) ↦ elim (cases_Bool (d.block == block)) [
+      | inl on ↦ (d, rw (answers_after, is) (last_push None (answers_of s.log core) d), eqb-true d.block block on, same_Some _ _ (in_one (Some (did_access d)) wanted (rw (is, on) at here)))
+      | inr off ↦ absurd (omega (arith, (rw (is, off) at here).1))
+    ]
+  ]
+
+  pub owed_after : ((held_by (picture_of s block) core).waiting ≡ Some wanted) ⊎ (asked_access core block step ≡ Some wanted) → IsOwed t core block wanted
+  owed_after was = elim (done_or_waits was) [ inl here ↦ inr (is_last here) | inr waits ↦ inl waits ]
 
 pub owes : Owes
-owes s t step answer entry move once core block wanted was =
-    owed_after s t core block wanted entry step (once core block wanted) (move-log s t step answer entry move) was
+owes s t step answer entry move once core block wanted was = owed_after s t step answer entry move once core block wanted was

@@ -1,58 +1,76 @@
 -- Each load and store that a run asks is done once, or waits.
-use Rattle.std.proofs.Common.{◌≡◌, ℕ, ◌<◌, ◌+◌, Bool, true, false, ◌&&◌, cond, eqb, List, [], ◌∷◌, ◌++◌, length, Option, Some, refl, inl, inr, ap, sym, ◌∙◌, arith}
-use Rattle.std.specs.Prelude.{option_to_list, slice_set, count_by, Result, Ok, Err}
+use Rattle.std.proofs.Common.{◌≡◌, ℕ, ◌<◌, Bool, true, false, ◌&&◌, cond, eqb, List, [], ◌∷◌, ◌++◌, length, Option, Some, None, refl, inl, inr, ap, sym, ◌∙◌, arith, append-nil, append_assoc}
+use Rattle.std.specs.Prelude.{◌==◌, option_to_list, slice_set, drop, map, filter, filter_map, Result, Ok, Err}
+use Rattle.std.specs.List.Sorted.{IsPermutation}
+use Rattle.std.proofs.lemmas.List.Sorted.{IsPermutation-refl, IsPermutation-trans, IsPermutation-append_left, IsPermutation-append_right}
 use Rattle.std.proofs.lemmas.Bool.{cases_lt, eq-eqb, ne_eqb}
-use Rattle.std.proofs.lemmas.List.{get_or_past}
-use Rattle.std.proofs.lemmas.List.Sums.{sum_by-cons}
+use Rattle.std.proofs.Math.Seq.{drop-append_seam}
+use Rattle.std.proofs.lemmas.List.{get_or_past, map-append}
+use Rattle.std.proofs.lemmas.List.Elements.{filter-append, filter_map-append}
 use Rattle.snoop_model.proofs.Lists.Writes.{each_set}
-use Rattle.snoop_model.proofs.Common.{Extent, Protocol, Op, Step, Ask, Order, Respond, CacheState, CacheAction, Request, Did, Item, Open, after_order, Access, Reply, Refused, Line, Picture, held_at, held_by, nothing_held, with_line, Situation, picture_of, reset, Takes, FillsRequestor, Asks, Orders, Responds, IsWithin, MoveOn, next_did, came_of, queues_after}
+use Rattle.snoop_model.proofs.Lists.Facts.{either_way}
+use Rattle.snoop_model.proofs.Common.{Extent, Protocol, Op, Step, Ask, Order, Respond, CacheState, CacheAction, Request, Did, Item, Open, after_order, Access, Reply, Refused, Line, Picture, held_at, held_by, nothing_held, with_line, Situation, picture_of, reset, Takes, FillsRequestor, Asks, Orders, Responds, IsWithin, MoveOn, came_of, kept_waiting, queues_after}
 use Rattle.snoop_trace.specs.declared.step.Op.TheVariants as op
 use Rattle.snoop_rules.specs.declared.names.CacheAction.TheVariants as action
 use Rattle.snoop_history.specs.declared.items.Item.TheVariants as item
-use Rattle.snoop_model.specs.Runs.Run.{RunFrom}
-use Rattle.snoop_model.specs.Runs.Once.{same_access, waits_for, tally, asks, taken, OnceMore, Once}
-use Rattle.snoop_model.proofs.Lists.Facts.{one_if}
+use Rattle.snoop_history.specs.History.{answers_of, operations, operation_of}
+use Rattle.snoop_model.specs.Runs.Run.{RunBy, Goes}
+use Rattle.snoop_model.specs.Runs.Once.{asked_access, did_access, accesses_in, waiting_at, taken, OnceMore, Once}
 use Rattle.snoop_model.specs.Invariant.Invariant.{Invariant}
 use Rattle.snoop_model.proofs.OneBlock.Operation.{did_in}
 use Rattle.snoop_model.proofs.OneBlock.OfBlocks.{changed, each_picture, in_pictures}
 use Rattle.snoop_model.proofs.Lines.Answered.{by_request}
-use Rattle.snoop_model.proofs.Once.Asks.{waits_so, line_once, performed_so, no_evict, did_so, IsBy, none_either, count_logged}
+use Rattle.snoop_model.proofs.Once.Asks.{line_once, performed_so, IsBy, done, accesses_one, asked_one, unchanged}
 use Rattle.snoop_model.proofs.Invariant.Runs.{goes_keeps, refusal_same, reset_invariant, reset_line}
 
--- what waits on each core of a block, and what one core does there, against what waited and what it asks
-abbrev Balances : Situation → ℕ → List Line → ℕ → Access → ℕ → ℕ → Type 0
-Balances old b next c wanted done asked = (core : ℕ) → waits_so wanted (held_at next core).waiting + cond
-    (eqb c core) done 0 ≡ waits_for old core b wanted + cond (eqb c core) asked 0
+-- the log has these items more, and of each core and block what waited and what is asked is what they have and what waits
+pub record Grows (old : Situation) (since : List Item) (asked : ℕ → ℕ → List Access) (new : Situation) : Type 0 where
+  pub log : new.log ≡ old.log ++ since
+  pub once : (core block : ℕ) → IsPermutation (waiting_at old core block ++ asked core block) (accesses_in since core block ++ waiting_at new core block)
 
--- they balance where they do so on the one line that changes
-balances : (old : Situation) (b c : ℕ) (held : Line) (wanted : Access) (done asked : ℕ) → c < length (picture_of old b).caches
-    → waits_so wanted held.waiting + done ≡ waits_for old c b wanted + asked → Balances old b (slice_set (picture_of old b).caches c held) c wanted done asked
-balances old b c held wanted done asked inside here = each_set (picture_of old b).caches c held nothing_held
-    (λ k x. waits_so wanted x.waiting + cond (eqb c k) done 0 ≡ waits_for old k b wanted + cond (eqb c k) asked 0) inside
-    (rw (eq-eqb c c refl) here) (λ k apart. rw (ne_eqb c k (λ e. apart (sym e))) refl)
+accesses_in-append : (xs ys : List Item) (core block : ℕ) → accesses_in (xs ++ ys) core block ≡ accesses_in xs core block ++ accesses_in ys core block
+accesses_in-append xs ys core block =
+    rw (filter_map-append operation_of xs ys, filter-append (λ (d : Did). d.core == core) (operations xs) (operations ys), filter-append (λ (d : Did). d.block == block) (answers_of xs core) (answers_of ys core))
+    (map-append did_access (filter (λ (d : Did). d.block == block) (answers_of xs core)) (filter (λ (d : Did). d.block == block) (answers_of ys core)))
 
-one_if_both : (x y z : Bool) → one_if (x && (y && z)) ≡ cond x (cond y (one_if z) 0) 0
-one_if_both true true z = refl
-one_if_both true false z = refl
-one_if_both false y z = refl
+-- one growth after another
+grows_on : {old middle new : Situation} {first rest : List Item} {asked more : ℕ → ℕ → List Access} → Grows old first asked middle → Grows middle rest more new
+    → Grows old (first ++ rest) (λ core block. asked core block ++ more core block) new
+grows_on {old} {middle} {new} {first} {rest} {asked} {more} a b = record {
+  log = b.log ∙ ap (λ (l : List Item). l ++ rest) a.log ∙ append_assoc old.log first rest;
+  once = λ core block.
+      let w = waiting_at old core block in
+      let m = waiting_at middle core block in
+      let before = IsPermutation-append_left (more core block) _ _ (a.once core block) in
+      let after = IsPermutation-append_right (accesses_in first core block) _ _ (b.once core block) in
+      rw (
+        accesses_in-append first rest core block,
+        append_assoc (accesses_in first core block) (accesses_in rest core block) (waiting_at new core block),
+        ← append_assoc w (asked core block) (more core block),
+      )
+      (IsPermutation-trans _ _ _ (rw (append_assoc (accesses_in first core block) m (more core block)) at before) after);
+}
 
-never : (x y : Bool) → one_if (x && (y && false)) ≡ 0
-never x y = one_if_both x y false ∙ sym (none_either x y 0)
+-- where the one line that changes balances, so does each line of its block
+balances : (old : Situation) (b c : ℕ) (held : Line) (asked did : List Access) → c < length (picture_of old b).caches
+    → IsPermutation (option_to_list (held_by (picture_of old b) c).waiting ++ asked) (did ++ option_to_list held.waiting)
+    → (k : ℕ) → IsPermutation (waiting_at old k b ++ cond (eqb c k) asked []) (cond (eqb c k) did [] ++ option_to_list (held_at (slice_set (picture_of old b).caches c held) k).waiting)
+balances old b c held asked did inside here = each_set (picture_of old b).caches c held nothing_held
+    (λ k x. IsPermutation (waiting_at old k b ++ cond (eqb c k) asked []) (cond (eqb c k) did [] ++ option_to_list x.waiting)) inside
+    (rw (eq-eqb c c refl) here) (λ k apart. rw (ne_eqb c k (λ e. apart (sym e))) (unchanged (waiting_at old k b)))
 
--- how often the log and what waits have it after a move
-tallied : (old : Situation) (b : ℕ) → b < length old.pictures
-    → (next : Picture) (queues : List (List ℕ)) (entry : Option Item) (c : ℕ) (wanted : Access) (asked : Bool) → IsBy c b (did_in entry)
-    → Balances old b next.caches c wanted (did_so wanted (did_in entry)) (one_if asked)
-    → (core block : ℕ) → tally (changed old b next queues (old.log ++ option_to_list entry)) core block wanted ≡ tally old core block wanted + one_if (eqb c core && (eqb b block && asked))
-tallied old b within next queues entry c wanted asked by balance core block =
-    let log = old.log ++ option_to_list entry in
-    let done = did_so wanted (did_in entry) in
-    let logged = count_logged block core wanted c b old.log entry by in
-    let waiting = each_picture old b next queues log
-    (λ x picture. waits_so wanted (held_by picture core).waiting + cond (eqb c core) (cond (eqb b x) done 0) 0 ≡ waits_for old core x wanted + cond
-    (eqb c core) (cond (eqb b x) (one_if asked) 0) 0) within
-    (λ x apart. rw (ne_eqb b x (λ e. apart (sym e))) refl) (rw (eq-eqb b b refl) (balance core)) block in
-    omega (arith, one_if_both (eqb c core) (eqb b block) asked)
+-- where each line of the block balances, so does all
+grown : (old : Situation) (b : ℕ) → b < length old.pictures
+    → (next : Picture) (queues : List (List ℕ)) (entry : Option Item) (c : ℕ) (asked : List Access) → IsBy c b (did_in entry)
+    → ((k : ℕ) → IsPermutation (waiting_at old k b ++ cond (eqb c k) asked []) (cond (eqb c k) (done (did_in entry)) [] ++ option_to_list (held_by next k).waiting))
+    → Grows old (option_to_list entry) (λ core block. cond (eqb b block && eqb c core) asked []) (changed old b next queues (old.log ++ option_to_list entry))
+grown old b within next queues entry c asked by balance = record {
+  log = refl;
+  once = λ core block. rw (accesses_one core block c b entry by)
+      (each_picture old b next queues (old.log ++ option_to_list entry)
+      (λ x picture. IsPermutation (waiting_at old core x ++ cond (eqb b x && eqb c core) asked []) (cond (eqb b x && eqb c core) (done (did_in entry)) [] ++ option_to_list (held_by picture core).waiting))
+      within (λ x apart. rw (ne_eqb b x (λ e. apart (sym e))) (unchanged (waiting_at old core x))) (rw (eq-eqb b b refl) (balance core)) block);
+}
 
 takes_by : (a : CacheAction) (next : CacheState) (log : List Item) (core block word : ℕ) (asking : Op) (old new : Line) (answer : Reply) (entry : Option Item) → Takes a next log core block word asking old new answer entry → IsBy core block (did_in entry)
 takes_by action.Hit next log core block word asking old new answer entry t = rw t.1.2 (refl, refl)
@@ -60,85 +78,100 @@ takes_by (action.Issue r) next log core block word asking old new answer entry t
 takes_by action.Drop next log core block word asking old new answer entry t = rw t.2 tt
 takes_by _ next log core block word asking old new answer entry t = absurd t
 
-pub ask_once : (old : Situation) (c b word : ℕ) (asking : Op) (answer : Reply) (new : Situation) (entry : Option Item) → Invariant old → IsWithin old c b → Asks old c b word asking answer new entry → (core block : ℕ) (wanted : Access)
-    → tally new core block wanted ≡ tally old core block wanted + one_if (asks core block wanted (Ask c b word asking))
-ask_once old c b word asking answer new entry g within a core block wanted =
+-- what a step asks of a core and block
+abbrev asked_by : Step → ℕ → ℕ → List Access
+asked_by step core block = filter_map (asked_access core block) (step ∷ [])
+
+ask_grows : (old : Situation) (c b word : ℕ) (asking : Op) (answer : Reply) (new : Situation) (entry : Option Item) → Invariant old → IsWithin old c b → Asks old c b word asking answer new entry → Grows old (option_to_list entry) (asked_by (Ask c b word asking)) new
+ask_grows old c b word asking answer new entry g within a =
     let line = held_by (picture_of old b) c in
-    let asked = same_access wanted (record { word = word; op = asking }) in
-    let once = line_once old.protocol a.row.action a.row.next old.log c b word asking line a.held answer entry ((g.blocks b within.1).proper c within.0) a.is_row a.taken wanted in
-    let balance = balances old b c a.held wanted (did_so wanted (did_in entry)) (one_if asked) (rw (g.shaped.row b within.1) within.0) once in
+    let asked = option_to_list (kept_waiting word asking) in
+    let once = line_once old.protocol a.row.action a.row.next old.log c b word asking line a.held answer entry ((g.blocks b within.1).proper c within.0) a.is_row a.taken in
+    let balance = balances old b c a.held asked (done (did_in entry)) (rw (g.shaped.row b within.1) within.0) once in
     let by = takes_by a.row.action a.row.next old.log c b word asking line a.held answer entry a.taken in
-    rw a.after (tallied old b (in_pictures old b g.shaped within.1) (with_line (picture_of old b) c a.held) (queues_after a.row.action old.queues c b) entry c wanted asked by balance core block)
+    let all = grown old b (in_pictures old b g.shaped within.1) (with_line (picture_of old b) c a.held) (queues_after a.row.action old.queues c b) entry c asked by balance in
+    rw a.after (record { log = all.log; once = λ core block. rw (asked_one core block c b word asking) (all.once core block) })
+
+-- what asks nothing
+asks_nothing : {old new : Situation} {since : List Item} (b c : ℕ) → Grows old since (λ core block. cond (eqb b block && eqb c core) [] []) new → Grows old since (λ core block. []) new
+asks_nothing b c all = record { log = all.log; once = λ core block. rw (← either_way {A = List Access} (eqb b block && eqb c core) []) at (all.once core block) }
 
 -- an Order leaves each operation waiting
-order_waiting : (old : Situation) (core block : ℕ) (q : Request) (new : Situation) (o : Orders old core block q new) (wanted : Access) (k : ℕ) → waits_so wanted (held_by o.next k).waiting ≡ waits_so wanted (held_by (picture_of old block) k).waiting
-order_waiting old core block q new o wanted k = elim (cases_lt k (length (picture_of old block).caches)) [
-  | inl inside ↦ ap (λ (x : Line). waits_so wanted x.waiting) (o.taken.rows k inside).2
+order_waiting : (old : Situation) (core block : ℕ) (q : Request) (new : Situation) (o : Orders old core block q new) (k : ℕ) → (held_by o.next k).waiting ≡ (held_by (picture_of old block) k).waiting
+order_waiting old core block q new o k = elim (cases_lt k (length (picture_of old block).caches)) [
+  | inl inside ↦ ap (λ (x : Line). x.waiting) (o.taken.rows k inside).2
   | inr past ↦
       let long = o.taken.same_length in
       let e : held_by o.next k ≡ nothing_held = get_or_past o.next.caches k nothing_held (omega arith) in
       let f : held_by (picture_of old block) k ≡ nothing_held = get_or_past (picture_of old block).caches k nothing_held past in
-      ap (λ (x : Line). waits_so wanted x.waiting) (e ∙ sym f)
+      ap (λ (x : Line). x.waiting) (e ∙ sym f)
 ]
 
-pub order_once : (old : Situation) (c b : ℕ) (q : Request) (new : Situation) → Invariant old → IsWithin old c b → Orders old c b q new → (core block : ℕ) (wanted : Access) → tally new core block wanted ≡ tally old core block wanted + 0
-order_once old c b q new g within o core block wanted =
+order_grows : (old : Situation) (c b : ℕ) (q : Request) (new : Situation) → Invariant old → IsWithin old c b → Orders old c b q new
+    → Grows old (item.Sent (record { core = c; request = q; block = b }) ∷ []) (λ core block. []) new
+order_grows old c b q new g within o =
     let entry : Option Item = Some (item.Sent (record { core = c; request = q; block = b })) in
-    let balance : Balances old b o.next.caches c wanted 0 0 = λ k. ap (λ (n : ℕ). n + cond (eqb c k) 0 0) (order_waiting old c b q new o wanted k) in
-    rw o.after (tallied old b (in_pictures old b g.shaped within.1) o.next (after_order old.queues c b) entry c wanted false tt balance core block
-    ∙ ap (λ n. tally old core block wanted + n) (never (eqb c core) (eqb b block)))
+    rw o.after (asks_nothing b c (grown old b (in_pictures old b g.shaped within.1) o.next (after_order old.queues c b) entry c [] tt
+    (λ k. rw (order_waiting old c b q new o k, ← either_way {A = List Access} (eqb c k) []) (unchanged (waiting_at old k b)))))
 
--- a response leaves nothing waiting where it performs an operation
-fills_once : {closing : Open} {p : Protocol} {log : List Item} {old new : List Line} {did : Option Did} (f : FillsRequestor closing p log old new did) (wanted : Access)
-    → waits_so wanted f.line.waiting + did_so wanted did ≡ waits_so wanted (held_at old closing.core).waiting + 0
-fills_once {closing} {p} {log} f wanted =
-    let did = performed_so wanted f.asking.word f.asking.op closing.value f.value f.fills.after (next_did log closing.core closing.block f.asking.word f.asking.op f.value false) f.fills.performed refl refl refl in
-    rw (f.fills.held, f.fills.waited, f.logged) (omega (arith, did))
+-- a response performs what waited on the requestor's line
+fills_once : {closing : Open} {p : Protocol} {log : List Item} {old new : List Line} {did : Option Did} (f : FillsRequestor closing p log old new did)
+    → IsPermutation (option_to_list (held_at old closing.core).waiting ++ []) (done did ++ option_to_list f.line.waiting)
+fills_once {closing} {p} {log} f =
+    let so = performed_so f.asking.word f.asking.op closing.value f.value f.fills.after log closing.core closing.block false f.fills.performed in
+    rw (f.fills.held, f.fills.waited, f.logged, so.0) (IsPermutation-refl (f.asking ∷ []))
 
-pub respond_once : (old : Situation) (b : ℕ) (closing : Open) (did : Option Did) (new : Situation) → Invariant old → b < old.shape.blocks → Responds old b closing did new → (core block : ℕ) (wanted : Access) → tally new core block wanted ≡ tally old core block wanted + 0
-respond_once old b closing did new g within r core block wanted =
+respond_grows : (old : Situation) (b : ℕ) (closing : Open) (did : Option Did) (new : Situation) → Invariant old → b < old.shape.blocks → Responds old b closing did new
+    → Grows old (item.Came (came_of closing) did ∷ []) (λ core block. []) new
+respond_grows old b closing did new g within r =
     let in_row : closing.core < length (picture_of old b).caches = rw (g.shaped.row b within) ((g.blocks b within).requestor_in closing r.opened) in
-    let balanced : IsBy closing.core b did × Balances old b r.next.caches closing.core wanted (did_so wanted did) 0 = elim (by_request closing.request r.requestor) [
-      | inl put ↦ rw (put.2, put.1) (tt, λ k. refl)
-      | inr f ↦ (rw f.logged (refl, g.opened b closing r.opened), rw f.held (balances old b closing.core f.line wanted (did_so wanted did) 0 in_row (fills_once f wanted)))
+    let balanced : IsBy closing.core b did × ((k : ℕ) → IsPermutation (waiting_at old k b ++ cond (eqb closing.core k) [] []) (cond (eqb closing.core k) (done did) [] ++ option_to_list (held_by r.next k).waiting)) = elim (by_request closing.request r.requestor) [
+      | inl put ↦ rw (put.2, put.1) (tt, λ k. rw (← either_way {A = List Access} (eqb closing.core k) []) (unchanged (waiting_at old k b)))
+      | inr f ↦ (rw f.logged (refl, g.opened b closing r.opened), rw f.held (balances old b closing.core f.line [] (done did) in_row (fills_once f)))
     ] in
-    rw r.after (tallied old b (in_pictures old b g.shaped within) r.next old.queues (Some (item.Came (came_of closing) did)) closing.core wanted false balanced.0 balanced.1 core block
-    ∙ ap (λ n. tally old core block wanted + n) (never (eqb closing.core core) (eqb b block)))
+    rw r.after (asks_nothing b closing.core (grown old b (in_pictures old b g.shaped within) r.next old.queues (Some (item.Came (came_of closing) did)) closing.core [] balanced.0 balanced.1))
 
-absent_once : (wanted : Access) (word : ℕ) (asking : Op) (x y : Bool) → asking ≡ op.Evict → one_if (x && (y && same_access wanted (record { word = word; op = asking }))) ≡ 0
-absent_once wanted word asking x y e = one_if_both x y (same_access wanted (record { word = word; op = asking })) ∙ rw (e, no_evict wanted word) (sym (none_either x y 0))
+-- an Ask that is answered Absent
+absent_grows : (old : Situation) (c b word : ℕ) (asking : Op) → asking ≡ op.Evict → Grows old [] (asked_by (Ask c b word asking)) old
+absent_grows old c b word asking is = record {
+  log = sym (append-nil old.log);
+  once = λ core block. rw (asked_one core block c b word asking, is, ← either_way {A = List Access} (eqb b block && eqb c core) []) (unchanged (waiting_at old core block));
+}
 
 -- a move
-pub move_once : (block : ℕ) (old : Situation) (step : Step) (answer : Reply) (new : Situation) (entry : Option Item) → Invariant old → MoveOn block old step answer new entry → (core b : ℕ) (wanted : Access) → tally new core b wanted ≡ tally old core b wanted + one_if (asks core b wanted step)
-move_once block old (Ask c on word asking) answer new entry g m core b wanted = elim m.moves [
-  | inl idle ↦ rw idle.3 (omega (arith, absent_once wanted word asking (eqb c core) (eqb on b) idle.0))
-  | inr a ↦ rw m.on_block (ask_once old c block word asking answer new entry g m.within a core b wanted)
+move_grows : (block : ℕ) (old : Situation) (step : Step) (answer : Reply) (new : Situation) (entry : Option Item) → Invariant old → MoveOn block old step answer new entry → Grows old (option_to_list entry) (asked_by step) new
+move_grows block old (Ask c on word asking) answer new entry g m = elim m.moves [
+  | inl idle ↦ rw (idle.3, idle.4) (absent_grows old c on word asking idle.0)
+  | inr a ↦ rw m.on_block (ask_grows old c block word asking answer new entry g m.within a)
 ]
-move_once block old (Order c) answer new entry g m core b wanted = order_once old c block m.request new g m.within m.orders core b wanted
-move_once block old (Respond on) answer new entry g m core b wanted = respond_once old block m.closing m.did new g m.within m.responds core b wanted
+move_grows block old (Order c) answer new entry g m = rw m.logged (order_grows old c block m.request new g m.within m.orders)
+move_grows block old (Respond on) answer new entry g m = rw m.logged (respond_grows old block m.closing m.did new g m.within m.responds)
 
 -- a run, from any situation that keeps the invariant
-pub run_once : (steps : List Step) (outcomes : List (Result Reply Refused)) (old new : Situation) → Invariant old → RunFrom old steps outcomes new → OnceMore old steps outcomes new
-run_once [] [] old new g r core block wanted = rw r (omega arith)
-run_once (step ∷ steps) (Ok answer ∷ outcomes) old new g r core block wanted =
+run_grows : (steps : List Step) (outcomes : List (Result Reply Refused)) (old new : Situation) → Invariant old → RunBy Goes old steps outcomes new
+    → (since : List Item) × Grows old since (λ core block. filter_map (asked_access core block) (taken steps outcomes)) new
+run_grows [] [] old new g r = rw r ([], record { log = sym (append-nil old.log); once = λ core block. unchanged (waiting_at old core block) })
+run_grows (step ∷ steps) (Ok answer ∷ outcomes) old new g r =
     let middle = r.0 in
-    let x = move_once r.1.0.1.0 old step answer middle r.1.0.0 g r.1.0.1.1 core block wanted in
-    let y = run_once steps outcomes middle new (goes_keeps old step (Ok answer) middle g r.1.0) r.1.1 core block wanted in
-    let z : count_by (asks core block wanted) (taken (step ∷ steps) (Ok answer ∷ outcomes)) ≡ cond (asks core block wanted step) 1 0 + count_by (asks core block wanted) (taken steps outcomes) = sum_by-cons (λ x. cond (asks core block wanted x) 1 0) step (taken steps outcomes) in
-    omega arith
-run_once (step ∷ steps) (Err cause ∷ outcomes) old new g r core block wanted =
-    let middle = r.0 in
-    let y = run_once steps outcomes middle new (goes_keeps old step (Err cause) middle g r.1.0) r.1.1 core block wanted in
-    y ∙ ap (λ (s : Situation). tally s core block wanted + count_by (asks core block wanted) (taken steps outcomes)) (refusal_same old step cause middle r.1.0)
-run_once _ _ old new g r core block wanted = absurd r
+    let first = move_grows r.1.0.1.0 old step answer middle r.1.0.0 g r.1.0.1.1 in
+    let rest = run_grows steps outcomes middle new (goes_keeps old step (Ok answer) middle g r.1.0) r.1.1 in
+    let all = grows_on first rest.1 in
+    (option_to_list r.1.0.0 ++ rest.0, record { log = all.log; once = λ core block. rw (filter_map-append (asked_access core block) (step ∷ []) (taken steps outcomes)) (all.once core block) })
+run_grows (step ∷ steps) (Err cause ∷ outcomes) old new g r =
+    rw (← refusal_same old step cause r.0 r.1.0) (run_grows steps outcomes r.0 new (goes_keeps old step (Err cause) r.0 g r.1.0) r.1.1)
+run_grows _ _ old new g r = absurd r
 
--- nothing was done at reset, and nothing waits
-pub reset_tally : (p : Protocol) (shape : Extent) (core block : ℕ) (wanted : Access) → tally (reset p shape) core block wanted ≡ 0
-reset_tally p shape core block wanted = ap (λ (x : Line). 0 + waits_so wanted x.waiting) (reset_line p shape core block)
+-- the items that a longer log has more
+since_of : (old new since : List Item) → new ≡ old ++ since → drop (length old) new ≡ since
+since_of old new since more = rw more (drop-append_seam old since)
 
--- the loads and stores of a run from reset
-pub run_asked_once : (p : Protocol) (shape : Extent) (steps : List Step) (outcomes : List (Result Reply Refused)) (new : Situation) → RunFrom (reset p shape) steps outcomes new → Once steps outcomes new
-run_asked_once p shape steps outcomes new r core block wanted =
-    let x = run_once steps outcomes (reset p shape) new (reset_invariant p shape) r core block wanted in
-    let y = reset_tally p shape core block wanted in
-    omega arith
+pub run_once : (steps : List Step) (outcomes : List (Result Reply Refused)) (old new : Situation) → Invariant old → RunBy Goes old steps outcomes new → OnceMore old steps outcomes new
+run_once steps outcomes old new g r core block =
+    let grown = run_grows steps outcomes old new g r in
+    rw (since_of old.log new.log grown.0 grown.1.log) (grown.1.once core block)
+
+-- the loads and stores of a run from reset: nothing waits there, and the log is empty
+pub run_asked_once : (p : Protocol) (shape : Extent) (steps : List Step) (outcomes : List (Result Reply Refused)) (new : Situation) → RunBy Goes (reset p shape) steps outcomes new → Once steps outcomes new
+run_asked_once p shape steps outcomes new r core block =
+    let none : waiting_at (reset p shape) core block ≡ [] = ap (λ (x : Line). option_to_list x.waiting) (reset_line p shape core block) in
+    rw none at (run_once steps outcomes (reset p shape) new (reset_invariant p shape) r core block)

@@ -1,12 +1,12 @@
 -- Runs whose steps were all taken.
 use Rattle.std.proofs.Common.{◌≡◌, List, [], ◌∷◌, ◌++◌, map, refl, ap, sym, ◌∙◌, subst}
-use Rattle.std.specs.Prelude.{Result, Ok, Err, count_by}
+use Rattle.std.specs.Prelude.{Result, Ok, Err}
 use Rattle.snoop_model.proofs.Common.{Step, Reply, Refused, Situation, reset}
 use Rattle.snoop_model.specs.declared.replies.Refused.TheVariants.{NoMemory}
 use Rattle.std.proofs.lemmas.List.{map-append}
-use Rattle.snoop_model.specs.Runs.Once.{asks, taken}
-use Rattle.snoop_model.specs.Runs.Run.{Goes, GoesFirst, FirstRunFrom, RunFrom, TakenGoesOn}
-use Rattle.snoop_model.specs.Runs.Tallied.{AskedAreTallied}
+use Rattle.snoop_model.specs.Runs.Once.{taken}
+use Rattle.snoop_model.specs.Runs.Run.{Goes, GoesFirst, FirstRunFrom, RunBy, TakenGoesOn}
+use Rattle.snoop_model.specs.Runs.TakenOnce.{TakenOnce}
 use Rattle.snoop_model.proofs.Once.Runs.{run_asked_once}
 use Rattle.snoop_model.proofs.Runs.Along.{run_more, seen_along}
 
@@ -25,7 +25,7 @@ goes_on_any old step (Ok answer) new goes = (goes.0, (goes.1.0, goes.1.1.1))
 goes_on_any old step (Err NoMemory) new goes = goes.1
 goes_on_any old step (Err cause) new goes = goes
 
-as_run : (steps : List Step) (outcomes : List (Result Reply Refused)) (old new : Situation) → FirstRunFrom old steps outcomes new → RunFrom old steps outcomes new
+as_run : (steps : List Step) (outcomes : List (Result Reply Refused)) (old new : Situation) → FirstRunFrom old steps outcomes new → RunBy Goes old steps outcomes new
 as_run = seen_along GoesFirst Goes (λ s. s) goes_on_any
 
 -- none of them was refused
@@ -34,7 +34,7 @@ none_refused old new [] [] run = refl
 none_refused old new (step ∷ steps) (answer ∷ replies) run = ap (λ (rest : List Step). step ∷ rest) (none_refused run.0 new steps replies run.1.1)
 none_refused old new _ _ run = absurd run
 
-pub asked_are_tallied : AskedAreTallied
-asked_are_tallied protocol shape steps s all core block wanted =
-    let once = run_asked_once protocol shape steps (all_ok all.0) s (as_run steps (all_ok all.0) (reset protocol shape) s all.1) core block wanted in
-    once ∙ ap (λ (l : List Step). count_by (asks core block wanted) l) (none_refused (reset protocol shape) s steps all.0 all.1)
+pub taken_once : TakenOnce
+taken_once protocol shape steps s all core block =
+    rw (none_refused (reset protocol shape) s steps all.0 all.1) at
+    (run_asked_once protocol shape steps (all_ok all.0) s (as_run steps (all_ok all.0) (reset protocol shape) s all.1) core block)

@@ -6,7 +6,7 @@ use Rattle.snoop_model.proofs.Common.{Protocol, Op, Step, Ask, Order, Respond, C
 use Rattle.snoop_trace.specs.declared.step.Op.TheVariants as op
 use Rattle.snoop_rules.specs.declared.names.CacheAction.TheVariants as action
 use Rattle.snoop_model.specs.Moves.Replies.{Tells}
-use Rattle.snoop_model.specs.Runs.Run.{Goes, RunBy, RunFrom}
+use Rattle.snoop_model.specs.Runs.Run.{Goes, RunBy}
 use Rattle.snoop_model.proofs.Lines.Answered.{by_request}
 use Rattle.snoop_model.proofs.Tables.Rows.{issue_serves, drop_evicts}
 use Rattle.snoop_model.specs.Invariant.Invariant.{Invariant}
@@ -52,7 +52,7 @@ goes_tells old (Respond on) (Ok answer) new g goes =
 goes_tells old step (Err cause) new g goes = refusal_tells step cause (ap (λ (s : Situation). s.log) (refusal_same old step cause new goes))
 
 -- a run's history is what its outcomes tell
-pub run_tells : (steps : List Step) (outcomes : List (Result Reply Refused)) (old new : Situation) → Invariant old → RunFrom old steps outcomes new → RunBy Tells old.log steps outcomes new.log
+pub run_tells : (steps : List Step) (outcomes : List (Result Reply Refused)) (old new : Situation) → Invariant old → RunBy Goes old steps outcomes new → RunBy Tells old.log steps outcomes new.log
 run_tells [] [] old new g run = ap (λ (s : Situation). s.log) run
 run_tells (step ∷ steps) (outcome ∷ outcomes) old new g run =
     (run.0.log, (goes_tells old step outcome run.0 g run.1.0, run_tells steps outcomes run.0 new (goes_keeps old step outcome run.0 g run.1.0) run.1.1))

@@ -2,7 +2,7 @@
 use Rattle.std.proofs.Common.{◌≡◌, ℕ, List, Option, refl, ◌∙◌, inl, inr}
 use Rattle.std.specs.Prelude.{Result, Ok, Err}
 use Rattle.snoop_model.proofs.Common.{Step, Ask, Order, Respond, Item, Reply, Refused, Situation, MoveOn, FirstMove}
-use Rattle.snoop_model.specs.Runs.Run.{Goes, RunFrom}
+use Rattle.snoop_model.specs.Runs.Run.{Goes, RunBy}
 use Rattle.snoop_model.proofs.Invariant.Runs.{refusal_same}
 use Rattle.snoop_model.proofs.Runs.Along.{kept_along}
 
@@ -32,5 +32,5 @@ goes_stays : (old new : Situation) (step : Step) (outcome : Result Reply Refused
 goes_stays old new step (Ok answer) m = on_stays m.1.0 old new step answer m.0 m.1.1
 goes_stays old new step (Err cause) r = same_alike old new (refusal_same old step cause new r)
 
-pub run_stays : (steps : List Step) (outcomes : List (Result Reply Refused)) (old new : Situation) → RunFrom old steps outcomes new → IsAlike old new
+pub run_stays : (steps : List Step) (outcomes : List (Result Reply Refused)) (old new : Situation) → RunBy Goes old steps outcomes new → IsAlike old new
 run_stays steps outcomes old new = kept_along Goes (IsAlike old) (λ s step outcome t far goes. alike_on old s t far (goes_stays s t step outcome goes)) steps outcomes old new (refl, refl)

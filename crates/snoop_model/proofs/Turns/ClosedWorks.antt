@@ -1,11 +1,8 @@
 -- A work whose operation waits has a step left, so where it has none, its operation is the core's last one; and an Ask that issues no request leaves none.
 use Rattle.std.proofs.Common.{◌≡◌, ℕ, inl, inr, true, Option, Some, None, refl, sym, ◌∙◌, arith, List, ◌≢◌, ap, subst}
-use Rattle.std.specs.Option.{option_map_or}
 use Rattle.snoop_model.proofs.Common.{Op, Request, waiting_request, Access, held_by, Situation, picture_of, state_of, Ask, CacheState, CacheAction, Item, Open, queue_of, Reply, Line, Picture, with_line, FirstMove, Takes, queues_after}
 use Rattle.snoop_model.specs.Invariant.WellKept.{IsWellKept}
 use Rattle.snoop_model.specs.Turns.Turn.{turn_of, step_under_way}
-use Rattle.snoop_model.specs.Runs.Once.{waits_for, same_access}
-use Rattle.snoop_model.proofs.Lists.Facts.{one_if}
 use Rattle.snoop_model.specs.Runs.Owed.{ClosedIsLast, EndsAtOnce}
 use Rattle.snoop_model.proofs.Turns.WaitingWorks.{busy_cases, missed_busy}
 use Rattle.snoop_model.proofs.Turns.Rule.{none_left}
@@ -18,15 +15,10 @@ use Rattle.snoop_model.specs.declared.replies.Reply.TheVariants.{Issued}
 use Rattle.snoop_model.proofs.OneBlock.OfBlocks.{same_everywhere}
 use Rattle.snoop_model.proofs.Queues.Waiting.{waits_queued}
 
-pub some_waits : (o : Option Access) (wanted : Access) → option_map_or (λ access. one_if (same_access wanted access)) o 0 ≡ 1 → (access : Access) × (o ≡ Some access)
-some_waits None wanted e = absurd (omega arith)
-some_waits (Some access) wanted e = (access, refl)
-
-pub has_step : (s : Situation) (core block word : ℕ) (asking : Op) (wanted : Access) → IsWellKept s → waits_for s core block wanted ≡ 1 → turn_of s core block word asking true ≡ None → ⊥
+pub has_step : (s : Situation) (core block word : ℕ) (asking : Op) (wanted : Access) → IsWellKept s → (held_by (picture_of s block) core).waiting ≡ Some wanted → turn_of s core block word asking true ≡ None → ⊥
 has_step s core block word asking wanted kept waits none =
-    let it = some_waits (held_by (picture_of s block) core).waiting wanted waits in
     let left = none_left (waiting_request (state_of s core block)) (picture_of s block).transaction core block none in
-    elim (busy_cases (state_of s core block) (missed_busy (state_of s core block) (kept.operations core block it.0 it.1))) [
+    elim (busy_cases (state_of s core block) (missed_busy (state_of s core block) (kept.operations core block wanted waits))) [
       | inl w ↦ none-some w.0 (sym left.0 ∙ w.1)
       | inr a ↦ let its = kept.awaits core block a.0 a.1 in left.1 its.0 its.1.0 its.1.1
     ]

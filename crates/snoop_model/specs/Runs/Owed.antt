@@ -11,27 +11,29 @@ use Rattle.snoop_history.specs.History.{last_of}
 use Rattle.snoop_model.specs.declared.access.Access.{Access}
 use Rattle.snoop_model.specs.declared.replies.Reply.{Reply}
 use Rattle.snoop_model.specs.declared.replies.Reply.TheVariants.{Issued}
-use Rattle.snoop_model.specs.Pictures.Situation.{Situation}
+use Rattle.snoop_model.specs.Pictures.Picture.{held_by}
+use Rattle.snoop_model.specs.Pictures.Situation.{Situation, picture_of}
 use Rattle.snoop_model.specs.Moves.Move.{FirstMove}
-use Rattle.snoop_model.specs.Runs.Once.{did_it, waits_for, asks, OnceMore}
+use Rattle.snoop_model.specs.Runs.Once.{did_access, asked_access, OnceMore}
 use Rattle.snoop_model.specs.Invariant.WellKept.{IsWellKept}
 use Rattle.snoop_model.specs.Turns.Serving.{IsServing}
 use Rattle.snoop_model.specs.Turns.Turn.{turn_of}
 
 -- the last operation that the core performed is this one on the block
 abbrev pub IsLast : Situation → ℕ → ℕ → Access → Type 0
-IsLast s core block wanted = (did : Did) × (last_of s.log core ≡ Some did) × (did_it block wanted did ≡ true)
+IsLast s core block wanted = (did : Did) × (last_of s.log core ≡ Some did) × (did.block ≡ block) × (did_access did ≡ wanted)
 
 -- the core's operation on the block still waits, or is the last one that it performed
 abbrev pub IsOwed : Situation → ℕ → ℕ → Access → Type 0
-IsOwed s core block wanted = (waits_for s core block wanted ≡ 1) ⊎ IsLast s core block wanted
+IsOwed s core block wanted = ((held_by (picture_of s block) core).waiting ≡ Some wanted) ⊎ IsLast s core block wanted
 
 -- after a move, what waited before it or is asked by it is owed
 abbrev pub Owes : Type 0
 Owes =
     (s t : Situation) (step : Step) (answer : Reply) (entry : Option Item)
     → FirstMove s step answer t entry → OnceMore s (step ∷ []) (Ok answer ∷ []) t
-    → (core block : ℕ) (wanted : Access) → (waits_for s core block wanted ≡ 1) ⊎ (asks core block wanted step ≡ true) → IsOwed t core block wanted
+    → (core block : ℕ) (wanted : Access) → ((held_by (picture_of s block) core).waiting ≡ Some wanted) ⊎ (asked_access core block step ≡ Some wanted)
+    → IsOwed t core block wanted
 
 -- what is owed to a core whose work has no step left is its last operation
 abbrev pub ClosedIsLast : Type 0

@@ -24,10 +24,6 @@ RunBy One old [] [] new = new ≡ old
 RunBy {A} One old (step ∷ steps) (outcome ∷ outcomes) new = (middle : A) × (One old step outcome middle × RunBy One middle steps outcomes new)
 RunBy One old _ _ new = ⊥
 
--- from old, these steps with these outcomes lead to new, each step as `Goes` says
-abbrev pub RunFrom : Situation → List Step → List (Result Reply Refused) → Situation → Type 0
-RunFrom old steps outcomes new = RunBy Goes old steps outcomes new
-
 -- one step of the run of some steps: each Order is on the block that stands first, and memory is ample
 abbrev pub GoesFirst : Situation → Step → Result Reply Refused → Situation → Type 0
 GoesFirst old step (Ok answer) new = (entry : Option Item) × FirstMove old step answer new entry
@@ -49,7 +45,7 @@ AllTaken protocol shape steps new = (replies : List Reply) × TheRun protocol sh
 abbrev pub EveryRun : (Protocol → Extent → List Step → List (Result Reply Refused) → Situation → Type 0) → Type 0
 EveryRun P =
     (protocol : Protocol) (shape : Extent) (steps : List Step) (outcomes : List (Result Reply Refused)) (new : Situation) →
-    RunFrom (reset protocol shape) steps outcomes new → P protocol shape steps outcomes new
+    RunBy Goes (reset protocol shape) steps outcomes new → P protocol shape steps outcomes new
 
 -- from where the run of some steps has led, any further steps have a run too
 abbrev pub RunsGoOn : Type 0

@@ -1,16 +1,16 @@
 -- What was asked by steps that were all taken.
 -- Source: this project's profile.
-use Rattle.std.specs.Prelude.{◌≡◌, ℕ, List, count_by}
+use Rattle.std.specs.Prelude.{ℕ, List, ◌++◌, filter_map}
+use Rattle.std.specs.List.Sorted.{IsPermutation}
 use Rattle.snoop_trace.specs.Extent.{Extent}
 use Rattle.snoop_trace.specs.declared.step.Step.{Step}
 use Rattle.snoop_trace.specs.declared.protocol.Protocol.{Protocol}
-use Rattle.snoop_model.specs.declared.access.Access.{Access}
 use Rattle.snoop_model.specs.Pictures.Situation.{Situation}
 use Rattle.snoop_model.specs.Runs.Run.{AllTaken}
-use Rattle.snoop_model.specs.Runs.Once.{asks, tally}
+use Rattle.snoop_model.specs.Runs.Once.{asked_access, accesses_in, waiting_at}
 
--- each load and store stands in the log or waits, as often as it was asked
-abbrev pub AskedAreTallied : Type 0
-AskedAreTallied =
+-- the loads and stores that they ask are those in the log and those that wait, each as often
+abbrev pub TakenOnce : Type 0
+TakenOnce =
     (protocol : Protocol) (shape : Extent) (steps : List Step) (s : Situation) → AllTaken protocol shape steps s
-    → (core block : ℕ) (wanted : Access) → tally s core block wanted ≡ count_by (asks core block wanted) steps
+    → (core block : ℕ) → IsPermutation (filter_map (asked_access core block) steps) (accesses_in s.log core block ++ waiting_at s core block)

@@ -1,0 +1,5 @@
+use Rattle.snoop_model.proofs.Runs.AllTaken.{taken_once}
+use Rattle.snoop_model.proofs.laws.taken_once.Goals as goal
+
+pub returns : goal.returns
+returns c = taken_once
