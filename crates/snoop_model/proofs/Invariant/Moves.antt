@@ -106,20 +106,20 @@ module _ (s : Situation) (core block word : ℕ) (asking : Op) (next : CacheStat
   takes_item action.Drop t within lawful = rw t.2 (record { on = tt; follows = tt; logged = tt })
   takes_item _ t within lawful = absurd t
 
-pub ask_moves : (old : Situation) (core block word : ℕ) (asking : Op) (answer : Reply) (new : Situation) (entry : Option Item) → Invariant old → IsWithin old core block → HasWord old.shape word asking → Asks old core block word asking answer new entry → Invariant new
-ask_moves old core block word asking answer new entry g within there a =
+pub ask_moves : (old : Situation) (core block word : ℕ) (asking : Op) (answer : Reply) (new : Situation) → Invariant old → IsWithin old core block → HasWord old.shape word asking → Asks old core block word asking answer new → Invariant new
+ask_moves old core block word asking answer new g within there a =
     let before : Picture = picture_of old block in
     let in_row : core < length before.caches = rw (g.shaped.row block within.1) within.0 in
-    let k = ask_keeps old core block word asking answer new entry a old.shape.cores (flat_words old.log block) (g.blocks block within.1) within.0 in_row in
-    rw a.after (kept old block (with_line before core a.held) (queues_after a.row.action old.queues core block) entry g (record {
+    let k = ask_keeps old core block word asking answer new a old.shape.cores (flat_words old.log block) (g.blocks block within.1) within.0 in_row in
+    rw a.after (kept old block (with_line before core a.held) (queues_after a.row.action old.queues core block) a.entry g (record {
       within = within.1;
       as_wide = length-set before.caches core a.held;
       as_many_queues = as_many_after a.row.action old.queues core block;
       opened = g.opened block;
       block_after = k.0;
-      item = takes_item old core block word asking a.row.next (held_by before core) a.held answer entry there a.row.action a.taken within k.1;
+      item = takes_item old core block word asking a.row.next (held_by before core) a.held answer a.entry there a.row.action a.taken within k.1;
       accesses = each_set before.caches core a.held nothing_held (λ c. AccessWithin old.shape) in_row
-          (takes_access old core block word asking a.row.next (held_by before core) a.held answer entry there a.row.action a.taken (g.accesses core block))
+          (takes_access old core block word asking a.row.next (held_by before core) a.held answer a.entry there a.row.action a.taken (g.accesses core block))
           (λ c apart. g.accesses c block);
     }))
 
@@ -172,10 +172,10 @@ respond_moves old block closing did new g within r =
     }))
 
 -- a move keeps the invariant
-pub move_keeps : (block : ℕ) (old : Situation) (step : Step) (answer : Reply) (new : Situation) (entry : Option Item) → Invariant old → MoveOn block old step answer new entry → Invariant new
-move_keeps block old (Ask core on word asking) answer new entry g m = elim m.moves [
+pub move_keeps : (block : ℕ) (old : Situation) (step : Step) (answer : Reply) (new : Situation) → Invariant old → MoveOn block old step answer new → Invariant new
+move_keeps block old (Ask core on word asking) answer new g m = elim m.moves [
   | inl idle ↦ rw idle.3 g
-  | inr a ↦ ask_moves old core block word asking answer new entry g m.within m.has_word a
+  | inr a ↦ ask_moves old core block word asking answer new g m.within m.has_word a
 ]
-move_keeps block old (Order core) answer new entry g m = order_moves old core block m.request new g m.within m.orders
-move_keeps block old (Respond on) answer new entry g m = respond_moves old block m.closing m.did new g m.within m.responds
+move_keeps block old (Order core) answer new g m = order_moves old core block m.request new g m.within m.orders
+move_keeps block old (Respond on) answer new g m = respond_moves old block m.closing m.did new g m.within m.responds

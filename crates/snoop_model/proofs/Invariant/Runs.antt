@@ -100,5 +100,5 @@ refusal_same old step NoMemory new r = r
 refusal_same old step cause new r = r.1
 
 pub goes_keeps : (old : Situation) (step : Step) (outcome : Result Reply Refused) (new : Situation) → Invariant old → Goes old step outcome new → Invariant new
-goes_keeps old step (Ok answer) new g m = move_keeps m.1.0 old step answer new m.0 g m.1.1
+goes_keeps old step (Ok answer) new g m = move_keeps m.0 old step answer new g m.1
 goes_keeps old step (Err cause) new g r = rw (refusal_same old step cause new r) g

@@ -78,16 +78,16 @@ reset_keeps protocol shape = record {
   well_kept = (starts_well protocol shape (λ core. None)).0;
 }
 
-pub move_keeps_all : (block : ℕ) (old new : Situation) (step : Step) (answer : Reply) (entry : Option Item) → MachineKeeps old
-    → MoveOn block old step answer new entry → MachineKeeps new
-move_keeps_all block old new step answer entry keeps move = record {
-  inductive = move_keeps block old step answer new entry keeps.inductive move;
-  on_lines = move_on_lines block old step answer new entry keeps.inductive keeps.on_lines move;
-  well_kept = on_kept block old new step answer entry keeps.well_kept move;
+pub move_keeps_all : (block : ℕ) (old new : Situation) (step : Step) (answer : Reply) → MachineKeeps old
+    → MoveOn block old step answer new → MachineKeeps new
+move_keeps_all block old new step answer keeps move = record {
+  inductive = move_keeps block old step answer new keeps.inductive move;
+  on_lines = move_on_lines block old step answer new keeps.inductive keeps.on_lines move;
+  well_kept = on_kept block old new step answer keeps.well_kept move;
 }
 
 goes_keeps_all : (old new : Situation) (step : Step) (outcome : Result Reply Refused) → MachineKeeps old → Goes old step outcome new → MachineKeeps new
-goes_keeps_all old new step (Ok answer) keeps move = move_keeps_all move.1.0 old new step answer move.0 keeps move.1.1
+goes_keeps_all old new step (Ok answer) keeps move = move_keeps_all move.0 old new step answer keeps move.1
 goes_keeps_all old new step (Err cause) keeps refused = rw (refusal_same old step cause new refused) keeps
 
 -- so does a run

@@ -34,7 +34,7 @@ open_is_by_table s g lines block = if_some (picture_of s block).transaction (IsO
     record {
       before = line.0;
       on_line = line.1;
-      settled = λ answer new entry m.
+      settled = λ answer new m.
           let r = m.responds in
           let there : picture_of new block ≡ r.next = respond_here s block m.closing m.did new g m.within r in
           let same : m.closing ≡ o = same_Some _ _ (sym r.opened ∙ is) in
@@ -54,16 +54,16 @@ on_lines old g lines block within next here =
     each_picture old block next old.queues old.log (λ b. OnLine old.protocol) (in_pictures old block g.shaped within) (λ b apart. lines b) here
 
 -- a move keeps the lines: an Ask changes neither memory nor a transaction
-pub move_on_lines : (block : ℕ) (old : Situation) (step : Step) (answer : Reply) (new : Situation) (entry : Option Item) → Invariant old → AreOnSenderLines old → MoveOn block old step answer new entry → AreOnSenderLines new
-move_on_lines block old (Ask core on word asking) answer new entry g lines m = elim m.moves [
+pub move_on_lines : (block : ℕ) (old : Situation) (step : Step) (answer : Reply) (new : Situation) → Invariant old → AreOnSenderLines old → MoveOn block old step answer new → AreOnSenderLines new
+move_on_lines block old (Ask core on word asking) answer new g lines m = elim m.moves [
   | inl absent ↦ rw absent.3 lines
   | inr a ↦ rw a.after (on_lines old g lines block m.within.1 (with_line (picture_of old block) core a.held) (lines block))
 ]
-move_on_lines block old (Order core) answer new entry g lines m =
+move_on_lines block old (Order core) answer new g lines m =
     let o = m.orders in
     rw o.after (on_lines old g lines block m.within.1 o.next
     (rw o.opened (picture_of old block, order_is_line old g core block m.request new o)))
-move_on_lines block old (Respond on) answer new entry g lines m =
+move_on_lines block old (Respond on) answer new g lines m =
     rw m.responds.after (on_lines old g lines block m.within m.responds.next (rw m.responds.closed tt))
 
 pub reset_on_lines : (p : Protocol) (shape : Extent) → AreOnSenderLines (reset p shape)

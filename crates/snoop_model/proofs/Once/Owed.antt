@@ -1,11 +1,10 @@
 -- What waited, or was asked, waits or is its core's last operation: by `once` alone.
 use Rattle.std.proofs.Common.{◌≡◌, ℕ, zero, suc, ◌⊎◌, inl, inr, ◌==◌, List, [], ◌∷◌, ◌++◌, map, Option, Some, None, refl, ap, ◌∙◌, arith, append-nil}
-use Rattle.std.specs.Prelude.{option_to_list, Ok, Contains, drop, length, filter, filter_map}
+use Rattle.std.specs.Prelude.{option_to_list, Ok, Contains, filter, filter_map}
 use Rattle.std.specs.List.Sorted.{IsPermutation}
 use Rattle.std.specs.List.{cons_option}
 use Rattle.std.proofs.lemmas.List.Sorted.{Contains-permutation, IsPermutation-sym}
 use Rattle.std.proofs.lemmas.List.Elements.{Contains-append_left, Contains-append_right, Contains-append_cases}
-use Rattle.std.proofs.Math.Seq.{drop-append_seam}
 use Rattle.std.proofs.lemmas.Bool.{cases_Bool, eqb-true}
 use Rattle.std.proofs.lemmas.Option.{same_Some}
 use Rattle.snoop_model.proofs.Common.{Step, Did, Item, Access, Reply, held_by, Situation, picture_of, FirstMove}
@@ -14,7 +13,7 @@ use Rattle.snoop_history.proofs.Pushed.{answers_of-push, of_core}
 use Rattle.snoop_model.specs.Runs.Once.{asked_access, did_access, accesses_in, waiting_at, OnceMore}
 use Rattle.snoop_model.specs.Runs.Owed.{IsLast, IsOwed, Owes}
 use Rattle.snoop_model.proofs.OneBlock.Operation.{did_in}
-use Rattle.snoop_model.proofs.Runs.Logged.{move-log}
+use Rattle.snoop_model.proofs.Runs.Logged.{move-log, since_of}
 
 -- a core's operations with one item more
 pub answers_are : (log : List Item) (entry : Option Item) (core : ℕ) → answers_of (log ++ option_to_list entry) core ≡ answers_of log core ++ of_core core (did_in entry)
@@ -41,19 +40,23 @@ cons_one : (o : Option Access) → cons_option o [] ≡ option_to_list o
 cons_one None = refl
 cons_one (Some x) = refl
 
-module _ (s t : Situation) (step : Step) (answer : Reply) (entry : Option Item) (move : FirstMove s step answer t entry) (once : OnceMore s (step ∷ []) (Ok answer ∷ []) t) (core block : ℕ) (wanted : Access) where
-  -- the core's operations after the move
-  pub answers_after : answers_of t.log core ≡ answers_of s.log core ++ of_core core (did_in entry)
-  answers_after = ap (λ (l : List Item). answers_of l core) (move-log s t step answer entry move) ∙ answers_are s.log entry core
+module _ (s t : Situation) (step : Step) (answer : Reply) (move : FirstMove s step answer t) (once : OnceMore s (step ∷ []) (Ok answer ∷ []) t) (core block : ℕ) (wanted : Access) where
+  -- the operation that the move performs, if any
+  abbrev pub did_now : Option Did
+  did_now = did_in (move-log s t step answer move).0
+
+  -- the core's operations after it
+  pub answers_after : answers_of t.log core ≡ answers_of s.log core ++ of_core core did_now
+  answers_after = ap (λ (l : List Item). answers_of l core) (move-log s t step answer move).1 ∙ answers_are s.log (move-log s t step answer move).0 core
 
   -- those of them on the block
   abbrev done_here : List Access
-  done_here = map did_access (filter (λ d. d.block == block) (of_core core (did_in entry)))
+  done_here = map did_access (filter (λ d. d.block == block) (of_core core did_now))
 
   balance : IsPermutation (waiting_at s core block ++ option_to_list (asked_access core block step)) (done_here ++ waiting_at t core block)
   balance =
-      let since : drop (length s.log) t.log ≡ option_to_list entry = rw (move-log s t step answer entry move) (drop-append_seam s.log (option_to_list entry)) in
-      rw (since, answers_are [] entry core, cons_one (asked_access core block step)) at (once core block)
+      let logged = move-log s t step answer move in
+      rw (since_of s.log t.log (option_to_list logged.0) logged.1, answers_are [] logged.0 core, cons_one (asked_access core block step)) at (once core block)
 
   -- an operation that the move performs, or that waits after it, waited before it or is asked by it
   pub waited_or_asked : Contains done_here wanted ⊎ ((held_by (picture_of t block) core).waiting ≡ Some wanted)
@@ -85,7 +88,7 @@ module _ (s t : Situation) (step : Step) (answer : Reply) (entry : Option Item) 
 
   -- what the move performs is then the core's last operation
   is_last : Contains done_here wanted → IsLast t core block wanted
-  is_last here = elim (one_or_none core (did_in entry)) [
+  is_last here = elim (one_or_none core did_now) [
     | inl none ↦ absurd (omega (arith, (rw none at here).1))
     | inr (d, is) ↦ elim (cases_Bool (d.block == block)) [
       | inl on ↦ (d, rw (answers_after, is) (last_push None (answers_of s.log core) d), eqb-true d.block block on, same_Some _ _ (in_one (Some (did_access d)) wanted (rw (is, on) at here)))
@@ -97,4 +100,4 @@ module _ (s t : Situation) (step : Step) (answer : Reply) (entry : Option Item) 
   owed_after was = elim (done_or_waits was) [ inl here ↦ inr (is_last here) | inr waits ↦ inl waits ]
 
 pub owes : Owes
-owes s t step answer entry move once core block wanted was = owed_after s t step answer entry move once core block wanted was
+owes s t step answer move once core block wanted was = owed_after s t step answer move once core block wanted was

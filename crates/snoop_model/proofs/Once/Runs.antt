@@ -1,10 +1,10 @@
 -- Each load and store that a run asks is done once, or waits.
 use Rattle.std.proofs.Common.{◌≡◌, ℕ, ◌<◌, Bool, true, false, ◌&&◌, cond, eqb, List, [], ◌∷◌, ◌++◌, length, Option, Some, None, refl, inl, inr, ap, sym, ◌∙◌, arith, append-nil, append_assoc}
-use Rattle.std.specs.Prelude.{◌==◌, option_to_list, slice_set, drop, map, filter, filter_map, Result, Ok, Err}
+use Rattle.std.specs.Prelude.{◌==◌, option_to_list, slice_set, map, filter, filter_map, Result, Ok, Err}
 use Rattle.std.specs.List.Sorted.{IsPermutation}
 use Rattle.std.proofs.lemmas.List.Sorted.{IsPermutation-refl, IsPermutation-trans, IsPermutation-append_left, IsPermutation-append_right}
 use Rattle.std.proofs.lemmas.Bool.{cases_lt, eq-eqb, ne_eqb}
-use Rattle.std.proofs.Math.Seq.{drop-append_seam}
+use Rattle.snoop_model.proofs.Runs.Logged.{since_of}
 use Rattle.std.proofs.lemmas.List.{get_or_past, map-append}
 use Rattle.std.proofs.lemmas.List.Elements.{filter-append, filter_map-append}
 use Rattle.snoop_model.proofs.Lists.Writes.{each_set}
@@ -82,14 +82,14 @@ takes_by _ next log core block word asking old new answer entry t = absurd t
 abbrev asked_by : Step → ℕ → ℕ → List Access
 asked_by step core block = filter_map (asked_access core block) (step ∷ [])
 
-ask_grows : (old : Situation) (c b word : ℕ) (asking : Op) (answer : Reply) (new : Situation) (entry : Option Item) → Invariant old → IsWithin old c b → Asks old c b word asking answer new entry → Grows old (option_to_list entry) (asked_by (Ask c b word asking)) new
-ask_grows old c b word asking answer new entry g within a =
+ask_grows : (old : Situation) (c b word : ℕ) (asking : Op) (answer : Reply) (new : Situation) → Invariant old → IsWithin old c b → (a : Asks old c b word asking answer new) → Grows old (option_to_list a.entry) (asked_by (Ask c b word asking)) new
+ask_grows old c b word asking answer new g within a =
     let line = held_by (picture_of old b) c in
     let asked = option_to_list (kept_waiting word asking) in
-    let once = line_once old.protocol a.row.action a.row.next old.log c b word asking line a.held answer entry ((g.blocks b within.1).proper c within.0) a.is_row a.taken in
-    let balance = balances old b c a.held asked (done (did_in entry)) (rw (g.shaped.row b within.1) within.0) once in
-    let by = takes_by a.row.action a.row.next old.log c b word asking line a.held answer entry a.taken in
-    let all = grown old b (in_pictures old b g.shaped within.1) (with_line (picture_of old b) c a.held) (queues_after a.row.action old.queues c b) entry c asked by balance in
+    let once = line_once old.protocol a.row.action a.row.next old.log c b word asking line a.held answer a.entry ((g.blocks b within.1).proper c within.0) a.is_row a.taken in
+    let balance = balances old b c a.held asked (done (did_in a.entry)) (rw (g.shaped.row b within.1) within.0) once in
+    let by = takes_by a.row.action a.row.next old.log c b word asking line a.held answer a.entry a.taken in
+    let all = grown old b (in_pictures old b g.shaped within.1) (with_line (picture_of old b) c a.held) (queues_after a.row.action old.queues c b) a.entry c asked by balance in
     rw a.after (record { log = all.log; once = λ core block. rw (asked_one core block c b word asking) (all.once core block) })
 
 -- what asks nothing
@@ -139,13 +139,13 @@ absent_grows old c b word asking is = record {
 }
 
 -- a move
-move_grows : (block : ℕ) (old : Situation) (step : Step) (answer : Reply) (new : Situation) (entry : Option Item) → Invariant old → MoveOn block old step answer new entry → Grows old (option_to_list entry) (asked_by step) new
-move_grows block old (Ask c on word asking) answer new entry g m = elim m.moves [
-  | inl idle ↦ rw (idle.3, idle.4) (absent_grows old c on word asking idle.0)
-  | inr a ↦ rw m.on_block (ask_grows old c block word asking answer new entry g m.within a)
+move_grows : (block : ℕ) (old : Situation) (step : Step) (answer : Reply) (new : Situation) → Invariant old → MoveOn block old step answer new → (since : List Item) × Grows old since (asked_by step) new
+move_grows block old (Ask c on word asking) answer new g m = elim m.moves [
+  | inl idle ↦ rw idle.3 ([], absent_grows old c on word asking idle.0)
+  | inr a ↦ rw m.on_block (option_to_list a.entry, ask_grows old c block word asking answer new g m.within a)
 ]
-move_grows block old (Order c) answer new entry g m = rw m.logged (order_grows old c block m.request new g m.within m.orders)
-move_grows block old (Respond on) answer new entry g m = rw m.logged (respond_grows old block m.closing m.did new g m.within m.responds)
+move_grows block old (Order c) answer new g m = (item.Sent (record { core = c; request = m.request; block = block }) ∷ [], order_grows old c block m.request new g m.within m.orders)
+move_grows block old (Respond on) answer new g m = (item.Came (came_of m.closing) m.did ∷ [], respond_grows old block m.closing m.did new g m.within m.responds)
 
 -- a run, from any situation that keeps the invariant
 run_grows : (steps : List Step) (outcomes : List (Result Reply Refused)) (old new : Situation) → Invariant old → RunBy Goes old steps outcomes new
@@ -153,17 +153,13 @@ run_grows : (steps : List Step) (outcomes : List (Result Reply Refused)) (old ne
 run_grows [] [] old new g r = rw r ([], record { log = sym (append-nil old.log); once = λ core block. unchanged (waiting_at old core block) })
 run_grows (step ∷ steps) (Ok answer ∷ outcomes) old new g r =
     let middle = r.0 in
-    let first = move_grows r.1.0.1.0 old step answer middle r.1.0.0 g r.1.0.1.1 in
+    let first = move_grows r.1.0.0 old step answer middle g r.1.0.1 in
     let rest = run_grows steps outcomes middle new (goes_keeps old step (Ok answer) middle g r.1.0) r.1.1 in
-    let all = grows_on first rest.1 in
-    (option_to_list r.1.0.0 ++ rest.0, record { log = all.log; once = λ core block. rw (filter_map-append (asked_access core block) (step ∷ []) (taken steps outcomes)) (all.once core block) })
+    let all = grows_on first.1 rest.1 in
+    (first.0 ++ rest.0, record { log = all.log; once = λ core block. rw (filter_map-append (asked_access core block) (step ∷ []) (taken steps outcomes)) (all.once core block) })
 run_grows (step ∷ steps) (Err cause ∷ outcomes) old new g r =
     rw (← refusal_same old step cause r.0 r.1.0) (run_grows steps outcomes r.0 new (goes_keeps old step (Err cause) r.0 g r.1.0) r.1.1)
 run_grows _ _ old new g r = absurd r
-
--- the items that a longer log has more
-since_of : (old new since : List Item) → new ≡ old ++ since → drop (length old) new ≡ since
-since_of old new since more = rw more (drop-append_seam old since)
 
 pub run_once : (steps : List Step) (outcomes : List (Result Reply Refused)) (old new : Situation) → Invariant old → RunBy Goes old steps outcomes new → OnceMore old steps outcomes new
 run_once steps outcomes old new g r core block =

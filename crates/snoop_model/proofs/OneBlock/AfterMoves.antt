@@ -5,7 +5,7 @@ use Rattle.snoop_model.proofs.Common.{Op, Request, Did, Item, Open, Reply, held_
 use Rattle.snoop_model.specs.Invariant.Invariant.{Invariant}
 use Rattle.snoop_model.proofs.OneBlock.OfBlocks.{in_pictures}
 
-module _ (old : Situation) (c b word : ℕ) (asking : Op) (answer : Reply) (new : Situation) (entry : Option Item) (g : Invariant old) (within : IsWithin old c b) (a : Asks old c b word asking answer new entry) where
+module _ (old : Situation) (c b word : ℕ) (asking : Op) (answer : Reply) (new : Situation) (g : Invariant old) (within : IsWithin old c b) (a : Asks old c b word asking answer new) where
   pub ask_line : held_by (picture_of new b) c ≡ a.held
   ask_line = rw (a.after, get_or-set_same old.pictures b (with_line (picture_of old b) c a.held) nothing_there (in_pictures old b g.shaped within.1))
       (get_or-set_same (picture_of old b).caches c a.held nothing_held (rw (g.shaped.row b within.1) within.0))

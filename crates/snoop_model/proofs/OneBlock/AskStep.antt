@@ -32,7 +32,7 @@ pub right_of : (a b : Bool) → (a || b) ≡ true → a ≡ false → b ≡ true
 right_of true b h e = cc
 right_of false b h e = h
 
-module _ (s : Situation) (core block word : ℕ) (asking : Op) (answer : Reply) (new : Situation) (entry : Option Item) (asks : Asks s core block word asking answer new entry)
+module _ (s : Situation) (core block word : ℕ) (asking : Op) (answer : Reply) (new : Situation) (asks : Asks s core block word asking answer new)
     (n : ℕ) (flat : List ℕ) (g : BlockInvariant s.protocol n flat (picture_of s block)) (asker_in : core < n) (in_row : core < length (picture_of s block).caches) where
   abbrev before : Picture
   before = picture_of s block
@@ -48,8 +48,8 @@ module _ (s : Situation) (core block word : ℕ) (asking : Op) (answer : Reply) 
   hit_flat o value h row = same_Some _ _ (sym h.kept ∙ g.kept core asker_in (hit_keeps s.protocol old.state (asked o) asks.row.next row).0)
 
   -- what an Ask does, by its row
-  ask_cases : (a : CacheAction) (o : Op) → Cell s.protocol old.state (asked o) a asks.row.next → (is_stall a || ((is_hit a && is_store (asked o)) || carries old.state asks.row.next)) ≡ true → Takes a asks.row.next s.log core block word o old asks.held answer entry
-      → Quietly flat old asks.held asks.row.next (did_in entry) ⊎ ((is_hit a && is_store (asked o) ≡ true) × Storing flat asks.held asks.row.next (did_in entry))
+  ask_cases : (a : CacheAction) (o : Op) → Cell s.protocol old.state (asked o) a asks.row.next → (is_stall a || ((is_hit a && is_store (asked o)) || carries old.state asks.row.next)) ≡ true → Takes a asks.row.next s.log core block word o old asks.held answer asks.entry
+      → Quietly flat old asks.held asks.row.next (did_in asks.entry) ⊎ ((is_hit a && is_store (asked o) ≡ true) × Storing flat asks.held asks.row.next (did_in asks.entry))
   ask_cases action.Hit op.Load row carry took =
       let same = hit_flat op.Load took.0 took.1.0 row in
       let performed = took.1.0.performed in
@@ -64,12 +64,12 @@ module _ (s : Situation) (core block word : ℕ) (asking : Op) (answer : Reply) 
   ask_cases action.Drop o row carry took = rw (took.0, took.2) (inl (record { state = refl; carried = came_to old _ asks.row.next refl carry; same_flat = refl; lawful = tt }))
   ask_cases _ o row carry took = absurd took
 
-  not_stall : (a : CacheAction) → Takes a asks.row.next s.log core block word asking old asks.held answer entry → is_stall a ≡ false
+  not_stall : (a : CacheAction) → Takes a asks.row.next s.log core block word asking old asks.held answer asks.entry → is_stall a ≡ false
   not_stall action.Stall took = absurd took
   not_stall _ took = refl
 
   -- what an Ask leaves is proper
-  line_proper : (a : CacheAction) → Cell s.protocol old.state (asked asking) a asks.row.next → Takes a asks.row.next s.log core block word asking old asks.held answer entry → IsProper asks.held
+  line_proper : (a : CacheAction) → Cell s.protocol old.state (asked asking) a asks.row.next → Takes a asks.row.next s.log core block word asking old asks.held answer asks.entry → IsProper asks.held
   line_proper action.Hit row took = rw took.1.0.held (IsProper-hit s.protocol old (asked asking) asks.row.next took.1.0.after (g.proper core asker_in) row)
   line_proper (action.Issue r) row took = rw took.0 (IsProper-issue s.protocol old word asking r asks.row.next (g.proper core asker_in) row)
   line_proper action.Drop row took = rw took.0 (IsProper-drop s.protocol old (asked asking) asks.row.next (g.proper core asker_in) row)
@@ -106,7 +106,7 @@ module _ (s : Situation) (core block word : ℕ) (asking : Op) (answer : Reply) 
   }
 
   -- an Ask keeps the invariant of a picture, and a load that it performs gives the flat value
-  pub ask_keeps : BlockInvariant s.protocol n (flat_after flat (did_in entry)) after × IsLawful flat (did_in entry)
+  pub ask_keeps : BlockInvariant s.protocol n (flat_after flat (did_in asks.entry)) after × IsLawful flat (did_in asks.entry)
   ask_keeps = elim (ask_cases asks.row.action asking asks.is_row (rule AskTests.ask_carries) asks.taken) [
     | inl k ↦
         let carried = each_after (λ d x. Carried (held_by before d) x) k.carried (λ d apart. carried_same (held_by before d)) in
@@ -114,7 +114,7 @@ module _ (s : Situation) (core block word : ℕ) (asking : Op) (answer : Reply) 
         (λ d d_in h. g.clean d d_in ((carried d).cleans h)) g.fresh g.carried in
         (rw k.same_flat good, k.lawful)
     | inr (stores, k) ↦
-        let words = flat_after flat (did_in entry) in
+        let words = flat_after flat (did_in asks.entry) in
         let (owning, unclean) = and_parts _ _ (implied (is_hit asks.row.action && is_store (asked asking)) _ (rule AskTests.ask_store_owns) stores) in
         let alone = owned_alone g core owning in
         let good = claims_stay words k.state

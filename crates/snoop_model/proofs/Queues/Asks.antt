@@ -78,7 +78,7 @@ module _ (s : Situation) (kept : IsWellKept s) (core block word : ℕ) (asking :
       (λ access h. rw (missed.1, ← asked_missed word asking, h) refl) request was is)
   kept_taken _ row taken = absurd taken
 
-pub kept_asks : (s t : Situation) (core block word : ℕ) (asking : Op) (answer : Reply) (entry : Option Item) → IsWellKept s → IsWithin s core block → Asks s core block word asking answer t entry → IsWellKept t
-kept_asks s t core block word asking answer entry kept within asks =
-    rw asks.after (well_after s kept block (with_line (picture_of s block) core asks.held) (queues_after asks.row.action s.queues core block) (s.log ++ option_to_list entry)
-    (kept_taken s kept core block word asking within asks.held asks.row.next answer entry asks.row.action asks.is_row asks.taken))
+pub kept_asks : (s t : Situation) (core block word : ℕ) (asking : Op) (answer : Reply) → IsWellKept s → IsWithin s core block → Asks s core block word asking answer t → IsWellKept t
+kept_asks s t core block word asking answer kept within asks =
+    rw asks.after (well_after s kept block (with_line (picture_of s block) core asks.held) (queues_after asks.row.action s.queues core block) (s.log ++ option_to_list asks.entry)
+    (kept_taken s kept core block word asking within asks.held asks.row.next answer asks.entry asks.row.action asks.is_row asks.taken))

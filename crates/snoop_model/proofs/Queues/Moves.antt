@@ -13,17 +13,17 @@ use Rattle.snoop_model.proofs.Queues.Asks.{kept_asks}
 use Rattle.snoop_model.proofs.Queues.Orders.{kept_orders}
 use Rattle.snoop_model.proofs.Queues.Responds.{kept_responds}
 
-pub on_kept : (block : ℕ) (s t : Situation) (step : Step) (answer : Reply) (entry : Option Item) → IsWellKept s → MoveOn block s step answer t entry
+pub on_kept : (block : ℕ) (s t : Situation) (step : Step) (answer : Reply) → IsWellKept s → MoveOn block s step answer t
     → IsWellKept t
-on_kept block s t (Ask core on word asking) answer entry kept move = elim move.moves [
+on_kept block s t (Ask core on word asking) answer kept move = elim move.moves [
   | inl absent ↦ rw absent.3 kept
-  | inr asks ↦ kept_asks s t core block word asking answer entry kept move.within asks
+  | inr asks ↦ kept_asks s t core block word asking answer kept move.within asks
 ]
-on_kept block s t (Order core) answer entry kept move = kept_orders s t core block move.request kept move.within move.orders
-on_kept block s t (Respond on) answer entry kept move = kept_responds s t block move.closing move.did kept move.within move.responds
+on_kept block s t (Order core) answer kept move = kept_orders s t core block move.request kept move.within move.orders
+on_kept block s t (Respond on) answer kept move = kept_responds s t block move.closing move.did kept move.within move.responds
 
 pub keeps_well : KeepsWell
-keeps_well s t step answer entry kept move = on_kept move.0 s t step answer entry kept move.1.1
+keeps_well s t step answer kept move = on_kept move.0 s t step answer kept move.1.1
 
 module _ (protocol : Protocol) (shape : Extent) where
   queue_is : (k : ℕ) → queue_of (reset protocol shape).queues k ≡ []

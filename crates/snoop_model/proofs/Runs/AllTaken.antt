@@ -15,13 +15,13 @@ abbrev all_ok : List Reply → List (Result Reply Refused)
 all_ok replies = map (λ reply. Ok reply) replies
 
 pub taken_goes_on : TakenGoesOn
-taken_goes_on protocol shape steps step answer entry middle new taken move =
-    let run = run_more GoesFirst steps (all_ok taken.0) (reset protocol shape) middle new step (Ok answer) taken.1 (entry, move) in
+taken_goes_on protocol shape steps step answer middle new taken move =
+    let run = run_more GoesFirst steps (all_ok taken.0) (reset protocol shape) middle new step (Ok answer) taken.1 move in
     (taken.0 ++ answer ∷ [], subst (λ (outcomes : List (Result Reply Refused)). FirstRunFrom (reset protocol shape) (steps ++ step ∷ []) outcomes new) (sym (map-append (λ (reply : Reply). Ok reply) taken.0 (answer ∷ []))) run)
 
 -- the same steps as a run on any block
 goes_on_any : (old : Situation) (step : Step) (outcome : Result Reply Refused) (new : Situation) → GoesFirst old step outcome new → Goes old step outcome new
-goes_on_any old step (Ok answer) new goes = (goes.0, (goes.1.0, goes.1.1.1))
+goes_on_any old step (Ok answer) new goes = (goes.0, goes.1.1)
 goes_on_any old step (Err NoMemory) new goes = goes.1
 goes_on_any old step (Err cause) new goes = goes
 

@@ -18,10 +18,10 @@ use Rattle.snoop_model.proofs.Runs.Along.{kept_along}
 
 -- a step that is not refused is a move, an Order's on the first block of its core's queue
 pub moves_on : (s : Situation) → Invariant s → AreQueued s → (step : Step) → ((cause : Refused) → ¬ Refuses s step cause)
-    → (answer : Reply) × ((new : Situation) × ((entry : Option Item) × FirstMove s step answer new entry))
+    → (answer : Reply) × ((new : Situation) × FirstMove s step answer new)
 moves_on s g queued step allowed = go (next_of s step).0 (next_of s step).1 (goes_next s g queued step)
   where
-    go : (outcome : Result Reply Refused) (new : Situation) → GoesFirst s step outcome new → (answer : Reply) × ((new : Situation) × ((entry : Option Item) × FirstMove s step answer new entry))
+    go : (outcome : Result Reply Refused) (new : Situation) → GoesFirst s step outcome new → (answer : Reply) × ((new : Situation) × FirstMove s step answer new)
     go (Ok answer) new goes = (answer, (new, goes))
     go (Err cause) new goes = absurd (allowed cause goes.0)
 
@@ -30,7 +30,7 @@ abbrev pub IsSteady : Situation → Type 0
 IsSteady s = Invariant s × IsWellKept s
 
 pub steady_on : KeepsWell → (old : Situation) (step : Step) (outcome : Result Reply Refused) (new : Situation) → IsSteady old → GoesFirst old step outcome new → IsSteady new
-steady_on keeps old step (Ok answer) new steady goes = (first_keeps old step answer new goes.0 steady.0 goes.1, keeps old new step answer goes.0 steady.1 goes.1)
+steady_on keeps old step (Ok answer) new steady goes = (first_keeps old step answer new steady.0 goes, keeps old new step answer steady.1 goes)
 steady_on keeps old step (Err cause) new steady goes = rw goes.1 steady
 
 -- it holds at reset, and after each step of a run

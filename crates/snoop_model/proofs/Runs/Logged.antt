@@ -1,13 +1,18 @@
--- A move adds its item to the log.
-use Rattle.std.proofs.Common.{◌≡◌, ◌++◌, Option, refl, sym, inl, inr}
+-- What a log has more than an earlier one; a move adds at most one item.
+use Rattle.std.proofs.Common.{◌≡◌, List, [], ◌∷◌, ◌++◌, length, drop, Option, Some, None, refl, sym, inl, inr, append-nil}
 use Rattle.std.specs.Prelude.{option_to_list}
-use Rattle.std.proofs.lemmas.List.{append-nil}
-use Rattle.snoop_model.proofs.Common.{Step, Ask, Order, Respond, Item, Reply, Situation, FirstMove}
+use Rattle.std.proofs.Math.Seq.{drop-append_seam}
+use Rattle.snoop_model.proofs.Common.{Step, Ask, Order, Respond, Item, Reply, Situation, FirstMove, came_of}
+use Rattle.snoop_history.specs.declared.items.Item.TheVariants as item
 
-pub move-log : (old new : Situation) (step : Step) (answer : Reply) (added : Option Item) → FirstMove old step answer new added → new.log ≡ old.log ++ option_to_list added
-move-log old new (Ask core block word asking) answer added m = elim m.1.1.moves [
-  | inl absent ↦ rw (absent.3, absent.4) (sym (append-nil old.log))
-  | inr asks ↦ rw asks.after refl
+-- the items that a longer log has more
+pub since_of : (old new since : List Item) → new ≡ old ++ since → drop (length old) new ≡ since
+since_of old new since more = rw more (drop-append_seam old since)
+
+pub move-log : (old new : Situation) (step : Step) (answer : Reply) → FirstMove old step answer new → (entry : Option Item) × (new.log ≡ old.log ++ option_to_list entry)
+move-log old new (Ask core block word asking) answer m = elim m.1.1.moves [
+  | inl absent ↦ (None, rw absent.3 (sym (append-nil old.log)))
+  | inr asks ↦ (asks.entry, rw asks.after refl)
 ]
-move-log old new (Order core) answer added m = rw (m.1.1.orders.after, m.1.1.logged) refl
-move-log old new (Respond block) answer added m = rw (m.1.1.responds.after, m.1.1.logged) refl
+move-log old new (Order core) answer m = (Some (item.Sent (record { core = core; request = m.1.1.request; block = m.0 })), rw m.1.1.orders.after refl)
+move-log old new (Respond block) answer m = (Some (item.Came (came_of m.1.1.closing) m.1.1.did), rw m.1.1.responds.after refl)

@@ -33,15 +33,15 @@ refusal_tells _ cause same = same
 
 -- what a step adds to the log is what its outcome tells
 pub goes_tells : (old : Situation) (step : Step) (outcome : Result Reply Refused) (new : Situation) → Invariant old → Goes old step outcome new → Tells old.log step outcome new.log
-goes_tells old (Ask core on word asking) (Ok answer) new g goes = elim goes.1.1.moves [
+goes_tells old (Ask core on word asking) (Ok answer) new g goes = elim goes.1.moves [
   | inl absent ↦ rw (absent.0, absent.2, absent.3) refl
-  | inr a ↦ rw a.after (subst (λ b. Tells old.log (Ask core b word asking) (Ok answer) (old.log ++ option_to_list goes.0)) (sym goes.1.1.on_block)
-      (taken_tells old.protocol _ _ _ _ _ (held_by (picture_of old goes.1.0) core) _ _ _ asking a.row.action a.is_row a.taken))
+  | inr a ↦ rw a.after (subst (λ b. Tells old.log (Ask core b word asking) (Ok answer) (old.log ++ option_to_list a.entry)) (sym goes.1.on_block)
+      (taken_tells old.protocol _ _ _ _ _ (held_by (picture_of old goes.0) core) _ _ _ asking a.row.action a.is_row a.taken))
 ]
-goes_tells old (Order core) (Ok answer) new g goes = rw goes.1.1.answered (goes.1.0, ap (λ (s : Situation). s.log) goes.1.1.orders.after)
+goes_tells old (Order core) (Ok answer) new g goes = rw goes.1.answered (goes.0, ap (λ (s : Situation). s.log) goes.1.orders.after)
 goes_tells old (Respond on) (Ok answer) new g goes =
-    let m = goes.1.1 in
-    rw (m.answered, m.on_block, ← g.opened goes.1.0 m.closing m.responds.opened) (
+    let m = goes.1 in
+    rw (m.answered, m.on_block, ← g.opened goes.0 m.closing m.responds.opened) (
       m.closing.core,
       (
         m.closing.request,
@@ -59,5 +59,5 @@ run_tells (step ∷ steps) (outcome ∷ outcomes) old new g run =
 run_tells _ _ old new g run = absurd run
 
 -- so does a move on the first block
-pub move_tells : (old new : Situation) (step : Step) (answer : Reply) (entry : Option Item) → Invariant old → FirstMove old step answer new entry → Tells old.log step (Ok answer) new.log
-move_tells old new step answer entry g m = goes_tells old step (Ok answer) new g (entry, (m.0, m.1.1))
+pub move_tells : (old new : Situation) (step : Step) (answer : Reply) → Invariant old → FirstMove old step answer new → Tells old.log step (Ok answer) new.log
+move_tells old new step answer g m = goes_tells old step (Ok answer) new g (m.0, m.1.1)

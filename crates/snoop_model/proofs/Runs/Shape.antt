@@ -13,23 +13,23 @@ IsAlike old new = (new.protocol ≡ old.protocol) × (new.shape ≡ old.shape)
 pub same_alike : (old new : Situation) → new ≡ old → IsAlike old new
 same_alike old new same = rw same (refl, refl)
 
-on_stays : (block : ℕ) (old new : Situation) (step : Step) (answer : Reply) (entry : Option Item) → MoveOn block old step answer new entry → IsAlike old new
-on_stays block old new (Ask core on word asking) answer entry m = elim m.moves [
+on_stays : (block : ℕ) (old new : Situation) (step : Step) (answer : Reply) → MoveOn block old step answer new → IsAlike old new
+on_stays block old new (Ask core on word asking) answer m = elim m.moves [
   | inl absent ↦ rw absent.3 (refl, refl)
   | inr asks ↦ rw asks.after (refl, refl)
 ]
-on_stays block old new (Order core) answer entry m = rw m.orders.after (refl, refl)
-on_stays block old new (Respond on) answer entry m = rw m.responds.after (refl, refl)
+on_stays block old new (Order core) answer m = rw m.orders.after (refl, refl)
+on_stays block old new (Respond on) answer m = rw m.responds.after (refl, refl)
 
-pub move_stays : (old new : Situation) (step : Step) (answer : Reply) (entry : Option Item) → FirstMove old step answer new entry → IsAlike old new
-move_stays old new step answer entry m = on_stays m.0 old new step answer entry m.1.1
+pub move_stays : (old new : Situation) (step : Step) (answer : Reply) → FirstMove old step answer new → IsAlike old new
+move_stays old new step answer m = on_stays m.0 old new step answer m.1.1
 
 -- one after another
 pub alike_on : (old middle new : Situation) → IsAlike old middle → IsAlike middle new → IsAlike old new
 alike_on old middle new first rest = (rest.0 ∙ first.0, rest.1 ∙ first.1)
 
 goes_stays : (old new : Situation) (step : Step) (outcome : Result Reply Refused) → Goes old step outcome new → IsAlike old new
-goes_stays old new step (Ok answer) m = on_stays m.1.0 old new step answer m.0 m.1.1
+goes_stays old new step (Ok answer) m = on_stays m.0 old new step answer m.1
 goes_stays old new step (Err cause) r = same_alike old new (refusal_same old step cause new r)
 
 pub run_stays : (steps : List Step) (outcomes : List (Result Reply Refused)) (old new : Situation) → RunBy Goes old steps outcomes new → IsAlike old new

@@ -46,8 +46,8 @@ module _ (s : Situation) (core block word : ℕ) (asking : Op) (within : IsWithi
       → (held : Line) (answer : Reply) (entry : Option Item) → Takes act next s.log core block word asking (held_by (picture_of s block) core) held answer entry
       → GoesFirst s (Ask core block word asking) (Ok answer) (after_ask s core block word asking act held entry)
   taken act next row held answer entry takes =
-      let moves = inr (record { row = record { action = act; next = next }; is_row = row; held = held; taken = takes; after = refl }) in
-      (entry, (block, (tt, record { on_block = refl; within = within; moves = moves; has_word = has })))
+      let moves = inr (record { row = record { action = act; next = next }; is_row = row; held = held; entry = entry; taken = takes; after = refl }) in
+      (block, (tt, record { on_block = refl; within = within; moves = moves; has_word = has }))
 
   goes_by : (act : CacheAction) (next : CacheState) → Cell s.protocol (state_of s core block) (asked asking) act next
       → IsProper (held_by (picture_of s block) core)
@@ -75,7 +75,7 @@ module _ (s : Situation) (core block word : ℕ) (asking : Op) (within : IsWithi
       elim (cases_Bool (is_idle_evict line.state (asked asking))) [
         | inl idle ↦
             let is = idle_evict line.state asking idle in
-            rw (is.1, is.0) (None, (block, (tt, record { on_block = refl; within = within; moves = inl (refl, is.1, refl, refl, refl); has_word = tt })))
+            rw (is.1, is.0) (block, (tt, record { on_block = refl; within = within; moves = inl (refl, is.1, refl, refl); has_word = tt }))
         | inr busy ↦
             let good = g.blocks block within.1 in
             let row = ask_possible s.protocol s.shape.cores (flat_words s.log block) (picture_of s block) core asking good within.0 busy in
@@ -144,13 +144,7 @@ module _ (s : Situation) (g : Invariant s) where
       free_or_not block is in_cores None free =
           let waits = first_waits s queued core block is in
           let within = waits_within s g core block waits.0 waits.1 in
-          rw (free, waits.1) (
-            Some _,
-            (
-              block,
-              (is, record { request = waits.0; within = within; answered = refl; logged = refl; orders = order_made core block waits.0 (waits.1, free) }),
-            ),
-          )
+          rw (free, waits.1) (block, (is, record { request = waits.0; within = within; answered = refl; orders = order_made core block waits.0 (waits.1, free) }))
 
       first : core < s.shape.cores → (found : Option ℕ) → slice_get (queue_of s.queues core) 0 ≡ found
           → (let n = next_first s core found in GoesFirst s (Order core) n.0 n.1)
@@ -256,7 +250,7 @@ module _ (s : Situation) (g : Invariant s) where
         closed = refl;
         after = refl;
       } in
-      (Some _, (block, (tt, record { closing = o; did = _; on_block = refl; within = within; answered = refl; logged = refl; responds = responds })))
+      (block, (tt, record { closing = o; did = _; on_block = refl; within = within; answered = refl; responds = responds }))
 
   respond_goes : (block : ℕ) → GoesNext s (Respond block)
   respond_goes block = elim (cases_lt block s.shape.blocks) [

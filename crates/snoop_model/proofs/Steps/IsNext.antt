@@ -46,11 +46,11 @@ module _ (s : Situation) (core block word : ℕ) (asking : Op) where
   takes_is action.Drop next held answer entry t = rw (t.0, t.1, t.2) refl
   takes_is _ next held answer entry t = absurd t
 
-  asks_is : (answer : Reply) (new : Situation) (entry : Option Item)
-      → IsAbsent s core block asking answer new entry ⊎ Asks s core block word asking answer new entry
+  asks_is : (answer : Reply) (new : Situation)
+      → IsAbsent s core block asking answer new ⊎ Asks s core block word asking answer new
       → ◌≡◌ {A = Next} (Ok answer, new) (next_asked s core block word asking)
-  asks_is answer new entry (inl a) = rw (a.2, a.3, a.1, a.0) refl
-  asks_is answer new entry (inr a) = rw (a.after, a.is_row) (takes_is a.row.action a.row.next a.held answer entry a.taken)
+  asks_is answer new (inl a) = rw (a.2, a.3, a.1, a.0) refl
+  asks_is answer new (inr a) = rw (a.after, a.is_row) (takes_is a.row.action a.row.next a.held answer a.entry a.taken)
 
   in_place : block < s.shape.blocks → HasWord s.shape word asking → (ltb block s.shape.blocks && has_word s.shape word asking) ≡ true
   in_place within has = and_from _ _ (lt-ltb block s.shape.blocks within) ((word_decides s.shape word asking).1 has)
@@ -128,15 +128,15 @@ closed_is s block o did new r =
     rw (r.after, next, ap (λ x. x.1) caches) refl
 
 -- a move comes to what is computed
-move_is : (s : Situation) (step : Step) (answer : Reply) (new : Situation) (entry : Option Item) → FirstMove s step answer new entry
+move_is : (s : Situation) (step : Step) (answer : Reply) (new : Situation) → FirstMove s step answer new
     → ◌≡◌ {A = Next} (Ok answer, new) (next_of s step)
-move_is s (Ask core on word asking) answer new entry m =
+move_is s (Ask core on word asking) answer new m =
     rw (m.1.1.on_block, lt-ltb core s.shape.cores m.1.1.within.0, in_place s core m.0 word asking m.1.1.within.1 m.1.1.has_word)
-    (asks_is s core m.0 word asking answer new entry m.1.1.moves)
-move_is s (Order core) answer new entry m =
+    (asks_is s core m.0 word asking answer new m.1.1.moves)
+move_is s (Order core) answer new m =
     let ready = m.1.1.orders.ready in
     rw (m.1.1.answered, lt-ltb core s.shape.cores m.1.1.within.0, m.1.0, ready.1, ready.0) (orders_is s core m.0 m.1.1.request new m.1.1.orders)
-move_is s (Respond on) answer new entry m =
+move_is s (Respond on) answer new m =
     rw (m.1.1.on_block, m.1.1.answered, lt-ltb m.0 s.shape.blocks m.1.1.within, m.1.1.responds.opened)
     (closed_is s m.0 m.1.1.closing m.1.1.did new m.1.1.responds)
 
@@ -156,5 +156,5 @@ module _ (s : Situation) (queued : AreQueued s) where
   refused_is _ _ h = absurd h
 
   pub goes_is : (step : Step) (outcome : Result Reply Refused) (new : Situation) → GoesFirst s step outcome new → (outcome, new) ≡ next_of s step
-  goes_is step (Ok answer) new goes = move_is s step answer new goes.0 goes.1
+  goes_is step (Ok answer) new goes = move_is s step answer new goes
   goes_is step (Err cause) new goes = rw goes.1 (refused_is step cause goes.0)

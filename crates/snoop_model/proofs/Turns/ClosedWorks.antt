@@ -41,18 +41,18 @@ no_issue (action.Issue request) next log queues core block word asking old new a
 no_issue _ next log queues core block word asking old new answer entry taken other = refl
 
 -- the queues and the transactions are as before
-same_queues : (s t : Situation) (core block word : ℕ) (asking : Op) (answer : Reply) (entry : Option Item) → FirstMove s (Ask core block word asking) answer t entry → ((request : Request) → answer ≢ Issued request) → (t.queues ≡ s.queues) × ((b : ℕ) → (picture_of t b).transaction ≡ (picture_of s b).transaction)
-same_queues s t core block word asking answer entry m other = elim m.1.1.moves [
+same_queues : (s t : Situation) (core block word : ℕ) (asking : Op) (answer : Reply) → FirstMove s (Ask core block word asking) answer t → ((request : Request) → answer ≢ Issued request) → (t.queues ≡ s.queues) × ((b : ℕ) → (picture_of t b).transaction ≡ (picture_of s b).transaction)
+same_queues s t core block word asking answer m other = elim m.1.1.moves [
   | inl absent ↦ rw absent.3 (refl, λ b. refl)
   | inr a ↦ rw a.after (
-    no_issue a.row.action a.row.next s.log s.queues core m.0 word asking (held_by (picture_of s m.0) core) a.held answer entry a.taken other,
+    no_issue a.row.action a.row.next s.log s.queues core m.0 word asking (held_by (picture_of s m.0) core) a.held answer a.entry a.taken other,
     same_everywhere s m.0 (with_line (picture_of s m.0) core a.held) s.queues s.log (λ (x : Picture). x.transaction) refl,
   )
 ]
 
 pub asked_once : EndsAtOnce
-asked_once s t under_way core block word asking answer entry serving idle kept m other =
-    let same = same_queues s t core block word asking answer entry m other in
+asked_once s t under_way core block word asking answer serving idle kept m other =
+    let same = same_queues s t core block word asking answer m other in
     idle_turn core block (waiting_request (state_of t core block)) (picture_of t block).transaction
     (λ r w. none-some block (sym idle ∙ All-contains (λ b. under_way core ≡ Some b) (queue_of s.queues core) block (serving.waits core)
     (subst (λ q. Contains (queue_of q core) block) same.0 (waits_queued t kept.queued core block r w))))

@@ -89,14 +89,14 @@ module _ {s : Situation} {before after : ℕ → Option ℕ} (serving : IsServin
   ]
 
 pub serves_on : ServesOn
-serves_on s t before after (Ask core on word asking) answer entry serving move extends its = elim move.1.1.moves [
+serves_on s t before after (Ask core on word asking) answer serving move extends its = elim move.1.1.moves [
   | inl absent ↦ rw absent.3 (record { waits = still_waits serving extends; opened = still_opened serving extends })
   | inr asks ↦ rw asks.after (record {
     waits = asked_waits serving extends asks.row.action core move.0 (rw (← move.1.1.on_block) its);
     opened = set_opened serving extends move.0 (with_line (picture_of s move.0) core asks.held) (still_opened serving extends move.0);
   })
 ]
-serves_on s t before after (Order core) answer entry serving move extends its =
+serves_on s t before after (Order core) answer serving move extends its =
     let orders = move.1.1.orders in
     let here : after core ≡ Some move.0 = extends core move.0 (all_first (λ b. before core ≡ Some b) (queue_of s.queues core) move.0 (serving.waits core) move.1.0) in
     rw orders.after (record {
@@ -104,7 +104,7 @@ serves_on s t before after (Order core) answer entry serving move extends its =
       opened = set_opened serving extends move.0 orders.next
           (λ o is. rw (ap (λ (x : Open). x.core) (same_Some _ _ (sym is ∙ orders.opened))) here);
     })
-serves_on s t before after (Respond on) answer entry serving move extends its =
+serves_on s t before after (Respond on) answer serving move extends its =
     let responds = move.1.1.responds in
     rw responds.after (record {
       waits = still_waits serving extends;

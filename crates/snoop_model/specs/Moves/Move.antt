@@ -137,11 +137,11 @@ abbrev pub IsWithin : Situation → ℕ → ℕ → Type 0
 IsWithin s core block = (core < s.shape.cores) × (block < s.shape.blocks)
 
 -- an Evict in I: answered Absent, and nothing changes
-abbrev pub IsAbsent : Situation → ℕ → ℕ → Op → Reply → Situation → Option Item → Type 0
-IsAbsent old core block asking answer new entry =
-    (asking ≡ op.Evict) × (state_of old core block ≡ state.I) × (answer ≡ reply.Absent) × (new ≡ old) × (entry ≡ None)
+abbrev pub IsAbsent : Situation → ℕ → ℕ → Op → Reply → Situation → Type 0
+IsAbsent old core block asking answer new =
+    (asking ≡ op.Evict) × (state_of old core block ≡ state.I) × (answer ≡ reply.Absent) × (new ≡ old)
 
--- what one core holds after an Ask by this row, what is replied, and the item that is added; no other action answers an Ask with a move
+-- what one core holds after an Ask by this row, what is replied, and the item that the log has more, if any; no other action answers an Ask with a move
 abbrev pub Takes : CacheAction → CacheState → List Item → ℕ → ℕ → ℕ → Op → Line → Line → Reply → Option Item → Type 0
 Takes action.Hit next log core block word asking old new answer entry =
     (value : ℕ) × (Hits next old new word asking value × (answer ≡ (if is_load asking then reply.Hit value else reply.StoreHit))
@@ -158,10 +158,11 @@ queues_after (action.Issue request) queues core block = after_issue queues core 
 queues_after _ queues core block = queues
 
 -- an Ask that takes a row: that one core takes it
-pub record Asks (old : Situation) (core block word : ℕ) (asking : Op) (answer : Reply) (new : Situation) (entry : Option Item) : Type 0 where
+pub record Asks (old : Situation) (core block word : ℕ) (asking : Op) (answer : Reply) (new : Situation) : Type 0 where
   pub row : CacheCell
   pub is_row : cell_of old.protocol (state_of old core block) (asked asking) ≡ Some row
   pub held : Line
+  pub entry : Option Item
   pub taken : Takes row.action row.next old.log core block word asking (held_by (picture_of old block) core) held answer entry
   pub after : new ≡ record (with_picture old block (with_line (picture_of old block) core held)) {
     queues = queues_after row.action old.queues core block;
@@ -196,35 +197,33 @@ pub record Responds (old : Situation) (block : ℕ) (closing : Open) (did : Opti
   }
 
 -- an Ask on this block, of a core and a word that there are: an Evict in I, or one that takes a row
-pub record AskMove (block : ℕ) (old : Situation) (core on word : ℕ) (asking : Op) (answer : Reply) (new : Situation) (entry : Option Item) : Type 0 where
+pub record AskMove (block : ℕ) (old : Situation) (core on word : ℕ) (asking : Op) (answer : Reply) (new : Situation) : Type 0 where
   pub on_block : on ≡ block
   pub within : IsWithin old core block
-  pub moves : IsAbsent old core block asking answer new entry ⊎ Asks old core block word asking answer new entry
+  pub moves : IsAbsent old core block asking answer new ⊎ Asks old core block word asking answer new
   pub has_word : HasWord old.shape word asking
 
--- an Order on this block: what is ordered is replied, and is the item
-pub record OrderMove (block : ℕ) (old : Situation) (core : ℕ) (answer : Reply) (new : Situation) (entry : Option Item) : Type 0 where
+-- an Order on this block: what is ordered is replied
+pub record OrderMove (block : ℕ) (old : Situation) (core : ℕ) (answer : Reply) (new : Situation) : Type 0 where
   pub request : Request
   pub within : IsWithin old core block
   pub answered : answer ≡ reply.Ordered request
-  pub logged : entry ≡ Some (item.Sent (record { core = core; request = request; block = block }))
   pub orders : Orders old core block request new
 
--- a Respond on this block: the response, with what it performed, is replied, and is the item
-pub record RespondMove (block : ℕ) (old : Situation) (on : ℕ) (answer : Reply) (new : Situation) (entry : Option Item) : Type 0 where
+-- a Respond on this block: the response, with what it performed, is replied
+pub record RespondMove (block : ℕ) (old : Situation) (on : ℕ) (answer : Reply) (new : Situation) : Type 0 where
   pub closing : Open
   pub did : Option Did
   pub on_block : on ≡ block
   pub within : block < old.shape.blocks
   pub answered : answer ≡ reply.Came closing.payload closing.from did
-  pub logged : entry ≡ Some (item.Came (came_of closing) did)
   pub responds : Responds old block closing did new
 
--- a move: the step, on this block, is answered by this reply, leads from old to new, and adds this item, if any
-abbrev pub MoveOn : ℕ → Situation → Step → Reply → Situation → Option Item → Type 0
-MoveOn block old (Ask core on word asking) answer new entry = AskMove block old core on word asking answer new entry
-MoveOn block old (Order core) answer new entry = OrderMove block old core answer new entry
-MoveOn block old (Respond on) answer new entry = RespondMove block old on answer new entry
+-- a move: the step, on this block, is answered by this reply and leads from old to new
+abbrev pub MoveOn : ℕ → Situation → Step → Reply → Situation → Type 0
+MoveOn block old (Ask core on word asking) answer new = AskMove block old core on word asking answer new
+MoveOn block old (Order core) answer new = OrderMove block old core answer new
+MoveOn block old (Respond on) answer new = RespondMove block old on answer new
 
 -- an Order takes the block that stands first
 abbrev pub TakesFirst : Situation → Step → ℕ → Type 0
@@ -232,5 +231,5 @@ TakesFirst old (Order core) block = StandsFirst old core block
 TakesFirst old _ block = ⊤
 
 -- a move in which an Order takes the block that stands first
-abbrev pub FirstMove : Situation → Step → Reply → Situation → Option Item → Type 0
-FirstMove old step answer new entry = (block : ℕ) × (TakesFirst old step block × MoveOn block old step answer new entry)
+abbrev pub FirstMove : Situation → Step → Reply → Situation → Type 0
+FirstMove old step answer new = (block : ℕ) × (TakesFirst old step block × MoveOn block old step answer new)

@@ -37,7 +37,7 @@ pub record FollowsSenderTable (protocol : Protocol) (before : Picture) (core : �
 pub record IsOpenByTable (s : Situation) (block : ℕ) (transaction : Open) : Type 0 where
   pub before : Picture
   pub on_line : IsSenderLine s.protocol before transaction.core transaction.request transaction.from transaction.payload (picture_of s block).memory.state
-  pub settled : (answer : Reply) (new : Situation) (entry : Option Item) → MoveOn block s (Respond block) answer new entry → ((picture_of new block).transaction ≡ None) × ((picture_of new block).memory.state ≡ on_line.done)
+  pub settled : (answer : Reply) (new : Situation) → MoveOn block s (Respond block) answer new → ((picture_of new block).transaction ≡ None) × ((picture_of new block).memory.state ≡ on_line.done)
 
 -- every request that can be ordered would have exactly one sender, and be a line of the protocol's table
 abbrev pub OrdersFollowSenderTable : Protocol → Situation → Type 0

@@ -30,8 +30,8 @@ IsOwed s core block wanted = ((held_by (picture_of s block) core).waiting ≡ So
 -- after a move, what waited before it or is asked by it is owed
 abbrev pub Owes : Type 0
 Owes =
-    (s t : Situation) (step : Step) (answer : Reply) (entry : Option Item)
-    → FirstMove s step answer t entry → OnceMore s (step ∷ []) (Ok answer ∷ []) t
+    (s t : Situation) (step : Step) (answer : Reply)
+    → FirstMove s step answer t → OnceMore s (step ∷ []) (Ok answer ∷ []) t
     → (core block : ℕ) (wanted : Access) → ((held_by (picture_of s block) core).waiting ≡ Some wanted) ⊎ (asked_access core block step ≡ Some wanted)
     → IsOwed t core block wanted
 
@@ -44,6 +44,6 @@ ClosedIsLast =
 -- an Ask that issues no request ends its work at once, where the core had none under way
 abbrev pub EndsAtOnce : Type 0
 EndsAtOnce =
-    (s t : Situation) (under_way : ℕ → Option ℕ) (core block word : ℕ) (asking : Op) (answer : Reply) (entry : Option Item)
-    → IsServing under_way s → under_way core ≡ None → IsWellKept t → FirstMove s (Ask core block word asking) answer t entry
+    (s t : Situation) (under_way : ℕ → Option ℕ) (core block word : ℕ) (asking : Op) (answer : Reply)
+    → IsServing under_way s → under_way core ≡ None → IsWellKept t → FirstMove s (Ask core block word asking) answer t
     → ((request : Request) → answer ≢ Issued request) → turn_of t core block word asking true ≡ None

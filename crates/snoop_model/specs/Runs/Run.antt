@@ -14,7 +14,7 @@ use Rattle.snoop_model.specs.Moves.Refuses.{Refuses}
 
 -- one step of a run: a move, an Order being on any block, or a refusal, which leaves all equal; any step may be refused as out of memory
 abbrev pub Goes : Situation → Step → Result Reply Refused → Situation → Type 0
-Goes old step (Ok answer) new = (entry : Option Item) × ((block : ℕ) × MoveOn block old step answer new entry)
+Goes old step (Ok answer) new = (block : ℕ) × MoveOn block old step answer new
 Goes old step (Err NoMemory) new = new ≡ old
 Goes old step (Err cause) new = Refuses old step cause × (new ≡ old)
 
@@ -26,10 +26,10 @@ RunBy One old _ _ new = ⊥
 
 -- one step of the run of some steps: each Order is on the block that stands first, and memory is ample
 abbrev pub GoesFirst : Situation → Step → Result Reply Refused → Situation → Type 0
-GoesFirst old step (Ok answer) new = (entry : Option Item) × FirstMove old step answer new entry
+GoesFirst old step (Ok answer) new = FirstMove old step answer new
 GoesFirst old step (Err cause) new = Refuses old step cause × (new ≡ old)
 
--- the same, each step as `GoesFirst` says
+-- from old, these steps with these outcomes lead to new, each as `GoesFirst` says
 abbrev pub FirstRunFrom : Situation → List Step → List (Result Reply Refused) → Situation → Type 0
 FirstRunFrom old steps outcomes new = RunBy GoesFirst old steps outcomes new
 
@@ -67,5 +67,5 @@ TakenBegins = (protocol : Protocol) (shape : Extent) → AllTaken protocol shape
 -- one more step that is taken
 abbrev pub TakenGoesOn : Type 0
 TakenGoesOn =
-    (protocol : Protocol) (shape : Extent) (steps : List Step) (step : Step) (answer : Reply) (entry : Option Item) (middle new : Situation)
-    → AllTaken protocol shape steps middle → FirstMove middle step answer new entry → AllTaken protocol shape (steps ++ step ∷ []) new
+    (protocol : Protocol) (shape : Extent) (steps : List Step) (step : Step) (answer : Reply) (middle new : Situation)
+    → AllTaken protocol shape steps middle → FirstMove middle step answer new → AllTaken protocol shape (steps ++ step ∷ []) new

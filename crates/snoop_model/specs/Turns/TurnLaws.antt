@@ -25,8 +25,8 @@ StartsWell = (protocol : Protocol) (shape : Extent) (under_way : ℕ → Option 
 -- a move leaves it well kept
 abbrev pub KeepsWell : Type 0
 KeepsWell =
-    (s t : Situation) (step : Step) (answer : Reply) (entry : Option Item)
-    → IsWellKept s → FirstMove s step answer t entry → IsWellKept t
+    (s t : Situation) (step : Step) (answer : Reply)
+    → IsWellKept s → FirstMove s step answer t → IsWellKept t
 
 -- no step of a turn is refused, memory aside
 abbrev pub NeverRefused : Type 0
@@ -39,8 +39,8 @@ NeverRefused =
 -- a move serves on, once the core that asks has its block under way
 abbrev pub ServesOn : Type 0
 ServesOn =
-    (s t : Situation) (before after : ℕ → Option ℕ) (step : Step) (answer : Reply) (entry : Option Item)
-    → IsServing before s → FirstMove s step answer t entry
+    (s t : Situation) (before after : ℕ → Option ℕ) (step : Step) (answer : Reply)
+    → IsServing before s → FirstMove s step answer t
     → ((core block : ℕ) → before core ≡ Some block → after core ≡ Some block) → IsUnderWay after step
     → IsServing after t
 
@@ -59,8 +59,8 @@ ComesToRest = (s : Situation) → IsServing (λ _. None) s → IsWellKept s → 
 -- each step is paid for by the Asks, three for each
 abbrev pub Pays : Type 0
 Pays =
-    (s t : Situation) (step : Step) (answer : Reply) (entry : Option Item)
-    → FirstMove s step answer t entry → 1 + steps_owed t ≤ steps_paid step + steps_owed s
+    (s t : Situation) (step : Step) (answer : Reply)
+    → FirstMove s step answer t → 1 + steps_owed t ≤ steps_paid step + steps_owed s
 
 -- what holds of every turn that follows the turn rule
 pub record TurnLaws : Type 0 where
