@@ -14,6 +14,7 @@ use Rattle.snoop_history.specs.declared.items.Item.{Item}
 use Rattle.snoop_history.specs.declared.items.Item.TheVariants as item
 use Rattle.snoop_history.specs.History.{last_of}
 use Rattle.snoop_history.proofs.Pushed.{last_of-push}
+use Rattle.snoop_model.specs.declared.access.Access.{Access}
 use Rattle.snoop_model.specs.declared.replies.Reply.{Reply}
 use Rattle.snoop_model.specs.declared.replies.Reply.TheVariants as reply
 use Rattle.snoop_model.specs.Moves.Replies.{Tells}
@@ -131,6 +132,7 @@ module _ (core : ℕ) (work : Work) {answer : Reply} where
       let all : TakesAndPublishes (Respond work.block) answer (record_of p) (record_of q) = record {
         item = took.item;
         move = rw t.0.situation took.move;
+        logged = rw t.0.situation took.logged;
         steps = t.0.steps ∙ took.steps;
         published = t.0.published ∙ took.published;
       } in

@@ -39,7 +39,6 @@ use Rattle.snoop_bench.proofs.Cases.IsCase.{ordering, helping, ending}
 use Rattle.snoop_bench.proofs.Places.{its_block, changed, unchanged, put_out, has_place, apart}
 use Rattle.snoop_bench.proofs.Waiting.{Stepped, AsksNothing, owed_still}
 use Rattle.snoop_rules.specs.Waits.{waiting_request}
-use Rattle.snoop_history.specs.declared.items.Item.{Item}
 use Rattle.snoop_model.specs.Pictures.Picture.{Picture, held_by}
 use Rattle.snoop_model.specs.Moves.Move.{FirstMove, kept_waiting}
 use Rattle.snoop_model.proofs.OneBlock.OfBlocks.{in_pictures, picture_here}
@@ -62,14 +61,14 @@ goes_on : TurnLaws → {s t : Situation} {step : Step} {answer : Reply} (m : Ste
     → GoOn works after step → AreUnderWay after t
 goes_on rule {s} {t} {step} {answer} m works after u g = record {
   places = g.places ∙ u.places ∙ ap (λ (e : Extent). e.cores) (sym m.shape);
-  serving = rule.serves_on s t (works_under_way works) (works_under_way after) step answer m.entry u.serving m.move
+  serving = rule.serves_on s t (works_under_way works) (works_under_way after) step answer u.serving m.move
       (λ core block e. stays core block (work_at works core) refl e ∙ e) g.under;
   waiting = λ core block wanted waits.
       ⊎_elim (λ was. let its = u.waiting core block wanted was in g.stay core (none_some _ _ its) ∙ its) (g.asked core block wanted)
-      (waited_or_asked s t step answer m.entry m.move m.once core block wanted (inr waits));
+      (waited_or_asked s t step answer m.move m.once core block wanted (inr waits));
   owed = λ core work its isnt.
       ⊎_elim (λ was. owed_still m core works work u was.0 was.1 (u.owed core work was.0 isnt))
-      (λ asked. rule.owes s t step answer m.entry m.move m.once core work.block (access_of work) (inr asked)) (g.new core work its isnt);
+      (λ asked. rule.owes s t step answer m.move m.once core work.block (access_of work) (inr asked)) (g.new core work its isnt);
 }
   where
     stays : (core block : ℕ) (o : Option Work) → work_at works core ≡ o → option_map (λ w. w.block) o ≡ Some block → works_under_way after core ≡ works_under_way works core
@@ -140,9 +139,9 @@ over_keeps rule {s} {works} {core} {work} f = record {
         has_step s c block work.word work.op wanted f.well waits (rw (same, mine) f.step_is)
 
 -- after the response a core that does not wait has no step left for its work
-closed_after : (s t : Situation) (core block word : ℕ) (asking : Op) (answer : Reply) (entry : Option Item) → IsWellKept s
+closed_after : (s t : Situation) (core block word : ℕ) (asking : Op) (answer : Reply) → IsWellKept s
     → waiting_request (state_of s core block) ≡ None → FirstMove s (Respond block) answer t → turn_of t core block word asking true ≡ None
-closed_after s t core block word asking answer entry kept none move =
+closed_after s t core block word asking answer kept none move =
     let b = move.0 in
     let m = move.1.1 in
     let r = m.responds in
@@ -164,7 +163,7 @@ finished rule {s} {t} {works} {core} {work} {k} {step} {answer} ending f waits m
   well = m.kept;
   inside = rw m.shape f.inside;
   its = f.its;
-  step_is = closed_after s t core work.block work.word work.op answer m.entry f.well (no_request (waiting_request (state_of s core work.block)) waits) m.move;
+  step_is = closed_after s t core work.block work.word work.op answer f.well (no_request (waiting_request (state_of s core work.block)) waits) m.move;
 }
   where
     no_request : (w : Option Request) → false ≡ is_some w → w ≡ None
@@ -216,6 +215,10 @@ module _ (rule : TurnLaws) (works : List (Option Work)) (core : ℕ) (work : Wor
     new = λ c w theirs isnt. by_core c w theirs isnt (cases_eq c core);
   })
     where
+      off : (x : Bool) → cond (x && false) (kept_waiting work.word work.op) None ≡ None
+      off true = refl
+      off false = refl
+
       by_core : (c : ℕ) (w : Work) → work_at (slice_set works core (Some work)) c ≡ Some w → w.op ≢ op.Evict → (c ≡ core) ⊎ (c ≢ core)
           → ((work_at works c ≡ Some w) × AsksNothing c (Ask core work.block work.word work.op))
           ⊎ (asked_access c w.block (Ask core work.block work.word work.op) ≡ Some (access_of w))
@@ -226,13 +229,9 @@ module _ (rule : TurnLaws) (works : List (Option Work)) (core : ℕ) (work : Wor
       by_core c w theirs isnt (inr other) =
           inl (sym (unchanged works core c (Some work) other) ∙ theirs, λ block. rw (ne_eqb core c (λ same. other (sym same))) (off (work.block == block)))
 
-      off : (x : Bool) → cond (x && false) (kept_waiting work.word work.op) None ≡ None
-      off true = refl
-      off false = refl
-
   -- one that issued none has no step left
   pub ended : ((request : Request) → answer ≢ reply.Issued request) → turn_of t core work.block work.word work.op true ≡ None
-  ended none = rule.ends_at_once s t (works_under_way works) core work.block work.word work.op answer m.entry u.serving (its_block _ _ idle) m.kept m.move none
+  ended none = rule.ends_at_once s t (works_under_way works) core work.block work.word work.op answer u.serving (its_block _ _ idle) m.kept m.move none
 
   -- and so nothing under way
   ended_keeps : ((request : Request) → answer ≢ reply.Issued request) → AreUnderWay works t

@@ -36,6 +36,7 @@ pub record Records (r : Inside) : Type 0 where
 -- one step is taken: it is a move, stands last among the steps, and its item is published
 pub record TakesAndPublishes (step : Step) (answer : Reply) (p q : Recording) : Type 0 where
   pub item : Option Item
-  pub move : FirstMove p.situation step answer q.situation item
+  pub move : FirstMove p.situation step answer q.situation
+  pub logged : q.situation.log ≡ p.situation.log ++ option_to_list item
   pub steps : q.steps ≡ p.steps ++ step ∷ []
   pub published : q.published ≡ p.published ++ option_to_list item

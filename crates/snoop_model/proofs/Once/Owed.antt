@@ -40,18 +40,18 @@ cons_one : (o : Option Access) → cons_option o [] ≡ option_to_list o
 cons_one None = refl
 cons_one (Some x) = refl
 
-module _ (s t : Situation) (step : Step) (answer : Reply) (move : FirstMove s step answer t) (once : OnceMore s (step ∷ []) (Ok answer ∷ []) t) (core block : ℕ) (wanted : Access) where
-  -- the operation that the move performs, if any
-  abbrev pub did_now : Option Did
-  did_now = did_in (move-log s t step answer move).0
+-- the operation that a move performs, if any
+abbrev pub performed_by : (s t : Situation) (step : Step) (answer : Reply) → FirstMove s step answer t → Option Did
+performed_by s t step answer move = did_in (move-log s t step answer move).0
 
+module _ (s t : Situation) (step : Step) (answer : Reply) (move : FirstMove s step answer t) (once : OnceMore s (step ∷ []) (Ok answer ∷ []) t) (core block : ℕ) (wanted : Access) where
   -- the core's operations after it
-  pub answers_after : answers_of t.log core ≡ answers_of s.log core ++ of_core core did_now
+  pub answers_after : answers_of t.log core ≡ answers_of s.log core ++ of_core core (performed_by s t step answer move)
   answers_after = ap (λ (l : List Item). answers_of l core) (move-log s t step answer move).1 ∙ answers_are s.log (move-log s t step answer move).0 core
 
   -- those of them on the block
   abbrev done_here : List Access
-  done_here = map did_access (filter (λ d. d.block == block) (of_core core did_now))
+  done_here = map did_access (filter (λ d. d.block == block) (of_core core (performed_by s t step answer move)))
 
   balance : IsPermutation (waiting_at s core block ++ option_to_list (asked_access core block step)) (done_here ++ waiting_at t core block)
   balance =
@@ -88,7 +88,7 @@ module _ (s t : Situation) (step : Step) (answer : Reply) (move : FirstMove s st
 
   -- what the move performs is then the core's last operation
   is_last : Contains done_here wanted → IsLast t core block wanted
-  is_last here = elim (one_or_none core did_now) [
+  is_last here = elim (one_or_none core (performed_by s t step answer move)) [
     | inl none ↦ absurd (omega (arith, (rw none at here).1))
     | inr (d, is) ↦ elim (cases_Bool (d.block == block)) [
       | inl on ↦ (d, rw (answers_after, is) (last_push None (answers_of s.log core) d), eqb-true d.block block on, same_Some _ _ (in_one (Some (did_access d)) wanted (rw (is, on) at here)))

@@ -12,7 +12,6 @@ use Rattle.snoop_history.specs.declared.items.Item.{Item}
 use Rattle.snoop_model.specs.declared.replies.Reply.{Reply}
 use Rattle.snoop_model.specs.Runs.Run.{AllTaken}
 use Rattle.snoop_model.proofs.Runs.AllTaken.{taken_goes_on}
-use Rattle.snoop_model.proofs.Runs.Logged.{move-log}
 use Rattle.snoop_bench.proofs.recorder.Recorder.take.Goals as goal
 
 -- the run is that of the machine's protocol and shape now
@@ -25,10 +24,10 @@ recorded_on : {p q : Recording} {step : Step} {answer : Reply} → IsRecorded p 
     → (q.situation.protocol ≡ p.situation.protocol) × (q.situation.shape ≡ p.situation.shape) → IsRecorded q
 recorded_on {p} {q} {step} {answer} r took within stays = record {
   run = as_now p.situation.protocol q.situation.protocol p.situation.shape q.situation.shape q.steps q.situation stays.0 stays.1
-      (rw took.steps (taken_goes_on p.situation.protocol p.situation.shape p.steps step answer took.item p.situation q.situation r.run took.move));
+      (rw took.steps (taken_goes_on p.situation.protocol p.situation.shape p.steps step answer p.situation q.situation r.run took.move));
   readable = rw (stays.1, took.steps) (All-push (IsReadableStep p.situation.shape) p.steps step r.readable within);
   published = took.published ∙ ap (λ (l : List Item). l ++ option_to_list took.item) r.published
-      ∙ sym (move-log p.situation q.situation step answer took.item took.move);
+      ∙ sym took.logged;
 }
 
 pub invariant_of-self-2 : goal.invariant_of-self-2
@@ -36,9 +35,9 @@ invariant_of-self-2 g c =
     let p : Recording = record { situation = c.self.inside.machine.situation; steps = c.self.inside.steps.items; published = c.self.inside.writer.list } in
     let q : Recording = record { situation = c.step.new.self.situation; steps = c.push_reserved.new.self.items; published = c.publish.new.self.list } in
     let taken = c.in-Ok-step.ensures.taken in
-    let adds = c.in-Ok-prepared.ensures.ok.adds c.in-Ok-step.reply c.step.new.self.situation taken.0 taken.1 in
+    let adds = c.in-Ok-prepared.ensures.ok.adds c.in-Ok-step.reply c.step.new.self.situation taken in
     let took : TakesAndPublishes c.args.step c.in-Ok-step.reply p q =
-    record { item = c.in-Ok-prepared.item; move = rw (adds, c.prepared.ensures.unchanged) at taken.1; steps = search rules; published = search rules } in
+    record { item = c.in-Ok-prepared.item; move = rw c.prepared.ensures.unchanged at taken; logged = rw c.prepared.ensures.unchanged at adds; steps = search rules; published = search rules } in
     let protocol = c.step.ensures.stays.0 ∙ ap (λ (x : Situation). x.protocol) c.prepared.ensures.unchanged in
     let shape = c.step.ensures.stays.1 ∙ ap (λ (x : Situation). x.shape) c.prepared.ensures.unchanged in
     let within = subst (λ (r : Recording). IsReadableStep r.situation.shape c.args.step) (sym c.self.view_is) c.requires.within in
@@ -52,6 +51,6 @@ invariant_of-self-2 g c =
 pub returns-clause-takes : goal.returns-clause-takes
 returns-clause-takes g c =
     let taken = c.in-Ok-step.ensures.taken in
-    let adds = c.in-Ok-prepared.ensures.ok.adds c.in-Ok-step.reply c.step.new.self.situation taken.0 taken.1 in
+    let adds = c.in-Ok-prepared.ensures.ok.adds c.in-Ok-step.reply c.step.new.self.situation taken in
     rw (← c.self.view_is)
-    (record { item = c.in-Ok-prepared.item; move = rw (adds, c.prepared.ensures.unchanged) at taken.1; steps = search rules; published = search rules })
+    (record { item = c.in-Ok-prepared.item; move = rw c.prepared.ensures.unchanged at taken; logged = rw c.prepared.ensures.unchanged at adds; steps = search rules; published = search rules })
