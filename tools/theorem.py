@@ -39,12 +39,11 @@ NOTATION = [
     ("Result, Ok, Err", "an answer, or a refusal"),
     ("◌≡◌, ◌≢◌, ◌<◌, ◌≤◌", "equal, not equal, less, at most"),
     ("◌⊎◌, ◌↔◌, ⊤", "or; if and only if; always true"),
-    ("◌==◌, not, ◌&&◌, if◌then◌else◌, ◌+◌", "tests, and the sum"),
+    ("◌==◌, not, ◌&&◌, if◌then◌else◌", "tests"),
     ("IsTrue b, MatchBool b P Q", "the test b passes; P if it passes, else Q"),
     ("IsSome o, is_some o", "the option has a value, as a fact and as a test"),
     ("IfSome o P, IsSomeAnd o P", "if the option has a value, P holds of it; it has one, and P holds of it"),
-    ("MatchOption o Q P", "P of the option's value, or Q if there is none"),
-    ("option_map f o, option_map_or f o x", "f of the option's value, if any; f of it, or x if there is none"),
+    ("option_map f o", "f of the option's value, if any"),
     ("option_to_list o, unwrap_or o x", "the option's value as a list of at most one; the value, or x if there is none"),
     ("length xs, take n xs", "how many elements; the first n"),
     ("slice_get xs k, slice_index_or xs k x", "the element at place k, counted from 0, if any; the same, or x if there is none"),
@@ -52,6 +51,7 @@ NOTATION = [
     ("replicate n x, range_with_len a n", "n times x; the n numbers from a on"),
     ("map f xs, filter p xs, filter_map f xs", "f of each element; those that pass; the values among what f gives"),
     ("count_by p xs, All P xs, Contains xs x", "how many elements pass; P holds of each; x is one of them"),
+    ("IsPermutation xs ys", "ys has the elements of xs, each as often, in any order"),
 ]
 
 HEAD = """# The theorem
