@@ -33,7 +33,7 @@ pub record Records (r : Inside) : Type 0 where
   pub ready : r.writer.ready ≡ []
   pub shape : r.writer.shape ≡ r.machine.situation.shape
 
--- one step is taken: it is a move, stands last among the steps, and its item is published
+-- one step is taken: it is a move, stands last among the steps, and the item that it adds to the log, if any, is published
 pub record TakesAndPublishes (step : Step) (answer : Reply) (p q : Recording) : Type 0 where
   pub item : Option Item
   pub move : FirstMove p.situation step answer q.situation

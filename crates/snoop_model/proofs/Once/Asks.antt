@@ -26,19 +26,15 @@ IsBy core block (Some did) = (did.core ≡ core) × (did.block ≡ block)
 pub accesses_one : (core block c b : ℕ) (entry : Option Item) → IsBy c b (did_in entry) → accesses_in (option_to_list entry) core block ≡ cond (eqb b block && eqb c core) (done (did_in entry)) []
 accesses_one core block c b entry by = rw (answers_are [] entry core) (of_one (did_in entry) by)
   where
-    of_did : (did : Did) (x y : Bool) → map did_access (filter (λ d. d.block == block) (cond y (did ∷ []) [])) ≡ map did_access (cond y (cond (did.block == block) (did ∷ []) []) [])
-    of_did did x true = refl
-    of_did did x false = refl
-
-    either : (did : Did) (x y : Bool) → map did_access (cond y (cond x (did ∷ []) []) []) ≡ cond (x && y) (did_access did ∷ []) []
-    either did true true = refl
-    either did true false = refl
-    either did false true = refl
-    either did false false = refl
+    of_did : (did : Did) (x y : Bool) → (did.block == block) ≡ x → map did_access (filter (λ d. d.block == block) (cond y (did ∷ []) [])) ≡ cond (x && y) (did_access did ∷ []) []
+    of_did did true true e = rw e refl
+    of_did did false true e = rw e refl
+    of_did did true false e = refl
+    of_did did false false e = refl
 
     of_one : (did : Option Did) → IsBy c b did → map did_access (filter (λ d. d.block == block) (of_core core did)) ≡ cond (eqb b block && eqb c core) (done did) []
     of_one None by = either_way (eqb b block && eqb c core) []
-    of_one (Some did) by = rw (← by.0, ← by.1) (of_did did true (did.core == core) ∙ either did (did.block == block) (did.core == core))
+    of_one (Some did) by = rw (← by.0, ← by.1) (of_did did (did.block == block) (did.core == core) refl)
 
 -- what an Ask asks of a core and block
 pub asked_one : (core block c b word : ℕ) (asking : Op) → filter_map (asked_access core block) (Ask c b word asking ∷ []) ≡ cond (eqb b block && eqb c core) (option_to_list (kept_waiting word asking)) []
