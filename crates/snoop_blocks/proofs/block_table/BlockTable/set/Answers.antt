@@ -1,5 +1,5 @@
 use Rattle.std.proofs.Common.{◌≡◌, length, arith, vec_capacity}
-use Rattle.snoop_blocks.proofs.Places.{ArePlaces-push, read_at, seen-push, seen-set, some-room, in-written}
+use Rattle.snoop_blocks.proofs.Places.{ArePlaces-push, found, seen-push, seen-set, some-room, in-written}
 use Rattle.snoop_blocks.proofs.block_table.BlockTable.set.Goals as goal
 
 pub push_reserved-requires : goal.push_reserved-requires
@@ -20,8 +20,8 @@ invariant_of-self g c =
 
 pub index_mut-requires-else-place-eq0 : goal.index_mut-requires-else-place-eq0
 index_mut-requires-else-place-eq0 g c =
-    let at = read_at _ c.self.invariant c.self.view_is _ c.requires c.index-place.ensures in
-    omega (arith, in-written _ c.self.invariant c.self.view_is _ at c.if-place-eq0.false, c.self.inside.written.ok.0)
+    let at = found _ c.self.invariant c.self.view_is _ c.requires c.index-place.ensures in
+    omega (arith, in-written _ c.self.invariant c.self.view_is _ at.1 c.if-place-eq0.false, c.self.inside.written.ok.0)
 
 pub returns-then-place-eq0 : goal.returns-then-place-eq0
 returns-then-place-eq0 g c =
@@ -30,4 +30,4 @@ returns-then-place-eq0 g c =
 
 pub returns-else-place-eq0 : goal.returns-else-place-eq0
 returns-else-place-eq0 g c =
-    seen-set _ c.self.invariant c.self.view_is _ (read_at _ c.self.invariant c.self.view_is _ c.requires c.index-place.ensures) c.if-place-eq0.false c.args.value
+    seen-set _ c.self.invariant c.self.view_is _ (found _ c.self.invariant c.self.view_is _ c.requires c.index-place.ensures).1 c.if-place-eq0.false c.args.value
