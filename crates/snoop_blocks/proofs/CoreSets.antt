@@ -40,26 +40,25 @@ module _ (words : List ℕ) {now : List ℕ} (view : words ≡ now) (from left :
   unfolding has
   has_at k up same = let place : k % 64 ≡ from % 64 + (k - from) = omega arith in rw (bits_of (k - from), ← view, same, place) refl
 
-  lacks_more : (to : ℕ) → LacksUpTo now from to → LacksUpTo now first to
-  lacks_more to more = λ k up below. elim (cases_lt k from) [
+  -- where the bits up to one are 0, no core up to that one is in the set
+  lacks_more : (n : ℕ) → from % 64 + n ≤ 64 → ((i : ℕ) → i < n → bit_at left i ≡ 0) → LacksUpTo now first (from + n)
+  lacks_more n small none = λ k up below. elim (cases_lt k from) [
     | inl less ↦ so_far.0 k up less
-    | inr above ↦ more k above below
+    | inr above ↦ rw (has_at k above (omega arith), none (k - from) (omega arith)) refl
   ]
 
   -- where no bit is left, no core of the word is in the set
   pub next_word : left ≡ 0 → LacksUpTo now first ((from / 64 + 1) * 64) × (first ≤ (from / 64 + 1) * 64)
-  next_word none = (lacks_more ((from / 64 + 1) * 64) (λ k up below. rw (has_at k up (omega arith), none, bit_at-zero (k - from)) refl), omega arith)
+  next_word none =
+      let place : (from / 64 + 1) * 64 ≡ from + (64 - from % 64) = omega arith in
+      rw place (lacks_more (64 - from % 64) (omega arith) (λ i _. rw none (bit_at-zero i)), omega arith)
 
   -- the lowest bit that is left is that of the next core
-  pub next_core : from < 256 → get_or words (from / 64) 0 < 2 ^ 64 → left ≢ 0 → left < 2 ^ 64 → let to = from + trailing_zeros w64 left in
-      (first ≤ to) × (to < 256) × (has now to ≡ true) × LacksUpTo now first to
+  pub next_core : from < 256 → get_or words (from / 64) 0 < 2 ^ 64 → left ≢ 0 → left < 2 ^ 64 → let n = trailing_zeros w64 left in
+      (first ≤ from + n) × (from + n < 256) × (has now (from + n) ≡ true) × LacksUpTo now first (from + n)
   next_core test fits some below =
-      let to = from + trailing_zeros w64 left in
+      let n = trailing_zeros w64 left in
       let lowest = bit_at-trailing_zeros w64 left (omega arith) below in
-      let same : to / 64 ≡ from / 64 = grind (arith, bits_of (trailing_zeros w64 left), bit_at_above (get_or words (from / 64) 0) 64 (from % 64 + trailing_zeros w64 left) fits) in
-      let place : to - from ≡ trailing_zeros w64 left = omega arith in (
-        omega arith,
-        omega arith,
-        rw (has_at to (omega arith) same, place, lowest.1) refl,
-        lacks_more to (λ k up before. rw (has_at k up (omega arith), lowest.2 (k - from) (omega arith)) refl),
-      )
+      let small : from % 64 + n < 64 = grind (arith, bits_of n, bit_at_above (get_or words (from / 64) 0) 64 (from % 64 + n) fits) in
+      let place : from + n - from ≡ n = omega arith in
+      (omega arith, omega arith, rw (has_at (from + n) (omega arith) (omega arith), place, lowest.1) refl, lacks_more n (omega arith) lowest.2)

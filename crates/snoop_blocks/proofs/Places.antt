@@ -1,8 +1,8 @@
 -- The places of a table: at first, and after one write.
-use Rattle.std.proofs.Common.{◌≡◌, ◌≢◌, ◌<◌, ◌≤◌, ◌+◌, ◌-◌, ◌^◌, ℕ, zero, suc, List, [], ◌∷◌, ◌++◌, length, replicate, slice_index_or, slice_set, refl, sym, ◌∙◌, ap, arith}
+use Rattle.std.proofs.Common.{◌≡◌, ◌≢◌, ◌<◌, ◌≤◌, ◌+◌, ◌-◌, ◌^◌, ℕ, zero, suc, List, [], ◌∷◌, ◌++◌, length, replicate, slice_get, slice_index_or, slice_set, Some, refl, sym, ◌∙◌, ap, arith}
 use Rattle.std.proofs.lemmas.Bool.{cases_eq, cases_lt}
 use Rattle.std.proofs.lemmas.Grind.{common_steps, elements}
-use Rattle.std.proofs.lemmas.Option.{slice_get-get_or}
+use Rattle.std.proofs.lemmas.Option.{slice_get-get_or, slice_get-map}
 use Rattle.std.proofs.lemmas.List.{ext_get_or, get_or_read, get_or_past, get_or_push, get_or_append_left, get_or-replicate, get_or-set_same, get_or-set_other, length-set, length-map, map-set, set-get_or, length-replicate, length_push}
 use Rattle.std.proofs.Math.ListN.{get_or-map}
 use Rattle.snoop_blocks.specs.Places.{value_at, seen, changed_at, unwritten, ArePlaces}
@@ -19,7 +19,8 @@ pub seen-new : {X : Type 0} (first : X) (written : List X) (n : ℕ) → seen fi
 seen-new first written zero = refl
 seen-new first written (suc n) = cc (seen-new first written n)
 
-pub ArePlaces-new : {X : Type 0} (n : ℕ) (written : List X) (capacity : ℕ) → n < 2 ^ 32 → length written ≡ 0 → n ≤ capacity → ArePlaces (replicate n 0) written capacity
+pub ArePlaces-new : {X : Type 0} (n : ℕ) (written : List X) (capacity : ℕ) → n < 2 ^ 32 → length written ≡ 0 → n ≤ capacity
+    → ArePlaces (replicate n 0) written capacity
 ArePlaces-new n written capacity few none room =
     let long = length-replicate {A = ℕ} n 0 in
     record {
@@ -31,7 +32,8 @@ ArePlaces-new n written capacity few none room =
     }
 
 -- a block that was never written is one of them, and after its first write is none
-fewer-unwritten : (places : List ℕ) (block place : ℕ) → block < length places → slice_index_or places block 0 ≡ 0 → unwritten (slice_set places block (suc place)) + 1 ≡ unwritten places
+fewer-unwritten : (places : List ℕ) (block place : ℕ) → block < length places → slice_index_or places block 0 ≡ 0
+    → unwritten (slice_set places block (suc place)) + 1 ≡ unwritten places
 fewer-unwritten [] block place within none = elim within [ ]
 fewer-unwritten (zero ∷ places) zero place within none = refl
 fewer-unwritten (suc last ∷ places) zero place within none = absurd (omega arith)
@@ -98,18 +100,24 @@ module _ {X : Type 0} (first : X) {written now : List X} {places : List ℕ} {ca
     pub in-written : place - 1 < length written
     in-written = omega (arith, all.within block)
 
+    there : block < length places
+    there = grind (arith, get_or_past places block 0)
+
+    is_suc : slice_index_or places block 0 ≡ suc (place - 1)
+    is_suc = omega arith
+
     pub seen-set : (value : X) → seen first (slice_set written (place - 1) value) places ≡ slice_set now block value
     seen-set value =
-        let is : place ≡ suc (place - 1) = omega arith in
-        ap (seen first (slice_set written (place - 1) value)) (sym (set-get_or places block 0))
-        ∙ seen-changed (slice_set written (place - 1) value) (slice_index_or places block 0) value (grind (arith, get_or_past places block 0)) (ap (value_at first (slice_set written (place - 1) value)) (at ∙ is) ∙ get_or-set_same written (place - 1) value first in-written)
+        let after = slice_set written (place - 1) value in
+        ap (seen first after) (sym (set-get_or places block 0))
+        ∙ seen-changed after (slice_index_or places block 0) value there (ap (value_at first after) is_suc ∙ get_or-set_same written (place - 1) value first in-written)
         (λ k ne n is. get_or-set_other written (place - 1) n value first (grind (arith, all.apart k block ne)))
 
     -- so the value of the block may be changed
     pub seen-change : (next : X → X) (old new : X) → old ≡ slice_index_or written (place - 1) old → new ≡ next old
         → seen first (slice_set written (place - 1) new) places ≡ changed_at now block next
     seen-change next old new was is =
-        let suc_at : slice_index_or places block 0 ≡ suc (place - 1) = omega arith in
-        let there : block < length places = grind (arith, get_or_past places block 0) in
-        seen-set new
-        ∙ rw (← view, slice_get-get_or (seen first written places) block first (simp length-map there), get_or-map (value_at first written) places block 0, suc_at, is, ← get_or_read written (place - 1) old in-written was first) refl
+        let was_first = get_or_read written (place - 1) old in-written was first in
+        let here : slice_get now block ≡ Some old =
+            rw (← view, slice_get-map (value_at first written) places block, slice_get-get_or places block 0 there, is_suc, ← was_first) refl in
+        seen-set new ∙ rw (here, is) refl

@@ -16,7 +16,8 @@ pub invariant_of-self : goal.invariant_of-self
 invariant_of-self g c =
     let is_last : c.len.result ≡ length c.push_reserved.new.self.items = omega (arith, c.len.ensures, c.push_reserved.new.self.ok.0) in
     ArePlaces-push _ c.self.invariant c.self.view_is _ c.requires c.index-place.ensures c.if-place-eq0.true
-    c.args.value {after = c.push_reserved.new.self.items} c.push_reserved.ensures.items is_last (vec_capacity c.push_reserved.new.self) (omega (arith, c.push_reserved.ensures.capacity))
+    c.args.value {after = c.push_reserved.new.self.items} c.push_reserved.ensures.items is_last
+    (vec_capacity c.push_reserved.new.self) (omega (arith, c.push_reserved.ensures.capacity))
 
 pub index_mut-requires-else-place-eq0 : goal.index_mut-requires-else-place-eq0
 index_mut-requires-else-place-eq0 g c =

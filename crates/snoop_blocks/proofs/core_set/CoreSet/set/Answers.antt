@@ -1,5 +1,5 @@
-use Rattle.std.proofs.Common.{ℕ, ◌<◌, ◌/◌, ◌%◌, ◌^◌, ◌*◌, sym, ap, ◌∙◌, arith, w64}
-use Rattle.std.specs.Prelude.{slice_index_or, ◌==◌, bit_and, bit_or}
+use Rattle.std.proofs.Common.{ℕ, ◌<◌, ◌/◌, ◌%◌, ◌^◌, ◌*◌, refl, arith, w64}
+use Rattle.std.specs.Prelude.{slice_index_or, bit_and, bit_or}
 use Rattle.std.specs.Int.{bit_not}
 use Rattle.std.proofs.lemmas.Nat.Bits.{bit_at_set_same, bit_at_set_other, bit_at_clear_same, bit_at_clear_other}
 use Rattle.snoop_blocks.proofs.CoreSets.{has-set_here, has-set_other}
@@ -17,13 +17,13 @@ returns c =
       | then-is_member w ↦
           let new = bit_or word (1 * 2 ^ bit % 2 ^ 64) in
           rw w.self-inside-is record {
-            here = has-set_here words core new c.self.invariant c.requires ∙ ap (λ (b : ℕ). b == 1) (bit_at_set_same w64 word bit small) ∙ sym w.if-is_member.true;
+            here = rw (has-set_here words core new c.self.invariant c.requires, bit_at_set_same w64 word bit small, w.if-is_member.true) refl;
             others = has-set_other words core new c.self.invariant c.requires (λ i _ ne. bit_at_set_other w64 word bit small i ne);
           }
       | else-is_member w ↦
           let new = bit_and word (bit_not w64 (1 * 2 ^ bit % 2 ^ 64)) in
           rw w.self-inside-is record {
-            here = has-set_here words core new c.self.invariant c.requires ∙ ap (λ (b : ℕ). b == 1) (bit_at_clear_same w64 word bit small) ∙ sym w.if-is_member.false;
+            here = rw (has-set_here words core new c.self.invariant c.requires, bit_at_clear_same w64 word bit small, w.if-is_member.false) refl;
             others = has-set_other words core new c.self.invariant c.requires (bit_at_clear_other w64 word bit small);
           }
     ])
