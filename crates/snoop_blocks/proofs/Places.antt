@@ -12,13 +12,16 @@ unwritten-new : (n : ℕ) → unwritten (replicate n 0) ≡ n
 unwritten-new zero = refl
 unwritten-new (suc n) = omega (arith, unwritten-new n)
 
+-- each place is 0 then
 pub zero_at : (n block : ℕ) → let none : ℕ = 0 in slice_index_or (replicate n none) block 0 ≡ 0
 zero_at n block = grind (arith, common_steps, get_or-replicate, get_or_past, length-replicate, cases_lt block n)
 
+-- and each block has the first value
 pub seen-new : {X : Type 0} (first : X) (written : List X) (n : ℕ) → seen first written (replicate n 0) ≡ replicate n first
 seen-new first written zero = refl
 seen-new first written (suc n) = cc (seen-new first written n)
 
+-- such places are in order
 pub ArePlaces-new : {X : Type 0} (n : ℕ) (written : List X) (capacity : ℕ) → n < 2 ^ 32 → length written ≡ 0 → n ≤ capacity
     → ArePlaces (replicate n 0) written capacity
 ArePlaces-new n written capacity few none room =
@@ -78,17 +81,15 @@ module _ {X : Type 0} (first : X) {written now : List X} {places : List ℕ} {ca
       at_last = omega (arith, ap length pushed, length_push written value)
 
       pub ArePlaces-push : (more : ℕ) → capacity ≤ more → ArePlaces (slice_set places block last) after more
-      ArePlaces-push more enough =
-          let long = length-set places block last in
-          let suc_last = at_last in
-          let is_free = free in
-          record {
-            few = omega arith;
-            within = λ k. grind (arith, elements, all.within k);
-            apart = λ one other ne same. grind (arith, elements, all.within one, all.within other, all.apart one other ne);
-            whole = omega (arith, fewer-unwritten places block (length written) free.0 free.1, ap (λ p. unwritten (slice_set places block p)) at_last);
-            room = omega arith;
-          }
+      ArePlaces-push more enough = record {
+        few = omega (arith, length-set places block last);
+        within = λ k. grind (arith, elements, free, at_last, all.within k);
+        apart = λ one other ne same. grind (arith, elements, free, at_last, all.within one, all.within other, all.apart one other ne);
+        whole =
+            let same = ap (λ p. unwritten (slice_set places block p)) at_last in
+            omega (arith, at_last, same, length-set places block last, fewer-unwritten places block (length written) free.0 free.1);
+        room = omega (arith, length-set places block last);
+      }
 
       pub seen-push : seen first after (slice_set places block last) ≡ slice_set now block value
       seen-push =
@@ -110,7 +111,8 @@ module _ {X : Type 0} (first : X) {written now : List X} {places : List ℕ} {ca
     seen-set value =
         let after = slice_set written (place - 1) value in
         ap (seen first after) (sym (set-get_or places block 0))
-        ∙ seen-changed after (slice_index_or places block 0) value there (ap (value_at first after) is_suc ∙ get_or-set_same written (place - 1) value first in-written)
+        ∙ seen-changed after (slice_index_or places block 0) value there
+        (ap (value_at first after) is_suc ∙ get_or-set_same written (place - 1) value first in-written)
         (λ k ne n is. get_or-set_other written (place - 1) n value first (grind (arith, all.apart k block ne)))
 
     -- so the value of the block may be changed
