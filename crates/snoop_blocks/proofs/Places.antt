@@ -98,7 +98,7 @@ module _ {X : Type 0} (first : X) {written now : List X} {places : List ℕ} {ca
 
   -- a further write puts the value in the place of the last one
   module _ {place : ℕ} (at : slice_index_or places block 0 ≡ place) (some : place ≢ 0) where
-    pub in-written : place - 1 < length written
+    in-written : place - 1 < length written
     in-written = omega (arith, all.within block)
 
     there : block < length places

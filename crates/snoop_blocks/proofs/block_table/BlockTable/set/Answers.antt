@@ -1,5 +1,5 @@
 use Rattle.std.proofs.Common.{◌≡◌, length, arith, vec_capacity}
-use Rattle.snoop_blocks.proofs.Places.{ArePlaces-push, found, seen-push, seen-set, some-room, in-written}
+use Rattle.snoop_blocks.proofs.Places.{ArePlaces-push, found, seen-push, seen-set, some-room}
 use Rattle.snoop_blocks.proofs.block_table.BlockTable.set.Goals as goal
 
 pub push_reserved-requires : goal.push_reserved-requires
@@ -18,11 +18,6 @@ invariant_of-self g c =
     ArePlaces-push _ c.self.invariant c.self.view_is _ c.requires c.index-place.ensures c.if-place-eq0.true
     c.args.value {after = c.push_reserved.new.self.items} c.push_reserved.ensures.items is_last
     (vec_capacity c.push_reserved.new.self) (omega (arith, c.push_reserved.ensures.capacity))
-
-pub index_mut-requires-else-place-eq0 : goal.index_mut-requires-else-place-eq0
-index_mut-requires-else-place-eq0 g c =
-    let at = found _ c.self.invariant c.self.view_is _ c.requires c.index-place.ensures in
-    omega (arith, in-written _ c.self.invariant c.self.view_is _ at.1 c.if-place-eq0.false, c.self.inside.written.ok.0)
 
 pub returns-then-place-eq0 : goal.returns-then-place-eq0
 returns-then-place-eq0 g c =
