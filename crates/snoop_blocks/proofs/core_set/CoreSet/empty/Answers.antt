@@ -1,5 +1,9 @@
-use Rattle.snoop_blocks.proofs.CoreSets.{has_none}
+use Rattle.std.proofs.Common.{refl, ◌/◌, ◌%◌}
+use Rattle.std.proofs.lemmas.Nat.Bits.{bit_at-zero}
+use Rattle.snoop_blocks.specs.CoreSet.{has}
+use Rattle.snoop_blocks.proofs.Places.{zero_at}
 use Rattle.snoop_blocks.proofs.core_set.CoreSet.empty.Goals as goal
 
 pub returns : goal.returns
-returns c = has_none
+unfolding has
+returns c = λ k. rw (zero_at 4 (k / 64), bit_at-zero (k % 64)) refl

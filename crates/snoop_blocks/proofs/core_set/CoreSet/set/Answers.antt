@@ -1,43 +1,29 @@
-use Rattle.std.proofs.Common.{◌≡◌, ℕ, ◌<◌, ◌/◌, ◌%◌, ◌^◌, ◌*◌, List, length, refl, sym, ap, ◌∙◌, arith, w64}
-use Rattle.std.specs.Prelude.{slice_index_or, ◌==◌, bit_and, bit_or}
+use Rattle.std.proofs.Common.{ℕ, ◌<◌, ◌/◌, ◌%◌, ◌^◌, ◌*◌, refl, arith, w64}
+use Rattle.std.specs.Prelude.{slice_index_or, bit_and, bit_or}
 use Rattle.std.specs.Int.{bit_not}
 use Rattle.std.proofs.lemmas.Nat.Bits.{bit_at_set_same, bit_at_set_other, bit_at_clear_same, bit_at_clear_other}
-use Rattle.snoop_blocks.specs.CoreSet.{has}
-use Rattle.snoop_blocks.proofs.CoreSets.{has-set_word, has-set_bit}
+use Rattle.snoop_blocks.proofs.CoreSets.{has-set_here, has-set_other}
 use Rattle.snoop_blocks.proofs.core_set.CoreSet.set.Goals as goal
 use Rattle.snoop_blocks.proofs.core_set.CoreSet.set.Goals.{then-is_member, else-is_member}
 
-pub returns-clause-here : goal.returns-clause-here
-returns-clause-here c =
+pub returns : goal.returns
+returns c =
     let words = c.self.inside.words in
     let core = c.args.core in
+    let bit : ℕ = core % 64 in
     let word : ℕ = slice_index_or words (core / 64) 0 in
-    let long : length words ≡ 4 = c.self.invariant in
-    let few : core < 256 = c.requires in
-    elim c.if-is_member.branch [
+    let small : bit < 64 = omega arith in
+    rw (← c.self.view_is) (elim c.if-is_member.branch [
       | then-is_member w ↦
-          rw w.self-inside-is
-          (has-set_word words core (bit_or word (1 * 2 ^ (core % 64) % 2 ^ 64)) (omega arith) core refl
-          ∙ (ap (λ (b : ℕ). b == 1) (bit_at_set_same w64 word (core % 64) (omega arith)) ∙ sym w.if-is_member.true))
+          let new = bit_or word (1 * 2 ^ bit % 2 ^ 64) in
+          rw w.self-inside-is record {
+            here = rw (has-set_here words core new c.self.invariant c.requires, bit_at_set_same w64 word bit small, w.if-is_member.true) refl;
+            others = has-set_other words core new c.self.invariant c.requires (λ i _ ne. bit_at_set_other w64 word bit small i ne);
+          }
       | else-is_member w ↦
-          rw w.self-inside-is
-          (has-set_word words core (bit_and word (bit_not w64 (1 * 2 ^ (core % 64) % 2 ^ 64))) (omega arith) core refl
-          ∙ (ap (λ (b : ℕ). b == 1) (bit_at_clear_same w64 word (core % 64) (omega arith)) ∙ sym w.if-is_member.false))
-    ]
-
-pub returns-clause-others : goal.returns-clause-others
-returns-clause-others c = λ k other.
-    let words = c.self.inside.words in
-    let core = c.args.core in
-    let word : ℕ = slice_index_or words (core / 64) 0 in
-    let long : length words ≡ 4 = c.self.invariant in
-    let few : core < 256 = c.requires in
-    let view = ap (λ (l : List ℕ). has l k) c.self.view_is in
-    elim c.if-is_member.branch [
-      | then-is_member w ↦
-          rw w.self-inside-is
-          (has-set_bit words core (bit_or word (1 * 2 ^ (core % 64) % 2 ^ 64)) (omega arith) k other (λ i small ne. bit_at_set_other w64 word (core % 64) (omega arith) i ne) ∙ view)
-      | else-is_member w ↦
-          rw w.self-inside-is
-          (has-set_bit words core (bit_and word (bit_not w64 (1 * 2 ^ (core % 64) % 2 ^ 64))) (omega arith) k other (λ i small ne. bit_at_clear_other w64 word (core % 64) (omega arith) i small ne) ∙ view)
-    ]
+          let new = bit_and word (bit_not w64 (1 * 2 ^ bit % 2 ^ 64)) in
+          rw w.self-inside-is record {
+            here = rw (has-set_here words core new c.self.invariant c.requires, bit_at_clear_same w64 word bit small, w.if-is_member.false) refl;
+            others = has-set_other words core new c.self.invariant c.requires (bit_at_clear_other w64 word bit small);
+          }
+    ])
