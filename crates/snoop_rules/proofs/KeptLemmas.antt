@@ -1,8 +1,9 @@
 -- A text that grows piece by piece, over the elements of a list that pass a test.
-use Rattle.std.proofs.Common.{◌≡◌, ℕ, ◌+◌, ◌<◌, ◌≤◌, Bool, true, false, List, [], ◌∷◌, ◌++◌, length, take, get_or, ap, sym, ◌∙◌, append_assoc}
+use Rattle.std.proofs.Common.{◌≡◌, ℕ, ◌+◌, ◌<◌, ◌≤◌, Bool, true, false, List, [], ◌∷◌, ◌++◌, length, take, get_or, ap, sym, ◌∙◌, append_assoc, arith, cond}
 use Rattle.std.specs.List.{filter, flat_map}
 use Rattle.std.proofs.lemmas.Bool.{cond-true, cond-false}
 use Rattle.std.proofs.lemmas.List.{append-nil, flat_map_more, take_all}
+use Rattle.std.proofs.lemmas.Grind.{flat_map-append}
 use Rattle.std.proofs.lemmas.List.Elements.{filter_more}
 
 -- the piece of an element that passes comes after the pieces so far
@@ -33,3 +34,8 @@ kept_all p f xs i before now h far = far ∙ ap (λ (ys : List _). before ++ fla
 pub line_ends : (before first pieces end now next : List ℕ) → now ≡ (before ++ first) ++ pieces → next ≡ now ++ end → next ≡ before ++ ((first ++ pieces) ++ end)
 line_ends before first pieces end now next far e =
     e ∙ ap (λ (t : List ℕ). t ++ end) (far ∙ append_assoc before first pieces) ∙ append_assoc before (first ++ pieces) end
+
+-- one more element: its piece comes if it passes
+pub kept_next : {X : Type 0} (p : X → Bool) (f : X → List ℕ) (xs : List X) (i : ℕ) (d : X) → i < length xs
+    → flat_map f (filter p (take (i + 1) xs)) ≡ flat_map f (filter p (take i xs)) ++ cond (p (get_or xs i d)) (f (get_or xs i d)) []
+kept_next p f xs i d h = grind (arith, filter_more p xs i d h, flat_map-append, append-nil)

@@ -1,7 +1,6 @@
--- The rows of the cache table; and what each row passes, any one passes: tests that a computation decides.
-use Rattle.std.proofs.Common.{◌≡◌, Bool, true, Option, sym, ◌∙◌, ap}
+-- What each row of the cache table passes, any one passes: tests that a computation decides.
+use Rattle.std.proofs.Common.{◌≡◌, Bool, true, Option}
 use Rattle.std.specs.Option.{option_map_or}
-use Rattle.std.proofs.lemmas.Option.{same_Some}
 use Rattle.snoop_trace.specs.declared.protocol.Protocol.{Protocol}
 use Rattle.snoop_rules.specs.declared.names.CacheState.{CacheState}
 use Rattle.snoop_rules.specs.declared.names.CacheEvent.{CacheEvent}
@@ -9,12 +8,6 @@ use Rattle.snoop_rules.specs.declared.names.CacheAction.{CacheAction}
 use Rattle.snoop_rules.specs.declared.names.CacheCell.{CacheCell}
 use Rattle.snoop_rules.specs.Cell.{Cell, cell_of}
 use Rattle.snoop_rules.proofs.Every.{all_protocols, all_protocols-at, all_states, all_states-at, all_events, all_events-at}
-
--- a pair has one row at most
-pub Cell-one : (p : Protocol) (s : CacheState) (e : CacheEvent) (a b : CacheAction) (n m : CacheState) → Cell p s e a n → Cell p s e b m → (a ≡ b) × (n ≡ m)
-Cell-one p s e a b n m h k =
-    let cell = same_Some _ _ (sym h ∙ k) in
-    (ap (λ c. c.action) cell, ap (λ c. c.next) cell)
 
 -- a row passes a test, and where there is none nothing is to be passed
 abbrev pub passes : Option CacheCell → (CacheCell → Bool) → Bool
