@@ -1,4 +1,4 @@
+pub mod Common
 pub mod Every
-pub mod KeptLemmas
 pub mod Rows
 pub mod TextLemmas

@@ -21,9 +21,4 @@ each_row test = all_protocols (λ p. all_states (λ s. all_events (λ e. passes 
 pub each_row-at : (test : Protocol → CacheState → CacheEvent → CacheCell → Bool) → each_row test ≡ true
     → (p : Protocol) (s : CacheState) (e : CacheEvent) (a : CacheAction) (n : CacheState) → Cell p s e a n → test p s e (record { action = a; next = n }) ≡ true
 unfolding each_row
-each_row-at test all p s e a n h =
-    let at : passes (cell_of p s e) (test p s e) ≡ true =
-    all_events-at (λ e. passes (cell_of p s e) (test p s e))
-    (all_states-at (λ s. all_events (λ e. passes (cell_of p s e) (test p s e)))
-    (all_protocols-at (λ p. all_states (λ s. all_events (λ e. passes (cell_of p s e) (test p s e)))) all p) s) e in
-    rw h at at
+each_row-at test all p s e a n h = rw h at (all_events-at _ (all_states-at _ (all_protocols-at _ all p) s) e)
