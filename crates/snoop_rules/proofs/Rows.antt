@@ -1,5 +1,5 @@
 -- What each row of the cache table passes, any one passes: tests that a computation decides.
-use Rattle.std.proofs.Common.{◌≡◌, Bool, true, Option}
+use Rattle.std.proofs.Common.{◌≡◌, Bool, true}
 use Rattle.std.specs.Option.{option_map_or}
 use Rattle.snoop_trace.specs.declared.protocol.Protocol.{Protocol}
 use Rattle.snoop_rules.specs.declared.names.CacheState.{CacheState}
@@ -9,13 +9,9 @@ use Rattle.snoop_rules.specs.declared.names.CacheCell.{CacheCell}
 use Rattle.snoop_rules.specs.Cell.{Cell, cell_of}
 use Rattle.snoop_rules.proofs.Every.{all_protocols, all_protocols-at, all_states, all_states-at, all_events, all_events-at}
 
--- a row passes a test, and where there is none nothing is to be passed
-abbrev pub passes : Option CacheCell → (CacheCell → Bool) → Bool
-passes cell test = option_map_or test cell true
-
--- a test of each row
+-- a test of each row; a pair that has none has nothing to pass
 unfoldable pub each_row : (Protocol → CacheState → CacheEvent → CacheCell → Bool) → Bool
-each_row test = all_protocols (λ p. all_states (λ s. all_events (λ e. passes (cell_of p s e) (test p s e))))
+each_row test = all_protocols (λ p. all_states (λ s. all_events (λ e. option_map_or (test p s e) (cell_of p s e) true)))
 
 -- what each row passes is passed by this one
 pub each_row-at : (test : Protocol → CacheState → CacheEvent → CacheCell → Bool) → each_row test ≡ true

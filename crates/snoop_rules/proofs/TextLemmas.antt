@@ -16,6 +16,7 @@ pub pieces_all : {X : Type 0} (f : X → List ℕ) (xs : List X) (i : ℕ) (befo
 pieces_all f xs i before now h far = rw take_all at far
 
 -- of those that pass a test: the next element's piece comes if it passes
-pub kept_more : {X : Type 0} (p : X → Bool) (f : X → List ℕ) (xs : List X) (i : ℕ) (d : X) → i < length xs
-    → flat_map f (filter p (take (i + 1) xs)) ≡ flat_map f (filter p (take i xs)) ++ cond (p (get_or xs i d)) (f (get_or xs i d)) []
-kept_more p f xs i d h = grind (arith, filter_more p xs i d h, flat_map-append, append-nil)
+pub kept_more : {X : Type 0} (p : X → Bool) (f : X → List ℕ) (xs : List X) (i : ℕ) (d : X) (before now next : List ℕ) → i < length xs
+    → now ≡ before ++ flat_map f (filter p (take i xs)) → next ≡ now ++ cond (p (get_or xs i d)) (f (get_or xs i d)) []
+    → next ≡ before ++ flat_map f (filter p (take (i + 1) xs))
+kept_more p f xs i d before now next h far e = grind (arith, filter_more p xs i d h, flat_map-append, append_assoc, append-nil)

@@ -1,6 +1,5 @@
-use Rattle.snoop_rules.proofs.Common.{Load, cache_events, cache_line_at, piece_more}
+use Rattle.snoop_rules.proofs.TextLemmas.{piece_more}
 use Rattle.snoop_rules.proofs.table_text.push_cache_rows.Goals as goal
 
 pub loop-event-preserved : goal.loop-event-preserved
-loop-event-preserved c =
-    piece_more (cache_line_at c.args.protocol c.args.state) cache_events _ Load _ _ _ c.loop-event-test.true c.loop-event.invariant c.in_ok-push_cache_row.ensures.ok
+loop-event-preserved c = piece_more _ _ _ _ _ _ _ c.loop-event-test.true c.loop-event.invariant c.in_ok-push_cache_row.ensures.ok

@@ -1,10 +1,8 @@
-use Rattle.snoop_rules.proofs.Common.{arith, common_steps, I, flat_map, cache_events, cache_states, cache_line_at, cache_text, piece_more}
+use Rattle.snoop_rules.proofs.Common.{arith, common_steps, cache_text, piece_more}
 use Rattle.snoop_rules.proofs.table_text.push_cache_table.Goals as goal
 
 pub loop-state-preserved : goal.loop-state-preserved
-loop-state-preserved c =
-    piece_more (λ state. flat_map (cache_line_at c.args.protocol state) cache_events) cache_states _ I _ _ _
-    c.loop-state-test.true c.loop-state.invariant c.in_ok-push_cache_rows.ensures.ok
+loop-state-preserved c = piece_more _ _ _ _ _ _ _ c.loop-state-test.true c.loop-state.invariant c.in_ok-push_cache_rows.ensures.ok
 
 pub returns : goal.returns
 unfolding cache_text
