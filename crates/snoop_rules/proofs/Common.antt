@@ -1,12 +1,7 @@
 -- The names that the proofs of the texts and the matrices use, passed on from one place.
 pub use Rattle.std.proofs.Common.{◌≡◌, ◌++◌, take, codes, arith}
-pub use Rattle.std.proofs.lemmas.List.{append-nil}
 pub use Rattle.std.specs.List.{filter, flat_map}
 pub use Rattle.std.proofs.lemmas.Grind.{common_steps}
-pub use Rattle.snoop_rules.specs.declared.names.CacheState.TheVariants.{I}
-pub use Rattle.snoop_rules.specs.declared.names.CacheEvent.TheVariants.{Load}
-pub use Rattle.snoop_rules.specs.declared.names.MemState.TheVariants.{IorS}
-pub use Rattle.snoop_rules.specs.declared.names.MemEvent.TheVariants.{GetS}
 pub use Rattle.snoop_rules.specs.Names.{event_name, memory_event_name, memory_state_name, state_name}
 pub use Rattle.snoop_rules.specs.TableOrder.{cache_events, cache_states, memory_events, memory_states}
 unfoldable pub use Rattle.snoop_rules.specs.TableText.{cache_line_at, cache_text, memory_line_at, memory_text}

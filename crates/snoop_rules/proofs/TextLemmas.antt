@@ -1,5 +1,5 @@
 -- A text that grows piece by piece, over a list.
-use Rattle.std.proofs.Common.{◌≡◌, ℕ, ◌+◌, ◌<◌, ◌≤◌, Bool, List, [], ◌++◌, length, take, get_or, cond, arith}
+use Rattle.std.proofs.Common.{◌≡◌, ℕ, ◌+◌, ◌<◌, ◌≤◌, Bool, List, ◌++◌, length, take, get_or, cond, arith}
 use Rattle.std.specs.List.{filter, flat_map}
 use Rattle.std.proofs.lemmas.List.{append-nil, append_assoc, take_all, take_more}
 use Rattle.std.proofs.lemmas.List.Elements.{filter_more}
@@ -16,7 +16,7 @@ pub pieces_all : {X : Type 0} (f : X → List ℕ) (xs : List X) (i : ℕ) (befo
 pieces_all f xs i before now h far = rw take_all at far
 
 -- of those that pass a test: the next element's piece comes if it passes
-pub kept_more : {X : Type 0} (p : X → Bool) (f : X → List ℕ) (xs : List X) (i : ℕ) (d : X) (before now next : List ℕ) → i < length xs
-    → now ≡ before ++ flat_map f (filter p (take i xs)) → next ≡ now ++ cond (p (get_or xs i d)) (f (get_or xs i d)) []
+pub kept_more : {X : Type 0} (p : X → Bool) (f : X → List ℕ) (xs : List X) (i : ℕ) (d : X) (b : Bool) (before now next : List ℕ) → i < length xs
+    → now ≡ before ++ flat_map f (filter p (take i xs)) → b ≡ p (get_or xs i d) → next ≡ cond b (now ++ f (get_or xs i d)) now
     → next ≡ before ++ flat_map f (filter p (take (i + 1) xs))
-kept_more p f xs i d before now next h far e = grind (arith, filter_more p xs i d h, flat_map-append, append_assoc, append-nil)
+kept_more p f xs i d b before now next h far test e = grind (arith, filter_more p xs i d h, flat_map-append, append_assoc, append-nil)
