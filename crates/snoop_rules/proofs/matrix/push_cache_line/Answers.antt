@@ -1,6 +1,5 @@
-use Rattle.snoop_rules.proofs.Common.{◌++◌, codes, arith, cache_field, kept_more}
+use Rattle.snoop_rules.proofs.Common.{◌++◌, codes, arith, kept_more}
 use Rattle.snoop_rules.proofs.matrix.push_cache_line.Goals as goal
 
 pub loop-event-preserved : goal.loop-event-preserved
-loop-event-preserved c =
-    kept_more _ (λ event. codes "," ++ cache_field c.args.protocol c.args.state event) _ _ _ _ _ _ _ c.loop-event-test.true c.loop-event.invariant c.is_cache_event.ensures (grind arith)
+loop-event-preserved c = kept_more _ (λ e. codes "," ++ _) _ _ _ _ _ _ _ c.loop-event-test.true c.loop-event.invariant c.is_cache_event.ensures (grind arith)

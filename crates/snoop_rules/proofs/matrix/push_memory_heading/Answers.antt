@@ -1,6 +1,5 @@
-use Rattle.snoop_rules.proofs.Common.{◌++◌, codes, arith, memory_event_name, kept_more}
+use Rattle.snoop_rules.proofs.Common.{◌++◌, codes, arith, kept_more}
 use Rattle.snoop_rules.proofs.matrix.push_memory_heading.Goals as goal
 
 pub loop-event-preserved : goal.loop-event-preserved
-loop-event-preserved c =
-    kept_more _ (λ event. codes "," ++ memory_event_name event) _ _ _ _ _ _ _ c.loop-event-test.true c.loop-event.invariant c.is_memory_event.ensures (grind arith)
+loop-event-preserved c = kept_more _ (λ e. codes "," ++ _) _ _ _ _ _ _ _ c.loop-event-test.true c.loop-event.invariant c.is_memory_event.ensures (grind arith)

@@ -1,4 +1,5 @@
-use Rattle.snoop_rules.proofs.Common.{◌≡◌, ◌++◌, take, codes, filter, flat_map, memory_event_name, memory_state_name, memory_events, memory_states, memory_field, is_memory_event, is_memory_state, line_of}
+use Rattle.snoop_rules.proofs.Common.{◌≡◌, ◌++◌, take, codes, filter, flat_map}
+use Rattle.snoop_rules.proofs.Common.{memory_event_name, memory_state_name, memory_events, memory_states, memory_field, is_memory_event, is_memory_state, line_of}
 use Rattle.snoop_rules.proofs.matrix.push_memory_matrix.Given as goal
 
 -- the heading, and the lines so far
