@@ -1,7 +1,6 @@
--- The rows of the cache table; and what each row passes, any one passes: tests that a computation decides.
-use Rattle.std.proofs.Common.{◌≡◌, Bool, true, Option, sym, ◌∙◌, ap}
+-- What each row of the cache table passes, any one passes: tests that a computation decides.
+use Rattle.std.proofs.Common.{◌≡◌, Bool, true}
 use Rattle.std.specs.Option.{option_map_or}
-use Rattle.std.proofs.lemmas.Option.{same_Some}
 use Rattle.snoop_trace.specs.declared.protocol.Protocol.{Protocol}
 use Rattle.snoop_rules.specs.declared.names.CacheState.{CacheState}
 use Rattle.snoop_rules.specs.declared.names.CacheEvent.{CacheEvent}
@@ -10,27 +9,12 @@ use Rattle.snoop_rules.specs.declared.names.CacheCell.{CacheCell}
 use Rattle.snoop_rules.specs.Cell.{Cell, cell_of}
 use Rattle.snoop_rules.proofs.Every.{all_protocols, all_protocols-at, all_states, all_states-at, all_events, all_events-at}
 
--- a pair has one row at most
-pub Cell-one : (p : Protocol) (s : CacheState) (e : CacheEvent) (a b : CacheAction) (n m : CacheState) → Cell p s e a n → Cell p s e b m → (a ≡ b) × (n ≡ m)
-Cell-one p s e a b n m h k =
-    let cell = same_Some _ _ (sym h ∙ k) in
-    (ap (λ c. c.action) cell, ap (λ c. c.next) cell)
-
--- a row passes a test, and where there is none nothing is to be passed
-abbrev pub passes : Option CacheCell → (CacheCell → Bool) → Bool
-passes cell test = option_map_or test cell true
-
--- a test of each row
+-- a test of each row; a pair that has none has nothing to pass
 unfoldable pub each_row : (Protocol → CacheState → CacheEvent → CacheCell → Bool) → Bool
-each_row test = all_protocols (λ p. all_states (λ s. all_events (λ e. passes (cell_of p s e) (test p s e))))
+each_row test = all_protocols (λ p. all_states (λ s. all_events (λ e. option_map_or (test p s e) (cell_of p s e) true)))
 
 -- what each row passes is passed by this one
 pub each_row-at : (test : Protocol → CacheState → CacheEvent → CacheCell → Bool) → each_row test ≡ true
     → (p : Protocol) (s : CacheState) (e : CacheEvent) (a : CacheAction) (n : CacheState) → Cell p s e a n → test p s e (record { action = a; next = n }) ≡ true
 unfolding each_row
-each_row-at test all p s e a n h =
-    let at : passes (cell_of p s e) (test p s e) ≡ true =
-    all_events-at (λ e. passes (cell_of p s e) (test p s e))
-    (all_states-at (λ s. all_events (λ e. passes (cell_of p s e) (test p s e)))
-    (all_protocols-at (λ p. all_states (λ s. all_events (λ e. passes (cell_of p s e) (test p s e)))) all p) s) e in
-    rw h at at
+each_row-at test all p s e a n h = rw h at (all_events-at _ (all_states-at _ (all_protocols-at _ all p) s) e)

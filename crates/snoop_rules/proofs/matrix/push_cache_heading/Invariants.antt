@@ -1,8 +1,4 @@
-use Rattle.std.proofs.Common.{◌≡◌, ◌++◌, take, codes}
-use Rattle.std.specs.List.{filter, flat_map}
-use Rattle.snoop_rules.specs.Names.{event_name}
-use Rattle.snoop_rules.specs.TableOrder.{cache_events}
-use Rattle.snoop_rules.specs.Matrix.{is_cache_event}
+use Rattle.snoop_rules.proofs.Common.{◌≡◌, ◌++◌, take, codes, filter, flat_map, event_name, cache_events, is_cache_event}
 use Rattle.snoop_rules.proofs.matrix.push_cache_heading.Given as goal
 
 -- the names so far

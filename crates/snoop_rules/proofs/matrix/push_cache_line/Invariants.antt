@@ -1,8 +1,4 @@
-use Rattle.std.proofs.Common.{◌≡◌, ◌++◌, take, codes}
-use Rattle.std.specs.List.{filter, flat_map}
-use Rattle.snoop_rules.specs.Names.{state_name}
-use Rattle.snoop_rules.specs.TableOrder.{cache_events}
-use Rattle.snoop_rules.specs.Matrix.{cache_field, is_cache_event}
+use Rattle.snoop_rules.proofs.Common.{◌≡◌, ◌++◌, take, codes, filter, flat_map, state_name, cache_events, cache_field, is_cache_event}
 use Rattle.snoop_rules.proofs.matrix.push_cache_line.Given as goal
 
 -- the fields so far

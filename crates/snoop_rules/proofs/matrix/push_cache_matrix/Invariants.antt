@@ -1,8 +1,5 @@
-use Rattle.std.proofs.Common.{◌≡◌, ◌++◌, take, codes}
-use Rattle.std.specs.List.{filter, flat_map}
-use Rattle.snoop_rules.specs.Names.{event_name, state_name}
-use Rattle.snoop_rules.specs.TableOrder.{cache_events, cache_states}
-use Rattle.snoop_rules.specs.Matrix.{cache_field, is_cache_event, is_cache_state, line_of}
+use Rattle.snoop_rules.proofs.Common.{◌≡◌, ◌++◌, take, codes, filter, flat_map}
+use Rattle.snoop_rules.proofs.Common.{event_name, state_name, cache_events, cache_states, cache_field, is_cache_event, is_cache_state, line_of}
 use Rattle.snoop_rules.proofs.matrix.push_cache_matrix.Given as goal
 
 -- the heading, and the lines so far

@@ -1,8 +1,4 @@
-use Rattle.std.proofs.Common.{◌≡◌, ◌++◌, take, codes}
-use Rattle.std.specs.List.{filter, flat_map}
-use Rattle.snoop_rules.specs.Names.{memory_state_name}
-use Rattle.snoop_rules.specs.TableOrder.{memory_events}
-use Rattle.snoop_rules.specs.Matrix.{memory_field, is_memory_event}
+use Rattle.snoop_rules.proofs.Common.{◌≡◌, ◌++◌, take, codes, filter, flat_map, memory_state_name, memory_events, memory_field, is_memory_event}
 use Rattle.snoop_rules.proofs.matrix.push_memory_line.Given as goal
 
 -- the fields so far

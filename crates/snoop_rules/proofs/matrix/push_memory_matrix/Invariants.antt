@@ -1,8 +1,5 @@
-use Rattle.std.proofs.Common.{◌≡◌, ◌++◌, take, codes}
-use Rattle.std.specs.List.{filter, flat_map}
-use Rattle.snoop_rules.specs.Names.{memory_event_name, memory_state_name}
-use Rattle.snoop_rules.specs.TableOrder.{memory_events, memory_states}
-use Rattle.snoop_rules.specs.Matrix.{memory_field, is_memory_event, is_memory_state, line_of}
+use Rattle.snoop_rules.proofs.Common.{◌≡◌, ◌++◌, take, codes, filter, flat_map}
+use Rattle.snoop_rules.proofs.Common.{memory_event_name, memory_state_name, memory_events, memory_states, memory_field, is_memory_event, is_memory_state, line_of}
 use Rattle.snoop_rules.proofs.matrix.push_memory_matrix.Given as goal
 
 -- the heading, and the lines so far

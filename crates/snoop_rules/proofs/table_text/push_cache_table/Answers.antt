@@ -1,16 +1,9 @@
-use Rattle.std.specs.List.{flat_map}
-use Rattle.snoop_rules.specs.declared.names.CacheState.TheVariants.{I}
-use Rattle.snoop_rules.specs.TableOrder.{cache_events, cache_states}
-use Rattle.snoop_rules.specs.TableText.{cache_line_at, cache_text}
-use Rattle.snoop_rules.proofs.TextLemmas.{piece_more, pieces_all}
+use Rattle.snoop_rules.proofs.Common.{arith, common_steps, cache_text, piece_more}
 use Rattle.snoop_rules.proofs.table_text.push_cache_table.Goals as goal
 
 pub loop-state-preserved : goal.loop-state-preserved
-loop-state-preserved c =
-    piece_more (λ state. flat_map (cache_line_at c.args.protocol state) cache_events) cache_states c.loop-state.state-index I c.args.out.now.items c.loop-state.out.items c.push_cache_rows.new.out.items
-    c.loop-state-test.true c.loop-state.invariant c.in_ok-push_cache_rows.ensures.ok
+loop-state-preserved c = piece_more _ _ _ _ _ _ _ c.loop-state-test.true c.loop-state.invariant c.in_ok-push_cache_rows.ensures.ok
 
 pub returns : goal.returns
 unfolding cache_text
-returns c =
-    record { ok = pieces_all (λ state. flat_map (cache_line_at c.args.protocol state) cache_events) cache_states c.loop-state.state-index c.args.out.now.items c.loop-state.out.items c.loop-state-test.false c.loop-state.invariant }
+returns c = grind (arith, common_steps)

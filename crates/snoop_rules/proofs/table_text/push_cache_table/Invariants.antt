@@ -1,7 +1,4 @@
-use Rattle.std.proofs.Common.{◌≡◌, ◌++◌, take}
-use Rattle.std.specs.List.{flat_map}
-use Rattle.snoop_rules.specs.TableOrder.{cache_events, cache_states}
-use Rattle.snoop_rules.specs.TableText.{cache_line_at}
+use Rattle.snoop_rules.proofs.Common.{◌≡◌, ◌++◌, take, flat_map, cache_events, cache_states, cache_line_at}
 use Rattle.snoop_rules.proofs.table_text.push_cache_table.Given as goal
 
 -- the lines so far

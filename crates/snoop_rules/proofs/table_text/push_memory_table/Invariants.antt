@@ -1,7 +1,4 @@
-use Rattle.std.proofs.Common.{◌≡◌, ◌++◌, take}
-use Rattle.std.specs.List.{flat_map}
-use Rattle.snoop_rules.specs.TableOrder.{memory_events, memory_states}
-use Rattle.snoop_rules.specs.TableText.{memory_line_at}
+use Rattle.snoop_rules.proofs.Common.{◌≡◌, ◌++◌, take, flat_map, memory_events, memory_states, memory_line_at}
 use Rattle.snoop_rules.proofs.table_text.push_memory_table.Given as goal
 
 -- the lines so far
