@@ -26,7 +26,7 @@ use Rattle.snoop_model.specs.Runs.Once.{Once}
 
 -- a coherent machine
 pub record IsCoherent (s : Situation) : Type 0 where
-  -- each block has one writer alone, or only readers
+  -- each block has one writer alone, or only readers, or neither
   pub one_writer : (block : ℕ) → OneWriter s.protocol (picture_of s block)
   -- in the history, which has operations in the order in which they were performed, each load has the value of the last store to its word before it, or 0 where there is none, and each core's operations are numbered in order
   pub legal : Legal s.log
@@ -34,7 +34,7 @@ pub record IsCoherent (s : Situation) : Type 0 where
   pub logged : All (λ did. IsWithin s did.core did.block × IsWord s.shape did.word) (operations s.log)
   -- no core keeps words of a block that it may not read
   pub kept : (core block : ℕ) → IsSome (held_by (picture_of s block) core).kept → MayLoad s.protocol (state_of s core block)
-  -- each copy that may be read has in each word the value of the last store to it
+  -- each copy that may be read has in each word the value of the last store to it, or 0 where there is none
   pub current : (core block : ℕ) → MayLoad s.protocol (state_of s core block) → (held_by (picture_of s block) core).kept ≡ Some (flat_words s.log block)
   -- so has data under way
   pub carried : (block : ℕ) → block < s.shape.blocks → IfSome (data_under_way (picture_of s block).transaction) (λ words. words ≡ flat_words s.log block)
@@ -54,7 +54,7 @@ pub record IsCoherent (s : Situation) : Type 0 where
   pub orders : (core block : ℕ) (request : Request) → CanOrder s core block request → (new : Situation) × Orders s core block request new
   -- each Order that is taken next, of any block, is a line of the table of senders, `lines_of`
   pub by_table : (core block : ℕ) (request : Request) (new : Situation) (made : Orders s core block request new) → IsSenderLine s.protocol (picture_of s block) core request made.from made.payload made.next.memory.state
-  -- an open transaction is on such a line, and a Respond taken next closes it and leaves memory as the line says
+  -- an open transaction is one that such a line of some picture gives, and a Respond taken next closes it and leaves memory as the line says
   pub on_table : (block : ℕ) → IfSome (picture_of s block).transaction (IsOpenByTable s block)
 
 -- what holds where these steps, with these outcomes, have led a machine of this protocol and shape from reset to this situation
@@ -63,7 +63,7 @@ pub record IsCoherentRun (protocol : Protocol) (shape : Extent) (steps : List St
   pub stays : (s.protocol ≡ protocol) × (s.shape ≡ shape)
   -- it is coherent
   pub coherent : IsCoherent s
-  -- each load and store whose Ask was taken stands once in the history, or waits
+  -- the loads and stores in the history and those that wait are exactly those whose Asks were taken, each as often
   pub once : Once steps outcomes s
   -- each step adds to the history what its outcome tells, and its reply is one that it may have: a load's has the value that stands there
   pub told : RunBy Tells [] steps outcomes s.log

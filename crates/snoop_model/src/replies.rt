@@ -11,11 +11,11 @@ pub enum Reply {
     Hit(u64),
     /// A store hit.
     StoreHit,
-    /// A miss, or an eviction that must be written back: the request waits in the core's queue.
+    /// A miss, or an eviction from E or M: the request waits in the core's queue.
     Issued(Request),
     /// An eviction gave the copy up without a request.
     Gone,
-    /// An eviction of a block that the core does not hold.
+    /// An eviction of a block in I.
     Absent,
     /// The core's oldest request is ordered, and its transaction is open.
     Ordered(Request),

@@ -1,10 +1,11 @@
 -- What waited, or was asked, waits or is its core's last operation: by `once` alone.
-use Rattle.std.proofs.Common.{◌≡◌, ℕ, zero, suc, ◌⊎◌, inl, inr, ◌==◌, List, [], ◌∷◌, ◌++◌, map, Option, Some, None, refl, ap, ◌∙◌, arith, append-nil}
+use Rattle.std.proofs.Common.{◌≡◌, ℕ, zero, suc, ◌⊎◌, inl, inr, ◌==◌, List, [], ◌∷◌, ◌++◌, map, Option, Some, None, refl, ap, sym, ◌∙◌, arith, append-nil}
 use Rattle.std.specs.Prelude.{option_to_list, Ok, Contains, filter, filter_map}
 use Rattle.std.specs.List.Sorted.{IsPermutation}
 use Rattle.std.specs.List.{cons_option}
 use Rattle.std.proofs.lemmas.List.Sorted.{Contains-permutation, IsPermutation-sym}
 use Rattle.std.proofs.lemmas.List.Elements.{Contains-append_left, Contains-append_right, Contains-append_cases}
+use Rattle.std.proofs.lemmas.List.{append_cancel_left}
 use Rattle.std.proofs.lemmas.Bool.{cases_Bool, eqb-true}
 use Rattle.std.proofs.lemmas.Option.{same_Some}
 use Rattle.snoop_model.proofs.Common.{Step, Did, Item, Access, Reply, held_by, Situation, picture_of, FirstMove}
@@ -13,7 +14,7 @@ use Rattle.snoop_history.proofs.Pushed.{answers_of-push, of_core}
 use Rattle.snoop_model.specs.Runs.Once.{asked_access, did_access, accesses_in, waiting_at, OnceMore}
 use Rattle.snoop_model.specs.Runs.Owed.{IsLast, IsOwed, Owes}
 use Rattle.snoop_model.proofs.OneBlock.Operation.{did_in}
-use Rattle.snoop_model.proofs.Runs.Logged.{move-log, since_of}
+use Rattle.snoop_model.proofs.Runs.Logged.{move-log}
 
 -- a core's operations with one item more
 pub answers_are : (log : List Item) (entry : Option Item) (core : ℕ) → answers_of (log ++ option_to_list entry) core ≡ answers_of log core ++ of_core core (did_in entry)
@@ -56,7 +57,8 @@ module _ (s t : Situation) (step : Step) (answer : Reply) (move : FirstMove s st
   balance : IsPermutation (waiting_at s core block ++ option_to_list (asked_access core block step)) (done_here ++ waiting_at t core block)
   balance =
       let logged = move-log s t step answer move in
-      rw (since_of s.log t.log (option_to_list logged.0) logged.1, answers_are [] logged.0 core, cons_one (asked_access core block step)) at (once core block)
+      let since = append_cancel_left s.log once.since (option_to_list logged.0) (sym once.log ∙ logged.1) in
+      rw (since, answers_are [] logged.0 core, cons_one (asked_access core block step)) at (once.once core block)
 
   -- an operation that the move performs, or that waits after it, waited before it or is asked by it
   pub waited_or_asked : Contains done_here wanted ⊎ ((held_by (picture_of t block) core).waiting ≡ Some wanted)

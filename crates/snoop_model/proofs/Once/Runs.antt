@@ -4,7 +4,6 @@ use Rattle.std.specs.Prelude.{◌==◌, option_to_list, slice_set, map, filter, 
 use Rattle.std.specs.List.Sorted.{IsPermutation}
 use Rattle.std.proofs.lemmas.List.Sorted.{IsPermutation-refl, IsPermutation-trans, IsPermutation-append_left, IsPermutation-append_right}
 use Rattle.std.proofs.lemmas.Bool.{cases_lt, eq-eqb, ne_eqb}
-use Rattle.snoop_model.proofs.Runs.Logged.{since_of}
 use Rattle.std.proofs.lemmas.List.{get_or_past, map-append}
 use Rattle.std.proofs.lemmas.List.Elements.{filter-append, filter_map-append}
 use Rattle.snoop_model.proofs.Lists.Writes.{each_set}
@@ -24,7 +23,7 @@ use Rattle.snoop_model.proofs.Once.Asks.{line_once, performed_so, IsBy, done, ac
 use Rattle.snoop_model.proofs.Invariant.Runs.{goes_keeps, refusal_same, reset_invariant, reset_line}
 
 -- the log has these items more, and of each core and block what waited and what is asked is what they have and what waits
-pub record Grows (old : Situation) (since : List Item) (asked : ℕ → ℕ → List Access) (new : Situation) : Type 0 where
+record Grows (old : Situation) (since : List Item) (asked : ℕ → ℕ → List Access) (new : Situation) : Type 0 where
   pub log : new.log ≡ old.log ++ since
   pub once : (core block : ℕ) → IsPermutation (waiting_at old core block ++ asked core block) (accesses_in since core block ++ waiting_at new core block)
 
@@ -148,26 +147,22 @@ move_grows block old (Order c) answer new g m = (item.Sent (record { core = c; r
 move_grows block old (Respond on) answer new g m = (item.Came (came_of m.closing) m.did ∷ [], respond_grows old block m.closing m.did new g m.within m.responds)
 
 -- a run, from any situation that keeps the invariant
-run_grows : (steps : List Step) (outcomes : List (Result Reply Refused)) (old new : Situation) → Invariant old → RunBy Goes old steps outcomes new
-    → (since : List Item) × Grows old since (λ core block. filter_map (asked_access core block) (taken steps outcomes)) new
-run_grows [] [] old new g r = rw r ([], record { log = sym (append-nil old.log); once = λ core block. unchanged (waiting_at old core block) })
-run_grows (step ∷ steps) (Ok answer ∷ outcomes) old new g r =
+pub run_once : (steps : List Step) (outcomes : List (Result Reply Refused)) (old new : Situation) → Invariant old → RunBy Goes old steps outcomes new → OnceMore old steps outcomes new
+run_once [] [] old new g r = rw r (record { since = []; log = sym (append-nil old.log); once = λ core block. unchanged (waiting_at old core block) })
+run_once (step ∷ steps) (Ok answer ∷ outcomes) old new g r =
     let middle = r.0 in
     let first = move_grows r.1.0.0 old step answer middle g r.1.0.1 in
-    let rest = run_grows steps outcomes middle new (goes_keeps old step (Ok answer) middle g r.1.0) r.1.1 in
-    let all = grows_on first.1 rest.1 in
-    (first.0 ++ rest.0, record { log = all.log; once = λ core block. rw (filter_map-append (asked_access core block) (step ∷ []) (taken steps outcomes)) (all.once core block) })
-run_grows (step ∷ steps) (Err cause ∷ outcomes) old new g r =
-    rw (← refusal_same old step cause r.0 r.1.0) (run_grows steps outcomes r.0 new (goes_keeps old step (Err cause) r.0 g r.1.0) r.1.1)
-run_grows _ _ old new g r = absurd r
-
-pub run_once : (steps : List Step) (outcomes : List (Result Reply Refused)) (old new : Situation) → Invariant old → RunBy Goes old steps outcomes new → OnceMore old steps outcomes new
-run_once steps outcomes old new g r core block =
-    let grown = run_grows steps outcomes old new g r in
-    rw (since_of old.log new.log grown.0 grown.1.log) (grown.1.once core block)
+    let rest = run_once steps outcomes middle new (goes_keeps old step (Ok answer) middle g r.1.0) r.1.1 in
+    let all = grows_on {new = new} first.1 (record { log = rest.log; once = rest.once }) in
+    record { since = first.0 ++ rest.since; log = all.log; once = λ core block. rw (filter_map-append (asked_access core block) (step ∷ []) (taken steps outcomes)) (all.once core block) }
+run_once (step ∷ steps) (Err cause ∷ outcomes) old new g r =
+    let rest = run_once steps outcomes r.0 new (goes_keeps old step (Err cause) r.0 g r.1.0) r.1.1 in
+    rw (← refusal_same old step cause r.0 r.1.0) (record { since = rest.since; log = rest.log; once = rest.once })
+run_once _ _ old new g r = absurd r
 
 -- the loads and stores of a run from reset: nothing waits there, and the log is empty
 pub run_asked_once : (p : Protocol) (shape : Extent) (steps : List Step) (outcomes : List (Result Reply Refused)) (new : Situation) → RunBy Goes (reset p shape) steps outcomes new → Once steps outcomes new
 run_asked_once p shape steps outcomes new r core block =
+    let all = run_once steps outcomes (reset p shape) new (reset_invariant p shape) r in
     let none : waiting_at (reset p shape) core block ≡ [] = ap (λ (x : Line). option_to_list x.waiting) (reset_line p shape core block) in
-    rw none at (run_once steps outcomes (reset p shape) new (reset_invariant p shape) r core block)
+    rw (none, ← all.log) at (all.once core block)

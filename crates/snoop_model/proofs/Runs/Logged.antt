@@ -1,13 +1,8 @@
--- What a log has more than an earlier one; a move adds at most one item.
-use Rattle.std.proofs.Common.{◌≡◌, List, [], ◌∷◌, ◌++◌, length, drop, Option, Some, None, refl, sym, inl, inr, append-nil}
+-- A move adds at most one item to the log.
+use Rattle.std.proofs.Common.{◌≡◌, [], ◌∷◌, ◌++◌, Option, Some, None, refl, sym, inl, inr, append-nil}
 use Rattle.std.specs.Prelude.{option_to_list}
-use Rattle.std.proofs.Math.Seq.{drop-append_seam}
 use Rattle.snoop_model.proofs.Common.{Step, Ask, Order, Respond, Item, Reply, Situation, FirstMove, came_of}
 use Rattle.snoop_history.specs.declared.items.Item.TheVariants as item
-
--- the items that a longer log has more
-pub since_of : (old new since : List Item) → new ≡ old ++ since → drop (length old) new ≡ since
-since_of old new since more = rw more (drop-append_seam old since)
 
 pub move-log : (old new : Situation) (step : Step) (answer : Reply) → FirstMove old step answer new → (entry : Option Item) × (new.log ≡ old.log ++ option_to_list entry)
 move-log old new (Ask core block word asking) answer m = elim m.1.1.moves [

@@ -13,7 +13,7 @@ use Rattle.snoop_model.specs.declared.replies.Reply.TheVariants.{Hit, StoreHit, 
 use Rattle.snoop_model.specs.Pictures.Proper.{request_for}
 use Rattle.snoop_model.specs.Moves.Move.{next_did}
 
--- what a step with this outcome adds to the history, and which replies it may have: a hit is the operation that was asked, with the value that a load replied; what is issued is the request that serves it; an Order adds the request that was replied, of some block; a Respond adds the response that was replied, to some request for this block, with the operation, if any, of its requestor on the block; all else adds nothing
+-- what a step with this outcome adds to the history, and which replies it may have: a hit is the operation that was asked, with the value that a load replied; what is issued is the request that serves it; an Order adds the request that was replied, of some block; a Respond adds the response that was replied, to some request for this block, with the operation, if any, of its requestor on the block; an issue, Gone, Absent and a refusal add nothing, and no step has another reply
 abbrev pub Tells : List Item → Step → Result Reply Refused → List Item → Type 0
 Tells past (Ask core block word op.Load) (Ok (Hit value)) log = log ≡ past ++ item.Did (next_did past core block word op.Load value true) ∷ []
 Tells past (Ask core block word (op.Store value)) (Ok StoreHit) log = log ≡ past ++ item.Did (next_did past core block word (op.Store value) value true) ∷ []

@@ -1,6 +1,6 @@
 -- Every load and store stands once in the history, or still waits.
 -- Source: this project's profile.
-use Rattle.std.specs.Prelude.{ℕ, ◌&&◌, ◌==◌, List, [], ◌∷◌, ◌++◌, length, drop, map, filter, filter_map, Option, None, option_to_list, Result, Ok, Err, if◌then◌else◌}
+use Rattle.std.specs.Prelude.{◌≡◌, ℕ, ◌&&◌, ◌==◌, List, [], ◌∷◌, ◌++◌, map, filter, filter_map, Option, None, option_to_list, Result, Ok, Err, if◌then◌else◌}
 use Rattle.std.specs.List.Sorted.{IsPermutation}
 use Rattle.snoop_trace.specs.declared.step.Op.TheVariants as op
 use Rattle.snoop_trace.specs.declared.step.Step.{Step}
@@ -42,8 +42,8 @@ waiting_at s core block = option_to_list (held_by (picture_of s block) core).wai
 abbrev pub Once : List Step → List (Result Reply Refused) → Situation → Type 0
 Once steps outcomes s = (core block : ℕ) → IsPermutation (filter_map (asked_access core block) (taken steps outcomes)) (accesses_in s.log core block ++ waiting_at s core block)
 
--- the same from one situation to another: those that waited, and those whose Asks were taken, are those in the log since and those that wait
-abbrev pub OnceMore : Situation → List Step → List (Result Reply Refused) → Situation → Type 0
-OnceMore old steps outcomes new =
-    (core block : ℕ) → IsPermutation (waiting_at old core block ++ filter_map (asked_access core block) (taken steps outcomes))
-    (accesses_in (drop (length old.log) new.log) core block ++ waiting_at new core block)
+-- the same as growth, from one situation to another: the log has items more, and the loads and stores that waited, and those whose Asks were taken, are those in these items and those that wait, each as often
+pub record OnceMore (old : Situation) (steps : List Step) (outcomes : List (Result Reply Refused)) (new : Situation) : Type 0 where
+  pub since : List Item
+  pub log : new.log ≡ old.log ++ since
+  pub once : (core block : ℕ) → IsPermutation (waiting_at old core block ++ filter_map (asked_access core block) (taken steps outcomes)) (accesses_in since core block ++ waiting_at new core block)

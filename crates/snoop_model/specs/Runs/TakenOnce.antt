@@ -9,7 +9,7 @@ use Rattle.snoop_model.specs.Pictures.Situation.{Situation}
 use Rattle.snoop_model.specs.Runs.Run.{AllTaken}
 use Rattle.snoop_model.specs.Runs.Once.{asked_access, accesses_in, waiting_at}
 
--- the loads and stores that they ask are those in the log and those that wait, each as often
+-- of steps that were all taken: the loads and stores that they ask are those in the log and those that wait, each as often
 abbrev pub TakenOnce : Type 0
 TakenOnce =
     (protocol : Protocol) (shape : Extent) (steps : List Step) (s : Situation) → AllTaken protocol shape steps s
