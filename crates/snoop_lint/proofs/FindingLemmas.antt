@@ -12,7 +12,7 @@ use Rattle.snoop_trace.specs.declared.fault.TextFault.{TextFault}
 use Rattle.snoop_trace.specs.declared.protocol.Protocol.{Protocol}
 use Rattle.snoop_lint.specs.declared.form.Form.{Form}
 use Rattle.snoop_lint.specs.declared.form.Form.TheVariants.{Steps, Rows}
-use Rattle.snoop_lint.specs.Findings.{Finding, fault_at, finding, findings, findings_from, first_fault, refusal}
+use Rattle.snoop_lint.specs.Findings.{Finding, fault_at, finding, findings, findings_from, first_fault, heads, refusal}
 use Rattle.snoop_lint.specs.Tallies.{is_limit}
 
 abbrev pub Fields : Type 0
@@ -53,8 +53,12 @@ first_of says fault n (row ∷ rows) same =
     rw (same n row (omega arith)) (first_cons (says n row) _ n row (findings_from fault (n + 1) rows)
     (λ x. kept x (entries_from says (n + 1) rows) ∙ first_of says fault (n + 1) rows (λ m fields h. same m fields (omega arith))))
 
+-- a later record is no heading
+pub no_later_heading : (form : Form) (n : ℕ) (row : Fields) → 2 ≤ n → heads form n row ≡ false
+no_later_heading form n row h = grind (arith, nat_tests)
+
 later_fault : (protocol : Protocol) (shape : Extent) (n : ℕ) (fields : Fields) → 2 ≤ n → fault_at Steps protocol shape n fields ≡ result_err (step_in shape n fields)
-later_fault protocol shape n fields h = let no : (n == 1) ≡ false = grind (arith, nat_tests) in rw no refl
+later_fault protocol shape n fields h = grind (arith, nat_tests)
 
 steps_first : (protocol : Protocol) (shape : Extent) (rows : List Fields)
     → result_err (entries_in (step_in shape) (Some (heading_for protocol shape)) rows) ≡ first_fault (findings Steps protocol shape rows)
