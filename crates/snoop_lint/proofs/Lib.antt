@@ -1,5 +1,4 @@
 pub mod FindingLemmas
-pub mod TallyLemmas
 pub mod LookedLemmas
 pub mod LineLemmas
 pub mod FewestLemmas
