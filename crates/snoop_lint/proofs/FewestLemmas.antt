@@ -67,9 +67,6 @@ taken_parts : (tally : Tally) → can_be_taken tally ≡ true → (tally.has_oth
 unfolding can_be_taken
 taken_parts tally e = grind arith
 
-none_is : {A : Type 0} (o : Option A) → is_none o ≡ true → o ≡ None
-none_is o e = grind arith
-
 -- the greatest core and the greatest block, each plus one
 pub fewest : (form : Form) (protocol : Protocol) (shape : Extent) (bytes : List ℕ) → can_be_taken (tally_of form protocol shape (records_of bytes)) ≡ true
     → AreFewest form protocol shape bytes ((tally_of form protocol shape (records_of bytes)).core + 1) ((tally_of form protocol shape (records_of bytes)).block + 1)
@@ -82,6 +79,6 @@ fewest form protocol shape bytes mendable =
     ap is_none (sym (first_is_refusal form protocol (resized shape c b) bytes)) ∙ all_bound shape c b p q form protocol 1 rows (omega arith) (λ _. heading) others
     ∙ grind (arith, nat_tests, all_below core_named c 0 rows, all_below (block_named shape) b 0 rows) in
     record {
-      enough = λ c b p q. none_is _ (taken c b (omega (arith, p)) (omega (arith, q)) ∙ grind (arith, nat_tests));
-      needed = λ c b p q is. let there = sym (taken c b p q) ∙ ap is_none is in grind (arith, nat_tests);
+      enough = λ c b p q. grind (arith, nat_tests, taken c b (omega (arith, p)) (omega (arith, q)));
+      needed = λ c b p q is. grind (arith, nat_tests, taken c b p q);
     }

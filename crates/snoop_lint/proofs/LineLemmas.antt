@@ -1,6 +1,8 @@
 -- The lines on which records begin, one byte further.
-use Rattle.std.proofs.Common.{◌≡◌, ℕ, ◌+◌, ◌<◌, ◌≤◌, ◌++◌, List, [], ◌∷◌, append-nil, append_assoc, drop, get_or, length, refl, ◌∙◌}
+use Rattle.std.proofs.Common.{◌≡◌, ℕ, ◌+◌, ◌<◌, ◌≤◌, ◌++◌, List, [], ◌∷◌, append-nil, append_assoc, arith, drop, get_or, length, refl, ◌∙◌}
 use Rattle.std.specs.Prelude.{zero, suc, slice_get, if◌then◌else◌}
+use Rattle.std.proofs.lemmas.Grind.{common_steps}
+use Rattle.std.proofs.lemmas.Option.{gets}
 use Rattle.std.proofs.lemmas.List.{at_drop_all, at_drop_more}
 use Rattle.csv.specs.Machine.{step}
 use Rattle.csv.specs.Reading.{default_config}
@@ -8,9 +10,7 @@ use Rattle.csv.specs.declared.parser.State.{State}
 use Rattle.snoop_lint.specs.Lines.{begins_record, ends_line, lines_from}
 
 get_dropped : (n : ℕ) (xs : List ℕ) → slice_get (drop n xs) 0 ≡ slice_get xs n
-get_dropped zero xs = refl
-get_dropped (suc n) [] = refl
-get_dropped (suc n) (x ∷ xs) = get_dropped n xs
+get_dropped n xs = grind (arith, common_steps, gets)
 
 -- one byte more
 pub lines_more : (s : State) (line : ℕ) (text : List ℕ) (i : ℕ) → i < length text
