@@ -28,7 +28,6 @@ record Follows (s : State) (line c : ℕ) : Type 0 where
   pub goes : is_end (step default_config s c).1 ≡ false → begun s + length (if begins_record s c then line ∷ [] else []) ≡ begun (step default_config s c).0
 
 follows : (s : State) (line c : ℕ) → plain s ≡ true → Follows s line c
-follows st.InComment line c h = cc
 follows s line c h = record { plain = grind arith; ends = λ e. grind arith; goes = λ e. grind arith }
 
 -- so many records begin in a text: none, or one more than after the next record
@@ -51,10 +50,6 @@ walk s line fields field (c ∷ rest) h =
           rw (e, same) (walk next later (fields_after action fields field) (field_after action c field) rest on.plain)
     ]
 
-fresh_plain : (s : State) → ends_at_end s ≡ false → plain s ≡ true
-fresh_plain st.InComment h = cc
-fresh_plain s h = refl
-
 -- a text of fewer bytes than this has as many lines on which records begin as records
 abbrev Same : ℕ → Type 0
 Same m = (s : State) (line : ℕ) (xs : List ℕ) → ends_at_end s ≡ false → length xs < m → length (lines_from s line xs) ≡ length (records_from default_config m s xs)
@@ -68,7 +63,7 @@ same_next m k s xs (Some p) is (line, counted) fresh small later =
 same : (m : ℕ) → Same m
 unfolding records_from
 same zero s line xs h small = absurd (omega arith)
-same (suc m) s line xs h small = same_next m _ s xs (next_record default_config s [] [] xs) refl (walk s line [] [] xs (fresh_plain s h)) h small (same m)
+same (suc m) s line xs h small = same_next m _ s xs (next_record default_config s [] [] xs) refl (walk s line [] [] xs (grind arith)) h small (same m)
 
 -- a text has as many of these lines as records
 pub as_many_lines : (bytes : List ℕ) → length (record_lines bytes) ≡ length (records_of bytes)

@@ -13,6 +13,7 @@ use Rattle.snoop_trace.specs.Text.{records_of}
 use Rattle.snoop_trace.specs.declared.fault.TextFault.{TextFault}
 use Rattle.snoop_trace.specs.declared.protocol.Protocol.{Protocol}
 use Rattle.snoop_lint.specs.declared.form.Form.{Form}
+use Rattle.snoop_lint.specs.declared.form.Form.TheVariants.{Steps, Rows}
 use Rattle.snoop_lint.specs.declared.tally.Tally.{Tally}
 use Rattle.snoop_lint.specs.Fewest.{AreFewest, resized}
 use Rattle.snoop_lint.specs.Fields.{address_named, core_named}
@@ -40,16 +41,10 @@ module _ (shape : Extent) (c b : ℕ) (some_core : 1 ≤ c) (some_block : 1 ≤ 
   abbrev Bound : (Extent → Option TextFault) → Fields → Type 0
   Bound fault row = is_other (fault shape) ≡ false → is_none (fault (resized shape c b)) ≡ (nat_lt (core_named row) c && nat_lt (block_named shape row) b)
 
-  row_bound : (n : ℕ) (row : Fields) → Bound (λ e. result_err (row_in e n row)) row
-  unfolding row_in row_by_letter without_value store core_named address_named field_at
-  row_bound n row h = grind (arith, nat_tests)
-
-  step_bound : (n : ℕ) (row : Fields) → Bound (λ e. result_err (step_in e n row)) row
-  unfolding step_in ask order respond row_by_letter without_value store core_named address_named field_at
-  step_bound n row h = grind (arith, nat_tests, zero-div shape.block_bytes)
-
   fault_bound : (form : Form) (protocol : Protocol) (n : ℕ) (row : Fields) → heads form n row ≡ false → Bound (λ e. fault_at form protocol e n row) row
-  fault_bound form protocol n row none h = grind (arith, row_bound n row, step_bound n row)
+  unfolding row_in step_in ask order respond row_by_letter without_value store core_named address_named field_at
+  fault_bound Steps protocol n row none h = grind (arith, nat_tests, zero-div shape.block_bytes)
+  fault_bound Rows protocol n row none h = grind (arith, nat_tests)
 
   all_bound : (form : Form) (protocol : Protocol) (n : ℕ) (rows : List Fields) → 1 ≤ n → (n ≡ 1 → has_heading form rows ≡ false)
       → list_any is_beyond (findings_from (fault_at form protocol shape) n rows) ≡ false
@@ -63,17 +58,14 @@ module _ (shape : Extent) (c b : ℕ) (some_core : 1 ≤ c) (some_block : 1 ≤ 
       let more = none_cons n row (fault_at form protocol (resized shape c b) n row) (findings_from (fault_at form protocol (resized shape c b)) (n + 1) rows) in
       grind (arith, none, others, more, fault_bound form protocol n row heading, all_bound form protocol (n + 1) rows (omega arith) (λ e. absurd (omega arith)))
 
-taken_parts : (tally : Tally) → can_be_taken tally ≡ true → (tally.has_others ≡ false) × (tally.has_heading ≡ false)
-unfolding can_be_taken
-taken_parts tally e = grind arith
-
 -- the greatest core and the greatest block, each plus one
 pub fewest : (form : Form) (protocol : Protocol) (shape : Extent) (bytes : List ℕ) → can_be_taken (tally_of form protocol shape (records_of bytes)) ≡ true
     → AreFewest form protocol shape bytes ((tally_of form protocol shape (records_of bytes)).core + 1) ((tally_of form protocol shape (records_of bytes)).block + 1)
-unfolding tally_of
+unfolding tally_of can_be_taken
 fewest form protocol shape bytes mendable =
     let rows : List Fields = records_of bytes in
-    let (others, heading) = taken_parts (tally_of form protocol shape rows) mendable in
+    let heading : has_heading form rows ≡ false = grind arith in
+    let others : list_any is_beyond (findings form protocol shape rows) ≡ false = grind arith in
     let taken : (c b : ℕ) → 1 ≤ c → 1 ≤ b → is_none (refusal form protocol (resized shape c b) bytes)
         ≡ (nat_lt (greatest core_named rows) c && nat_lt (greatest (block_named shape) rows) b) = λ c b p q.
     ap is_none (sym (first_is_refusal form protocol (resized shape c b) bytes)) ∙ all_bound shape c b p q form protocol 1 rows (omega arith) (λ _. heading) others
