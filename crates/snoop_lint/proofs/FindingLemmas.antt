@@ -1,12 +1,11 @@
 -- The faulty records of a text, and the fault by which it is refused.
-use Rattle.std.proofs.Common.{◌≡◌, ℕ, ◌+◌, ◌≤◌, ◌++◌, List, [], ◌∷◌, length, Option, Some, false, refl, sym, ◌∙◌, arith, append_assoc, append-nil, inl, inr}
-use Rattle.std.specs.Prelude.{Bool, Result, Ok, Err, ◌==◌, not, option_map, option_to_list}
+use Rattle.std.proofs.Common.{◌≡◌, ℕ, ◌+◌, ◌≤◌, ◌++◌, List, [], ◌∷◌, length, Option, Some, false, refl, sym, arith, append_assoc, append-nil}
+use Rattle.std.specs.Prelude.{Bool, Result, not, option_map, option_to_list}
 use Rattle.std.specs.Result.{result_err}
-use Rattle.std.proofs.lemmas.Bool.{cases_Bool}
 use Rattle.std.proofs.lemmas.Bool.Decides.{nat_tests}
 use Rattle.snoop_trace.specs.Extent.{Extent}
-use Rattle.snoop_trace.specs.Grammar.{◌>>=◌, row_in, step_in}
-use Rattle.snoop_trace.specs.Heading.{heading_as, heading_for, is_heading}
+use Rattle.snoop_trace.specs.Grammar.{row_in, step_in}
+use Rattle.snoop_trace.specs.Heading.{heading_for}
 use Rattle.snoop_trace.specs.Text.{entries_from, entries_in, records_of}
 use Rattle.snoop_trace.specs.declared.fault.TextFault.{TextFault}
 use Rattle.snoop_trace.specs.declared.protocol.Protocol.{Protocol}

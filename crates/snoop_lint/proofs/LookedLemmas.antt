@@ -28,13 +28,16 @@ use Rattle.snoop_lint.specs.Looked.{line_if_room}
 use Rattle.snoop_lint.specs.Tallies.{has_heading, is_other, one_more, tally_of}
 use Rattle.snoop_lint.proofs.FindingLemmas.{Fields, findings_more, found_at, is_beyond}
 
+-- what is counted of a record that has this fault, if any
 one_found : (n : ℕ) (row : Fields) (o : Option TextFault) → length (option_to_list (found_at n row o)) ≡ (if is_some o then 1 else 0)
 one_found n row o = grind arith
 
 other_found : (n : ℕ) (row : Fields) (o : Option TextFault) → list_any is_beyond (option_to_list (found_at n row o)) ≡ is_other o
 other_found n row o = grind arith
 
-heading_more : (form : Form) (rows : List Fields) (row : Fields) (n : ℕ) → n ≡ length rows + 1 → has_heading form (rows ++ (row ∷ [])) ≡ (has_heading form rows || heads form n row)
+-- the first record may be a heading
+heading_more : (form : Form) (rows : List Fields) (row : Fields) (n : ℕ) → n ≡ length rows + 1
+    → has_heading form (rows ++ (row ∷ [])) ≡ (has_heading form rows || heads form n row)
 heading_more form rows row n e = grind (arith, nat_tests)
 
 -- what is counted, with one record more
@@ -52,7 +55,8 @@ take_room : (f : Finding → List ℕ) (most : ℕ) (fs : List Finding) (o : Opt
 take_room f most fs o = grind (arith, common_steps, nat_tests)
 
 -- n records of a text were read; their lines were appended, and they were counted
-pub record Looked {R : Type 0} (form : Form) (most : ℕ) (protocol : Protocol) (shape : Extent) (lines xs : List ℕ) (rem : R → Option (List ℕ)) (r : Reader R) (old out : List ℕ) (tally : Tally) (n : ℕ) : Type 0 where
+pub record Looked {R : Type 0} (form : Form) (most : ℕ) (protocol : Protocol) (shape : Extent) (lines xs : List ℕ)
+    (rem : R → Option (List ℕ)) (r : Reader R) (old out : List ℕ) (tally : Tally) (n : ℕ) : Type 0 where
   pub rows : List Fields
   pub ys : List ℕ
   pub at : source_of rem r ≡ Some ys
@@ -80,8 +84,8 @@ module _ {R : Type 0} {form : Form} {most : ℕ} {protocol : Protocol} {shape : 
   }
 
   -- one record more
-  pub looked_more : {a b : Reader R} (f : Fields) {out next : List ℕ} {tally counted : Tally} {n : ℕ} → reader_config a ≡ default_config → ReadRecord rem a b true f
-      → Looked form most protocol shape lines xs rem a old out tally n
+  pub looked_more : {a b : Reader R} (f : Fields) {out next : List ℕ} {tally counted : Tally} {n : ℕ}
+      → reader_config a ≡ default_config → ReadRecord rem a b true f → Looked form most protocol shape lines xs rem a old out tally n
       → next ≡ out ++ line_if_room form most protocol shape lines tally.faults (n + 1) f
       → counted ≡ one_more form shape (n + 1) f (fault_at form protocol shape (n + 1) f) tally
       → Looked form most protocol shape lines xs rem b old next counted (n + 1)
@@ -104,8 +108,8 @@ module _ {R : Type 0} {form : Form} {most : ℕ} {protocol : Protocol} {shape : 
       }
 
   -- these were all
-  pub looked_all : {a : Reader R} (b : Reader R) (f : Fields) {out : List ℕ} {tally : Tally} {n : ℕ} → reader_config a ≡ default_config → ReadRecord rem a b false f
-      → Looked form most protocol shape lines xs rem a old out tally n
+  pub looked_all : {a : Reader R} (b : Reader R) (f : Fields) {out : List ℕ} {tally : Tally} {n : ℕ}
+      → reader_config a ≡ default_config → ReadRecord rem a b false f → Looked form most protocol shape lines xs rem a old out tally n
       → (tally ≡ tally_of form protocol shape (records default_config xs)) × (out ≡ old ++ first_lines form most protocol shape lines (records default_config xs))
   looked_all {a} b f config read far =
       let none = rows-end rem a b f default_config far.ys config far.at read in

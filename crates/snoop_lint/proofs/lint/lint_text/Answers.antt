@@ -1,4 +1,4 @@
-use Rattle.std.proofs.Common.{◌≡◌, Err, arith}
+use Rattle.std.proofs.Common.{arith}
 use Rattle.std.proofs.lemmas.Result.{err_from_is_err_and}
 use Rattle.snoop_lint.proofs.lint.lint_text.Goals as goal
 

@@ -1,4 +1,4 @@
-use Rattle.std.proofs.Common.{◌∙◌, arith, inl}
+use Rattle.std.proofs.Common.{arith}
 use Rattle.snoop_lint.proofs.lint.next_record.Goals as goal
 
 pub returns-clause-plain : goal.returns-clause-plain
