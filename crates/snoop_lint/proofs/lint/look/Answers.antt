@@ -1,4 +1,4 @@
-use Rattle.std.proofs.Common.{arith, rules}
+use Rattle.std.proofs.Common.{rules}
 use Rattle.csv.specs.Records.{fields_of}
 use Rattle.snoop_lint.proofs.LookedLemmas.{looked_all, looked_more, looked_none}
 use Rattle.snoop_lint.proofs.lint.look.Goals as goal
@@ -11,9 +11,6 @@ returns-then-not-branch c =
     let none = rw c.if-not-branch.true at c.in_ok-next_record.ensures.reads in
     let (tally, lines) = looked_all c.next_record.new.records (fields_of c.next_record.new.fields) c.loop-i.invariant.0.config none c.loop-i.invariant.1 in
     record { tally = tally; lines = lines }
-
-pub look_at-requires : goal.look_at-requires
-look_at-requires c = omega (arith, c.loop-i-test.true, c.loop-i.invariant.1.few)
 
 pub loop-i-preserved : goal.loop-i-preserved
 loop-i-preserved c =
