@@ -35,18 +35,14 @@ one_found n row o = grind arith
 other_found : (n : ℕ) (row : Fields) (o : Option TextFault) → list_any is_beyond (option_to_list (found_at n row o)) ≡ is_other o
 other_found n row o = grind arith
 
--- the first record may be a heading
-heading_more : (form : Form) (rows : List Fields) (row : Fields) (n : ℕ) → n ≡ length rows + 1
-    → has_heading form (rows ++ (row ∷ [])) ≡ (has_heading form rows || heads form n row)
-heading_more form rows row n e = grind (arith, nat_tests)
-
 -- what is counted, with one record more
 tally_more : (form : Form) (protocol : Protocol) (shape : Extent) (rows : List Fields) (row : Fields) (n : ℕ) → n ≡ length rows + 1
     → tally_of form protocol shape (rows ++ (row ∷ [])) ≡ one_more form shape n row (fault_at form protocol shape n row) (tally_of form protocol shape rows)
 unfolding tally_of
 tally_more form protocol shape rows row n e =
     let fault = fault_at form protocol shape n row in
-    rw (length_push rows row ∙ sym e, findings_more (fault_at form protocol shape) 1 rows row n (omega arith), heading_more form rows row n e)
+    let heading : has_heading form (rows ++ (row ∷ [])) ≡ (has_heading form rows || heads form n row) = grind (arith, nat_tests) in
+    rw (length_push rows row ∙ sym e, findings_more (fault_at form protocol shape) 1 rows row n (omega arith), heading)
     (simp (length-append, list_any-append, fold_push, one_found n row fault, other_found n row fault, or-false) refl)
 
 -- the piece of one finding more, where there is room for it
