@@ -62,7 +62,8 @@ module _ (shape : Extent) (c b : ℕ) (some_core : 1 ≤ c) (some_block : 1 ≤ 
 
 -- the greatest core and the greatest block, each plus one
 pub fewest : (form : Form) (protocol : Protocol) (shape : Extent) (bytes : List ℕ) → can_be_taken (tally_of form protocol shape (records_of bytes)) ≡ true
-    → AreFewest form protocol shape bytes ((tally_of form protocol shape (records_of bytes)).core + 1) ((tally_of form protocol shape (records_of bytes)).block + 1)
+    → AreFewest form protocol shape bytes ((tally_of form protocol shape (records_of bytes)).core + 1)
+    ((tally_of form protocol shape (records_of bytes)).block + 1)
 unfolding tally_of can_be_taken
 fewest form protocol shape bytes mendable =
     let rows : List Fields = records_of bytes in

@@ -90,7 +90,8 @@ module _ {R : Type 0} {form : Form} {most : ℕ} {protocol : Protocol} {shape : 
       let (row, ys, step, at, is) = rw far.at at (took_entry rem a b f (λ (fields : Fields). Ok fields) config read f refl) in
       let found = findings_more (fault_at form protocol shape) 1 far.rows f (n + 1) (omega (arith, far.count)) in
       let faults : tally.faults ≡ length (findings form protocol shape far.rows) = ap (λ (t : Tally). t.faults) far.tally_is in
-      let room = take_room (line_at form protocol shape lines) most (findings form protocol shape far.rows) (finding (fault_at form protocol shape) (n + 1) f) in
+      let piece = line_at form protocol shape lines in
+      let room = take_room piece most (findings form protocol shape far.rows) (finding (fault_at form protocol shape) (n + 1) f) in
       let same : row ≡ f = cc in
       record {
         rows = far.rows ++ (f ∷ []);
@@ -106,7 +107,8 @@ module _ {R : Type 0} {form : Form} {most : ℕ} {protocol : Protocol} {shape : 
   -- these were all
   pub looked_all : {a : Reader R} (b : Reader R) (f : Fields) {out : List ℕ} {tally : Tally} {n : ℕ}
       → reader_config a ≡ default_config → ReadRecord rem a b false f → Looked form most protocol shape lines xs rem a old out tally n
-      → (tally ≡ tally_of form protocol shape (records default_config xs)) × (out ≡ old ++ first_lines form most protocol shape lines (records default_config xs))
+      → (tally ≡ tally_of form protocol shape (records default_config xs))
+      × (out ≡ old ++ first_lines form most protocol shape lines (records default_config xs))
   looked_all {a} b f config read far =
       let none = rows-end rem a b f default_config far.ys config far.at read in
       let all : records default_config xs ≡ far.rows = far.all ∙ rw (records-ended default_config _ (reader_state a) far.ys none) (append-nil far.rows) in
