@@ -1,124 +1,80 @@
 -- The fewest cores and blocks with which a text is taken that has no other faults.
-use Rattle.std.proofs.Common.{◌≡◌, ℕ, ◌+◌, ◌<◌, ◌≤◌, ◌==◌, ◌++◌, List, [], ◌∷◌, Option, Some, None, true, false, refl, sym, ◌∙◌, arith, inl, inr}
-use Rattle.std.specs.Prelude.{◌&&◌, not, Bool, fold, max, nat_lt, option_to_list, ⊤}
-use Rattle.std.specs.List.{list_any}
-use Rattle.std.proofs.lemmas.Bool.{false≢true, or_parts}
+use Rattle.std.proofs.Common.{◌≡◌, ℕ, ◌+◌, ◌≤◌, ◌++◌, List, [], ◌∷◌, Option, true, false, refl, sym, ap, ◌∙◌, arith}
+use Rattle.std.specs.Prelude.{◌&&◌, ◌||◌, fold, max, nat_lt, option_to_list}
+use Rattle.std.specs.List.{list_all, list_any}
+use Rattle.std.specs.Option.{is_none}
+use Rattle.std.proofs.Math.Nat.{zero-div}
 use Rattle.std.proofs.lemmas.Bool.Decides.{nat_tests}
-use Rattle.std.proofs.lemmas.List.Folds.{list_any-append}
+use Rattle.csv.specs.Records.{field_at}
 use Rattle.snoop_trace.specs.Extent.{Extent}
+use Rattle.snoop_trace.specs.Grammar.{ask, order, respond, row_by_letter, row_in, step_in, store, without_value}
 use Rattle.snoop_trace.specs.Text.{records_of}
 use Rattle.snoop_trace.specs.declared.fault.TextFault.{TextFault}
 use Rattle.snoop_trace.specs.declared.protocol.Protocol.{Protocol}
 use Rattle.snoop_lint.specs.declared.form.Form.{Form}
 use Rattle.snoop_lint.specs.declared.form.Form.TheVariants.{Steps, Rows}
-use Rattle.snoop_lint.specs.declared.tally.Tally.{Tally}
 use Rattle.snoop_lint.specs.Fewest.{AreFewest, resized}
-use Rattle.snoop_lint.specs.Fields.{core_named}
-use Rattle.snoop_lint.specs.Findings.{Finding, fault_at, findings, findings_from, first_fault, heads}
+use Rattle.snoop_lint.specs.Fields.{address_named, core_named}
+use Rattle.snoop_lint.specs.Findings.{Finding, fault_at, findings, findings_from, first_fault, heads, refusal}
 use Rattle.snoop_lint.specs.Summary.{can_be_taken}
-use Rattle.snoop_lint.specs.Tallies.{block_named, has_heading, tally_of}
-use Rattle.snoop_lint.proofs.BoundLemmas.{Bound, Fits, row_bound, step_bound}
-use Rattle.snoop_lint.proofs.FindingLemmas.{Fields, first_is_refusal, found_at, is_beyond}
+use Rattle.snoop_lint.specs.Tallies.{block_named, greatest, has_heading, is_other, tally_of}
+use Rattle.snoop_lint.proofs.FindingLemmas.{Fields, first_is_refusal, found_at, is_beyond, no_later_heading}
 
--- each record's core and block are there
-abbrev Below : Extent → ℕ → ℕ → List Fields → Type 0
-Below shape c b [] = ⊤
-Below shape c b (row ∷ rows) = ((core_named row < c) × (block_named shape row < b)) × Below shape c b rows
+-- a greatest number is below a bound exactly where each is
+all_below : (number : Fields → ℕ) (c m : ℕ) (rows : List Fields)
+    → nat_lt (fold (λ most row. max most (number row)) m rows) c ≡ (nat_lt m c && list_all (λ row. nat_lt (number row) c) rows)
+all_below number c m [] = grind arith
+all_below number c m (row ∷ rows) = grind (arith, nat_tests, all_below number c (max m (number row)) rows)
 
--- the greatest core and the greatest block are below these bounds exactly where each is
-module _ (shape : Extent) (c b : ℕ) where
-  abbrev greatest_from : (Fields → ℕ) → ℕ → List Fields → ℕ
-  greatest_from number m rows = fold (λ (most : ℕ) (row : Fields). max most (number row)) m rows
+-- of a fault that a record has, if any, and those after it: whether one is of another kind, and whether there is none
+others_cons : (n : ℕ) (row : Fields) (o : Option TextFault) (rest : List Finding)
+    → list_any is_beyond (option_to_list (found_at n row o) ++ rest) ≡ (is_other o || list_any is_beyond rest)
+others_cons n row o rest = grind arith
 
-  below_from : (m k : ℕ) (rows : List Fields) → m < c → k < b → Below shape c b rows → (greatest_from core_named m rows < c) × (greatest_from (block_named shape) k rows < b)
-  below_from m k [] p q below = (p, q)
-  below_from m k (row ∷ rows) p q below =
-      below_from (max m (core_named row)) (max k (block_named shape row)) rows (omega (arith, p, below.0.0)) (omega (arith, q, below.0.1)) below.1
+none_cons : (n : ℕ) (row : Fields) (o : Option TextFault) (rest : List Finding)
+    → is_none (first_fault (option_to_list (found_at n row o) ++ rest)) ≡ (is_none o && is_none (first_fault rest))
+none_cons n row o rest = grind arith
 
-  to_below : (m k : ℕ) (rows : List Fields) → greatest_from core_named m rows < c → greatest_from (block_named shape) k rows < b → (m < c) × (k < b) × Below shape c b rows
-  to_below m k [] p q = (p, q, tt)
-  to_below m k (row ∷ rows) p q =
-      let (core, block, later) = to_below (max m (core_named row)) (max k (block_named shape row)) rows p q in
-      (omega (arith, core), omega (arith, block), ((omega (arith, core), omega (arith, block)), later))
+-- a text with no other faults is taken with so many cores and blocks exactly where each core and each block that it names is there
+module _ (shape : Extent) (c b : ℕ) (some_core : 1 ≤ c) (some_block : 1 ≤ b) where
+  -- a record that has no other fault in this shape has none in the other exactly where its core and its block are there
+  abbrev Bound : (Extent → Option TextFault) → Fields → Type 0
+  Bound fault row = is_other (fault shape) ≡ false → is_none (fault (resized shape c b)) ≡ (nat_lt (core_named row) c && nat_lt (block_named shape row) b)
 
--- a fault among some, and among those after the first
-fits_cons : (n : ℕ) (row : Fields) (o : Option TextFault) (rest : List Finding) (P Q : Type 0) → Fits o P → Fits (first_fault rest) Q
-    → Fits (first_fault (option_to_list (found_at n row o) ++ rest)) (P × Q)
-fits_cons n row None [] P Q p q = (p, q)
-fits_cons n row None (f ∷ rest) P Q p q = λ all. q all.1
-fits_cons n row (Some f) rest P Q p q = λ all. p all.0
+  fault_bound : (form : Form) (protocol : Protocol) (n : ℕ) (row : Fields) → heads form n row ≡ false → Bound (λ e. fault_at form protocol e n row) row
+  unfolding row_in step_in ask order respond row_by_letter without_value store core_named address_named field_at
+  fault_bound Steps protocol n row none h = grind (arith, nat_tests, zero-div shape.block_bytes)
+  fault_bound Rows protocol n row none h = grind (arith, nat_tests)
 
-head_fits : (F : Extent → Option TextFault) (shape : Extent) (core block c b n : ℕ) (row : Fields) → Bound F shape core block → 1 ≤ c → 1 ≤ b
-    → list_any is_beyond (option_to_list (found_at n row (F shape))) ≡ false → Fits (F (resized shape c b)) ((core < c) × (block < b))
-head_fits F shape core block c b n row (inl far) hc hb none =
-    let is : F shape ≡ Some far.0 = far.2 shape.cores shape.blocks in
-    let beyond = rw (is, far.1) at none in absurd (false≢true (sym beyond))
-head_fits F shape core block c b n row (inr near) hc hb none = near c b hc hb
-
-at_bound : (form : Form) (protocol : Protocol) (shape : Extent) (m : ℕ) (row : Fields) → heads form m row ≡ false
-    → Bound (λ e. fault_at form protocol e m row) shape (core_named row) (block_named shape row)
-at_bound Steps protocol shape m row h = rw h (step_bound shape m row)
-at_bound Rows protocol shape m row h = row_bound shape m row
-
--- the first of some records, the number of which this is, is a heading
-abbrev first_heads : Form → ℕ → List Fields → Bool
-first_heads form n [] = false
-first_heads form n (row ∷ rows) = heads form n row
-
-none_later : (form : Form) (n : ℕ) (rows : List Fields) → 2 ≤ n → first_heads form n rows ≡ false
-none_later form n [] h = refl
-none_later Steps n (row ∷ rows) h = let no : (n == 1) ≡ false = grind (arith, nat_tests) in rw no refl
-none_later Rows n (row ∷ rows) h = refl
-
-none_first : (form : Form) (rows : List Fields) → has_heading form rows ≡ false → first_heads form 1 rows ≡ false
-none_first form [] h = refl
-none_first form (row ∷ rows) h = h
-
-module _ (form : Form) (protocol : Protocol) (shape : Extent) (c b : ℕ) (some_core : 1 ≤ c) (some_block : 1 ≤ b) where
-  all_fit : (n : ℕ) (rows : List Fields) → 1 ≤ n → first_heads form n rows ≡ false → list_any is_beyond (findings_from (fault_at form protocol shape) n rows) ≡ false
-      → Fits (first_fault (findings_from (fault_at form protocol (resized shape c b)) n rows)) (Below shape c b rows)
+  -- so it is of records one after another, with no heading among them
+  all_bound : (form : Form) (protocol : Protocol) (n : ℕ) (rows : List Fields) → 1 ≤ n → (n ≡ 1 → has_heading form rows ≡ false)
+      → list_any is_beyond (findings_from (fault_at form protocol shape) n rows) ≡ false
+      → is_none (first_fault (findings_from (fault_at form protocol (resized shape c b)) n rows))
+      ≡ (list_all (λ row. nat_lt (core_named row) c) rows && list_all (λ row. nat_lt (block_named shape row) b) rows)
   unfolding findings_from
-  all_fit n [] counts heading none = tt
-  all_fit n (row ∷ rows) counts heading none =
-      let head = option_to_list (found_at n row (fault_at form protocol shape n row)) in
-      let rest = findings_from (fault_at form protocol shape) (n + 1) rows in
-      let (first, later) = or_parts (list_any is_beyond head) (list_any is_beyond rest) (sym (list_any-append is_beyond head rest) ∙ none) in
-      fits_cons n row (fault_at form protocol (resized shape c b) n row) (findings_from (fault_at form protocol (resized shape c b)) (n + 1) rows) _ (Below shape c b rows)
-      (head_fits (λ e. fault_at form protocol e n row) shape (core_named row) (block_named shape row) c b n row (at_bound form protocol shape n row heading) some_core some_block first)
-      (all_fit (n + 1) rows (omega arith) (none_later form (n + 1) rows (omega arith)) later)
-
-fits_none : (o : Option TextFault) (P : Type 0) → Fits o P → P → o ≡ None
-fits_none None P h p = refl
-fits_none (Some f) P h p = absurd (h p)
-
-fits_all : (o : Option TextFault) (P : Type 0) → Fits o P → o ≡ None → P
-fits_all None P h e = h
-fits_all (Some f) P h e = cc
-
-parts : (a o h c d : Bool) → (a && not o && not h && c && d) ≡ true → (o ≡ false) × (h ≡ false)
-parts true false false c d e = (refl, refl)
-parts a o h c d e = absurd (false≢true e)
-
-taken_parts : (tally : Tally) → can_be_taken tally ≡ true → (tally.has_others ≡ false) × (tally.has_heading ≡ false)
-unfolding can_be_taken
-taken_parts tally e = parts (nat_lt 0 tally.records) tally.has_others tally.has_heading (nat_lt tally.core 256) (nat_lt tally.block 65536) e
+  all_bound form protocol n [] counts first none = refl
+  all_bound form protocol n (row ∷ rows) counts first none =
+      let heading : heads form n row ≡ false = grind (arith, no_later_heading form n row) in
+      let others = others_cons n row (fault_at form protocol shape n row) (findings_from (fault_at form protocol shape) (n + 1) rows) in
+      let more = none_cons n row (fault_at form protocol (resized shape c b) n row) (findings_from (fault_at form protocol (resized shape c b)) (n + 1) rows) in
+      grind (arith, none, others, more, fault_bound form protocol n row heading,
+      all_bound form protocol (n + 1) rows (omega arith) (λ e. absurd (omega arith)))
 
 -- the greatest core and the greatest block, each plus one
 pub fewest : (form : Form) (protocol : Protocol) (shape : Extent) (bytes : List ℕ) → can_be_taken (tally_of form protocol shape (records_of bytes)) ≡ true
-    → AreFewest form protocol shape bytes ((tally_of form protocol shape (records_of bytes)).core + 1) ((tally_of form protocol shape (records_of bytes)).block + 1)
-unfolding tally_of
+    → AreFewest form protocol shape bytes ((tally_of form protocol shape (records_of bytes)).core + 1)
+    ((tally_of form protocol shape (records_of bytes)).block + 1)
+unfolding tally_of can_be_taken
 fewest form protocol shape bytes mendable =
     let rows : List Fields = records_of bytes in
-    let (others, heading) = taken_parts (tally_of form protocol shape rows) mendable in
-    let found : ℕ → ℕ → Option TextFault = λ c b. first_fault (findings form protocol (resized shape c b) rows) in
-    let fit : (c b : ℕ) → 1 ≤ c → 1 ≤ b → Fits (found c b) (Below shape c b rows) = λ c b p q.
-    all_fit form protocol shape c b p q 1 rows (omega arith) (none_first form rows heading) others in
+    let heading : has_heading form rows ≡ false = grind arith in
+    let others : list_any is_beyond (findings form protocol shape rows) ≡ false = grind arith in
+    let taken : (c b : ℕ) → 1 ≤ c → 1 ≤ b → is_none (refusal form protocol (resized shape c b) bytes)
+        ≡ (nat_lt (greatest core_named rows) c && nat_lt (greatest (block_named shape) rows) b) = λ c b p q.
+    ap is_none (sym (first_is_refusal form protocol (resized shape c b) bytes))
+    ∙ all_bound shape c b p q form protocol 1 rows (omega arith) (λ _. heading) others
+    ∙ grind (arith, nat_tests, all_below core_named c 0 rows, all_below (block_named shape) b 0 rows) in
     record {
-      enough = λ c b p q.
-          sym (first_is_refusal form protocol (resized shape c b) bytes)
-          ∙ fits_none (found c b) (Below shape c b rows) (fit c b (omega (arith, p)) (omega (arith, q))) (to_below shape c b 0 0 rows (omega (arith, p)) (omega (arith, q))).2;
-      needed = λ c b p q taken.
-          let below = fits_all (found c b) (Below shape c b rows) (fit c b p q) (first_is_refusal form protocol (resized shape c b) bytes ∙ taken) in
-          let great = below_from shape c b 0 0 rows (omega (arith, p)) (omega (arith, q)) below in
-          (omega (arith, great.0), omega (arith, great.1));
+      enough = λ c b p q. grind (arith, nat_tests, taken c b (omega (arith, p)) (omega (arith, q)));
+      needed = λ c b p q is. grind (arith, nat_tests, taken c b p q);
     }

@@ -1,18 +1,17 @@
 -- The faulty records of a text, and the fault by which it is refused.
-use Rattle.std.proofs.Common.{◌≡◌, ℕ, ◌+◌, ◌≤◌, ◌++◌, List, [], ◌∷◌, length, Option, Some, false, refl, sym, ◌∙◌, arith, append_assoc, append-nil, inl, inr}
-use Rattle.std.specs.Prelude.{Bool, Result, Ok, Err, ◌==◌, not, option_map, option_to_list}
+use Rattle.std.proofs.Common.{◌≡◌, ℕ, ◌+◌, ◌≤◌, ◌++◌, List, [], ◌∷◌, length, Option, Some, false, refl, sym, arith, append_assoc, append-nil}
+use Rattle.std.specs.Prelude.{Bool, Result, not, option_map, option_to_list}
 use Rattle.std.specs.Result.{result_err}
-use Rattle.std.proofs.lemmas.Bool.{cases_Bool}
 use Rattle.std.proofs.lemmas.Bool.Decides.{nat_tests}
 use Rattle.snoop_trace.specs.Extent.{Extent}
-use Rattle.snoop_trace.specs.Grammar.{◌>>=◌, row_in, step_in}
-use Rattle.snoop_trace.specs.Heading.{heading_as, heading_for, is_heading}
+use Rattle.snoop_trace.specs.Grammar.{row_in, step_in}
+use Rattle.snoop_trace.specs.Heading.{heading_for}
 use Rattle.snoop_trace.specs.Text.{entries_from, entries_in, records_of}
 use Rattle.snoop_trace.specs.declared.fault.TextFault.{TextFault}
 use Rattle.snoop_trace.specs.declared.protocol.Protocol.{Protocol}
 use Rattle.snoop_lint.specs.declared.form.Form.{Form}
 use Rattle.snoop_lint.specs.declared.form.Form.TheVariants.{Steps, Rows}
-use Rattle.snoop_lint.specs.Findings.{Finding, fault_at, finding, findings, findings_from, first_fault, refusal}
+use Rattle.snoop_lint.specs.Findings.{Finding, fault_at, finding, findings, findings_from, first_fault, heads, refusal}
 use Rattle.snoop_lint.specs.Tallies.{is_limit}
 
 abbrev pub Fields : Type 0
@@ -33,16 +32,6 @@ unfolding findings_from
 findings_more fault n [] row m e = let same : n ≡ m = omega arith in rw same (append-nil (option_to_list (finding fault m row)))
 findings_more fault n (r ∷ rows) row m e = rw (findings_more fault (n + 1) rows row m (omega arith)) (sym (append_assoc (option_to_list (finding fault n r)) _ _))
 
--- the first fault of a record and of what follows it
-first_cons : {A B : Type 0} (r : Result A TextFault) (more : A → Result B TextFault) (n : ℕ) (row : Fields) (rest : List Finding)
-    → ((x : A) → result_err (more x) ≡ first_fault rest) → result_err (r >>= more) ≡ first_fault (option_to_list (found_at n row (result_err r)) ++ rest)
-first_cons (Ok x) more n row rest h = h x
-first_cons (Err f) more n row rest h = refl
-
-kept : {A : Type 0} (x : A) (q : Result (List A) TextFault) → result_err (q >>= λ ys. Ok (x ∷ ys)) ≡ result_err q
-kept x (Ok ys) = refl
-kept x (Err f) = refl
-
 -- a text of entries is refused by the fault of its first faulty record
 first_of : {A : Type 0} (says : ℕ → Fields → Result A TextFault) (fault : ℕ → Fields → Option TextFault) (n : ℕ) (rows : List Fields)
     → ((m : ℕ) (fields : Fields) → n ≤ m → fault m fields ≡ result_err (says m fields))
@@ -50,23 +39,18 @@ first_of : {A : Type 0} (says : ℕ → Fields → Result A TextFault) (fault : 
 unfolding entries_from findings_from
 first_of says fault n [] same = refl
 first_of says fault n (row ∷ rows) same =
-    rw (same n row (omega arith)) (first_cons (says n row) _ n row (findings_from fault (n + 1) rows)
-    (λ x. kept x (entries_from says (n + 1) rows) ∙ first_of says fault (n + 1) rows (λ m fields h. same m fields (omega arith))))
+    grind (arith, same n row (omega arith), first_of says fault (n + 1) rows (λ m fields h. same m fields (omega arith)))
 
-later_fault : (protocol : Protocol) (shape : Extent) (n : ℕ) (fields : Fields) → 2 ≤ n → fault_at Steps protocol shape n fields ≡ result_err (step_in shape n fields)
-later_fault protocol shape n fields h = let no : (n == 1) ≡ false = grind (arith, nat_tests) in rw no refl
+-- a later record is no heading
+pub no_later_heading : (form : Form) (n : ℕ) (row : Fields) → 2 ≤ n → heads form n row ≡ false
+no_later_heading form n row h = grind (arith, nat_tests)
 
 steps_first : (protocol : Protocol) (shape : Extent) (rows : List Fields)
     → result_err (entries_in (step_in shape) (Some (heading_for protocol shape)) rows) ≡ first_fault (findings Steps protocol shape rows)
 unfolding entries_in entries_from findings_from
 steps_first protocol shape [] = refl
 steps_first protocol shape (first ∷ rest) =
-    let later = first_of (step_in shape) (fault_at Steps protocol shape) 2 rest (later_fault protocol shape) in
-    let after = findings_from (fault_at Steps protocol shape) 2 rest in
-    elim (cases_Bool (is_heading first)) [
-      | inl e ↦ rw e (first_cons (heading_as (heading_for protocol shape) 1 first) _ 1 first after (λ heading. later))
-      | inr e ↦ rw e (first_cons (step_in shape 1 first) _ 1 first after (λ x. kept x (entries_from (step_in shape) 2 rest) ∙ later))
-    ]
+    grind (arith, first_of (step_in shape) (fault_at Steps protocol shape) 2 rest (λ n fields h. grind (arith, no_later_heading Steps n fields)))
 
 -- the first fault is the one by which reading refuses the text, and there is none where reading takes it
 pub first_is_refusal : (form : Form) (protocol : Protocol) (shape : Extent) (bytes : List ℕ)

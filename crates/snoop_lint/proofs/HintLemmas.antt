@@ -1,11 +1,11 @@
 -- The first hint of some fields, field by field.
-use Rattle.std.proofs.Common.{◌≡◌, ℕ, ◌+◌, ◌<◌, List, [], ◌∷◌, arith, cond, drop, false, get_or, length, refl, ◌∙◌}
+use Rattle.std.proofs.Common.{◌≡◌, ℕ, ◌+◌, ◌<◌, List, [], ◌∷◌, arith, cond, drop, get_or, length, refl}
 use Rattle.std.specs.Prelude.{zero, suc, ◌==◌}
 use Rattle.std.proofs.lemmas.Bool.Decides.{nat_tests}
 use Rattle.std.proofs.lemmas.List.{at_drop_more}
 use Rattle.csv.specs.Records.{field_at}
 use Rattle.snoop_lint.specs.Fields.{field}
-use Rattle.snoop_lint.specs.Hints.{field_hint, fields_hint, or_else}
+use Rattle.snoop_lint.specs.Hints.{field_hint, fields_hint}
 
 field_is : (fields : List (List ℕ)) (i : ℕ) → get_or fields i [] ≡ field fields i
 unfolding field_at
@@ -13,12 +13,8 @@ field_is [] i = refl
 field_is (f ∷ fs) zero = refl
 field_is (f ∷ fs) (suc i) = field_is fs i
 
-or_else_is : (hint other : List ℕ) → or_else hint other ≡ cond (length hint == 0) other hint
-or_else_is [] other = refl
-or_else_is (byte ∷ bytes) other = let some : (length (byte ∷ bytes) == 0) ≡ false = grind (arith, nat_tests) in rw some refl
-
 -- the hint of the next field, or else of those after it
 pub next_hint : (fields : List (List ℕ)) (i : ℕ) → i < length fields
     → fields_hint (drop i fields) ≡ cond (length (field_hint (field fields i)) == 0) (fields_hint (drop (i + 1) fields)) (field_hint (field fields i))
 unfolding fields_hint
-next_hint fields i h = at_drop_more fields_hint fields i [] h ∙ rw (field_is fields i) (or_else_is (field_hint (field fields i)) (fields_hint (drop (i + 1) fields)))
+next_hint fields i h = grind (arith, nat_tests, at_drop_more fields_hint fields i [] h, field_is fields i)

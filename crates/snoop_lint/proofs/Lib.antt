@@ -1,8 +1,6 @@
 pub mod FindingLemmas
-pub mod TallyLemmas
 pub mod LookedLemmas
 pub mod LineLemmas
-pub mod BoundLemmas
 pub mod FewestLemmas
 pub mod EachLine
 pub mod HintLemmas

@@ -1,16 +1,13 @@
 -- The lines on which records begin, one byte further.
-use Rattle.std.proofs.Common.{◌≡◌, ℕ, ◌+◌, ◌<◌, ◌≤◌, ◌++◌, List, [], ◌∷◌, append-nil, append_assoc, drop, get_or, length, refl, ◌∙◌}
-use Rattle.std.specs.Prelude.{zero, suc, slice_get, if◌then◌else◌}
+use Rattle.std.proofs.Common.{◌≡◌, ℕ, ◌+◌, ◌<◌, ◌≤◌, ◌++◌, List, [], ◌∷◌, append-nil, append_assoc, arith, drop, get_or, length}
+use Rattle.std.specs.Prelude.{slice_get, if◌then◌else◌}
+use Rattle.std.proofs.lemmas.Grind.{common_steps}
+use Rattle.std.proofs.lemmas.Option.{gets}
 use Rattle.std.proofs.lemmas.List.{at_drop_all, at_drop_more}
 use Rattle.csv.specs.Machine.{step}
 use Rattle.csv.specs.Reading.{default_config}
 use Rattle.csv.specs.declared.parser.State.{State}
 use Rattle.snoop_lint.specs.Lines.{begins_record, ends_line, lines_from}
-
-get_dropped : (n : ℕ) (xs : List ℕ) → slice_get (drop n xs) 0 ≡ slice_get xs n
-get_dropped zero xs = refl
-get_dropped (suc n) [] = refl
-get_dropped (suc n) (x ∷ xs) = get_dropped n xs
 
 -- one byte more
 pub lines_more : (s : State) (line : ℕ) (text : List ℕ) (i : ℕ) → i < length text
@@ -18,7 +15,7 @@ pub lines_more : (s : State) (line : ℕ) (text : List ℕ) (i : ℕ) → i < le
     ≡ (if begins_record s (get_or text i 0) then line ∷ [] else [])
     ++ lines_from (step default_config s (get_or text i 0)).0 (if ends_line (get_or text i 0) (slice_get text (i + 1)) then line + 1 else line) (drop (i + 1) text)
 unfolding lines_from
-lines_more s line text i h = at_drop_more (lines_from s line) text i 0 h ∙ rw (get_dropped (i + 1) text) refl
+lines_more s line text i h = grind (arith, common_steps, gets, at_drop_more (lines_from s line) text i 0 h)
 
 -- all was read
 pub lines_none : (s : State) (line : ℕ) (text : List ℕ) (i : ℕ) → length text ≤ i → lines_from s line (drop i text) ≡ []

@@ -1,126 +1,115 @@
 -- What was appended and counted of the records that were read so far.
-use Rattle.std.proofs.Common.{◌≡◌, ℕ, ◌+◌, ◌≤◌, ◌++◌, List, [], ◌∷◌, length, length-append, take, Option, Some, None, true, false, refl, sym, ap, ◌∙◌, arith, append_assoc, append-nil, inl, inr}
-use Rattle.std.specs.Prelude.{zero, suc, ◌-◌, nat_lt, option_to_list, if◌then◌else◌}
-use Rattle.std.specs.List.{flat_map}
+use Rattle.std.proofs.Common.{◌≡◌, ℕ, ◌+◌, ◌≤◌, ◌++◌, List, [], ◌∷◌, length, length-append, take, Option, Some, true, false, refl, sym, ap, ◌∙◌, arith, append_assoc, append-nil}
+use Rattle.std.specs.Prelude.{◌||◌, Ok, is_some, nat_lt, option_to_list, if◌then◌else◌}
+use Rattle.std.specs.List.{flat_map, list_any}
 use Rattle.std.specs.Option.{option_map_or}
-use Rattle.std.proofs.lemmas.Bool.{cases_lt, le-ltb, lt-ltb}
-use Rattle.std.proofs.lemmas.List.{length_push, take-append-le, take_all}
-use Rattle.std.proofs.lemmas.List.Concat.{flat_map-append}
-use Rattle.csv.specs.Reading.{Reached, ReadRecord, default_config, reader_config, reader_state, records, source_of}
-use Rattle.csv.specs.declared.parser.State.{State}
+use Rattle.std.proofs.Math.Bool.{or-false}
+use Rattle.std.proofs.Math.Seq.{take-nil}
+use Rattle.std.proofs.lemmas.Bool.Decides.{nat_tests}
+use Rattle.std.proofs.lemmas.Grind.{common_steps}
+use Rattle.std.proofs.lemmas.List.{length_push}
+use Rattle.std.proofs.lemmas.List.Folds.{list_any-append}
+use Rattle.std.proofs.lemmas.List.Sums.{fold_push}
+use Rattle.csv.specs.Reading.{ReadRecord, default_config, reader_config, reader_state, records, source_of}
 use Rattle.csv.specs.declared.parser.State.TheVariants as st
 use Rattle.csv.specs.declared.reader.Reader.{Reader}
-use Rattle.csv.proofs.ReadFacts.{rows-end, rows-more}
+use Rattle.csv.proofs.ReadFacts.{rows-end}
 use Rattle.snoop_trace.specs.Extent.{Extent}
+use Rattle.snoop_trace.specs.Progress.{records_left}
 use Rattle.snoop_trace.specs.declared.fault.TextFault.{TextFault}
 use Rattle.snoop_trace.specs.declared.protocol.Protocol.{Protocol}
-use Rattle.snoop_trace.proofs.CsvLemmas.{reached-most, records-ended, records-reached}
+use Rattle.snoop_trace.proofs.CsvLemmas.{records-ended, records_step}
+use Rattle.snoop_trace.proofs.TextLemmas.{took_entry}
 use Rattle.snoop_lint.specs.declared.form.Form.{Form}
 use Rattle.snoop_lint.specs.declared.tally.Tally.{Tally}
-use Rattle.snoop_lint.specs.Findings.{Finding, fault_at, finding, findings, findings_from}
+use Rattle.snoop_lint.specs.Findings.{Finding, fault_at, finding, findings, findings_from, heads}
 use Rattle.snoop_lint.specs.Linted.{first_lines, line_at}
 use Rattle.snoop_lint.specs.Looked.{line_if_room}
-use Rattle.snoop_lint.specs.Tallies.{one_more, tally_of}
-use Rattle.snoop_lint.proofs.FindingLemmas.{Fields, findings_more}
-use Rattle.snoop_lint.proofs.TallyLemmas.{tally_more}
+use Rattle.snoop_lint.specs.Tallies.{has_heading, is_other, one_more, tally_of}
+use Rattle.snoop_lint.proofs.FindingLemmas.{Fields, findings_more, found_at, is_beyond}
 
-piece_of : (f : Finding → List ℕ) (o : Option Finding) → flat_map f (option_to_list o) ≡ option_map_or f o []
-piece_of f None = refl
-piece_of f (Some x) = append-nil (f x)
+-- what is counted of a record that has this fault, if any
+one_found : (n : ℕ) (row : Fields) (o : Option TextFault) → length (option_to_list (found_at n row o)) ≡ (if is_some o then 1 else 0)
+one_found n row o = grind arith
 
-short : (o : Option Finding) → length (option_to_list o) ≤ 1
-short None = omega arith
-short (Some x) = omega arith
+other_found : (n : ℕ) (row : Fields) (o : Option TextFault) → list_any is_beyond (option_to_list (found_at n row o)) ≡ is_other o
+other_found n row o = grind arith
+
+-- what is counted, with one record more
+tally_more : (form : Form) (protocol : Protocol) (shape : Extent) (rows : List Fields) (row : Fields) (n : ℕ) → n ≡ length rows + 1
+    → tally_of form protocol shape (rows ++ (row ∷ [])) ≡ one_more form shape n row (fault_at form protocol shape n row) (tally_of form protocol shape rows)
+unfolding tally_of
+tally_more form protocol shape rows row n e =
+    let fault = fault_at form protocol shape n row in
+    let heading : has_heading form (rows ++ (row ∷ [])) ≡ (has_heading form rows || heads form n row) = grind (arith, nat_tests) in
+    rw (length_push rows row ∙ sym e, findings_more (fault_at form protocol shape) 1 rows row n (omega arith), heading)
+    (simp (length-append, list_any-append, fold_push, one_found n row fault, other_found n row fault, or-false) refl)
 
 -- the piece of one finding more, where there is room for it
 take_room : (f : Finding → List ℕ) (most : ℕ) (fs : List Finding) (o : Option Finding)
     → flat_map f (take most (fs ++ option_to_list o)) ≡ flat_map f (take most fs) ++ (if nat_lt (length fs) most then option_map_or f o [] else [])
-take_room f most fs o = elim (cases_lt (length fs) most) [
-  | inl room ↦
-      rw (lt-ltb (length fs) most room, take_all most fs (omega arith), take_all most (fs ++ option_to_list o) (omega (arith, length-append fs (option_to_list o), short o)))
-      (simp (flat_map-append, piece_of f) refl)
-  | inr full ↦ rw (le-ltb (length fs) most full, take-append-le most fs (option_to_list o) full) (sym (append-nil (flat_map f (take most fs))))
-]
-
-none_taken : (n : ℕ) → take {A = Finding} n [] ≡ []
-none_taken zero = refl
-none_taken (suc n) = refl
-
-few_found : (fault : ℕ → Fields → Option TextFault) (n : ℕ) (rows : List Fields) → length (findings_from fault n rows) ≤ length rows
-unfolding findings_from
-few_found fault n [] = omega arith
-few_found fault n (row ∷ rows) =
-    omega (arith, length-append (option_to_list (finding fault n row)) (findings_from fault (n + 1) rows), short (finding fault n row), few_found fault (n + 1) rows)
+take_room f most fs o = grind (arith, common_steps, nat_tests)
 
 -- n records of a text were read; their lines were appended, and they were counted
-pub record Looked (form : Form) (most : ℕ) (protocol : Protocol) (shape : Extent) (lines xs : List ℕ) (s : State) (left : Option (List ℕ)) (old out : List ℕ) (tally : Tally) (n : ℕ) : Type 0 where
+pub record Looked {R : Type 0} (form : Form) (most : ℕ) (protocol : Protocol) (shape : Extent) (lines xs : List ℕ)
+    (rem : R → Option (List ℕ)) (r : Reader R) (old out : List ℕ) (tally : Tally) (n : ℕ) : Type 0 where
   pub rows : List Fields
   pub ys : List ℕ
-  pub at : left ≡ Some ys
-  pub reached : Reached default_config st.StartRecord xs rows s ys
+  pub at : source_of rem r ≡ Some ys
+  pub all : records default_config xs ≡ rows ++ records_left (reader_state r) ys
   pub count : length rows ≡ n
+  pub few : tally.faults ≤ n
   pub out_is : out ≡ old ++ first_lines form most protocol shape lines rows
   pub tally_is : tally ≡ tally_of form protocol shape rows
 
-module _ {form : Form} {most : ℕ} {protocol : Protocol} {shape : Extent} {lines xs old : List ℕ} where
+module _ {R : Type 0} {form : Form} {most : ℕ} {protocol : Protocol} {shape : Extent} {lines xs old : List ℕ} {rem : R → Option (List ℕ)} where
   -- no record was read yet
-  pub looked_none : {s : State} {left : Option (List ℕ)} {tally : Tally} → left ≡ Some xs → s ≡ st.StartRecord
+  pub looked_none : {r : Reader R} {tally : Tally} → source_of rem r ≡ Some xs → reader_state r ≡ st.StartRecord
       → tally ≡ record { records = 0; faults = 0; has_others = false; has_heading = false; asks = false; drives = false; core = 0; block = 0 }
-      → Looked form most protocol shape lines xs s left old old tally 0
-  unfolding Reached first_lines findings_from tally_of
+      → Looked form most protocol shape lines xs rem r old old tally 0
+  unfolding first_lines findings_from tally_of
   looked_none at begins none = record {
     rows = [];
     ys = xs;
     at = at;
-    reached = (sym begins, refl);
+    all = rw begins refl;
     count = refl;
-    out_is = rw (none_taken most) (sym (append-nil old));
+    few = rw none (omega arith);
+    out_is = grind (arith, common_steps, take-nil);
     tally_is = none;
   }
 
-  faults_are : {s : State} {left : Option (List ℕ)} {out : List ℕ} {tally : Tally} {n : ℕ}
-      → (far : Looked form most protocol shape lines xs s left old out tally n) → tally.faults ≡ length (findings form protocol shape far.rows)
-  unfolding tally_of
-  faults_are far = ap (λ (t : Tally). t.faults) far.tally_is
-
-  -- no more records are faulty than were read
-  pub looked_few : {s : State} {left : Option (List ℕ)} {out : List ℕ} {tally : Tally} {n : ℕ} → Looked form most protocol shape lines xs s left old out tally n → tally.faults ≤ n
-  looked_few far = omega (arith, faults_are far, few_found (fault_at form protocol shape) 1 far.rows, far.count)
-
   -- one record more
-  pub looked_more : {R : Type 0} (rem : R → Option (List ℕ)) (a b : Reader R) (f : Fields) {out next : List ℕ} {tally counted : Tally} {n : ℕ}
-      → reader_config a ≡ default_config → ReadRecord rem a b true f
-      → Looked form most protocol shape lines xs (reader_state a) (source_of rem a) old out tally n
+  pub looked_more : {a b : Reader R} (f : Fields) {out next : List ℕ} {tally counted : Tally} {n : ℕ}
+      → reader_config a ≡ default_config → ReadRecord rem a b true f → Looked form most protocol shape lines xs rem a old out tally n
       → next ≡ out ++ line_if_room form most protocol shape lines tally.faults (n + 1) f
       → counted ≡ one_more form shape (n + 1) f (fault_at form protocol shape (n + 1) f) tally
-      → Looked form most protocol shape lines xs (reader_state b) (source_of rem b) old next counted (n + 1)
-  unfolding first_lines
-  looked_more rem a b f {out} {next} {tally} {counted} {n} config read far line count =
-      let (z, at_z, reached) = rows-more rem a b f default_config st.StartRecord xs far.ys far.rows config far.at far.reached read in
-      let number : n + 1 ≡ length far.rows + 1 = omega (arith, far.count) in
+      → Looked form most protocol shape lines xs rem b old next counted (n + 1)
+  unfolding first_lines tally_of
+  looked_more {a} {b} f {out} {next} {tally} {counted} {n} config read far line count =
+      let (row, ys, step, at, is) = rw far.at at (took_entry rem a b f (λ (fields : Fields). Ok fields) config read f refl) in
+      let found = findings_more (fault_at form protocol shape) 1 far.rows f (n + 1) (omega (arith, far.count)) in
+      let faults : tally.faults ≡ length (findings form protocol shape far.rows) = ap (λ (t : Tally). t.faults) far.tally_is in
       let piece = line_at form protocol shape lines in
-      let found = findings_more (fault_at form protocol shape) 1 far.rows f (n + 1) (omega (arith, number)) in
+      let room = take_room piece most (findings form protocol shape far.rows) (finding (fault_at form protocol shape) (n + 1) f) in
+      let same : row ≡ f = cc in
       record {
         rows = far.rows ++ (f ∷ []);
-        ys = z;
-        at = at_z;
-        reached = reached;
-        count = length_push far.rows f ∙ sym number;
-        out_is = line ∙ rw (far.out_is, faults_are far, found, take_room piece most (findings form protocol shape far.rows) (finding (fault_at form protocol shape) (n + 1) f)) (append_assoc old _ _);
-        tally_is = count ∙ ap (λ (t : Tally). one_more form shape (n + 1) f (fault_at form protocol shape (n + 1) f) t) far.tally_is
-            ∙ sym (tally_more form protocol shape far.rows f (n + 1) number);
+        ys = ys;
+        at = at;
+        all = far.all ∙ rw (records_step default_config _ far.ys (row, reader_state b, ys) step, same) (sym (append_assoc far.rows _ _));
+        count = omega (arith, length-append far.rows (f ∷ []), far.count);
+        few = rw count (grind (arith, far.few));
+        out_is = line ∙ rw (far.out_is, faults, found, room) (append_assoc old _ _);
+        tally_is = count ∙ rw far.tally_is (sym (tally_more form protocol shape far.rows f (n + 1) (omega (arith, far.count))));
       }
 
   -- these were all
-  pub looked_all : {R : Type 0} (rem : R → Option (List ℕ)) (a b : Reader R) (f : Fields) {out : List ℕ} {tally : Tally} {n : ℕ}
-      → reader_config a ≡ default_config → ReadRecord rem a b false f
-      → Looked form most protocol shape lines xs (reader_state a) (source_of rem a) old out tally n
-      → (tally ≡ tally_of form protocol shape (records default_config xs)) × (out ≡ old ++ first_lines form most protocol shape lines (records default_config xs))
-  looked_all rem a b f config read far =
+  pub looked_all : {a : Reader R} (b : Reader R) (f : Fields) {out : List ℕ} {tally : Tally} {n : ℕ}
+      → reader_config a ≡ default_config → ReadRecord rem a b false f → Looked form most protocol shape lines xs rem a old out tally n
+      → (tally ≡ tally_of form protocol shape (records default_config xs))
+      × (out ≡ old ++ first_lines form most protocol shape lines (records default_config xs))
+  looked_all {a} b f config read far =
       let none = rows-end rem a b f default_config far.ys config far.at read in
-      let few = reached-most default_config st.StartRecord xs far.rows (reader_state a) far.ys far.reached in
-      let left : ℕ = (length xs + 1) - length far.rows in
-      let all : records default_config xs ≡ far.rows =
-      records-reached default_config left st.StartRecord xs far.rows (reader_state a) far.ys far.reached (length xs + 1) (omega (arith, few))
-      ∙ rw (records-ended default_config left (reader_state a) far.ys none) (append-nil far.rows) in
+      let all : records default_config xs ≡ far.rows = far.all ∙ rw (records-ended default_config _ (reader_state a) far.ys none) (append-nil far.rows) in
       (rw all far.tally_is, rw all far.out_is)

@@ -1,5 +1,5 @@
 use Rattle.std.proofs.Common.{ℕ, List, Bor, Some}
-use Rattle.csv.specs.Reading.{reader_state, source_of, strip_bom}
+use Rattle.csv.specs.Reading.{strip_bom}
 use Rattle.snoop_trace.specs.Progress.{IsPlain}
 use Rattle.snoop_lint.proofs.LookedLemmas.{Looked}
 use Rattle.snoop_lint.proofs.lint.look.Given as goal
@@ -7,4 +7,4 @@ use Rattle.snoop_lint.proofs.lint.look.Given as goal
 -- i records were read, and the reader stands after them
 abbrev pub invariant-loop-i : goal.invariant-loop-i
 invariant-loop-i l = IsPlain l.records
-    × Looked l.form l.most l.protocol l.shape l.lines (strip_bom l.text) (reader_state l.records) (source_of (λ (s : Bor (List ℕ)). Some s.now) l.records) l.fn.out.items l.out.items l.tally l.i
+    × Looked l.form l.most l.protocol l.shape l.lines (strip_bom l.text) (λ (s : Bor (List ℕ)). Some s.now) l.records l.fn.out.items l.out.items l.tally l.i
