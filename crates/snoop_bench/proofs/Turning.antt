@@ -141,7 +141,7 @@ over_keeps rule {s} {works} {core} {work} f = record {
 
 -- after the response a core that does not wait has no step left for its work
 closed_after : (s t : Situation) (core block word : ℕ) (asking : Op) (answer : Reply) (entry : Option Item) → IsWellKept s
-    → waiting_request (state_of s core block) ≡ None → FirstMove s (Respond block) answer t entry → turn_of t core block word asking true ≡ None
+    → waiting_request (state_of s core block) ≡ None → FirstMove s (Respond block) answer t → turn_of t core block word asking true ≡ None
 closed_after s t core block word asking answer entry kept none move =
     let b = move.0 in
     let m = move.1.1 in

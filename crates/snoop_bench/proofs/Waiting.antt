@@ -24,7 +24,7 @@ use Rattle.snoop_bench.specs.Recording.{Recording, TakesAndPublishes}
 -- a step of the machine, as its clauses report it
 pub record Stepped (s t : Situation) (step : Step) (answer : Reply) : Type 0 where
   pub entry : Option Item
-  pub move : FirstMove s step answer t entry
+  pub move : FirstMove s step answer t
   pub once : OnceMore s (step ∷ []) (Ok answer ∷ []) t
   pub shape : t.shape ≡ s.shape
   pub kept : IsWellKept t

@@ -84,7 +84,7 @@ module _ {m : Fields} {now : Standing} {came : Came} {memory : MemCell} {closing
   -- it is the move of a Respond
   pub responded : (lines : Held) (row : List Line) (did : Option Did) → lines.rows ≡ slice_set m.lines.rows came.block row
       → ArrivesFor closing.request closing m.protocol m.log.items (row_of m.lines.rows came.block) row did
-      → RespondMove came.block now.situation came.block (reply.Came came.payload came.from did) (standing (closed lines did)).situation (Some (item.Came came did))
+      → RespondMove came.block now.situation came.block (reply.Came came.payload came.from did) (standing (closed lines did)).situation
   responded lines row did rows arrives =
       let here = seen closes.whole refl came.block in
       let pictures = pictures_after lines row did rows in
@@ -94,7 +94,6 @@ module _ {m : Fields} {now : Standing} {came : Came} {memory : MemCell} {closing
         on_block = refl;
         within = rw (← closes.view) at closes.within;
         answered = ap (λ (x : Came). reply.Came x.payload x.from did) (sym header);
-        logged = ap (λ (x : Came). let r : Option Item = Some (item.Came x did) in r) (sym header);
         responds = record {
           opened = rw (← closes.view) at opened;
           next = next row;

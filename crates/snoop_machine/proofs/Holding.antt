@@ -10,8 +10,8 @@ use Rattle.snoop_model.proofs.Tables.EvictInI.{no_row}
 use Rattle.snoop_machine.specs.declared.plan.Plan.TheVariants as plan
 
 -- a core that leaves I on a block moves to I on none
-stays_out : (before : Standing) (new : Situation) (taking : Step) (core : ℕ) (answer : Reply) (entry : Option Item) → FirstMove before.situation taking answer new entry → NeedsLine before taking core → ¬ MovesToI before.situation new core
-stays_out before new (step.Ask asker block word asking) core answer entry m leaves moved = elim m.1.1.moves [
+stays_out : (before : Standing) (new : Situation) (taking : Step) (core : ℕ) (answer : Reply) → FirstMove before.situation taking answer new → NeedsLine before taking core → ¬ MovesToI before.situation new core
+stays_out before new (step.Ask asker block word asking) core answer m leaves moved = elim m.1.1.moves [
   | inl absent ↦ moved.1.0 (rw absent.3 at moved.1.1)
   | inr asks ↦ elim (cases_eq moved.0 m.0) [
     | inl e ↦ moved.1.0 (rw (e, ← m.1.1.on_block, ← leaves.0) leaves.3)
@@ -20,7 +20,7 @@ stays_out before new (step.Ask asker block word asking) core answer entry m leav
         moved.1.0 (ap (λ (x : Picture). (held_by x core).state) (sym other) ∙ rw asks.after at moved.1.1)
   ]
 ]
-stays_out before new _ core answer entry m leaves moved = leaves
+stays_out before new _ core answer m leaves moved = leaves
 
 -- the room for a step adds a line where the step needs one
 adds_plan : (old new : Standing) (x : Plan) (core : ℕ) → IsPlan old.situation x → AddsLines x old new core → (line_count new core ≡ line_count old core) ⊎ (NeedsLine old (planned_step x) core × (line_count new core ≡ line_count old core + 1))
@@ -45,10 +45,10 @@ HoldsOn-room old new taking x core h unchanged adds =
     }
 
 -- the room was made, and the step was taken
-module _ (old middle new : Standing) (taking : Step) (x : Plan) (answer : Reply) (entry : Option Item) (h : IsPlanFor old.situation taking x)
+module _ (old middle new : Standing) (taking : Step) (x : Plan) (answer : Reply) (h : IsPlanFor old.situation taking x)
     (unchanged : middle.situation ≡ old.situation)
     (adds : (core : ℕ) → AddsLines x old middle core) (loses : (core : ℕ) → LosesLines middle new core)
-    (move : FirstMove old.situation taking answer new.situation entry) where
+    (move : FirstMove old.situation taking answer new.situation) where
   still_in : (core : ℕ) → ¬ MovesToI old.situation new.situation core → line_count new core ≡ line_count middle core
   still_in core still = (loses core).same (λ moved. still (moved.0, (rw unchanged at moved.1.0, moved.1.1)))
 
@@ -57,11 +57,11 @@ module _ (old middle new : Standing) (taking : Step) (x : Plan) (answer : Reply)
       let all = adds_step old middle taking x core h (adds core) in
       record {
         raised = λ leaves.
-            let same = still_in core (stays_out old new.situation taking core answer entry move leaves) in
+            let same = still_in core (stays_out old new.situation taking core answer move leaves) in
             elim all [ inl none ↦ (omega arith, omega arith) | inr more ↦ let one = more.1 in (omega arith, omega arith) ];
         lowered = λ moved.
             let fewer = (loses core).lowered (moved.0, (rw (← unchanged) at moved.1.0, moved.1.1)) in
-            elim all [ inl none ↦ omega arith | inr more ↦ absurd (stays_out old new.situation taking core answer entry move more.0 moved) ];
+            elim all [ inl none ↦ omega arith | inr more ↦ absurd (stays_out old new.situation taking core answer move more.0 moved) ];
         same = λ stays still.
             let same = still_in core still in
             elim all [ inl none ↦ omega arith | inr more ↦ absurd (stays more.0) ];
@@ -82,7 +82,7 @@ module _ (old middle new : Standing) (taking : Step) (x : Plan) (answer : Reply)
           | inl none ↦ omega arith
           | inr more ↦
               let one = more.1 in
-              let same = still_in core (stays_out old new.situation taking core answer entry move more.0) in
+              let same = still_in core (stays_out old new.situation taking core answer move more.0) in
               omega arith
         ];
   }

@@ -1,8 +1,9 @@
 -- A planned step is refused for no cause, adds the plan's item, and needs the plan's room.
-use Rattle.std.proofs.Common.{◌≡◌, ◌≢◌, ℕ, ◌<◌, List, Option, Some, None, false, refl, sym, ◌∙◌, ap, arith, ◌⊎◌, inl, inr}
+use Rattle.std.proofs.Common.{◌≡◌, ◌≢◌, ℕ, ◌<◌, List, [], ◌∷◌, ◌++◌, Option, Some, None, false, refl, sym, append-nil, ◌∙◌, ap, arith, ◌⊎◌, inl, inr}
 use Rattle.std.proofs.lemmas.Option.{same_Some}
-use Rattle.std.specs.Prelude.{option_map}
+use Rattle.std.specs.Prelude.{option_map, option_to_list}
 use Rattle.std.specs.Option.{option_map_or}
+use Rattle.snoop_history.specs.declared.items.Item.TheVariants as item
 use Rattle.snoop_machine.proofs.Common.{HasWord, Protocol, Op, Step, cell_of, CacheCell, CacheState, Request, PutM, Came, Did, Item, Open, Performs, Takes, Fills, ArrivesFor, IsAbsent, Asks, RespondMove, FirstMove, came_of, next_did, Refuses, RefusedFor, Line, held_at, held_by, Situation, picture_of, IsHead, Access, Refused, NoCore, NoBlock, Stalled, NothingWaiting, BusTaken, NoTransaction, NoMemory, Reply, IsPlan, IsPlanFor, HasRoom, planned_step, room_for, room_for_ask, entry_of, entry_of_ask, room_to, IsFull, IsPrepared, Standing, Absent, Issue, Drop, Plan}
 use Rattle.snoop_trace.specs.declared.step.Op.TheVariants as op
 use Rattle.snoop_trace.specs.declared.step.Step.TheVariants as step
@@ -72,27 +73,28 @@ performs-one word op.Evict words v w m n p q = absurd p
 performs-one word _ words v w m n p q = p.0 ∙ sym q.0
 
 -- an Ask adds the item that was found
-module _ (s : Situation) (core block word : ℕ) (asking : Op) (answer : Reply) (added : Option Item) where
+module _ (s : Situation) (core block word : ℕ) (asking : Op) (answer : Reply) where
   none-added : (asked : Asked) → row_of asked ≡ None → entry_of_ask s.log core block word asking asked ≡ None
   none-added Absent e = refl
   none-added _ e = cc
 
   taken-adds : (asked : Asked) → TakesAsk s.protocol (held_by (picture_of s block) core) word asking asked → (row : CacheCell) → row_of asked ≡ Some row
-      → (held : Line) → Takes row.action row.next s.log core block word asking (held_by (picture_of s block) core) held answer added
+      → (held : Line) (added : Option Item) → Takes row.action row.next s.log core block word asking (held_by (picture_of s block) core) held answer added
       → added ≡ entry_of_ask s.log core block word asking asked
-  taken-adds Absent t row e held taken = cc
-  taken-adds (Hit next value) t row e held taken =
+  taken-adds Absent t row e held added taken = cc
+  taken-adds (Hit next value) t row e held added taken =
       let h = rw (sym (same_Some _ _ e)) at taken in
       let words : h.1.0.before ≡ t.1.before = same_Some _ _ (sym h.1.0.kept ∙ t.1.kept) in
       rw (← (performs-one word asking t.1.before h.0 value h.1.0.after t.1.after (rw words at h.1.0.performed) t.1.performed)) h.1.2
-  taken-adds _ t row e held taken = (rw (sym (same_Some _ _ e)) at taken).2
+  taken-adds _ t row e held added taken = (rw (sym (same_Some _ _ e)) at taken).2
 
   ask-adds : (new : Situation) (asked : Asked) → TakesAsk s.protocol (held_by (picture_of s block) core) word asking asked
-      → IsAbsent s core block asking answer new added ⊎ Asks s core block word asking answer new added → added ≡ entry_of_ask s.log core block word asking asked
+      → IsAbsent s core block asking answer new ⊎ Asks s core block word asking answer new → new.log ≡ s.log ++ option_to_list (entry_of_ask s.log core block word asking asked)
   ask-adds new asked t (inl absent) =
-      absent.4 ∙ sym (none-added asked (row_found s.protocol (held_by (picture_of s block) core) word asking asked t ∙ rw (absent.1, absent.0) refl))
+      rw (absent.3, none-added asked (row_found s.protocol (held_by (picture_of s block) core) word asking asked t ∙ rw (absent.1, absent.0) refl)) (sym (append-nil s.log))
   ask-adds new asked t (inr asks) =
-      taken-adds asked t asks.row (row_found s.protocol (held_by (picture_of s block) core) word asking asked t ∙ asks.is_row) asks.held asks.taken
+      rw asks.after (ap (λ (e : Option Item). s.log ++ option_to_list e)
+      (taken-adds asked t asks.row (row_found s.protocol (held_by (picture_of s block) core) word asking asked t ∙ asks.is_row) asks.held asks.entry asks.taken))
 
 -- the requestor performs the operation that waits
 fills-adds : (q : Request) (closing : Open) (p : Protocol) (log : List Item) (old new : List Line) (did : Option Did) (line : Line) (asking : Access) (value : ℕ)
@@ -105,29 +107,29 @@ fills-adds _ closing p log old new did line asking value get f t =
     rw (← same, ← its) f.logged
 
 -- a Respond is of the transaction whose response this is
-its_response : {s : Situation} {came : Came} {block : ℕ} {answer : Reply} {new : Situation} {added : Option Item}
+its_response : {s : Situation} {came : Came} {block : ℕ} {answer : Reply} {new : Situation}
     → option_map came_of (picture_of s came.block).transaction ≡ Some came
-    → (m : RespondMove block s came.block answer new added) → came_of m.closing ≡ came
+    → (m : RespondMove block s came.block answer new) → came_of m.closing ≡ came
 its_response opened m = same_Some _ _ (sym (ap (option_map came_of) (rw (← m.on_block) at m.responds.opened)) ∙ opened)
 
 -- a planned step adds the plan's item, whatever move it is
-plan-adds : (s : Situation) (x : Plan) → IsPlan s x → (answer : Reply) (new : Situation) (added : Option Item) → FirstMove s (planned_step x) answer new added → added ≡ entry_of s.log x
-plan-adds s (plan.Ask core block word asking asked) h answer new added m =
-    ask-adds s core block word asking answer added new asked h.1 (rw (← m.1.1.on_block) at m.1.1.moves)
-plan-adds s (plan.Order core request block from payload memory) h answer new added m =
+plan-adds : (s : Situation) (x : Plan) → IsPlan s x → (answer : Reply) (new : Situation) → FirstMove s (planned_step x) answer new → new.log ≡ s.log ++ option_to_list (entry_of s.log x)
+plan-adds s (plan.Ask core block word asking asked) h answer new m =
+    ask-adds s core block word asking answer new asked h.1 (rw (← m.1.1.on_block) at m.1.1.moves)
+plan-adds s (plan.Order core request block from payload memory) h answer new m =
     let same : m.0 ≡ block = same_Some _ _ (sym m.1.0 ∙ h.1.head.first) in
     let its : m.1.1.request ≡ request = same_Some _ _ (sym (rw same at m.1.1.orders.ready.0) ∙ h.1.head.waits) in
-    rw (← same, ← its) m.1.1.logged
-plan-adds s (plan.Writeback came memory) h answer new added m =
+    rw (m.1.1.orders.after, ← same, ← its) refl
+plan-adds s (plan.Writeback came memory) h answer new m =
     let its = its_response h.1.opened m.1.1 in
     let put : m.1.1.closing.request ≡ PutM = ap (λ (x : Came). x.request) its ∙ h.2 in
-    rw (← its, ← (rw put at m.1.1.responds.requestor).1) m.1.1.logged
-plan-adds s (plan.Fill came memory filled) h answer new added m =
+    rw (m.1.1.responds.after, ← its) (ap (λ (did : Option Did). s.log ++ item.Came (came_of m.1.1.closing) did ∷ []) (rw put at m.1.1.responds.requestor).1)
+plan-adds s (plan.Fill came memory filled) h answer new m =
     let its = its_response h.1.opened m.1.1 in
     let responds = m.1.1.responds in
     let did = fills-adds m.1.1.closing.request m.1.1.closing s.protocol s.log (picture_of s m.0).caches responds.next.caches m.1.1.did _ filled.access filled.value
     (λ e. h.2 (sym (ap (λ (x : Came). x.request) its) ∙ e)) responds.requestor (rw (m.1.1.on_block, responds.opened) at h.3) in
-    rw (← its, ← did) m.1.1.logged
+    rw (responds.after, ← its) (ap (λ (did : Option Did). s.log ++ item.Came (came_of m.1.1.closing) did ∷ []) did)
 
 -- for how many more of an Ask there is room, by its row
 room_is : (before : Standing) (core block : ℕ) (asked : Asked)
@@ -174,5 +176,5 @@ IsPrepared-plan before taking x entry h some is =
     rw (← h.0) (record {
       allowed = plan-allowed before.situation x h.1;
       room = plan-room before x h.1 (some-room before x some);
-      adds = λ answer new added move. plan-adds before.situation x h.1 answer new added move ∙ sym is;
+      adds = λ answer new move. rw is (plan-adds before.situation x h.1 answer new move);
     })

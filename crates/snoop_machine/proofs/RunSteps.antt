@@ -33,7 +33,7 @@ goes_on old middle new steps i d taken result within so_far goes count more =
     })
 
 goes_so : (old : Standing) (step : Step) (outcome : Result Reply Refused) (new : Standing) → AnswersSafely old step outcome new → Goes old.situation step outcome new.situation
-goes_so old step (Ok answer) new a = (a.0.0.0, (a.0.0.1.0, a.0.0.1.1.1))
+goes_so old step (Ok answer) new a = (a.0.0.0, a.0.0.1.1)
 goes_so old step (Err NoMemory) new a = ap (λ (s : Standing). s.situation) a.0.2
 goes_so old step (Err cause) new a = (a.0.0, ap (λ (s : Standing). s.situation) a.0.2)
 

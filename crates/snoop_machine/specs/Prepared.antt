@@ -1,6 +1,6 @@
 -- Room for a step, and a step that will be taken.
 -- Source: this project's profile.
-use Rattle.std.specs.Prelude.{◌≡◌, ℕ, Option, min, slice_index, if◌then◌else◌}
+use Rattle.std.specs.Prelude.{◌≡◌, ℕ, ◌++◌, Option, option_to_list, min, slice_index, if◌then◌else◌}
 use Rattle.snoop_trace.specs.declared.step.Step.{Step}
 use Rattle.snoop_trace.specs.declared.step.Step.TheVariants.{Ask, Order, Respond}
 use Rattle.snoop_rules.specs.declared.names.CacheState.{CacheState}
@@ -40,4 +40,4 @@ IsFull before _ = before.room ≡ 0
 pub record IsPrepared (before : Standing) (step : Step) (entry : Option Item) : Type 0 where
   pub allowed : (cause : Refused) → ¬ Refuses before.situation step cause
   pub room : ¬ IsFull before step
-  pub adds : (answer : Reply) (new : Situation) (added : Option Item) → FirstMove before.situation step answer new added → added ≡ entry
+  pub adds : (answer : Reply) (new : Situation) → FirstMove before.situation step answer new → new.log ≡ before.situation.log ++ option_to_list entry

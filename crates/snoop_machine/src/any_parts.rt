@@ -83,7 +83,7 @@ impl AnyParts {
     #[inline(always)]
     pub(crate) fn step(&mut self, step: Step) -> Result<Reply, Refused>
         requires { Invariant (stand self.old).situation }
-        ensures taken { IfOk result (λ reply. (entry : Option Item) × FirstMove (stand self.old).situation step reply (stand self.new).situation entry) }
+        ensures taken { IfOk result (λ reply. FirstMove (stand self.old).situation step reply (stand self.new).situation) }
         ensures refused { IfErr result (λ cause. RefusedFor (stand self.old).situation step cause × (stand self.new ≡ stand self.old)) }
         ensures exactly { (cause : Refused) → Refuses (stand self.old).situation step cause → result ≡ Err cause }
         ensures full { result ≡ Err OutOfMemory → IsFull (stand self.old) step }
@@ -103,7 +103,7 @@ impl AnyParts {
     #[inline(never)]
     fn step_of_words(&mut self, step: Step) -> Result<Reply, Refused>
         requires { Invariant (stand self.old).situation }
-        ensures taken { IfOk result (λ reply. (entry : Option Item) × FirstMove (stand self.old).situation step reply (stand self.new).situation entry) }
+        ensures taken { IfOk result (λ reply. FirstMove (stand self.old).situation step reply (stand self.new).situation) }
         ensures refused { IfErr result (λ cause. RefusedFor (stand self.old).situation step cause × (stand self.new ≡ stand self.old)) }
         ensures exactly { (cause : Refused) → Refuses (stand self.old).situation step cause → result ≡ Err cause }
         ensures full { result ≡ Err OutOfMemory → IsFull (stand self.old) step }

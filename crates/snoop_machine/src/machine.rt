@@ -86,7 +86,7 @@ impl Machine {
     /// Takes one step, or refuses it; a refused step changes nothing.
     #[inline(always)]
     pub fn step(&mut self, step: Step) -> Result<Reply, Refused>
-        ensures taken { IfOk result (λ reply. (entry : Option Item) × FirstMove self.old.situation step reply self.new.situation entry) }
+        ensures taken { IfOk result (λ reply. FirstMove self.old.situation step reply self.new.situation) }
         ensures refused { IfErr result (λ cause. RefusedFor self.old.situation step cause × (self.new ≡ self.old)) }
         ensures exactly { (cause : Refused) → Refuses self.old.situation step cause → result ≡ Err cause }
         ensures full { result ≡ Err OutOfMemory → IsFull self.old step }

@@ -17,7 +17,7 @@ ghost use Rattle.snoop_machine.specs.declared.cache.LineChange.TheVariants.{Hit,
 ghost use Rattle.snoop_machine.specs.Cache.{changed, IsOfWords};
 ghost use Rattle.snoop_machine.specs.Asked.{TakesAsk};
 ghost use Rattle.snoop_model.specs.Moves.Refuses.{Refuses};
-ghost use Rattle.snoop_machine.specs.Plan.{IsPlanFor, HasRoomToAsk, entry_of_ask};
+ghost use Rattle.snoop_machine.specs.Plan.{IsPlanFor, HasRoomToAsk};
 ghost use Rattle.snoop_model.specs.Invariant.Invariant.{Invariant};
 ghost use Rattle.snoop_model.specs.declared.replies.Refused.{Refused};
 ghost use Rattle.snoop_model.specs.declared.replies.Reply.TheVariants as reply;
@@ -70,7 +70,7 @@ impl<B: Block> Parts<B> {
         requires word { HasWord self.old.situation.shape word op }
         requires proper { IsProper (held_by (picture_of self.old.situation block) core) }
         requires room { HasRoomToAsk self.old core block asked }
-        ensures moved { AskMove block self.old.situation core block word op result self.new.situation (entry_of_ask self.old.situation.log core block word op asked) }
+        ensures moved { AskMove block self.old.situation core block word op result self.new.situation }
         ensures room { KeepsRoom self.old self.new }
         ensures lines { (k : ℕ) → LosesLines self.old self.new k }
     {

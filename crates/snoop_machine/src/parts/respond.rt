@@ -1,5 +1,5 @@
 //! A Respond: found, and made.
-ghost use Rattle.std.specs.Prelude.{◌≡◌, ◌≢◌, ◌<◌, ℕ, IfOk, IfErr, IfSome, Some, None, Err, false};
+ghost use Rattle.std.specs.Prelude.{◌≡◌, ◌≢◌, ◌<◌, ℕ, IfOk, IfErr, IfSome, Some, None, Err};
 ghost use Rattle.snoop_trace.specs.declared.step.Step.TheVariants.{Respond};
 ghost use Rattle.snoop_trace.specs.Words.{IsWord};
 ghost use Rattle.snoop_rules.specs.declared.names.Request.TheVariants.{PutM};
@@ -7,14 +7,13 @@ ghost use Rattle.snoop_machine.specs.Standing.{KeepsRoom};
 ghost use Rattle.snoop_machine.specs.Following.{LosesLines};
 ghost use Rattle.snoop_model.specs.Pictures.Situation.{picture_of};
 ghost use Rattle.snoop_model.specs.Pictures.Picture.{held_by};
-ghost use Rattle.snoop_model.specs.Moves.Move.{Fills, RespondMove, came_of, next_did};
+ghost use Rattle.snoop_model.specs.Moves.Move.{Fills, RespondMove, came_of};
 ghost use Rattle.snoop_model.specs.Moves.Refuses.{Refuses};
 ghost use Rattle.snoop_machine.specs.Cache.{filled_line};
 ghost use Rattle.snoop_machine.specs.Plan.{IsClosing, IsPlanFor};
 ghost use Rattle.snoop_model.specs.Invariant.Invariant.{Invariant};
 ghost use Rattle.snoop_model.specs.declared.replies.Refused.{Refused};
 ghost use Rattle.snoop_model.specs.declared.replies.Reply.TheVariants as reply;
-ghost use Rattle.snoop_history.specs.declared.items.Item.TheVariants.{Came as ItemCame};
 
 use super::Parts;
 use crate::plan::Plan;
@@ -64,7 +63,7 @@ impl<B: Block> Parts<B> {
         requires room { 0 < self.old.room }
         requires closing { IsClosing self.old.situation came memory }
         requires put { came.request ≡ PutM }
-        ensures responded { RespondMove came.block self.old.situation came.block (reply.Came came.payload came.from None) self.new.situation (Some (ItemCame came None)) }
+        ensures responded { RespondMove came.block self.old.situation came.block (reply.Came came.payload came.from None) self.new.situation }
         ensures room { KeepsRoom self.old self.new }
         ensures lines { (k : ℕ) → LosesLines self.old self.new k }
     {
@@ -84,7 +83,7 @@ impl<B: Block> Parts<B> {
         requires get { came.request ≢ PutM }
         requires filled { IfSome (picture_of self.old.situation came.block).transaction (λ closing. Fills closing self.old.situation.protocol (held_by (picture_of self.old.situation came.block) closing.core) (filled_line filled.next filled.access closing.value) filled.access filled.value) }
         requires word { IsWord self.old.situation.shape filled.access.word }
-        ensures responded { RespondMove came.block self.old.situation came.block (reply.Came came.payload came.from (Some result)) self.new.situation (Some (ItemCame came (Some (next_did self.old.situation.log came.core came.block filled.access.word filled.access.op filled.value false)))) }
+        ensures responded { RespondMove came.block self.old.situation came.block (reply.Came came.payload came.from (Some result)) self.new.situation }
         ensures room { KeepsRoom self.old self.new }
         ensures lines { (k : ℕ) → LosesLines self.old self.new k }
     {

@@ -26,7 +26,7 @@ impl<B: Block> Parts<B> {
     #[inline(always)]
     pub(crate) fn step(&mut self, step: Step) -> Result<Reply, Refused>
         requires { Invariant self.old.situation }
-        ensures taken { IfOk result (λ reply. (entry : Option Item) × FirstMove self.old.situation step reply self.new.situation entry) }
+        ensures taken { IfOk result (λ reply. FirstMove self.old.situation step reply self.new.situation) }
         ensures refused { IfErr result (λ cause. RefusedFor self.old.situation step cause × (self.new ≡ self.old)) }
         ensures exactly { (cause : Refused) → Refuses self.old.situation step cause → result ≡ Err cause }
         ensures full { result ≡ Err OutOfMemory → IsFull self.old step }
@@ -210,7 +210,7 @@ impl<B: Block> Parts<B> {
     fn perform(&mut self, plan: Plan) -> Reply
         requires found { IsPlan self.old.situation plan }
         requires room { HasRoom self.old plan }
-        ensures moved { FirstMove self.old.situation (planned_step plan) result self.new.situation (entry_of self.old.situation.log plan) }
+        ensures moved { FirstMove self.old.situation (planned_step plan) result self.new.situation }
         ensures room { KeepsRoom self.old self.new }
         ensures lines { (core : ℕ) → LosesLines self.old self.new core }
     {

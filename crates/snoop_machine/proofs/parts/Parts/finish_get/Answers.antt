@@ -69,7 +69,7 @@ returns g c =
     let lines = c.self.inside.lines in
     let in_rows = rows_in c.self.invariant c.self.view_is c.args.came.block c.requires.block in
     let in_row = row_in c.self.invariant c.self.view_is closing.core c.args.came.block (in_cores (closes g d)) c.requires.block in
-    rw (c.settle.ensures, c.finish.ensures.after, c.push.ensures, ← c.next_did-did.ensures) (record {
+    rw (c.settle.ensures, c.finish.ensures.after, c.push.ensures) (record {
       responded = responded (closes g d) filled (slice_set row closing.core (line g d)) (Some did) c.fill.ensures.rows
           (rw performed (Arrives-get closing c.self.inside.protocol c.self.inside.log.items row (line g d) access c.args.filled.value get (fills g d)));
       room = room_after (closes g d) filled (Some did) c.requires.room c.fill.ensures.room;

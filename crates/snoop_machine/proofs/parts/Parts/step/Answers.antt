@@ -1,7 +1,5 @@
 use Rattle.std.proofs.Common.{refl}
 use Rattle.std.proofs.lemmas.Result.{err_from_is_err_and}
-use Rattle.snoop_machine.proofs.Common.{entry_of}
-use Rattle.snoop_machine.proofs.StepKeeps.{prepared-log}
 use Rattle.snoop_machine.proofs.Plans.{RefusedFor-memory, IsFull-plan}
 use Rattle.snoop_machine.proofs.Holding.{HoldsOn-taken, KeepsRoom-taken}
 use Rattle.snoop_machine.proofs.parts.Parts.step.Goals as goal
@@ -16,19 +14,17 @@ returns-in_err-make_room-clause-full g c = λ e. IsFull-plan c.args.self.now c.a
 
 pub returns-clause-prepared : goal.returns-clause-prepared
 returns-clause-prepared g c =
-    let plan = c.in-Ok.plan in
-    let new = c.perform.new.self.situation in
     let move = rw (c.make_room.ensures.unchanged, c.in-Ok.ensures.found.0) at c.perform.ensures.moved in
-    λ entry prepared. (refl, prepared-log c.args.self.now new c.args.step c.perform.result (entry_of c.args.self.now.situation.log plan) entry prepared move)
+    λ entry prepared. (refl, prepared.adds c.perform.result c.perform.new.self.situation move)
 
 pub returns-clause-lines : goal.returns-clause-lines
 returns-clause-lines g c =
     let move = rw (c.make_room.ensures.unchanged, c.in-Ok.ensures.found.0) at c.perform.ensures.moved in
-    HoldsOn-taken c.args.self.now c.make_room.new.self c.perform.new.self c.args.step c.in-Ok.plan c.perform.result _
+    HoldsOn-taken c.args.self.now c.make_room.new.self c.perform.new.self c.args.step c.in-Ok.plan c.perform.result
     c.in-Ok.ensures.found c.make_room.ensures.unchanged c.make_room.ensures.lines c.perform.ensures.lines move
 
 pub returns-clause-room : goal.returns-clause-room
 returns-clause-room g c =
     let move = rw (c.make_room.ensures.unchanged, c.in-Ok.ensures.found.0) at c.perform.ensures.moved in
-    KeepsRoom-taken c.args.self.now c.make_room.new.self c.perform.new.self c.args.step c.in-Ok.plan c.perform.result _
+    KeepsRoom-taken c.args.self.now c.make_room.new.self c.perform.new.self c.args.step c.in-Ok.plan c.perform.result
     c.in-Ok.ensures.found c.make_room.ensures.unchanged c.make_room.ensures.lines c.perform.ensures.lines move c.make_room.ensures.room c.perform.ensures.room

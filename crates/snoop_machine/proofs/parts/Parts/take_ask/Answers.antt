@@ -1,5 +1,7 @@
 use Rattle.snoop_model.proofs.Tables.Rows.{issue-waits, drop-waits, IsProper-issue, IsProper-hit, IsProper-drop}
 use Rattle.snoop_machine.proofs.ProperLines.{load_stays}
+use Rattle.std.proofs.Common.{refl, inr}
+use Rattle.snoop_rules.specs.declared.names.CacheAction.TheVariants as action
 use Rattle.snoop_machine.proofs.parts.Parts.take_ask.Goals as goal
 
 pub hit_line-requires-clause-proper : goal.hit_line-requires-clause-proper
@@ -27,3 +29,20 @@ move_line-requires-clause-proper g c =
 pub move_line-requires-clause-same : goal.move_line-requires-clause-same
 move_line-requires-clause-same g c =
     drop-waits _ _ _ _ (rw c.in-Drop.is at c.requires.found)
+
+pub returns-in-Hit-clause-moved : goal.returns-in-Hit-clause-moved
+returns-in-Hit-clause-moved g c =
+    let t = rw c.in-Hit.is at c.requires.found in
+    record {
+      on_block = refl;
+      within = (c.requires.core, c.requires.block);
+      moves = inr (record {
+        row = record { action = action.Hit; next = c.in-Hit.next };
+        is_row = t.0;
+        held = _;
+        entry = _;
+        taken = (c.in-Hit.value, (t.1, c.hit_reply.ensures, refl));
+        after = c.hit_line.ensures.written;
+      });
+      has_word = c.requires.word;
+    }
