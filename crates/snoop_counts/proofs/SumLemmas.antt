@@ -76,9 +76,11 @@ came_of_block : (request : Request) (closing : Open) (protocol : Protocol) (log 
 came_of_block PutM closing protocol log old new did f = λ done is. let both : None ≡ Some done = sym f.1 ∙ is in absurd cc
 came_of_block request closing protocol log old new did f = λ done is. ap (λ (d : Did). d.block) (same_Some _ _ (sym is ∙ f.logged))
 
+-- a step that changes nothing adds none
 nothing_added : (s : Situation) → Adds s s None
 nothing_added s = record { logged = sym (append-nil s.log); of_one_block = All-nil IsOfOneBlock }
 
+-- and each step adds one at most
 step_adds : (old new : Situation) (step : Step) (outcome : Result Reply Refused) → GoesFirst old step outcome new → (entry : Option Item) × Adds old new entry
 step_adds old new step (Err cause) goes = (None, rw goes.1 (nothing_added old))
 step_adds old new (Ask core on word asking) (Ok answer) m = elim m.1.1.moves [
