@@ -10,7 +10,7 @@ use Rattle.std.proofs.lemmas.List.Sums.{length-filter, sum_by_from}
 use Rattle.std.proofs.Math.Bool.{or-false}
 use Rattle.std.proofs.lemmas.Nat.{mul-add-lt, mul-le, same_from_place}
 use Rattle.snoop_model.proofs.Common.{CacheAction, Payload, Takes, came_of, nothing_there}
-use Rattle.snoop_engine.proofs.Common.{All-append, All-cons, All-head, All-nil, All-tail, ArrivesFor, Ask, CacheEvent, CacheState, ConsultsCache, Did, Extent, FirstMove, GoesFirst, I, Item, Line, Op, Open, Order, Picture, Protocol, PutM, Refused, Reply, Request, Respond, Situation, Step, arrival, asked, cases_eq, cases_lt, get_or_past, held_by, nat_tests, nothing_held, picture_of, range_with_len, reset, same_Some, state_of, waiting_request}
+use Rattle.snoop_engine.proofs.Common.{All-append, All-cons, All-head, All-nil, All-tail, ArrivesFor, Ask, CacheEvent, CacheState, ConsultsCache, Did, Extent, GoesFirst, I, Item, Line, Op, Open, Order, Picture, Protocol, PutM, Refused, Reply, Request, Respond, Situation, Step, arrival, asked, cases_eq, cases_lt, get_or_past, held_by, nat_tests, nothing_held, picture_of, range_with_len, reset, same_Some, state_of, waiting_request}
 use Rattle.snoop_trace.specs.Extent.{IsWithinLimits}
 use Rattle.snoop_trace.specs.declared.step.Op.TheVariants as op
 use Rattle.snoop_rules.specs.declared.names.CacheAction.TheVariants as action
@@ -23,7 +23,6 @@ use Rattle.snoop_history.specs.declared.items.Item.TheVariants as item
 use Rattle.snoop_model.specs.Invariant.WellKept.{IsShaped}
 use Rattle.snoop_model.proofs.Invariant.Runs.{reset_invariant}
 use Rattle.snoop_model.proofs.Queues.Moves.{keeps_well, starts_well}
-use Rattle.snoop_model.proofs.Runs.Logged.{move-log}
 use Rattle.snoop_model.proofs.Runs.GoOn.{IsSteady, steady_on}
 use Rattle.snoop_engine.specs.Frames.{Frame, FramesFrom}
 use Rattle.snoop_engine.specs.Taken.{lines_of_step}
@@ -77,20 +76,24 @@ came_of_block : (request : Request) (closing : Open) (protocol : Protocol) (log 
 came_of_block PutM closing protocol log old new did f = λ done is. let both : None ≡ Some done = sym f.1 ∙ is in absurd cc
 came_of_block request closing protocol log old new did f = λ done is. ap (λ (d : Did). d.block) (same_Some _ _ (sym is ∙ f.logged))
 
-move_adds : (old new : Situation) (step : Step) (answer : Reply) (entry : Option Item) → FirstMove old step answer new entry → All IsOfOneBlock (option_to_list entry)
-move_adds old new (Ask core on word asking) answer entry m = elim m.1.1.moves [
-  | inl absent ↦ rw absent.4 (All-nil IsOfOneBlock)
-  | inr a ↦ ask_adds a.row.action a.row.next old.log core m.0 word asking (held_by (picture_of old m.0) core) a.held answer entry a.taken
-]
-move_adds old new (Order core) answer entry m = rw m.1.1.logged (one_item _ tt)
-move_adds old new (Respond on) answer entry m =
-    let r = m.1.1.responds in
-    rw m.1.1.logged (one_item _ (came_of_block m.1.1.closing.request m.1.1.closing old.protocol old.log (picture_of old m.0).caches r.next.caches m.1.1.did r.requestor))
+-- a step that changes nothing adds none
+nothing_added : (s : Situation) → Adds s s None
+nothing_added s = record { logged = sym (append-nil s.log); of_one_block = All-nil IsOfOneBlock }
 
+-- and each step adds one at most
 step_adds : (old new : Situation) (step : Step) (outcome : Result Reply Refused) → GoesFirst old step outcome new → (entry : Option Item) × Adds old new entry
-step_adds old new step (Err cause) goes = (None, record { logged = rw goes.1 (sym (append-nil old.log)); of_one_block = All-nil IsOfOneBlock })
-step_adds old new step (Ok answer) goes =
-    (goes.0, record { logged = move-log old new step answer goes.0 goes.1; of_one_block = move_adds old new step answer goes.0 goes.1 })
+step_adds old new step (Err cause) goes = (None, rw goes.1 (nothing_added old))
+step_adds old new (Ask core on word asking) (Ok answer) m = elim m.1.1.moves [
+  | inl absent ↦ (None, rw absent.3 (nothing_added old))
+  | inr a ↦
+      let of_one_block = ask_adds a.row.action a.row.next old.log core m.0 word asking (held_by (picture_of old m.0) core) a.held answer a.entry a.taken in
+      (a.entry, record { logged = rw a.after refl; of_one_block = of_one_block })
+]
+step_adds old new (Order core) (Ok answer) m = (Some _, record { logged = ap (λ (s : Situation). s.log) m.1.1.orders.after; of_one_block = one_item _ tt })
+step_adds old new (Respond on) (Ok answer) m =
+    let r = m.1.1.responds in
+    let of_one_block = came_of_block m.1.1.closing.request m.1.1.closing old.protocol old.log (picture_of old m.0).caches r.next.caches m.1.1.did r.requestor in
+    (Some _, record { logged = ap (λ (s : Situation). s.log) r.after; of_one_block = one_item _ of_one_block })
 
 last_got : {X : Type 0} (xs : List X) (entry : Option X) → slice_get (xs ++ option_to_list entry) (length xs) ≡ entry
 last_got [] None = refl

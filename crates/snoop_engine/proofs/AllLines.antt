@@ -86,20 +86,20 @@ asker_listed s asker on word asking g within core block event looks =
 
 -- the block of an Order is there
 order_within : (s new : Situation) (requestor : ℕ) (answer : Reply) → GoesFirst s (Order requestor) (Ok answer) new → (block : ℕ) → TakesFirst s (Order requestor) block → block < s.shape.blocks
-order_within s new requestor answer goes block first = rw (same_Some _ _ (sym goes.1.1.0 ∙ first)) at goes.1.1.1.within.1
+order_within s new requestor answer goes block first = rw (same_Some _ _ (sym goes.1.0 ∙ first)) at goes.1.1.within.1
 
 -- where the move of a step is, each row that a core looks up is listed
 pub cores_listed : (s new : Situation) (step : Step) (answer : Reply) → Invariant s → GoesFirst s step (Ok answer) new → (core block : ℕ) (event : CacheEvent) → TakesFirst s step block → ConsultsCache s step core block (Some event)
     → (DoesNothing step (state_of s core block) → ⊥) → Contains (taken_by s step) (Core core block (Some event) (state_of s core block))
 cores_listed s new (Ask asker on word asking) answer g goes core block event first looks held =
-    let m = goes.1 in
-    let within : IsWithin s asker on = subst (λ (b : ℕ). IsWithin s asker b) (sym m.1.1.on_block) m.1.1.within in
+    let m = goes.1.1 in
+    let within : IsWithin s asker on = subst (λ (b : ℕ). IsWithin s asker b) (sym m.on_block) m.within in
     asker_listed s asker on word asking g within core block event looks
 cores_listed s new (Order requestor) answer g goes core block event first looks held =
     let y = order_within s new requestor answer goes block first in
     rw (same_Some _ _ looks.1.1) (order_lines s g requestor block looks.0 _ first looks.1.0.0 (holder_listed s g requestor core block looks.0 y held))
 cores_listed s new (Respond on) answer g goes core block event first looks held =
-    let m = goes.1.1.1 in
+    let m = goes.1.1 in
     let y : on < s.shape.blocks = rw m.on_block m.within in
     let closing : Open = looks.0 in
     let opened : (picture_of s on).transaction ≡ Some closing = rw (← looks.1.0) looks.1.1 in
@@ -115,7 +115,7 @@ memory_rows_listed s new (Order requestor) answer g goes block event first looks
     let y = order_within s new requestor answer goes block first in
     rw (same_Some _ _ looks.1.1) (order_lines s g requestor block looks.0 _ first looks.1.0.0 (request_at_memory s g requestor block looks.0 y))
 memory_rows_listed s new (Respond on) answer g goes block event first looks =
-    let m = goes.1.1.1 in
+    let m = goes.1.1 in
     let y : on < s.shape.blocks = rw m.on_block m.within in
     let closing : Open = looks.0 in
     let opened : (picture_of s on).transaction ≡ Some closing = rw (← looks.1.0) looks.1.1 in

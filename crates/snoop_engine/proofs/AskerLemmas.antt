@@ -1,7 +1,7 @@
 -- Only an Ask moves its core out of I.
 use Rattle.std.proofs.Common.{◌≡◌, ◌⊎◌, ℕ, ◌≤◌, Bool, true, false, List, [], length, Some, None, Option, refl, sym, ap, ◌∙◌, inl, inr, arith, ◌==◌, ◌&&◌, ◌%◌, Ok, nat_lt, slice_get, slice_index_or, slice_set, if◌then◌else◌}
 use Rattle.snoop_engine.proofs.Common.{option_map_or, cases_lt, get_or_past, Protocol, Msi, Mesi, Op, Step, Ask, Order, Respond, CacheCell, CacheEvent, CacheState, I, Request, GetS}
-use Rattle.snoop_engine.proofs.Common.{PutM, arrival, seen_by, Did, Item, Open, Situation, picture_of, state_of, Reply, Line, Picture, held_at, held_by, nothing_held}
+use Rattle.snoop_engine.proofs.Common.{PutM, arrival, seen_by, Did, Open, Situation, picture_of, state_of, Reply, Line, Picture, held_at, held_by, nothing_held}
 use Rattle.snoop_engine.proofs.Common.{ArrivesFor, FillsRequestor, IsAbsent, Asks, Orders, Responds, GoesFirst}
 use Rattle.std.proofs.lemmas.Bool.{le-ltb}
 use Rattle.snoop_rules.specs.declared.names.Payload.{Payload}
@@ -47,8 +47,8 @@ module _ (old new : Situation) (core block : ℕ) (idle : state_of old core bloc
   in_i_of_picture : (b : ℕ) (next : Picture) → (block ≡ b → (held_by next core).state ≡ I) → (held_by (slice_index_or (slice_set old.pictures b next) block nothing_there) core).state ≡ I
   in_i_of_picture b next here = elim (set_cases old.pictures b block next nothing_there) [ inl p ↦ rw p.1 (here p.0) | inr e ↦ rw e idle ]
 
-  in_i_after_ask : (asker b word : ℕ) (asking : Op) (answer : Reply) (entry : Option Item) → IsAbsent old asker b asking answer new entry ⊎ Asks old asker b word asking answer new entry → (core ≡ asker → block ≡ b → ⊥) → state_of new core block ≡ I
-  in_i_after_ask asker b word asking answer entry moves another = elim moves [
+  in_i_after_ask : (asker b word : ℕ) (asking : Op) (answer : Reply) → IsAbsent old asker b asking answer new ⊎ Asks old asker b word asking answer new → (core ≡ asker → block ≡ b → ⊥) → state_of new core block ≡ I
+  in_i_after_ask asker b word asking answer moves another = elim moves [
     | inl absent ↦ rw absent.3 idle
     | inr a ↦ rw a.after (in_i_of_picture b (with_line (picture_of old b) asker a.held) (λ same. elim (set_cases (picture_of old b).caches asker core a.held nothing_held) [
       | inl p ↦ absurd (another p.0 same)
@@ -84,19 +84,19 @@ IsAskOf _ core block = ⊥
 
 stays_in_i : (old new : Situation) (step : Step) (answer : Reply) → GoesFirst old step (Ok answer) new → (core block : ℕ) → (IsAskOf step core block → ⊥) → state_of old core block ≡ I → state_of new core block ≡ I
 stays_in_i old new (Ask asker on word asking) answer goes core block another idle =
-    let m = goes.1.1.1 in
-    in_i_after_ask old new core block idle asker goes.1.0 word asking answer goes.0 m.moves (λ same here. another (same, here ∙ sym m.on_block))
+    let m = goes.1.1 in
+    in_i_after_ask old new core block idle asker goes.0 word asking answer m.moves (λ same here. another (same, here ∙ sym m.on_block))
 stays_in_i old new (Order requestor) answer goes core block another idle =
-    let m = goes.1.1.1 in
-    in_i_after_order old new core block idle requestor goes.1.0 m.request m.orders
+    let m = goes.1.1 in
+    in_i_after_order old new core block idle requestor goes.0 m.request m.orders
 stays_in_i old new (Respond on) answer goes core block another idle =
-    let m = goes.1.1.1 in
-    in_i_after_respond old new core block idle goes.1.0 m.closing m.did m.responds
+    let m = goes.1.1 in
+    in_i_after_respond old new core block idle goes.0 m.closing m.did m.responds
 
 -- the sets after a step that is no Ask
 pub follow_other : (old new : Situation) (step : Step) (answer : Reply) (sets : List (List ℕ)) → ((core block : ℕ) → IsAskOf step core block → ⊥) → AreAskers old sets → GoesFirst old step (Ok answer) new → AreAskers new sets
 follow_other old new step answer sets other are goes = record {
-  many = rw (same_shape old new step answer goes.0 goes.1) are.many;
+  many = rw (same_shape old new step answer goes) are.many;
   others = λ block core out. stays_in_i old new step answer goes core block (other core block) (are.others block core out);
 }
 
@@ -104,11 +104,11 @@ follow_other old new step answer sets other are goes = record {
 pub follow_ask : (old new : Situation) (asker on word : ℕ) (asking : Op) (answer : Reply) (sets next : List (List ℕ)) → AreAskers old sets → old.shape.cores ≤ 256
     → GoesFirst old (Ask asker on word asking) (Ok answer) new → Puts on asker sets next → AreAskers new next
 follow_ask old new asker on word asking answer sets next are few goes puts =
-    let within = goes.1.1.1.within in
-    let on_block = goes.1.1.1.on_block in
+    let within = goes.1.1.within in
+    let on_block = goes.1.1.on_block in
     let put : has (set_of next on) asker ≡ true = puts.here (omega arith) (omega arith) in
     record {
-      many = rw (puts.many, same_shape old new (Ask asker on word asking) answer goes.0 goes.1) are.many;
+      many = rw (puts.many, same_shape old new (Ask asker on word asking) answer goes) are.many;
       others = λ block core out.
           let another : (core ≡ asker) × (block ≡ on) → ⊥ = λ it. let is = rw (it.0, it.1) at out in cc in
           stays_in_i old new (Ask asker on word asking) answer goes core block another (are.others block core (sym (puts.apart block core (λ here same. another (same, here))) ∙ out));

@@ -1,6 +1,6 @@
 -- From wherever a driver of rows has come, its rows can be served.
 use Rattle.std.proofs.Common.{◌≡◌, ◌⊎◌, ℕ, zero, suc, ◌+◌, ◌/◌, ◌<◌, true, false, Option, Some, None, List, [], ◌∷◌, ◌++◌, length, refl, sym, ◌∙◌, ap, arith, inl, inr, Result, Ok, Err, Contains, IsOk, slice_set}
-use Rattle.snoop_engine.proofs.Common.{cases_eq, All-head, All-nil, All-tail, Contains-append_cases, Extent, word_asked, Row, Step, Ask, Work, Protocol, Item, Reply, Refused}
+use Rattle.snoop_engine.proofs.Common.{cases_eq, All-head, All-nil, All-tail, Contains-append_cases, Extent, word_asked, Row, Step, Ask, Work, Protocol, Reply, Refused}
 use Rattle.snoop_engine.proofs.Common.{FirstMove, Situation, reset, FirstRunFrom, RunsGoOn, TheRun, IsUnderWay, turn_of}
 use Rattle.snoop_engine.specs.Courses.{CanEnd, Leading, LeadsOn}
 use Rattle.snoop_engine.specs.InOrder.{EndsInOrder, FollowsInOrder, InOrder, IsInOrder, TakesUpNext, remaining_in_order, row_under_way}
@@ -26,18 +26,18 @@ module _ {D : Type 0} (at : D → Situation) (leads : D → Leading) (left : D �
       leads d [] [] (at d)
       ⊎ (((e : D) × (Fits e × (at e ≡ at d) × (left e < left d)
       × ((steps : List Step) (outcomes : List (Result Reply Refused)) (final : Situation) → leads e steps outcomes final → leads d steps outcomes final)))
-      ⊎ ((step : Step) × (IsEnabled (at d) step × ((answer : Reply) (s : Situation) (entry : Option Item) → FirstMove (at d) step answer s entry
+      ⊎ ((step : Step) × (IsEnabled (at d) step × ((answer : Reply) (s : Situation) → FirstMove (at d) step answer s
       → (e : D) × (Fits e × (at e ≡ s) × (left e < left d) × LeadsOn (leads d) step (Ok answer) (leads e))))))
 
   module _ (go_on : RunsGoOn) (protocol : Protocol) (shape : Extent) (next : (d : D) → Fits d → HasNext d) where
     -- a step that no cause refuses is taken
     taken : (before : List Step) (answered : List (Result Reply Refused)) (s : Situation) → TheRun protocol shape before answered s → (step : Step) → IsEnabled s step
-        → (answer : Reply) × ((t : Situation) × ((entry : Option Item) × FirstMove s step answer t entry))
+        → (answer : Reply) × ((t : Situation) × FirstMove s step answer t)
     taken before answered s run step enabled =
         let more = go_on protocol shape before (step ∷ []) answered s run in
         first more.0 more.1.0 more.1.1
       where
-        first : (more : List (Result Reply Refused)) (final : Situation) → FirstRunFrom s (step ∷ []) more final → (answer : Reply) × ((t : Situation) × ((entry : Option Item) × FirstMove s step answer t entry))
+        first : (more : List (Result Reply Refused)) (final : Situation) → FirstRunFrom s (step ∷ []) more final → (answer : Reply) × ((t : Situation) × FirstMove s step answer t)
         first [] final r = absurd r
         first (Ok answer ∷ more) final r = (answer, (r.0, r.1.0))
         first (Err cause ∷ more) final r = absurd (enabled cause r.1.0.0)
@@ -53,8 +53,8 @@ module _ {D : Type 0} (at : D → Situation) (leads : D → Leading) (left : D �
         | inr on ↦
             let step = on.0 in
             let one = taken before answered (at d) run step on.1.0 in
-            let to = on.1.1 one.0 one.1.0 one.1.1.0 one.1.1.1 in
-            let longer = run_more before answered (reset protocol shape) (at d) one.1.0 step (Ok one.0) run (one.1.1.0, one.1.1.1) in
+            let to = on.1.1 one.0 one.1.0 one.1.1 in
+            let longer = run_more before answered (reset protocol shape) (at d) one.1.0 step (Ok one.0) run one.1.1 in
             let end = can_end fuel to.0 to.1.0 (before ++ step ∷ []) (answered ++ Ok one.0 ∷ []) (rw to.1.1 longer) (let less = to.1.2 in omega arith) in
             record { steps = step ∷ end.steps; outcomes = Ok one.0 ∷ end.outcomes; final = end.final; way = to.1.3 end.steps end.outcomes end.final end.way }
       ]
@@ -85,10 +85,10 @@ module _ {s : Situation} {lanes : List Todo} {core : ℕ} {turns : List ℕ} (fi
     step,
     (
       enabled,
-      λ answer t entry move.
+      λ answer t move.
           let new : Progress = record { situation = t; lanes = next; turns = core ∷ turns } in
-          let follows : Advances here step answer new = record { entry = entry; move = move; takes_up = takes; fewer = leaves_fewer here new step answer entry move takes } in
-          (new, (fit_moves fit_next t step answer entry its move, refl, omega (arith, follows.fewer), driver_leads here new step answer follows)),
+          let follows : Advances here step answer new = record { move = move; takes_up = takes; fewer = leaves_fewer here new step answer move takes } in
+          (new, (fit_moves fit_next t step answer its move, refl, omega (arith, follows.fewer), driver_leads here new step answer follows)),
     ),
   ))
 
@@ -170,10 +170,10 @@ module _ (s : Situation) (left : List Row) (row : Option Row) (fit : IsInOrder s
     step,
     (
       enabled,
-      λ answer t entry move.
+      λ answer t move.
           let new : InOrder = record { situation = t; left = rest; row = next } in
-          let follows : FollowsInOrder there step answer new = record { entry = entry; move = move; takes_up = takes } in
-          (new, (in_order_moves fit_next t step answer entry its move, refl, fewer_in_order there new step answer follows, in_order_leads there new step answer follows)),
+          let follows : FollowsInOrder there step answer new = record { move = move; takes_up = takes } in
+          (new, (in_order_moves fit_next t step answer its move, refl, fewer_in_order there new step answer follows, in_order_leads there new step answer follows)),
     ),
   ))
 

@@ -1,6 +1,6 @@
 -- Courses, step by step, and the rows that they serve.
 use Rattle.std.proofs.Common.{◌≡◌, ◌==◌, ℕ, ◌+◌, ◌*◌, ◌<◌, true, cond, Option, Some, None, List, [], ◌∷◌, ◌++◌, length, length-append, map, refl, sym, ◌∙◌, ap, arith, append_assoc, append-nil, inl, inr, Result, Ok, IsOk, IfNone, option_to_list}
-use Rattle.snoop_engine.proofs.Common.{length-map, map-append, All-cons, All-nil, Extent, Row, Step, Ask, Work, Protocol, Item, Reply, Refused, Picture, Situation, reset}
+use Rattle.snoop_engine.proofs.Common.{length-map, map-append, All-cons, All-nil, Extent, Row, Step, Ask, Work, Protocol, Reply, Refused, Picture, Situation, reset}
 use Rattle.snoop_engine.proofs.Common.{FirstMove, GoesFirst, TheRun, IsQuiet, steps_paid, turn_rule}
 use Rattle.std.specs.List.{cons_option}
 use Rattle.std.proofs.lemmas.Bool.{cases_Bool}
@@ -87,7 +87,7 @@ asks_first core step steps = go (ask_of core step)
 -- a driver of rows leads on by its step
 pub driver_leads : (old new : Progress) (step : Step) (answer : Reply) → Advances old step answer new → LeadsOn (IsAtTheEnd old) step (Ok answer) (IsAtTheEnd new)
 driver_leads old new step answer follows steps outcomes final h = record {
-  run = (new.situation, ((follows.entry, follows.move), h.run));
+  run = (new.situation, (follows.move, h.run));
   taken = All-cons IsOk (Ok answer) outcomes refl h.taken;
   asked = λ core. rw (follows.takes_up core, h.asked core) (asks_first core step steps);
   quiet = h.quiet;
@@ -135,14 +135,14 @@ module _ (old new : InOrder) (step : Step) (answer : Reply) (follows : FollowsIn
   -- fewer steps may still come
   pub fewer_in_order : remaining_in_order new < remaining_in_order old
   fewer_in_order =
-      let pays = turn_rule.pays old.situation new.situation step answer follows.entry follows.move in
+      let pays = turn_rule.pays old.situation new.situation step answer follows.move in
       let asked : length (all_asks (step ∷ [])) ≡ length follows.takes_up.first = rw follows.takes_up.asked (length-map follows.takes_up.first (ask_for old.situation.shape)) in
       let left : length old.left ≡ length follows.takes_up.first + length new.left = rw follows.takes_up.left (length-append follows.takes_up.first new.left) in
       omega (arith, pays, paid_asks step, asked, left)
 
   module _ (steps : List Step) (outcomes : List (Result Reply Refused)) (final : Situation) (h : EndsInOrder new steps outcomes final) where
     same : new.situation.shape ≡ old.situation.shape
-    same = same_shape old.situation new.situation step answer follows.entry follows.move
+    same = same_shape old.situation new.situation step answer follows.move
 
     at_rest : (before after : List Step) (x : Step) → step ∷ steps ≡ before ++ x ∷ after → is_ask x ≡ true → LeadsToRest old.situation before
     at_rest [] after x split its =
@@ -151,11 +151,11 @@ module _ (old new : InOrder) (step : Step) (answer : Reply) (follows : FollowsIn
     at_rest (b ∷ bs) after x split its =
         let same_step : step ≡ b = cc in
         let later = h.apart bs after x (cc) its in
-        rw (← same_step) (record { outcomes = Ok answer ∷ later.outcomes; reached = later.reached; run = (new.situation, ((follows.entry, follows.move), later.run)); quiet = later.quiet })
+        rw (← same_step) (record { outcomes = Ok answer ∷ later.outcomes; reached = later.reached; run = (new.situation, (follows.move, later.run)); quiet = later.quiet })
 
     pub in_order_leads : EndsInOrder old (step ∷ steps) (Ok answer ∷ outcomes) final
     in_order_leads = record {
-      run = (new.situation, ((follows.entry, follows.move), h.run));
+      run = (new.situation, (follows.move, h.run));
       taken = All-cons IsOk (Ok answer) outcomes refl h.taken;
       asked = rw (all_asks_first step steps, follows.takes_up.asked, h.asked, same, follows.takes_up.left) (sym (map-append (ask_for old.situation.shape) follows.takes_up.first new.left));
       apart = at_rest;
@@ -210,17 +210,17 @@ module _ {protocol : Protocol} {shape : Extent} {rows : List Row} {start : InOrd
   in_order_serves = record { outcomes = outcomes; final = final; run = in_order_served.0; serves = in_order_served.1 }
 
 -- a step that a driver found, taken
-module _ {before old : Progress} {step : Step} (finds : Finds before step old) (new : Progress) (answer : Reply) (move : (entry : Option Item) × FirstMove old.situation step answer new.situation entry) where
+module _ {before old : Progress} {step : Step} (finds : Finds before step old) (new : Progress) (answer : Reply) (move : FirstMove old.situation step answer new.situation) where
   pub driver_follows : new.lanes ≡ old.lanes → Advances before step answer new
   driver_follows lanes =
-      let moved = rw finds.situation at move.1 in
+      let moved = rw finds.situation at move in
       let takes_up = rw (← lanes) at finds.takes_up in
-      record { entry = move.0; move = moved; takes_up = takes_up; fewer = leaves_fewer before new step answer move.0 moved takes_up }
+      record { move = moved; takes_up = takes_up; fewer = leaves_fewer before new step answer moved takes_up }
 
 -- the same where rows are served one after another
-module _ {before old : InOrder} {step : Step} (finds : FindsInOrder before step old) (new : InOrder) (answer : Reply) (move : (entry : Option Item) × FirstMove old.situation step answer new.situation entry) where
+module _ {before old : InOrder} {step : Step} (finds : FindsInOrder before step old) (new : InOrder) (answer : Reply) (move : FirstMove old.situation step answer new.situation) where
   pub in_order_follows : new.left ≡ old.left → FollowsInOrder before step answer new
-  in_order_follows left = record { entry = move.0; move = rw finds.situation at move.1; takes_up = rw left finds.takes_up }
+  in_order_follows left = record { move = rw finds.situation at move; takes_up = rw left finds.takes_up }
 
 -- at the end
 pub in_order_end : (old : InOrder) (r : Option Step) → IsQuiet old.situation → IfNone r (old.left ≡ []) → IfNone r (EndsInOrder old [] [] old.situation)

@@ -1,6 +1,6 @@
 -- What a turn of a driver gives.
 use Rattle.std.proofs.Common.{◌≡◌, ◌≢◌, ℕ, ◌<◌, true, false, Option, Some, None, refl, sym, ◌∙◌, ap, inl, inr, cond, eqb, arith, get_or, Contains, IfSome, IfNone, slice_set, List, ◌∷◌, length}
-use Rattle.snoop_engine.proofs.Common.{cases_eq, get_or_default, All-head, All-nil, All-tail, Step, Ask, Item, Reply, FirstMove, Situation, Work, turn_of, IsUnderWay, turn_rule}
+use Rattle.snoop_engine.proofs.Common.{cases_eq, get_or_default, All-head, All-nil, All-tail, Step, Ask, Reply, FirstMove, Situation, Work, turn_of, IsUnderWay, turn_rule}
 use Rattle.std.proofs.lemmas.Bool.{eq-eqb, ne_eqb}
 use Rattle.std.proofs.lemmas.List.{length-set, get_or-set_same, get_or-set_other}
 use Rattle.snoop_engine.specs.Todo.{Todo, todo_of, nothing_to_do, lanes_under_way, block_of_work}
@@ -89,15 +89,15 @@ module _ {s : Situation} {lanes : List Todo} {turns : List ℕ} (fit : IsFit s l
       ])
 
 -- a move keeps what holds between turns
-pub fit_moves : {s : Situation} {lanes : List Todo} {turns : List ℕ} → IsFit s lanes turns → (t : Situation) (step : Step) (answer : Reply) (entry : Option Item)
-    → IsUnderWay (lanes_under_way lanes) step → FirstMove s step answer t entry → IsFit t lanes turns
-fit_moves {s} {lanes} fit t step answer entry its move =
-    let e = same_shape s t step answer entry move in
+pub fit_moves : {s : Situation} {lanes : List Todo} {turns : List ℕ} → IsFit s lanes turns → (t : Situation) (step : Step) (answer : Reply)
+    → IsUnderWay (lanes_under_way lanes) step → FirstMove s step answer t → IsFit t lanes turns
+fit_moves {s} {lanes} fit t step answer its move =
+    let e = same_shape s t step answer move in
     record {
       cores = rw e fit.cores;
       within = λ core. record { left = rw e (fit.within core).left; work = rw e (fit.within core).work };
-      serving = turn_rule.serves_on s t (lanes_under_way lanes) (lanes_under_way lanes) step answer entry fit.serving move (λ k b h. h) its;
-      kept = turn_rule.keeps_well s t step answer entry fit.kept move;
+      serving = turn_rule.serves_on s t (lanes_under_way lanes) (lanes_under_way lanes) step answer fit.serving move (λ k b h. h) its;
+      kept = turn_rule.keeps_well s t step answer fit.kept move;
       few = rw e fit.few;
       busy = fit.busy;
     }

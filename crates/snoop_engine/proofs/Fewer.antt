@@ -1,6 +1,6 @@
 -- Each step of a driver leaves fewer to come.
-use Rattle.std.proofs.Common.{◌≡◌, ◌≢◌, ℕ, zero, suc, ◌+◌, ◌*◌, ◌<◌, List, [], ◌∷◌, length, ap, refl, sym, arith, Option}
-use Rattle.snoop_engine.proofs.Common.{sum_by-cons, Step, Ask, Item, Reply, FirstMove, steps_paid, turn_rule}
+use Rattle.std.proofs.Common.{◌≡◌, ◌≢◌, ℕ, zero, suc, ◌+◌, ◌*◌, ◌<◌, List, [], ◌∷◌, length, ap, refl, sym, arith}
+use Rattle.snoop_engine.proofs.Common.{sum_by-cons, Step, Ask, Reply, FirstMove, steps_paid, turn_rule}
 use Rattle.std.proofs.lemmas.Bool.{eq-eqb, ne_eqb}
 use Rattle.snoop_engine.specs.Todo.{Todo, todo_of, left_in}
 use Rattle.snoop_engine.specs.Round.{Progress, TakesUp, remaining}
@@ -38,7 +38,7 @@ left_paid old new (Ask core block word asking) takes =
 left_paid old new _ takes = omega (arith, left_same old new (λ k. ap length (takes k)))
 
 -- each step leaves fewer to come
-pub leaves_fewer : (old new : Progress) (step : Step) (answer : Reply) (entry : Option Item) → FirstMove old.situation step answer new.situation entry
+pub leaves_fewer : (old new : Progress) (step : Step) (answer : Reply) → FirstMove old.situation step answer new.situation
     → TakesUp old.lanes step new.lanes → remaining new < remaining old
-leaves_fewer old new step answer entry move takes =
-    omega (arith, left_paid old.lanes new.lanes step takes, turn_rule.pays old.situation new.situation step answer entry move)
+leaves_fewer old new step answer move takes =
+    omega (arith, left_paid old.lanes new.lanes step takes, turn_rule.pays old.situation new.situation step answer move)

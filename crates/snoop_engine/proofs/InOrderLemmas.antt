@@ -1,6 +1,6 @@
 -- A driver that serves rows one after another: what its steps need, and what they keep.
 use Rattle.std.proofs.Common.{◌≡◌, ℕ, ◌/◌, Bool, true, false, cond, Option, Some, None, List, [], ◌∷◌, refl, sym, ◌∙◌, ◌==◌, IfNone, IfSome, lt-ltb, subst}
-use Rattle.snoop_engine.proofs.Common.{All-head, All-tail, Extent, IsRowWithin, word_asked, Op, Row, Step, Ask, Respond, Item, Request, waiting_request, Open, Reply, FirstMove, Situation}
+use Rattle.snoop_engine.proofs.Common.{All-head, All-tail, Extent, IsRowWithin, word_asked, Op, Row, Step, Ask, Respond, Request, waiting_request, Open, Reply, FirstMove, Situation}
 use Rattle.snoop_engine.proofs.Common.{picture_of, state_of, IsQuiet, IsUnderWay, turn_of, turn_rule}
 use Rattle.std.proofs.lemmas.Bool.{eq-eqb, ne_eqb}
 use Rattle.snoop_trace.specs.Grammar.{block_at}
@@ -109,16 +109,16 @@ pub asks_nothing_more : (old : InOrder) (step : Step) → is_ask step ≡ false 
 asks_nothing_more old step none = record { first = []; left = refl; asked = rw none; rest = λ asks. let clash : false ≡ true = sym none ∙ asks in cc }
 
 -- a move keeps what holds between steps
-pub in_order_moves : {s : Situation} {left : List Row} {row : Option Row} → IsInOrder s left row → (t : Situation) (step : Step) (answer : Reply) (entry : Option Item) → IsUnderWay (row_under_way s.shape row) step
-    → FirstMove s step answer t entry → IsInOrder t left row
-in_order_moves {s} {left} {row} fit t step answer entry its move =
-    let e : t.shape ≡ s.shape = same_shape s t step answer entry move in
+pub in_order_moves : {s : Situation} {left : List Row} {row : Option Row} → IsInOrder s left row → (t : Situation) (step : Step) (answer : Reply) → IsUnderWay (row_under_way s.shape row) step
+    → FirstMove s step answer t → IsInOrder t left row
+in_order_moves {s} {left} {row} fit t step answer its move =
+    let e : t.shape ≡ s.shape = same_shape s t step answer move in
     record {
       limits = rw e fit.limits;
       within = rw e fit.within;
       begun = rw e fit.begun;
       serves = subst (λ (x : Extent). ServesOnly (row_under_way x row) t) (sym e) (record {
-        kept = turn_rule.keeps_well s t step answer entry fit.serves.kept move;
-        serving = turn_rule.serves_on s t (row_under_way s.shape row) (row_under_way s.shape row) step answer entry fit.serves.serving move (λ k b h. h) its;
+        kept = turn_rule.keeps_well s t step answer fit.serves.kept move;
+        serving = turn_rule.serves_on s t (row_under_way s.shape row) (row_under_way s.shape row) step answer fit.serves.serving move (λ k b h. h) its;
       });
     }

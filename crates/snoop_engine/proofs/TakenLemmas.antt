@@ -1,16 +1,16 @@
 -- Steps and runs: what they keep, and one step more.
-use Rattle.std.proofs.Common.{◌≡◌, List, [], ◌∷◌, ◌++◌, Option, refl, ◌∙◌, Result, Ok, Err}
-use Rattle.snoop_engine.proofs.Common.{Step, Reply, Refused, Item, Situation, FirstMove, FirstRunFrom, GoesFirst}
+use Rattle.std.proofs.Common.{◌≡◌, List, [], ◌∷◌, ◌++◌, refl, ◌∙◌, Result, Ok, Err}
+use Rattle.snoop_engine.proofs.Common.{Step, Reply, Refused, Situation, FirstMove, FirstRunFrom, GoesFirst}
 use Rattle.snoop_model.proofs.Runs.Along as along
 use Rattle.snoop_model.proofs.Runs.Shape.{IsAlike, move_stays, same_alike}
 
 -- a step keeps the shape
-pub same_shape : (s t : Situation) (step : Step) (answer : Reply) (entry : Option Item) → FirstMove s step answer t entry → t.shape ≡ s.shape
-same_shape s t step answer entry m = (move_stays s t step answer entry m).1
+pub same_shape : (s t : Situation) (step : Step) (answer : Reply) → FirstMove s step answer t → t.shape ≡ s.shape
+same_shape s t step answer m = (move_stays s t step answer m).1
 
 -- a step, taken or refused, keeps the protocol and the shape
 pub goes_alike : (s : Situation) (step : Step) (outcome : Result Reply Refused) (t : Situation) → GoesFirst s step outcome t → IsAlike s t
-goes_alike s step (Ok answer) t goes = move_stays s t step answer goes.0 goes.1
+goes_alike s step (Ok answer) t goes = move_stays s t step answer goes
 goes_alike s step (Err cause) t goes = same_alike s t goes.1
 
 -- and so does a run

@@ -122,15 +122,15 @@ module _ (old new : Situation) (step : Step) (outcome : Result Reply Refused) wh
         all_if (FitsStep here) _ _ (λ before. Memory block event before ∷ []) (all_one (FitsStep here) _ (record { first = first; looks = looks; held = refl; action = act; row = row }))
 
     -- the lines of a move
-    ask_fits : (core word : ℕ) (asking : Op) (answer : Reply) (entry : Option Item) → Invariant old → IsWithin old core block
-        → IsAbsent old core block asking answer new entry ⊎ Asks old core block word asking answer new entry
+    ask_fits : (core word : ℕ) (asking : Op) (answer : Reply) → Invariant old → IsWithin old core block
+        → IsAbsent old core block asking answer new ⊎ Asks old core block word asking answer new
         → (event_asked asking (state_of old core block) ≡ Some (asked asking) → ConsultsCache old step core block (Some (asked asking)))
         → All (FitsStep here) (of_ask old core block asking)
-    ask_fits core word asking answer entry g within moves looks = elim moves [
+    ask_fits core word asking answer g within moves looks = elim moves [
       | inl absent ↦ asker_fits core block asking None (no_event asking (state_of old core block) absent.0 absent.1) (idle_fits core block absent.3)
       | inr a ↦ asked_fits core asking a.row.action a.row.next a.is_row
-          (ap (λ (l : Line). l.state) (ask_line old core block word asking answer new entry g within a)
-          ∙ taken_state a.row.action a.row.next old.log core block word asking (held_by (picture_of old block) core) a.held answer entry a.taken)
+          (ap (λ (l : Line). l.state) (ask_line old core block word asking answer new g within a)
+          ∙ taken_state a.row.action a.row.next old.log core block word asking (held_by (picture_of old block) core) a.held answer a.entry a.taken)
           looks
     ]
 
@@ -214,16 +214,15 @@ module _ (old new : Situation) where
 step_fits : (old new : Situation) (step : Step) (outcome : Result Reply Refused) → IsSteady old → GoesFirst old step outcome new → All (FitsStep (here old new step outcome)) (lines_of_step old step outcome)
 step_fits old new step (Err cause) steady goes = refused_fits old new step cause goes.0 goes.1
 step_fits old new (Ask core block word asking) (Ok answer) steady goes =
-    let m = goes.1.1.1 in
-    ask_fits old new (Ask core block word asking) (Ok answer) block tt core word asking answer goes.0 steady.0 (rw m.on_block m.within) (rw m.on_block m.moves) (asker_looks old core block word asking)
+    let m = goes.1.1 in
+    ask_fits old new (Ask core block word asking) (Ok answer) block tt core word asking answer steady.0 (rw m.on_block m.within) (rw m.on_block m.moves) (asker_looks old core block word asking)
 step_fits old new (Order core) (Ok answer) steady goes =
-    let m = goes.1 in
-    let move = m.1.1 in
+    let move = goes.1.1 in
     let request : Request = move.request in
-    rw (m.1.0, move.orders.ready.0) (order_fits old new (Order core) (Ok answer) m.0 m.1.0 core request steady.0 move.within move.orders
+    rw (goes.1.0, move.orders.ready.0) (order_fits old new (Order core) (Ok answer) goes.0 goes.1.0 core request steady.0 move.within move.orders
     (λ k. (request, (move.orders.ready, refl))) (request, (move.orders.ready, refl)))
 step_fits old new (Respond block) (Ok answer) steady goes =
-    let move = goes.1.1.1 in
+    let move = goes.1.1 in
     let closing : Open = move.closing in
     let responds : Responds old block closing move.did new = rw move.on_block move.responds in
     rw responds.opened (respond_fits old new (Respond block) (Ok answer) block tt closing move.did steady.0 (rw move.on_block move.within) responds

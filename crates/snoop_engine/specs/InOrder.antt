@@ -5,7 +5,6 @@ use Rattle.snoop_trace.specs.Extent.{Extent, IsWithinLimits}
 use Rattle.snoop_trace.specs.Grammar.{IsRowWithin}
 use Rattle.snoop_trace.specs.declared.step.Row.{Row}
 use Rattle.snoop_trace.specs.declared.step.Step.{Step}
-use Rattle.snoop_history.specs.declared.items.Item.{Item}
 use Rattle.snoop_model.specs.declared.replies.Reply.{Reply}
 use Rattle.snoop_model.specs.declared.replies.Refused.{Refused}
 use Rattle.snoop_model.specs.Pictures.Situation.{Situation}
@@ -55,8 +54,7 @@ pub record FindsInOrder (old : InOrder) (step : Step) (new : InOrder) : Type 0 w
 
 -- the machine moves by the step
 pub record FollowsInOrder (old : InOrder) (step : Step) (answer : Reply) (new : InOrder) : Type 0 where
-  pub entry : Option Item
-  pub move : FirstMove old.situation step answer new.situation entry
+  pub move : FirstMove old.situation step answer new.situation
   pub takes_up : TakesUpNext old step new.left
 
 -- these steps lead from here to rest

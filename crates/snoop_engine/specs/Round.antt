@@ -3,7 +3,6 @@
 use Rattle.std.specs.Prelude.{◌≡◌, ◌≢◌, ℕ, ◌+◌, ◌*◌, ◌<◌, List, [], ◌++◌, length, All, Contains, Option, None, IfSome, ◌⊎◌, option_to_list}
 use Rattle.snoop_trace.specs.Words.{HasWord}
 use Rattle.snoop_trace.specs.declared.step.Step.{Step}
-use Rattle.snoop_history.specs.declared.items.Item.{Item}
 use Rattle.snoop_model.specs.declared.replies.Reply.{Reply}
 use Rattle.snoop_model.specs.declared.replies.Refused.{Refused}
 use Rattle.snoop_model.specs.Pictures.Situation.{Situation}
@@ -68,8 +67,7 @@ pub record Finds (old : Progress) (step : Step) (new : Progress) : Type 0 where
 
 -- the machine moves by the step, which its core has left first, and fewer steps may still come
 pub record Advances (old : Progress) (step : Step) (answer : Reply) (new : Progress) : Type 0 where
-  pub entry : Option Item
-  pub move : FirstMove old.situation step answer new.situation entry
+  pub move : FirstMove old.situation step answer new.situation
   pub takes_up : TakesUp old.lanes step new.lanes
   pub fewer : remaining new < remaining old
 

@@ -1,6 +1,5 @@
 //! Courses of steps, each of which is found when the one before it was taken.
-ghost use Rattle.std.specs.Prelude.{◌≡◌, ◌<◌, ◌∷◌, [], ℕ, List, length, IfErr, IfOk, IfSome, IfNone, Option, Result};
-ghost use Rattle.snoop_history.specs.declared.items.Item.{Item};
+ghost use Rattle.std.specs.Prelude.{◌≡◌, ◌<◌, ◌∷◌, [], ℕ, List, length, IfErr, IfOk, IfSome, IfNone, Result};
 ghost use Rattle.snoop_model.specs.declared.replies.Refused.{Refused as Cause};
 ghost use Rattle.snoop_model.specs.declared.replies.Refused.TheVariants.{NoMemory as OutOfMemory};
 ghost use Rattle.snoop_model.specs.declared.replies.Reply.{Reply as Answer};
@@ -66,7 +65,7 @@ pub(crate) trait Course {
 #[inline(always)]
 pub(crate) fn take_enabled(machine: &mut Machine, step: Step) -> Result<Reply, NoMemory>
     requires { IsEnabled machine.old.situation step }
-    ensures taken { IfOk result (λ reply. (entry : Option Item) × FirstMove machine.old.situation step reply machine.new.situation entry) }
+    ensures taken { IfOk result (λ reply. FirstMove machine.old.situation step reply machine.new.situation) }
     ensures refused { IfErr result (λ _. machine.new.situation ≡ machine.old.situation) }
 {
     match machine.step(step) {

@@ -61,21 +61,21 @@ module _ (old : Situation) (block core : ℕ) (idle : state_of old core block �
       → state_of new core block ≡ I
   step_stays new step (Err cause) goes never = rw goes.1 idle
   step_stays new (Ask asker on word op) (Ok answer) goes never =
-      let m = goes.1.1.1 in
+      let m = goes.1.1 in
       elim m.moves [
         | inl absent ↦ rw absent.3 idle
-        | inr a ↦ rw a.after (pictured goes.1.0 (with_line (picture_of old goes.1.0) asker a.held)
-            (λ same in_it. set_keeps (λ (l : Line). l.state ≡ I) (picture_of old goes.1.0).caches asker core a.held nothing_held in_it
+        | inr a ↦ rw a.after (pictured goes.0 (with_line (picture_of old goes.0) asker a.held)
+            (λ same in_it. set_keeps (λ (l : Line). l.state ≡ I) (picture_of old goes.0).caches asker core a.held nothing_held in_it
             (λ also. absurd (both_ways ((on == block) && (asker == core)) never (rw (eq-eqb on block (m.on_block ∙ sym same), eq-eqb asker core (sym also)) refl)))))
       ]
   step_stays new (Order requestor) (Ok answer) goes never =
-      let m = goes.1.1.1 in
-      rw m.orders.after (pictured goes.1.0 m.orders.next
-      (λ same in_it. row_taken old.protocol (picture_of old goes.1.0).caches m.orders.next.caches core in_it requestor m.request m.orders.taken))
+      let m = goes.1.1 in
+      rw m.orders.after (pictured goes.0 m.orders.next
+      (λ same in_it. row_taken old.protocol (picture_of old goes.0).caches m.orders.next.caches core in_it requestor m.request m.orders.taken))
   step_stays new (Respond on) (Ok answer) goes never =
-      let m = goes.1.1.1 in
-      rw m.responds.after (pictured goes.1.0 m.responds.next
-      (λ same in_it. arrived old.protocol (picture_of old goes.1.0).caches m.responds.next.caches core in_it m.closing.request m.closing old.log m.did m.responds.requestor))
+      let m = goes.1.1 in
+      rw m.responds.after (pictured goes.0 m.responds.next
+      (λ same in_it. arrived old.protocol (picture_of old goes.0).caches m.responds.next.caches core in_it m.closing.request m.closing old.log m.did m.responds.requestor))
 
 frames_stay : (old : Situation) (frames : List Frame) (final : Situation) (block core : ℕ) → FramesFrom old frames final
     → asks_somewhere (steps_of frames) block core ≡ false → state_of old core block ≡ I → HoldsNothing block core frames

@@ -5,9 +5,7 @@ use Rattle.snoop_engine.proofs.InOrderLemmas.{in_order_moves}
 use Rattle.snoop_engine.proofs.serial_driver.SerialDriverCourse.take.Goals as goal
 
 pub invariant_of-self-2 : goal.invariant_of-self-2
-invariant_of-self-2 c =
-    let move = c.in_ok-reply.ensures.taken in
-    in_order_moves c.self.invariant _ c.args.step c.in_ok-reply.reply move.0 (rw (← c.self.view_is) at c.requires.1.under_way) move.1
+invariant_of-self-2 c = in_order_moves c.self.invariant _ c.args.step c.in_ok-reply.reply (rw (← c.self.view_is) at c.requires.1.under_way) c.in_ok-reply.ensures.taken
 
 pub returns-clause-fewer : goal.returns-clause-fewer
 returns-clause-fewer c before finds =
