@@ -59,8 +59,16 @@ module _ {X : Type 0} (first : X) {written now : List X} {places : List ℕ} {ca
       let f = value_at first written in
       let g = value_at first after in
       rw (map-set g places block place, here, ← view) (ext_get_or first _ _ (simp (length-set, length-map))
-      (λ k h. grind (arith, elements, cases_eq k block, length-map places f, length-map places g, get_or-map f places k 0, get_or-map g places k 0,
-      λ (ne : k ≢ block). same (slice_index_or places k 0) (others k ne))))
+      (λ k h. grind (
+        arith,
+        elements,
+        cases_eq k block,
+        length-map places f,
+        length-map places g,
+        get_or-map f places k 0,
+        get_or-map g places k 0,
+        λ (ne : k ≢ block). same (slice_index_or places k 0) (others k ne),
+      )))
     where
       same : (p : ℕ) → ((n : ℕ) → p ≡ suc n → slice_index_or after n first ≡ slice_index_or written n first) → value_at first after p ≡ value_at first written p
       same zero h = refl
@@ -121,5 +129,5 @@ module _ {X : Type 0} (first : X) {written now : List X} {places : List ℕ} {ca
     seen-change next old new was is =
         let was_first = get_or_read written (place - 1) old in-written was first in
         let here : slice_get now block ≡ Some old =
-            rw (← view, slice_get-map (value_at first written) places block, slice_get-get_or places block 0 there, is_suc, ← was_first) refl in
+        rw (← view, slice_get-map (value_at first written) places block, slice_get-get_or places block 0 there, is_suc, ← was_first) refl in
         seen-set new ∙ rw (here, is) refl

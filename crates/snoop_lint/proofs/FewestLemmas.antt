@@ -57,8 +57,14 @@ module _ (shape : Extent) (c b : ℕ) (some_core : 1 ≤ c) (some_block : 1 ≤ 
       let heading : heads form n row ≡ false = grind (arith, no_later_heading form n row) in
       let others = others_cons n row (fault_at form protocol shape n row) (findings_from (fault_at form protocol shape) (n + 1) rows) in
       let more = none_cons n row (fault_at form protocol (resized shape c b) n row) (findings_from (fault_at form protocol (resized shape c b)) (n + 1) rows) in
-      grind (arith, none, others, more, fault_bound form protocol n row heading,
-      all_bound form protocol (n + 1) rows (omega arith) (λ e. absurd (omega arith)))
+      grind (
+        arith,
+        none,
+        others,
+        more,
+        fault_bound form protocol n row heading,
+        all_bound form protocol (n + 1) rows (omega arith) (λ e. absurd (omega arith)),
+      )
 
 -- the greatest core and the greatest block, each plus one
 pub fewest : (form : Form) (protocol : Protocol) (shape : Extent) (bytes : List ℕ) → can_be_taken (tally_of form protocol shape (records_of bytes)) ≡ true
@@ -70,7 +76,7 @@ fewest form protocol shape bytes mendable =
     let heading : has_heading form rows ≡ false = grind arith in
     let others : list_any is_beyond (findings form protocol shape rows) ≡ false = grind arith in
     let taken : (c b : ℕ) → 1 ≤ c → 1 ≤ b → is_none (refusal form protocol (resized shape c b) bytes)
-        ≡ (nat_lt (greatest core_named rows) c && nat_lt (greatest (block_named shape) rows) b) = λ c b p q.
+    ≡ (nat_lt (greatest core_named rows) c && nat_lt (greatest (block_named shape) rows) b) = λ c b p q.
     ap is_none (sym (first_is_refusal form protocol (resized shape c b) bytes))
     ∙ all_bound shape c b p q form protocol 1 rows (omega arith) (λ _. heading) others
     ∙ grind (arith, nat_tests, all_below core_named c 0 rows, all_below (block_named shape) b 0 rows) in

@@ -7,5 +7,10 @@ pub returns : goal.returns
 unfolding no_number
 returns c =
     IfOk-equal _ _ _ _ c.push_text-4.ensures.ok
-    (rw (c.number_hint.ensures, c.in_ok-push_text-3.ensures.ok, c.in_ok-push_shown.ensures, c.in_ok-push_text-2.ensures.ok,
-    c.in_ok-push_text.ensures.ok) (simp append_assoc))
+    (rw (
+      c.number_hint.ensures,
+      c.in_ok-push_text-3.ensures.ok,
+      c.in_ok-push_shown.ensures,
+      c.in_ok-push_text-2.ensures.ok,
+      c.in_ok-push_text.ensures.ok,
+    ) (simp append_assoc))

@@ -7,5 +7,10 @@ pub returns : goal.returns
 unfolding options
 returns c =
     IfOk-equal _ _ _ _ c.push_labelled-4.ensures
-    (rw (c.in_ok-push_labelled-3.ensures, c.in_ok-push_labelled-2.ensures, c.in_ok-push_labelled.ensures,
-    c.in_ok-push_bytes.ensures, c.in_ok-push_text.ensures.ok) (simp append_assoc))
+    (rw (
+      c.in_ok-push_labelled-3.ensures,
+      c.in_ok-push_labelled-2.ensures,
+      c.in_ok-push_labelled.ensures,
+      c.in_ok-push_bytes.ensures,
+      c.in_ok-push_text.ensures.ok,
+    ) (simp append_assoc))

@@ -15,6 +15,7 @@ returns-then-not-branch c =
 pub loop-i-preserved : goal.loop-i-preserved
 loop-i-preserved c =
     let read = rw c.if-not-branch.false at c.in_ok-next_record.ensures.reads in
-    let more = c.in_ok-tally.ensures in
-    (c.in_ok-next_record.ensures.plain c.if-not-branch.false,
-    looked_more (fields_of c.next_record.new.fields) c.loop-i.invariant.0.config read c.loop-i.invariant.1 more.line more.counted)
+    let more = c.in_ok-tally.ensures in (
+      c.in_ok-next_record.ensures.plain c.if-not-branch.false,
+      looked_more (fields_of c.next_record.new.fields) c.loop-i.invariant.0.config read c.loop-i.invariant.1 more.line more.counted,
+    )
