@@ -3,7 +3,7 @@ use Rattle.std.proofs.Common.{◌≡◌, ◌<◌, ℕ, ◌-◌, List, ◌++◌, 
 use Rattle.std.specs.Prelude.{option_map, slice_set}
 use Rattle.std.proofs.lemmas.Option.{same_Some}
 use Rattle.std.proofs.lemmas.List.{length-set, length-append}
-use Rattle.snoop_machine.proofs.Common.{Came, Did, Item, Open, transaction_on, ArrivesFor, RespondMove, came_of, written, Line, MemLine, Picture, picture_of, LosesLines, Held, KeepsMapsRoom, LinesGo, row_of, memory_line, Fields, standing, IsSound, IsWhole, IsClosing, Standing, KeepsRoom}
+use Rattle.snoop_machine.proofs.Common.{Came, Did, Open, transaction_on, ArrivesFor, RespondMove, came_of, written, Line, MemLine, Picture, picture_of, LosesLines, Held, KeepsMapsRoom, LinesGo, row_of, memory_line, Fields, standing, IsSound, IsWhole, IsClosing, Standing, KeepsRoom}
 use Rattle.snoop_rules.specs.declared.names.MemCell.{MemCell}
 use Rattle.snoop_history.specs.declared.items.Item.TheVariants as item
 use Rattle.snoop_model.specs.declared.replies.Reply.TheVariants as reply

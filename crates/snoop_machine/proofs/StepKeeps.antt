@@ -1,11 +1,10 @@
 -- What each step of a machine keeps, and what a prepared one adds.
-use Rattle.std.proofs.Common.{◌≡◌, ℕ, ◌++◌, List, Option, refl, ap, ◌∙◌}
-use Rattle.std.specs.Prelude.{Result, Ok, Err, IfOk, IfErr, option_to_list}
-use Rattle.snoop_machine.proofs.Common.{Step, Item, MachineKeeps, FirstMove, RefusedFor, Situation, RunBy, Refused, NoMemory, Reply, HoldsOn, IsFull, IsPrepared, Answers, AnswersSafely, Standing, KeepsRoom}
+use Rattle.std.proofs.Common.{◌≡◌, ℕ, List, refl, ap}
+use Rattle.std.specs.Prelude.{Result, Ok, Err, IfOk, IfErr}
+use Rattle.snoop_machine.proofs.Common.{Step, MachineKeeps, FirstMove, RefusedFor, RunBy, Refused, NoMemory, Reply, HoldsOn, IsFull, Answers, AnswersSafely, Standing, KeepsRoom}
 use Rattle.snoop_model.specs.Moves.Replies.{Tells}
 use Rattle.snoop_model.proofs.Invariant.Safety.{move_keeps_all}
 use Rattle.snoop_model.proofs.Runs.Along.{kept_along}
-use Rattle.snoop_model.proofs.Runs.Logged.{move-log}
 use Rattle.snoop_model.proofs.Runs.Replies.{move_tells, refusal_tells}
 use Rattle.snoop_model.proofs.Runs.Shape.{IsAlike, alike_on, move_stays, same_alike}
 

@@ -2,7 +2,7 @@
 use Rattle.std.proofs.Common.{ℕ, List, ◌<◌, ◌≤◌, arith, ap, Option, sym, ◌∙◌, refl, Some, None}
 use Rattle.std.specs.Prelude.{◌≡◌, option_map, Result, Ok, Err, IfSome, is_some}
 use Rattle.std.proofs.lemmas.Option.{same_Some}
-use Rattle.snoop_model.proofs.Common.{Extent, Protocol, Step, Item, Reply, Refused, held_by, Situation, picture_of, state_of, reset, IsProper, keeps, MoveOn}
+use Rattle.snoop_model.proofs.Common.{Extent, Protocol, Step, Reply, Refused, held_by, Situation, picture_of, state_of, reset, IsProper, keeps, MoveOn}
 use Rattle.snoop_history.specs.History.{flat}
 use Rattle.snoop_model.specs.Coherent.{IsCoherent}
 use Rattle.snoop_model.specs.Runs.Run.{Goes, RunBy}

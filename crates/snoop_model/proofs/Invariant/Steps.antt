@@ -1,7 +1,7 @@
 -- What the machine's own steps need of the laws: from any coherent situation, one step or many.
-use Rattle.std.proofs.Common.{[], ◌∷◌, Option, refl}
+use Rattle.std.proofs.Common.{[], ◌∷◌, refl}
 use Rattle.std.specs.Prelude.{Result, Ok, Err, IfOk}
-use Rattle.snoop_model.proofs.Common.{Step, Item, Reply, Refused, Situation, FirstMove}
+use Rattle.snoop_model.proofs.Common.{Step, Reply, Refused, Situation, FirstMove}
 use Rattle.snoop_model.specs.Runs.Once.{OnceMore}
 use Rattle.snoop_model.specs.Invariant.Invariant.{Invariant}
 use Rattle.snoop_model.proofs.Invariant.Moves.{move_keeps}

@@ -1,9 +1,9 @@
 -- Each Order that is taken is a line of the table of senders, and each Respond settles memory by the line of its transaction.
-use Rattle.std.proofs.Common.{◌≡◌, ℕ, ◌<◌, Option, refl, inl, inr, sym, ◌∙◌, ap}
+use Rattle.std.proofs.Common.{◌≡◌, ℕ, ◌<◌, refl, inl, inr, sym, ◌∙◌, ap}
 use Rattle.std.specs.Prelude.{IfSome}
 use Rattle.std.proofs.lemmas.Option.{same_Some}
 use Rattle.snoop_model.proofs.Lists.Facts.{if_some}
-use Rattle.snoop_model.proofs.Common.{Extent, Protocol, Step, Ask, Order, Respond, Request, arrival_at_memory, takes_payload, Item, Reply, Picture, with_line, Situation, picture_of, with_picture, reset, MoveOn, Orders}
+use Rattle.snoop_model.proofs.Common.{Extent, Protocol, Step, Ask, Order, Respond, Request, arrival_at_memory, takes_payload, Reply, Picture, with_line, Situation, picture_of, with_picture, reset, MoveOn, Orders}
 use Rattle.snoop_model.specs.Moves.SenderTable.{IsSenderLine, IsOpenByTable}
 use Rattle.snoop_model.specs.Invariant.Invariant.{Invariant}
 use Rattle.snoop_model.specs.Invariant.MachineKeeps.{AreOnSenderLines}

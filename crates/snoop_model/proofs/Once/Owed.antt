@@ -1,6 +1,6 @@
 -- What waited, or was asked, waits or is its core's last operation: by `once` alone.
 use Rattle.std.proofs.Common.{◌≡◌, ℕ, zero, suc, ◌⊎◌, inl, inr, ◌==◌, List, [], ◌∷◌, ◌++◌, map, Option, Some, None, refl, ap, sym, ◌∙◌, arith, append-nil}
-use Rattle.std.specs.Prelude.{option_to_list, Ok, Contains, filter, filter_map}
+use Rattle.std.specs.Prelude.{option_to_list, Ok, Contains, filter}
 use Rattle.std.specs.List.Sorted.{IsPermutation}
 use Rattle.std.specs.List.{cons_option}
 use Rattle.std.proofs.lemmas.List.Sorted.{Contains-permutation, IsPermutation-sym}
@@ -11,7 +11,7 @@ use Rattle.std.proofs.lemmas.Option.{same_Some}
 use Rattle.snoop_model.proofs.Common.{Step, Did, Item, Access, Reply, held_by, Situation, picture_of, FirstMove}
 use Rattle.snoop_history.specs.History.{answers_of, last_or}
 use Rattle.snoop_history.proofs.Pushed.{answers_of-push, of_core}
-use Rattle.snoop_model.specs.Runs.Once.{asked_access, did_access, accesses_in, waiting_at, OnceMore}
+use Rattle.snoop_model.specs.Runs.Once.{asked_access, did_access, waiting_at, OnceMore}
 use Rattle.snoop_model.specs.Runs.Owed.{IsLast, IsOwed, Owes}
 use Rattle.snoop_model.proofs.OneBlock.Operation.{did_in}
 use Rattle.snoop_model.proofs.Runs.Logged.{move-log}

@@ -2,7 +2,7 @@
 use Rattle.std.proofs.Common.{◌≡◌, ◌≢◌, ◌<◌, ◌&&◌, ◌||◌, ◌⊎◌, ◌∙◌, ℕ, List, Bool, true, false, length, Option, Some, refl, inl, inr, sym}
 use Rattle.std.proofs.lemmas.Bool.{and_parts, both_ways, not-true}
 use Rattle.std.proofs.lemmas.Option.{same_Some}
-use Rattle.snoop_model.proofs.Common.{Op, CacheState, CacheAction, Cell, asked, carries_value, Did, Item, Open, Reply, Line, Picture, held_by, nothing_held, with_line, Situation, picture_of, keeps, IsProper, Hits, Takes, Asks}
+use Rattle.snoop_model.proofs.Common.{Op, CacheState, CacheAction, Cell, asked, carries_value, Did, Open, Reply, Line, Picture, held_by, nothing_held, with_line, Situation, picture_of, keeps, IsProper, Hits, Takes, Asks}
 use Rattle.snoop_trace.specs.declared.step.Op.TheVariants as op
 use Rattle.snoop_rules.specs.declared.names.CacheAction.TheVariants as action
 use Rattle.snoop_model.specs.Invariant.Fits.{is_clean, fits}

@@ -1,7 +1,7 @@
 -- A machine is well kept at reset, and stays so.
 use Rattle.std.proofs.Common.{◌≡◌, ℕ, [], Option, sym, ◌∙◌, ap, arith, inl, inr}
 use Rattle.std.proofs.lemmas.Option.{none-some}
-use Rattle.snoop_model.proofs.Common.{Extent, Protocol, Step, Ask, Order, Respond, Item, queue_of, Reply, Line, Situation, reset, awaited_request, MoveOn}
+use Rattle.snoop_model.proofs.Common.{Extent, Protocol, Step, Ask, Order, Respond, queue_of, Reply, Line, Situation, reset, awaited_request, MoveOn}
 use Rattle.snoop_model.proofs.Lists.QueueCounts.{times}
 use Rattle.snoop_model.proofs.Queues.Changed.{waits}
 use Rattle.snoop_model.specs.Turns.Serving.{IsServing}

@@ -1,7 +1,7 @@
 -- From every situation of a run each step leads on, in one way: it is a move, or refused for a cause.
-use Rattle.std.proofs.Common.{◌≡◌, None, List, [], ◌∷◌, Option, refl, ap, sym, ◌∙◌}
+use Rattle.std.proofs.Common.{◌≡◌, None, List, [], ◌∷◌, refl, ap, sym, ◌∙◌}
 use Rattle.std.specs.Prelude.{Result, Ok, Err}
-use Rattle.snoop_model.proofs.Common.{Extent, Protocol, Step, Item, Reply, Refused, Situation, reset, FirstMove}
+use Rattle.snoop_model.proofs.Common.{Extent, Protocol, Step, Reply, Refused, Situation, reset, FirstMove}
 use Rattle.snoop_model.specs.Runs.Run.{GoesFirst, FirstRunFrom}
 use Rattle.snoop_model.specs.Moves.Refuses.{Refuses}
 use Rattle.snoop_model.specs.Invariant.WellKept.{IsWellKept}

@@ -1,5 +1,5 @@
 -- A move adds at most one item to the log.
-use Rattle.std.proofs.Common.{◌≡◌, [], ◌∷◌, ◌++◌, Option, Some, None, refl, sym, inl, inr, append-nil}
+use Rattle.std.proofs.Common.{◌≡◌, ◌++◌, Option, Some, None, refl, sym, inl, inr, append-nil}
 use Rattle.std.specs.Prelude.{option_to_list}
 use Rattle.snoop_model.proofs.Common.{Step, Ask, Order, Respond, Item, Reply, Situation, FirstMove, came_of}
 use Rattle.snoop_history.specs.declared.items.Item.TheVariants as item

@@ -1,7 +1,7 @@
 -- Steps leave the protocol and the shape.
-use Rattle.std.proofs.Common.{◌≡◌, ℕ, List, Option, refl, ◌∙◌, inl, inr}
+use Rattle.std.proofs.Common.{◌≡◌, ℕ, List, refl, ◌∙◌, inl, inr}
 use Rattle.std.specs.Prelude.{Result, Ok, Err}
-use Rattle.snoop_model.proofs.Common.{Step, Ask, Order, Respond, Item, Reply, Refused, Situation, MoveOn, FirstMove}
+use Rattle.snoop_model.proofs.Common.{Step, Ask, Order, Respond, Reply, Refused, Situation, MoveOn, FirstMove}
 use Rattle.snoop_model.specs.Runs.Run.{Goes, RunBy}
 use Rattle.snoop_model.proofs.Invariant.Runs.{refusal_same}
 use Rattle.snoop_model.proofs.Runs.Along.{kept_along}

@@ -1,5 +1,5 @@
 -- A work whose operation waits has a step left, so where it has none, its operation is the core's last one; and an Ask that issues no request leaves none.
-use Rattle.std.proofs.Common.{◌≡◌, ℕ, inl, inr, true, Option, Some, None, refl, sym, ◌∙◌, arith, List, ◌≢◌, ap, subst}
+use Rattle.std.proofs.Common.{◌≡◌, ℕ, inl, inr, true, Option, Some, None, refl, sym, ◌∙◌, List, ◌≢◌, ap, subst}
 use Rattle.snoop_model.proofs.Common.{Op, Request, waiting_request, Access, held_by, Situation, picture_of, state_of, Ask, CacheState, CacheAction, Item, Open, queue_of, Reply, Line, Picture, with_line, FirstMove, Takes, queues_after}
 use Rattle.snoop_model.specs.Invariant.WellKept.{IsWellKept}
 use Rattle.snoop_model.specs.Turns.Turn.{turn_of, step_under_way}

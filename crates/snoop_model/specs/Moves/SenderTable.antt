@@ -9,7 +9,6 @@ use Rattle.snoop_rules.specs.declared.names.Request.{Request}
 use Rattle.snoop_rules.specs.declared.names.Payload.{Payload}
 use Rattle.snoop_rules.specs.Takers.{at_memory}
 use Rattle.snoop_rules.specs.WhoSends.{sender_of, lines_of}
-use Rattle.snoop_history.specs.declared.items.Item.{Item}
 use Rattle.snoop_bus.specs.Traffic.{Open}
 use Rattle.snoop_model.specs.declared.replies.Reply.{Reply}
 use Rattle.snoop_model.specs.Pictures.Picture.{Picture, held_by}

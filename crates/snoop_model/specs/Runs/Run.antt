@@ -1,10 +1,9 @@
 -- Whole runs from reset.
 -- Source: this project's profile.
-use Rattle.std.specs.Prelude.{◌≡◌, ℕ, List, [], ◌∷◌, ◌++◌, map, Option, Result, Ok, Err}
+use Rattle.std.specs.Prelude.{◌≡◌, ℕ, List, [], ◌∷◌, ◌++◌, map, Result, Ok, Err}
 use Rattle.snoop_trace.specs.Extent.{Extent}
 use Rattle.snoop_trace.specs.declared.step.Step.{Step}
 use Rattle.snoop_trace.specs.declared.protocol.Protocol.{Protocol}
-use Rattle.snoop_history.specs.declared.items.Item.{Item}
 use Rattle.snoop_model.specs.declared.replies.Reply.{Reply}
 use Rattle.snoop_model.specs.declared.replies.Refused.{Refused}
 use Rattle.snoop_model.specs.declared.replies.Refused.TheVariants.{NoMemory}
