@@ -4,7 +4,6 @@ use Rattle.std.specs.Prelude.{slice_index_or, filter_map}
 use Rattle.std.specs.List.Sorted.{IsPermutation}
 use Rattle.std.proofs.lemmas.Bool.{cases_lt}
 use Rattle.std.proofs.lemmas.Option.{slice_get_past}
-use Rattle.snoop_trace.specs.Extent.{Extent}
 use Rattle.snoop_trace.specs.declared.step.Step.{Step}
 use Rattle.snoop_bus.specs.Queues.{queue_of}
 use Rattle.snoop_history.specs.declared.items.Item.{Item}
