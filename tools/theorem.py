@@ -99,12 +99,13 @@ once, each by its row of the tables, and the block's transaction is open until i
 The history has operations in the order in which they are performed, at a hit or with the data that
 came. That need not be the order in which a core asked: while its store to a block waits for its
 request or for data, a load of the block may hit, and reads what was there before the store. So a
-core that is to read its own store waits for it. Nothing is said of the order of one core's
-operations on different blocks, of time, nor that a request is ever ordered or answered: an
+core that is to read its own store waits for it. A core's hits stand in the order of their Asks, by
+`told`; those that it makes while another operation of its own waits, on this block or on another,
+stand before that one. Nothing is said of time, nor that a request is ever ordered or answered: an
 operation that is not lost may wait for ever. But no machine gets stuck, out of memory aside: by
-`moves` an open transaction can be answered, and once none is open the head of any queue can be
-ordered. The tables stall an operation only where a request of its core for the block waits or is
-open.
+`moves` and `queued` an open transaction can be answered, and once none is open the head of any
+queue can be ordered. The tables stall an operation only where a request of its core for the block
+waits or is open.
 
 What only the tables and the moves below say, and no clause: which operations stall and why a step
 is refused; what an eviction leaves, and whether it is answered Gone, Absent or by a request; in
@@ -112,7 +113,7 @@ which order the blocks stand in a queue; which block and request the item of an 
 history, and which requestor, request, payload and sender that of a response (`told` says that the
 item and the reply have the same, and that the operation which a response performed is its
 requestor's, on this block, and no hit). Which operation that is, and a load's value, follow from
-`once` and `legal`. Who sends a message is part of a move; the target that a row names is not looked
+`legal` and from `once`, of this run and of each of its beginnings. Who sends a message is part of a move; the target that a row names is not looked
 at: memory takes the message of every PutM, and that of another request where its state waits for
 one (`takes_payload`). That the rows of the table of senders are all reached is not said.
 
@@ -129,18 +130,21 @@ arguments and of what it is; `Type 0` says that it is a fact or a type. Below st
 case by case, the first that fits, with `_` for any value. A record of facts holds where all of them
 do; a field that is no fact, as `done` of `IsSenderLine`, is a value that has to exist.
 `record s {{ .. }}` is s with these fields; with no `s` all of them stand there. `x.log` is a field.
-`{{A : Type 0}}` is a type that follows from the other arguments. `declared.` stands before a type
-as the code declares it. A member of a type may stand with a short name of its type before it, as
-`op.Load`, `state.ImAd`, `mem.IorS` or `reply.Hit`, and what it carries follows it in order, as in
-`Ask core block word op`; `Nothing`, or `mem_action.None`, is a controller's action `None`. `data`
-begins a type by its members. `++` and `∷` bind more strongly than `≡`, this than `×`, and this than
-`→`. Of a row that is taken at an Order its next state counts, and what it sends, if it does. States
+`{{A : Type 0}}` is a type that follows from the other arguments. `--` begins a comment, `where` the
+parts of a record or a type. `declared.` stands before a type as the code declares it. A member of a
+type may stand with a short name of its type before it, as `op.Load`, `state.ImAd`, `mem.IorS`,
+`item.Did` or `reply.Hit` (a capital after the dot; a field has none), and what it carries follows
+it in order, as in `Ask core block word op`; `Nothing`, or `mem_action.None`, is a controller's
+action `None`. `data` begins a type by its members. `∷` and `++` read from the right; they bind more
+strongly than `≡`, this than `×` and `⊎`, and these than `→`. Some words name several things, told
+apart by where they stand: `Data` is the words of a block, a payload and an event, `Requestor` and
+`Memory` are senders and targets, and a line is a cache's, memory's or one of a table. Of a row that is taken at an Order its next state counts, and what it sends, if it does. States
 are printed with underscores elsewhere: `ImAd` is IM_AD. A block is free where no transaction is
 open on it, a copy clean where memory has the same words, and what a PutM is for is a writeback. The
 "oldest request" of a type's comment is the one that the code orders; the theorem is about Orders of
 any waiting request. What the types' comments say of texts is in docs/TEXTS.md.
 
-`(a, b)` is a pair. Between facts `A × B` is "A and B", between types it is their pairs;
+`(a, b)` is a pair, `(a, b, c)` three and so on. Between facts `A × B` is "A and B", between types it is their pairs;
 `(x : T) × P` "there is an x with P", `(x : T) → P` "P for every x", `A → B` "if A then B", `¬ A`
 "not A", `⊥` what never holds, and `λ x. ..` a function of x.
 
