@@ -113,9 +113,10 @@ which order the blocks stand in a queue; which block and request the item of an 
 history, and which requestor, request, payload and sender that of a response (`told` says that the
 item and the reply have the same, and that the operation which a response performed is its
 requestor's, on this block, and no hit). Which operation that is, and a load's value, follow from
-`legal` and from `once`, of this run and of each of its beginnings. Who sends a message is part of a move; the target that a row names is not looked
-at: memory takes the message of every PutM, and that of another request where its state waits for
-one (`takes_payload`). That the rows of the table of senders are all reached is not said.
+`legal` and from `once`, of this run and of each of its beginnings. Who sends a message is part of a
+move; the target that a row names is not looked at: memory takes the message of every PutM, and that
+of another request where its state waits for one (`takes_payload`). That the rows of the table of
+senders are all reached is not said.
 
 That the code takes such steps and no others is proved of `Machine::step` and `run_steps`
 (docs/PROVED.md), and why all this holds is in docs/COHERENCE.md. `tools/theorem.py --write` makes
@@ -138,11 +139,12 @@ it in order, as in `Ask core block word op`; `Nothing`, or `mem_action.None`, is
 action `None`. `data` begins a type by its members. `∷` and `++` read from the right; they bind more
 strongly than `≡`, this than `×` and `⊎`, and these than `→`. Some words name several things, told
 apart by where they stand: `Data` is the words of a block, a payload and an event, `Requestor` and
-`Memory` are senders and targets, and a line is a cache's, memory's or one of a table. Of a row that is taken at an Order its next state counts, and what it sends, if it does. States
-are printed with underscores elsewhere: `ImAd` is IM_AD. A block is free where no transaction is
-open on it, a copy clean where memory has the same words, and what a PutM is for is a writeback. The
-"oldest request" of a type's comment is the one that the code orders; the theorem is about Orders of
-any waiting request. What the types' comments say of texts is in docs/TEXTS.md.
+`Memory` are senders and targets, and a line is a cache's, memory's or one of a table. Of a row that
+is taken at an Order its next state counts, and what it sends, if it does. States are printed with
+underscores elsewhere: `ImAd` is IM_AD. A block is free where no transaction is open on it, a copy
+clean where memory has the same words, and what a PutM is for is a writeback. The "oldest request"
+of a type's comment is the one that the code orders; the theorem is about Orders of any waiting
+request. What the types' comments say of texts is in docs/TEXTS.md.
 
 `(a, b)` is a pair, `(a, b, c)` three and so on. Between facts `A × B` is "A and B", between types it is their pairs;
 `(x : T) × P` "there is an x with P", `(x : T) → P` "P for every x", `A → B` "if A then B", `¬ A`
