@@ -146,9 +146,9 @@ clean where memory has the same words, and what a PutM is for is a writeback. Th
 of a type's comment is the one that the code orders; the theorem is about Orders of any waiting
 request. What the types' comments say of texts is in docs/TEXTS.md.
 
-`(a, b)` is a pair, `(a, b, c)` three and so on. Between facts `A × B` is "A and B", between types it is their pairs;
-`(x : T) × P` "there is an x with P", `(x : T) → P` "P for every x", `A → B` "if A then B", `¬ A`
-"not A", `⊥` what never holds, and `λ x. ..` a function of x.
+`(a, b)` is a pair, `(a, b, c)` three and so on. Between facts `A × B` is "A and B", between types
+it is their pairs; `(x : T) × P` "there is an x with P", `(x : T) → P` "P for every x", `A → B` "if
+A then B", `¬ A` "not A", `⊥` what never holds, and `λ x. ..` a function of x.
 
 Look-ups have a default: outside a machine's shape a core holds nothing (state I), no transaction is
 open, and memory is in IorS with words of 0. A block has up to 64 words.
