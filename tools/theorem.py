@@ -104,19 +104,19 @@ core that is to read its own store waits for it. A core's hits stand in the orde
 stand before that one. Nothing is said of time, nor that a request is ever ordered or answered: an
 operation that is not lost may wait for ever. But no machine gets stuck, out of memory aside: by
 `moves` and `queued` an open transaction can be answered, and once none is open the head of any
-queue can be ordered. The tables stall an operation only where a request of its core for the block
-waits or is open.
+queue can be ordered. By `stalls` an operation is stalled only while its core's own request for the
+block waits or is open.
 
-What only the tables and the moves below say, and no clause: which operations stall and why a step
-is refused; what an eviction leaves, and whether it is answered Gone, Absent or by a request; in
-which order the blocks stand in a queue; which block and request the item of an Order has in the
-history, and which requestor, request, payload and sender that of a response (`told` says that the
-item and the reply have the same, and that the operation which a response performed is its
-requestor's, on this block, and no hit). Which operation that is, and a load's value, follow from
-`legal` and from `once`, of this run and of each of its beginnings. Who sends a message is part of a
-move; the target that a row names is not looked at: memory takes the message of every PutM, and that
-of another request where its state waits for one (`takes_payload`). That the rows of the table of
-senders are all reached is not said.
+What only the tables and the moves below say, and no clause: which operations stall then and why a
+step is refused; whether an eviction is answered Gone, Absent or by a request; in which order the
+blocks stand in a queue; which block and request the item of an Order has in the history, and which
+requestor, request, payload and sender that of a response (`told` says that the item and the reply
+have the same, and that the operation which a response performed is its requestor's, on this block,
+and no hit). Which operation that is, and a load's value, follow from `legal` and from `once`, of
+this run and of each of its beginnings. Who sends a message is part of a move; the target that a row
+names is not looked at: memory takes the message of every PutM, and that of another request where
+its state waits for one (`takes_payload`). That the rows of the table of senders are all reached is
+not said.
 
 That the code takes such steps and no others is proved of `Machine::step` and `run_steps`
 (docs/PROVED.md), and why all this holds is in docs/COHERENCE.md. `tools/theorem.py --write` makes

@@ -3,6 +3,7 @@ pub mod FlatMemory
 pub mod Moves
 pub mod Runs
 pub mod Coherence
+pub mod Served
 pub mod Safety
 pub mod Steps
 pub mod TableLines

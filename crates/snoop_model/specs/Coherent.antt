@@ -1,22 +1,29 @@
 -- Coherence: what holds after any steps that a machine at reset takes or refuses, in any order.
 -- Source: chapters 2 and 7 of "A Primer on Memory Consistency and Cache Coherence", 2nd edition; the rest is this project's profile.
-use Rattle.std.specs.Prelude.{◌≡◌, ◌≢◌, ◌↔◌, ◌<◌, ℕ, List, [], All, Some, None, Result, IfSome, IsSome, option_map}
+use Rattle.std.specs.Prelude.{◌≡◌, ◌≢◌, ◌↔◌, ◌⊎◌, ◌<◌, ℕ, List, [], All, Some, None, Result, IfSome, IsSome, option_map}
 use Rattle.snoop_trace.specs.Extent.{Extent}
 use Rattle.snoop_trace.specs.Words.{IsWord}
+use Rattle.snoop_trace.specs.declared.step.Op.{Op}
+use Rattle.snoop_trace.specs.declared.step.Op.TheVariants.{Evict}
 use Rattle.snoop_trace.specs.declared.step.Step.{Step}
+use Rattle.snoop_trace.specs.declared.step.Step.TheVariants.{Ask}
 use Rattle.snoop_trace.specs.declared.protocol.Protocol.{Protocol}
+use Rattle.snoop_rules.specs.declared.names.CacheState.{CacheState}
+use Rattle.snoop_rules.specs.declared.names.CacheState.TheVariants.{E, EiA}
 use Rattle.snoop_rules.specs.declared.names.Request.{Request}
 use Rattle.snoop_rules.specs.declared.names.Request.TheVariants.{PutM}
 use Rattle.snoop_rules.specs.Possible.{MayLoad, MayStore}
 use Rattle.snoop_history.specs.History.{flat_words, operations, Legal}
 use Rattle.snoop_model.specs.declared.replies.Reply.{Reply}
+use Rattle.snoop_model.specs.declared.replies.Reply.TheVariants.{Gone}
 use Rattle.snoop_model.specs.declared.replies.Refused.{Refused}
-use Rattle.snoop_model.specs.Pictures.Picture.{held_by, data_under_way}
-use Rattle.snoop_model.specs.Pictures.Situation.{Situation, picture_of, state_of, CanOrder, HasOpen}
+use Rattle.snoop_model.specs.declared.replies.Refused.TheVariants.{Stalled}
+use Rattle.snoop_model.specs.Pictures.Picture.{held_by, nothing_held, data_under_way}
+use Rattle.snoop_model.specs.Pictures.Situation.{Situation, picture_of, state_of, Waits, CanOrder, HasOpen}
 use Rattle.snoop_model.specs.Pictures.OneWriter.{OneWriter}
 use Rattle.snoop_model.specs.Pictures.Proper.{missed_request, request_for, awaited_request}
 use Rattle.snoop_model.specs.Pictures.InQueue.{IsInQueue}
-use Rattle.snoop_model.specs.Moves.Move.{IsWithin, Orders, FirstMove}
+use Rattle.snoop_model.specs.Moves.Move.{IsWithin, Orders, MoveOn, FirstMove}
 use Rattle.snoop_model.specs.Moves.Refuses.{Refuses}
 use Rattle.snoop_model.specs.Moves.SenderTable.{IsSenderLine, IsOpenByTable}
 use Rattle.snoop_model.specs.Moves.Replies.{Tells}
@@ -39,6 +46,8 @@ pub record IsCoherent (s : Situation) : Type 0 where
   pub carried : (block : ℕ) → block < s.shape.blocks → IfSome (data_under_way (picture_of s block).transaction) (λ words. words ≡ flat_words s.log block)
   -- and so has memory, where no core may write the block and no data is under way
   pub memory : (block : ℕ) → block < s.shape.blocks → ((core : ℕ) → ¬ MayStore s.protocol (state_of s core block)) → data_under_way (picture_of s block).transaction ≡ None → (picture_of s block).memory.value ≡ flat_words s.log block
+  -- so it has where a core holds the block in E or EI_A, unwritten
+  pub clean : (core block : ℕ) → (state_of s core block ≡ E) ⊎ (state_of s core block ≡ EiA) → (picture_of s block).memory.value ≡ flat_words s.log block
   -- a block's open transaction is of this block, and its requestor is a core of the machine; so is its sender, where that isn't memory
   pub opened : (block : ℕ) → IfSome (picture_of s block).transaction (λ transaction. (transaction.block ≡ block) × (transaction.core < s.shape.cores) × IfSome transaction.from (λ sender. sender < s.shape.cores))
   -- an operation waits exactly where one has missed: a load or a store, as the state says
@@ -47,6 +56,10 @@ pub record IsCoherent (s : Situation) : Type 0 where
   pub awaited : (core block : ℕ) (request : Request) → (awaited_request (state_of s core block) ≡ Some request) ↔ (HasOpen s core block request × (request ≢ PutM))
   -- each core's queue has the blocks on which it waits to be ordered, each once
   pub queued : (core block : ℕ) → IsInQueue s core block
+  -- an operation is stalled only where its core's own request for the block waits or is open
+  pub stalls : (core block word : ℕ) (asking : Op) (state : CacheState) → Refuses s (Ask core block word asking) (Stalled state) → (request : Request) × (Waits s core block request ⊎ HasOpen s core block request)
+  -- an eviction that is answered Gone leaves the core with nothing of the block
+  pub gone : (core block word : ℕ) (new : Situation) → MoveOn block s (Ask core block word Evict) Gone new → held_by (picture_of new block) core ≡ nothing_held
   -- no step is stuck at an impossible cell: each that is not refused is a move, an Order's on the first block of its core's queue
   pub moves : (step : Step) → ((cause : Refused) → ¬ Refuses s step cause) → (answer : Reply) × ((new : Situation) × FirstMove s step answer new)
   -- so is an Order of a waiting request of any free block: each controller takes its row for it, and exactly one sends

@@ -12,6 +12,7 @@ use Rattle.snoop_model.specs.Invariant.MachineKeeps.{AreOnSenderLines, MachineKe
 use Rattle.snoop_model.specs.Runs.Safe.{IsSafe}
 use Rattle.snoop_model.proofs.Invariant.TableLines.{order_is_line, open_is_by_table, reset_on_lines, move_on_lines}
 use Rattle.snoop_model.proofs.Invariant.Coherence.{has_one_writer, kept_read, readers_current, data_current, memory_current, names_its_block, data_awaited, each_line, finds_rows}
+use Rattle.snoop_model.proofs.Invariant.Served.{clean_in_memory, stall_waits, gone_leaves}
 use Rattle.snoop_model.proofs.Invariant.Runs.{reset_invariant, nothing_proper, refusal_same}
 use Rattle.snoop_model.proofs.Runs.GoOn.{moves_on}
 use Rattle.snoop_model.proofs.Steps.GoesNext.{order_made}
@@ -49,9 +50,12 @@ is_coherent s g on_lines well_kept = record {
   by_table = order_is_line s g;
   on_table = open_is_by_table s g on_lines;
   kept = kept_read s g;
+  clean = clean_in_memory s g;
   waiting = λ core block. (all_proper s g core block).waiting;
   awaited = data_awaited s g well_kept;
   queued = well_kept.queued;
+  stalls = stall_waits s g well_kept;
+  gone = gone_leaves s g;
 }
 
 pub is_safe : (s : Situation) → MachineKeeps s → IsSafe s
