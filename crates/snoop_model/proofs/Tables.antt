@@ -6,7 +6,6 @@ pub mod StateTests
 pub mod AskTests
 pub mod OrderTests
 pub mod RespondTests
-pub mod SenderTests
 pub mod SenderLines
 pub mod EvictInI
 pub mod SentBy

@@ -1,10 +1,12 @@
 -- What follows from the invariant of one block.
-use Rattle.std.proofs.Common.{◌≡◌, ◌≢◌, ◌<◌, ◌&&◌, ◌||◌, ◌∙◌, ℕ, List, Bool, true, false, not, eqb, Option, Some, None, refl, inl, inr, ap, sym, subst, length}
+use Rattle.std.proofs.Common.{◌≡◌, ◌≢◌, ◌<◌, ◌&&◌, ◌||◌, ◌∙◌, ℕ, List, Bool, true, false, not, cond, eqb, Option, Some, None, refl, inl, inr, ap, sym, subst, length}
 use Rattle.std.specs.Prelude.{is_some}
-use Rattle.std.proofs.lemmas.Bool.{and_parts, both_ways, cases_Bool, cases_eq, eqb-true, ne_eqb, not-true, or_right, cases_lt}
+use Rattle.std.proofs.lemmas.Bool.{and_parts, both_ways, cases_Bool, cases_eq, eq-eqb, eqb-true, ne_eqb, not-true, or_right, cases_lt}
 use Rattle.std.proofs.Math.Bool.{and-false}
 use Rattle.std.proofs.lemmas.List.{get_or_past}
-use Rattle.snoop_model.proofs.Common.{Protocol, CacheState, Request, carries_value, Open, Line, Picture, held_by, held_at, nothing_held, keeps, moves_to}
+use Rattle.std.proofs.lemmas.Option.{same_Some}
+use Rattle.snoop_model.proofs.Lines.TheSender.{IsBelow}
+use Rattle.snoop_model.proofs.Common.{Protocol, CacheState, Request, carries_value, Open, Line, Picture, held_by, held_at, nothing_held, keeps, moves_to, IsProper}
 use Rattle.snoop_history.specs.Totals.{is_put_m}
 use Rattle.snoop_model.specs.Invariant.Fits.{Claims, Talk, is_owner, is_sharer, is_clean, in_protocol, same, wait_fits, fits}
 use Rattle.snoop_model.specs.Invariant.Block.{BlockInvariant, talk_of, own_open, owns}
@@ -18,9 +20,6 @@ by_core c P here others d = elim (cases_eq d c) [ inl e ↦ subst P (sym e) here
 -- what holds of each line that there is, and of one that holds nothing, holds of any core's
 pub each_held : (lines : List Line) (k : ℕ) (P : Line → Type 0) → (k < length lines → P (held_at lines k)) → P nothing_held → P (held_at lines k)
 each_held lines k P inside nothing = elim (cases_lt k (length lines)) [ inl below ↦ inside below | inr past ↦ subst P (sym (get_or_past lines k nothing_held past)) nothing ]
-
-pub some_is : {A : Type 0} (o : Option A) (a b : A) → o ≡ Some a → o ≡ Some b → a ≡ b
-some_is o a b e f = cc
 
 pub owns_owned : (owner : Option ℕ) (d : ℕ) (b : Bool) → is_some owner ≡ b → (not (owns owner d) || b) ≡ true
 owns_owned None d b e = refl
@@ -38,6 +37,13 @@ fits_waits p shared ow w s h = (and_parts (not (is_sharer s) || shared) _ (and_p
 pub implied : (a b : Bool) → (not a || b) ≡ true → a ≡ true → b ≡ true
 implied true b h e = h
 implied false b h e = cc
+
+-- what the invariant says of one core's line, where the block's words and memory's are these
+pub record LineFits (p : Protocol) (shared owning : Bool) (wait : Option Request) (words memory : List ℕ) (line : Line) : Type 0 where
+  pub fit : fits p shared owning wait line.state ≡ true
+  pub kept : keeps line.state ≡ true → line.kept ≡ Some words
+  pub clean : is_clean line.state ≡ true → memory ≡ words
+  pub proper : IsProper line
 
 -- what a core holds may be read as before, or no longer
 pub record Carried (old new : Line) : Type 0 where
@@ -105,6 +111,36 @@ module _ {p : Protocol} {n : ℕ} {flat : List ℕ} {picture : Picture} (g : Blo
 pub calm_carries : (t : Option Open) (o : Open) → calm_talk (talk_of t) ≡ true → t ≡ Some o → carries_value o.payload ≡ true → ⊥
 calm_carries t o h e carrying = both_ways _ (not-true _ (and_parts (is_put_m o.request) (not (carries_value o.payload)) (rw e at h)).1) carrying
 
-pub none_of : (o : Option ℕ) → is_some o ≡ false → o ≡ None
-none_of None e = refl
-none_of (Some x) e = cc
+-- whether a sender, memory or a core, is this one
+abbrev pub is_it : Option ℕ → Option ℕ → Bool
+is_it sender None = not (is_some sender)
+is_it sender (Some d) = owns sender d
+
+pub it_is : (sender from : Option ℕ) → is_it sender from ≡ true → from ≡ sender
+it_is None None h = refl
+it_is (Some o) None h = cc
+it_is sender (Some d) h = sym (owner_is sender d h)
+
+pub is_itself : (sender : Option ℕ) → is_it sender sender ≡ true
+is_itself None = refl
+is_itself (Some d) = eq-eqb d d refl
+
+-- a core that is there in the owner's place, or the owner
+pub in_place_in : (now : Bool) (c : ℕ) (owner : Option ℕ) (n : ℕ) → c < n → ((o : ℕ) → owner ≡ Some o → o < n) → (o : ℕ) → cond now (Some c) owner ≡ Some o → o < n
+in_place_in true c owner n c_in was o e = rw (← (same_Some c o e)) c_in
+in_place_in false c owner n c_in was o e = was o e
+
+pub owns_self : (now : Bool) (c : ℕ) (owner : Option ℕ) → owns (cond now (Some c) owner) c ≡ (now || owns owner c)
+owns_self true c owner = eq-eqb c c refl
+owns_self false c owner = refl
+
+pub owns_other : (now : Bool) (c : ℕ) (owner : Option ℕ) (d : ℕ) → d ≢ c → owns (cond now (Some c) owner) d ≡ (not now && owns owner d)
+owns_other true c owner d apart = ne_eqb d c apart
+owns_other false c owner d apart = refl
+
+pub owns_same : (now : Bool) (c : ℕ) (owner : Option ℕ) (d : ℕ) → now ≡ false → owns (cond now (Some c) owner) d ≡ (not now && owns owner d)
+owns_same now c owner d e = rw e refl
+
+pub below_owner : (n : ℕ) (owner : Option ℕ) → ((o : ℕ) → owner ≡ Some o → o < n) → IsBelow n owner
+below_owner n None was = tt
+below_owner n (Some o) was = was o refl

@@ -1,88 +1,60 @@
--- A Respond keeps the invariant, and a load that it performs gives the flat value.
-use Rattle.std.proofs.Common.{◌≡◌, ◌≢◌, ◌<◌, ◌&&◌, ◌||◌, ◌∙◌, ℕ, length, List, Bool, true, false, not, cond, Option, Some, None, refl, inl, inr, ap, sym, subst}
+-- A Respond finds its rows and keeps the invariant, and a load that it performs gives the flat value.
+use Rattle.std.proofs.Common.{◌≡◌, ◌≢◌, ◌<◌, ◌&&◌, ◌||◌, ◌∙◌, ℕ, length, List, Bool, true, false, not, cond, Option, Some, None, refl, inl, inr, ap, sym}
 use Rattle.std.specs.Prelude.{is_some, if◌then◌else◌}
-use Rattle.std.proofs.lemmas.Bool.{and_parts, both_ways, cases_Bool, eq-eqb, ne_eqb, not-true, or_cases, or_right}
-use Rattle.std.proofs.lemmas.Option.{same_Some}
+use Rattle.std.proofs.lemmas.Bool.{and_parts, both_ways, cases_Bool, eq-eqb, ne_eqb, not-true}
+use Rattle.std.proofs.lemmas.Option.{none-some, same_Some}
 use Rattle.snoop_trace.specs.Words.{word_at}
-use Rattle.snoop_model.proofs.Common.{Protocol, Op, CacheAction, MemState, MemEvent, MemAction, Request, Payload, memory_cell_of, arrival, arrival_at_memory, takes_payload, carries_value, Did, Item, Open, Line, Picture, free_picture, held_at, held_by, nothing_held, Situation, picture_of, keeps, IsProper, Performs, is_load, FillsRequestor, ArrivesFor, Responds, next_did, written}
+use Rattle.snoop_model.proofs.Common.{Protocol, Op, CacheAction, CacheCell, MemAction, MemCell, Request, arrival, arrival_at_memory, takes_payload, Did, Item, Open, Line, Picture, held_at, held_by, nothing_held, Situation, picture_of, keeps, Performs, is_load, FillsRequestor, ArrivesFor, Responds, next_did, written}
 use Rattle.snoop_trace.specs.declared.step.Op.TheVariants as op
 use Rattle.snoop_rules.specs.declared.names.CacheAction.TheVariants as action
 use Rattle.snoop_rules.specs.declared.names.MemAction.TheVariants as mem_action
 use Rattle.snoop_rules.specs.declared.names.Request.TheVariants as request
-use Rattle.snoop_rules.proofs.Every.{all_states-at}
 use Rattle.snoop_history.specs.Totals.{is_put_m, is_get_m}
-use Rattle.snoop_model.specs.Invariant.Fits.{Claims, claims_of, is_clean, fits}
+use Rattle.snoop_model.specs.Invariant.Fits.{Claims, claims_of}
 use Rattle.snoop_model.specs.Invariant.Block.{BlockInvariant, own_open, owns}
-use Rattle.snoop_model.proofs.Tables.Every.{either-at, given, given_at, same_is, some_of, when_at}
-use Rattle.snoop_model.proofs.OneBlock.Operation.{flat_after, IsLawful}
-use Rattle.snoop_model.proofs.Tables.SenderTests.{after_respond, next_memory, next_of}
 use Rattle.snoop_model.proofs.Lists.Writes.{each_set}
-use Rattle.snoop_model.proofs.OneBlock.Facts.{put_calm, owns_owned, implied}
-use Rattle.snoop_model.proofs.OneBlock.AskStep.{right_of}
+use Rattle.snoop_model.proofs.Tables.Every.{EachHolds, same_is, some_and, some_each}
+use Rattle.snoop_model.proofs.Tables.RespondTests.{answer_tests, answers_one, fills_store, gains, respond_rule, respond_tests, row_for, settled_row, settled_so, stay_one, writes}
 use Rattle.snoop_model.proofs.Tables.Rows.{IsProper-fill}
-use Rattle.snoop_model.proofs.Tables.RespondTests.{SettlesIf, after_rule, fills_store, gains, memory_row_for, respond_rule, row_for, writes}
 use Rattle.snoop_model.proofs.Tables.StateTests.{clean_reads, fits_calm, is_calm}
-use Rattle.snoop_model.proofs.Tables.RespondTests
+use Rattle.snoop_model.proofs.OneBlock.Facts.{LineFits, in_place_in, owns_other, owns_owned, owns_same, owns_self, put_calm}
+use Rattle.snoop_model.proofs.OneBlock.Operation.{flat_after, IsLawful}
 
--- memory's next state is the tables'
-memory_after : (b : Bool) (p : Protocol) (m next : MemState) (found : Option MemEvent) (act : MemAction) → SettlesIf b p found m act next
-    → cond b (next_memory p m found) (Some m) ≡ Some next
-memory_after true p m next None act settled = absurd settled
-memory_after true p m next (Some event) act settled = ap next_of settled
-memory_after false p m next found act settled = ap (λ (x : MemState). Some x) (sym settled.1)
+-- all that a Respond looks up of a picture that keeps its invariant
+pub record Closing {p : Protocol} {n : ℕ} {flat : List ℕ} {before : Picture} (good : BlockInvariant p n flat before) (o : Open) : Type 0 where
+  pub opened : before.transaction ≡ Some o
+  pub memory : MemCell
+  pub is_memory : settled_row p o.request before.memory.state o.payload ≡ Some memory
+  pub next : Claims
+  pub is_next : claims_of p memory.next None ≡ Some next
+  pub tests : EachHolds (respond_tests p o.request o.payload good.claims memory next)
 
-written_flat : (a : MemAction) (v old flat : List ℕ) → (writes a ≡ true → v ≡ flat) → old ≡ flat → written a v old ≡ flat
-written_flat mem_action.Write v old flat h e = h refl
-written_flat _ v old flat h e = e
+pub closing : {p : Protocol} {n : ℕ} {flat : List ℕ} {before : Picture} (good : BlockInvariant p n flat before) (o : Open) → before.transaction ≡ Some o → Closing good o
+closing {p} {n} {flat} {before} good o opened =
+    let m = before.memory.state in
+    let (memory, is_memory, test) = some_and (settled_row p o.request m o.payload) _ (respond_rule p m o.request o.payload good.claims (rw opened at good.is_claims)) in
+    let (next, is_next, tests) = some_each (claims_of p memory.next None) (respond_tests p o.request o.payload good.claims memory) test in
+    record { opened = opened; memory = memory; is_memory = is_memory; next = next; is_next = is_next; tests = tests }
 
-write_flat : (a : MemAction) (v old flat : List ℕ) → writes a ≡ true → v ≡ flat → written a v old ≡ flat
-write_flat mem_action.Write v old flat h e = e
-write_flat _ v old flat h e = cc
+-- the requestor of a GetS or a GetM has a row for the data
+pub answered : {p : Protocol} {n : ℕ} {flat : List ℕ} {before : Picture} {good : BlockInvariant p n flat before} {o : Open} (a : Closing good o) → is_put_m o.request ≡ false
+    → (row : CacheCell) × (row_for p (held_by before o.core).state (arrival o.payload) ≡ Some row) × EachHolds (answer_tests p o.request good.claims a.next (owns good.owner o.core) row)
+answered {p} {n} {flat} {before} {good} {o} a get =
+    let s = (held_by before o.core).state in
+    let ow = owns good.owner o.core in
+    let fit = rw (a.opened, eq-eqb o.core o.core refl) at (good.states o.core (good.requestor_in o a.opened)) in
+    some_each (row_for p s (arrival o.payload)) (answer_tests p o.request good.claims a.next ow)
+        (answers_one p o.request o.payload good.claims a.next (rw get at a.tests.1.1.1.1.1.0) s ow fit)
 
--- memory writes only data that comes, and it writes where its row does
-module _ (p : Protocol) (m next : MemState) (act : MemAction) (carrying : Bool) where
-  writes_carried : (b : Bool) (found : Option MemEvent) → SettlesIf b p found m act next
-      → (not b || given (memory_row_for p m found) (λ r. not (writes r.action) || carrying)) ≡ true → writes act ≡ true → carrying ≡ true
-  writes_carried true None settled test w = absurd settled
-  writes_carried true (Some event) settled test w =
-      implied (writes act) carrying (given_at (memory_cell_of p m event) (λ r. not (writes r.action) || carrying) _ settled test) w
-  writes_carried false found settled test w = let none = rw settled.0 at w in cc
+written_flat : (a : MemAction) (v old flat : List ℕ) → (writes a ≡ true → v ≡ flat) → (writes a ≡ false → old ≡ flat) → written a v old ≡ flat
+written_flat mem_action.Write v old flat new stays = new refl
+written_flat _ v old flat new stays = stays refl
 
-  row_writes : (b : Bool) (found : Option MemEvent) → SettlesIf b p found m act next
-      → (b && carrying && given (memory_row_for p m found) (λ r. writes r.action)) ≡ true → (carrying ≡ true) × (writes act ≡ true)
-  row_writes true None settled test = absurd settled
-  row_writes true (Some event) settled test =
-      let parts = and_parts carrying (given (memory_cell_of p m event) (λ r. writes r.action)) test in
-      (parts.0, given_at (memory_cell_of p m event) (λ r. writes r.action) _ settled parts.1)
-  row_writes false found settled test = cc
-
-put_gains : (q : Request) (pl : Payload) (owned : Bool) → is_put_m q ≡ true → (owned || gains q pl) ≡ owned
-put_gains request.PutM pl true h = refl
-put_gains request.PutM pl false h = refl
-put_gains _ pl owned h = cc
-
--- who owns after a GetS or a GetM is answered
-abbrev answered_owner : Bool → ℕ → Option ℕ → Option ℕ
-answered_owner gained c owner = cond gained (Some c) owner
-
-answered_in : (gained : Bool) (c : ℕ) (owner : Option ℕ) (n : ℕ) → c < n → ((o : ℕ) → owner ≡ Some o → o < n) → (o : ℕ) → answered_owner gained c owner ≡ Some o → o < n
-answered_in true c owner n c_in was o e = rw (← (same_Some c o e)) c_in
-answered_in false c owner n c_in was o e = was o e
-
-answered_owned : (gained owned : Bool) (c : ℕ) (owner : Option ℕ) → is_some owner ≡ owned → is_some (answered_owner gained c owner) ≡ (owned || gained)
-answered_owned true owned c owner e = sym (or_right owned true refl)
-answered_owned false true c owner e = e
-answered_owned false false c owner e = e
-
-owns_answered_self : (gained : Bool) (c : ℕ) (owner : Option ℕ) → owns owner c ≡ false → owns (answered_owner gained c owner) c ≡ gained
-owns_answered_self true c owner h = eq-eqb c c refl
-owns_answered_self false c owner h = h
-
-owns_answered_other : (gained owned : Bool) (c d : ℕ) (owner : Option ℕ) → d ≢ c → is_some owner ≡ owned → (not gained || not owned) ≡ true → owns (answered_owner gained c owner) d ≡ owns owner d
-owns_answered_other true owned c d None apart e h = ne_eqb d c apart
-owns_answered_other true true c d (Some o) apart e h = cc
-owns_answered_other true false c d (Some o) apart e h = cc
-owns_answered_other false owned c d owner apart e h = refl
+-- whether a core owns the block then, if the requestor does in the owner's place where none owned it
+owned_after : (before after : Bool) (c : ℕ) (owner : Option ℕ) → is_some owner ≡ before → (not before || after) ≡ true → is_some (cond (not before && after) (Some c) owner) ≡ after
+owned_after true after c owner is h = is ∙ sym h
+owned_after false true c owner is h = refl
+owned_after false false c owner is h = is
 
 -- the words that the operation leaves are those in flat memory after it
 module _ (flat : List ℕ) (log : List Item) (core block word value : ℕ) (came after : List ℕ) where
@@ -102,151 +74,95 @@ module _ (s : Situation) (block : ℕ) (o : Open) (did : Option Did) (new : Situ
   abbrev before : Picture
   before = picture_of s block
 
-  abbrev after : Picture
-  after = free_picture r.next.caches r.next.memory
+  a : Closing g o
+  a = closing g o r.opened
 
-  is_claims : claims_of p before.memory.state (Some (o.request, o.payload)) ≡ Some g.claims
-  is_claims = rw r.opened at g.is_claims
+  abbrev gained : Bool
+  gained = gains g.claims a.next
 
-  is_memory : after_respond p o.request before.memory.state o.payload ≡ Some r.next.memory.state
-  is_memory = memory_after (takes_payload o.request before.memory.state) p before.memory.state r.next.memory.state (arrival_at_memory o.payload) r.memory.act r.memory.settled
+  -- the row that memory takes
+  memory_is : a.memory ≡ record { action = r.memory.act; next = r.next.memory.state }
+  memory_is =
+      same_Some _ _ (sym a.is_memory ∙ (settled_so (takes_payload o.request before.memory.state) p (arrival_at_memory o.payload) before.memory.state r.memory.act r.next.memory.state).0 r.memory.settled)
 
-  -- a test of its rows holds here
-  tested : (k : RespondTests.RespondQuestion) → RespondTests.respond_test k p before.memory.state o.request o.payload g.claims ≡ true
-  tested = respond_rule p before.memory.state o.request o.payload g.claims is_claims
+  -- memory is written with the block's words, or has them where it had
+  memory_flat : (writes r.memory.act ≡ false → before.memory.value ≡ flat) → r.next.memory.value ≡ flat
+  memory_flat stays = r.memory.value ∙ written_flat r.memory.act o.value before.memory.value flat (λ w. g.carried o r.opened (rw (memory_is, w) at a.tests.1.1.1.0)) stays
 
-  -- the claims after it
-  line_after : (next : Claims) × (claims_of p r.next.memory.state None ≡ Some next)
-  line_after = some_of (claims_of p r.next.memory.state None) (given_at _ _ r.next.memory.state is_memory (tested RespondTests.has_line_after))
-
-  abbrev next : Claims
-  next = line_after.0
-
-  -- and a test of these
-  tested_after : (k : RespondTests.AfterQuestion) → RespondTests.after_test k p before.memory.state o.request o.payload g.claims r.next.memory.state next ≡ true
-  tested_after = after_rule p before.memory.state o.request o.payload g.claims is_claims r.next.memory.state next is_memory line_after.1
-
-  -- memory stays where it has the block's value, and is written with it
-  memory_stays : before.memory.value ≡ flat → r.next.memory.value ≡ flat
-  memory_stays e = r.memory.value ∙ written_flat r.memory.act o.value before.memory.value flat
-      (λ w. g.carried o r.opened (writes_carried p before.memory.state r.next.memory.state r.memory.act (carries_value o.payload) _ _ r.memory.settled (tested RespondTests.write_carries) w)) e
-
-  refreshed : next.fresh ≡ true → (is_get_m o.request ≡ false) × (r.next.memory.value ≡ flat)
+  refreshed : a.next.fresh ≡ true → (is_get_m o.request ≡ false) × (r.next.memory.value ≡ flat)
   refreshed h =
-      let (get_s, from) = and_parts (not (is_get_m o.request)) _ (implied next.fresh _ (tested_after RespondTests.fresh_respond) h) in (
-        not-true (is_get_m o.request) get_s,
-        elim (or_cases g.claims.fresh _ from) [
-          | inl fresh ↦ memory_stays (g.fresh fresh)
-          | inr written_now ↦
-              let (carrying, writing) = row_writes p before.memory.state r.next.memory.state r.memory.act (carries_value o.payload) _ _ r.memory.settled written_now in
-              r.memory.value ∙ write_flat r.memory.act o.value before.memory.value flat writing (g.carried o r.opened carrying)
-        ],
-      )
+      let (get_s, from) = and_parts (not (is_get_m o.request)) _ (rw h at a.tests.1.1.1.1.0) in
+      (not-true _ get_s, memory_flat (λ w. g.fresh (rw (memory_is, w) at from)))
 
-  owned_after : next.owned ≡ (g.claims.owned || gains o.request o.payload)
-  owned_after = same_is _ _ (tested_after RespondTests.gain_owned)
-
-  -- a core that is not answered keeps its state, which fits the line after; and after a GetM it may not read
-  stays : (d : ℕ) → d < n → is_calm (own_open before.transaction d) ≡ true
-      → (fits p next.shared (owns g.owner d) None (held_by before d).state ≡ true) × (is_get_m o.request ≡ true → keeps (held_by before d).state ≡ false)
-  stays d d_in calm =
+  -- a core that is not answered keeps its line, which fits then, if the block's words change only at a GetM
+  stays : (words : List ℕ) → (is_get_m o.request ≡ false → words ≡ flat) → (d : ℕ) → d < n → is_calm (own_open before.transaction d) ≡ true
+      → LineFits p a.next.shared (not gained && owns g.owner d) None words r.next.memory.value (held_by before d)
+  stays words same d d_in calm =
       let s = (held_by before d).state in
       let fit = fits_calm p g.claims.shared (owns g.owner d) (own_open before.transaction d) s calm (g.states d d_in) in
-      let here = when_at _ _ (owns_owned g.owner d g.claims.owned g.is_owned) (when_at _ _ fit (either-at _ (all_states-at _ (tested_after RespondTests.stays) s) (owns g.owner d))) in
-      let (fits_after, blind) = and_parts (fits p next.shared (owns g.owner d) None s) (not (is_get_m o.request) || not (keeps s)) here in
-      (fits_after, λ get_m. not-true (keeps s) (implied (is_get_m o.request) (not (keeps s)) blind get_m))
+      let (fit_after, blind) = and_parts _ _ (stay_one p o.request g.claims a.next a.tests.1.1.1.1.1.1.0 s (owns g.owner d) fit (owns_owned g.owner d g.claims.owned g.is_owned)) in
+      let reads : keeps s ≡ true → words ≡ flat = λ h. elim (cases_Bool (is_get_m o.request)) [
+        | inl m ↦ absurd (both_ways _ (not-true _ (rw m at blind)) h)
+        | inr m ↦ same m
+      ] in
+      record {
+        fit = fit_after;
+        kept = λ h. rw (reads h) (g.kept d d_in h);
+        clean = λ h. memory_flat (λ w. g.clean d d_in h) ∙ sym (reads (clean_reads s h));
+        proper = g.proper d d_in;
+      }
 
-  -- a PutM's end
-  respond_put : is_put_m o.request ≡ true → ((d : ℕ) → held_by after d ≡ held_by before d) → BlockInvariant p n flat after
-  respond_put put same = record {
-    claims = next;
-    is_claims = line_after.1;
-    owner = g.owner;
-    owner_in = g.owner_in;
-    is_owned = g.is_owned ∙ sym (owned_after ∙ put_gains o.request o.payload g.claims.owned put);
-    states = λ d d_in. rw (same d) (stays d d_in (rw r.opened (put_calm o d put))).0;
-    kept = λ d. rw (same d) (g.kept d);
-    clean = λ d. rw (same d) (λ d_in h. memory_stays (g.clean d d_in h));
-    fresh = λ h. (refreshed h).1;
-    carried = λ x is_x carrying. cc;
-    requestor_in = λ x is_x. cc;
-    sender_in = λ x is_x. cc;
-    proper = λ d. rw (same d) (g.proper d);
-  }
+  closed : (words : List ℕ) → (is_get_m o.request ≡ false → words ≡ flat)
+      → ((d : ℕ) → d < n → LineFits p a.next.shared (owns (cond gained (Some o.core) g.owner) d) None words r.next.memory.value (held_at r.next.caches d)) → BlockInvariant p n words r.next
+  closed words same lines =
+      let nothing : (x : Open) → r.next.transaction ≡ Some x → ⊥ = λ x is_x. none-some x (sym r.closed ∙ is_x) in
+      record {
+        claims = a.next;
+        is_claims = simp r.closed (rw memory_is at a.is_next);
+        owner = cond gained (Some o.core) g.owner;
+        owner_in = in_place_in gained o.core g.owner n (g.requestor_in o r.opened) g.owner_in;
+        is_owned = owned_after g.claims.owned a.next.owned o.core g.owner g.is_owned a.tests.1.0;
+        states = λ d d_in. simp r.closed (lines d d_in).fit;
+        kept = λ d d_in. (lines d d_in).kept;
+        clean = λ d d_in. (lines d d_in).clean;
+        fresh = λ h. (refreshed h).1 ∙ sym (same (refreshed h).0);
+        carried = λ x is_x. absurd (nothing x is_x);
+        requestor_in = λ x is_x. absurd (nothing x is_x);
+        sender_in = λ x is_x. absurd (nothing x is_x);
+        proper = λ d d_in. (lines d d_in).proper;
+      }
 
   -- the end of a GetS or a GetM
-  module _ (no_put : is_put_m o.request ≡ false) (f : FillsRequestor o p s.log before.caches r.next.caches did) where
-    abbrev c : ℕ
-    c = o.core
+  respond_get : is_put_m o.request ≡ false → FillsRequestor o p s.log before.caches r.next.caches did → BlockInvariant p n (flat_after flat did) r.next × IsLawful flat did
+  respond_get get f =
+      let c = o.core in
+      let (row, is_row, (fit, (clean, (stores, _)))) = answered a get in
+      let row_is : row ≡ f.fills.row = same_Some _ _ (sym is_row ∙ rw f.fills.arrives f.fills.is_row) in
+      let words : (f.fills.after ≡ flat_after flat did) × IsLawful flat did × (fills_store f.fills.row.action ≡ false → flat_after flat did ≡ flat) =
+          rw f.logged (filled_words flat s.log c o.block f.asking.word f.value o.value f.fills.after f.fills.row.action f.asking.op (g.carried o r.opened (rw get at a.tests.0)) f.fills.fill f.fills.performed) in
+      let same : is_get_m o.request ≡ false → flat_after flat did ≡ flat = λ h. words.2 (same_is _ _ (rw row_is at stores) ∙ h) in
+      let filled : LineFits p a.next.shared (owns (cond gained (Some c) g.owner) c) None (flat_after flat did) r.next.memory.value f.line = rw f.fills.held (record {
+        fit = rw owns_self (rw row_is at fit);
+        kept = λ h. rw words.0 refl;
+        clean = λ h. let (fresh, get_s) = and_parts g.claims.fresh _ (rw (row_is, h) at clean) in memory_flat (λ w. g.fresh fresh) ∙ sym (same (not-true _ get_s));
+        proper = IsProper-fill p (held_by before c).state f.fills.event f.fills.row.action f.fills.row.next f.asking.op f.fills.after f.fills.fill f.fills.is_row;
+      }) in
+      (
+        closed (flat_after flat did) same (simp f.held (each_set before.caches c f.line nothing_held
+        (λ d x. d < n → LineFits p a.next.shared (owns (cond gained (Some c) g.owner) d) None (flat_after flat did) r.next.memory.value x) in_row (λ c_in. filled)
+        (λ d apart d_in. rw (owns_other gained c g.owner d apart) (stays (flat_after flat did) same d d_in (rw (r.opened, ne_eqb d c apart) refl))))),
+        words.1,
+      )
 
-    abbrev gained : Bool
-    gained = gains o.request o.payload
+  -- a PutM's end changes no line
+  respond_put : is_put_m o.request ≡ true → r.next.caches ≡ before.caches → BlockInvariant p n flat r.next
+  respond_put put same = closed flat (λ h. refl) (λ d d_in. simp same (rw (owns_same gained o.core g.owner d (not-true _ (rw put at a.tests.1.1.0)))
+      (stays flat (λ h. refl) d d_in (rw r.opened (put_calm o d put)))))
 
-    words : (f.fills.after ≡ flat_after flat did) × IsLawful flat did × (fills_store f.fills.row.action ≡ false → flat_after flat did ≡ flat)
-    words =
-        let carries : carries_value o.payload ≡ true = right_of (is_put_m o.request) (carries_value o.payload) (tested RespondTests.data_of_get) no_put in
-        rw f.logged (filled_words flat s.log c o.block f.asking.word f.value o.value f.fills.after f.fills.row.action f.asking.op (g.carried o r.opened carries) f.fills.fill f.fills.performed)
-
-    -- the requestor's row for the data
-    answered : RespondTests.answered_so p o.request o.payload g.claims next (owns g.owner c) f.fills.row ≡ true
-    answered =
-        let s = (held_by before c).state in
-        let fit : fits p g.claims.shared (owns g.owner c) (Some o.request) s ≡ true = rw (r.opened, eq-eqb c c refl) at (g.states c (g.requestor_in o r.opened)) in
-        let get : not (is_put_m o.request) ≡ true = rw no_put refl in
-        let test = when_at _ _ get (tested_after RespondTests.arrival_fits) in
-        given_at (row_for p s (arrival o.payload)) _ f.fills.row (rw f.fills.arrives f.fills.is_row) (when_at _ _ fit (either-at _ (all_states-at _ test s) (owns g.owner c)))
-
-    calm : (d : ℕ) → d ≢ c → is_calm (own_open before.transaction d) ≡ true
-    calm d apart = rw (r.opened, ne_eqb d c apart) refl
-
-    -- what holds of the filled line, and of each other core's as before, holds of each then
-    each_after : (P : ℕ → Line → Type 0) → P c f.line → ((d : ℕ) → d ≢ c → P d (held_by before d)) → (d : ℕ) → P d (held_at r.next.caches d)
-    each_after P = rw f.held (each_set before.caches c f.line nothing_held P in_row)
-
-    respond_get : BlockInvariant p n (flat_after flat did) after × IsLawful flat did
-    respond_get =
-        let (no_owner, parts) = and_parts (not (owns g.owner c)) _ answered in
-        let (fit, rest) = and_parts _ _ parts in
-        let (clean_if, stores) = and_parts _ _ rest in
-        -- the flat value is as before, or no other core may read and memory isn't fresh
-        let same_flat : is_get_m o.request ≡ false → flat_after flat did ≡ flat = λ h. words.2 (same_is _ _ stores ∙ h) in
-        let readers : (d : ℕ) → d < n → d ≢ c → keeps (held_by before d).state ≡ true → flat_after flat did ≡ flat = λ d d_in apart reads. elim (cases_Bool (is_get_m o.request)) [
-          | inl m ↦ absurd (both_ways _ ((stays d d_in (calm d apart)).1 m) reads)
-          | inr m ↦ same_flat m
-        ] in
-        let good : BlockInvariant p n (flat_after flat did) after = record {
-          claims = next;
-          is_claims = line_after.1;
-          owner = answered_owner gained c g.owner;
-          owner_in = answered_in gained c g.owner n (g.requestor_in o r.opened) g.owner_in;
-          is_owned = answered_owned gained g.claims.owned c g.owner g.is_owned ∙ sym owned_after;
-          states = each_after (λ d x. d < n → fits p next.shared (owns (answered_owner gained c g.owner) d) None x.state ≡ true)
-              (λ c_in. rw (owns_answered_self gained c g.owner (not-true _ no_owner), f.fills.held) fit)
-              (λ d apart d_in. rw (owns_answered_other gained g.claims.owned c d g.owner apart g.is_owned (tested_after RespondTests.gain_alone)) (stays d d_in (calm d apart)).0);
-          kept = each_after (λ d x. d < n → keeps x.state ≡ true → x.kept ≡ Some (flat_after flat did))
-              (λ c_in h. rw (f.fills.held, words.0) refl)
-              (λ d apart d_in h. rw (readers d d_in apart h) (g.kept d d_in h));
-          clean = each_after (λ d x. d < n → is_clean x.state ≡ true → r.next.memory.value ≡ flat_after flat did)
-              (λ c_in h. let (fresh, get_s) = and_parts g.claims.fresh (not (is_get_m o.request)) (implied (is_clean f.fills.row.next) _ clean_if (rw f.fills.held at h)) in
-              memory_stays (g.fresh fresh) ∙ sym (same_flat (not-true _ get_s)))
-              (λ d apart d_in h. memory_stays (g.clean d d_in h) ∙ sym (readers d d_in apart (clean_reads _ h)));
-          fresh = λ h. (refreshed h).1 ∙ sym (same_flat (refreshed h).0);
-          carried = λ x is_x carrying. cc;
-          requestor_in = λ x is_x. cc;
-          sender_in = λ x is_x. cc;
-          proper = each_after (λ d x. d < n → IsProper x)
-              (λ c_in. rw f.fills.held (IsProper-fill p (held_by before c).state f.fills.event f.fills.row.action f.fills.row.next f.asking.op f.fills.after f.fills.fill f.fills.is_row))
-              (λ d apart. g.proper d);
-        } in
-        (good, words.1)
-
-  by_request : (q : Request) → o.request ≡ q → ArrivesFor q o p s.log before.caches r.next.caches did → BlockInvariant p n (flat_after flat did) after × IsLawful flat did
-  by_request request.PutM is a = rw a.1 (respond_put (ap is_put_m is) (λ d. ap (λ (x : List Line). held_at x d) a.0), tt)
-  by_request _ is a = respond_get (ap is_put_m is) a
+  by_request : (q : Request) → o.request ≡ q → ArrivesFor q o p s.log before.caches r.next.caches did → BlockInvariant p n (flat_after flat did) r.next × IsLawful flat did
+  by_request request.PutM is arrives = rw arrives.1 (respond_put (ap is_put_m is) arrives.0, tt)
+  by_request _ is arrives = respond_get (ap is_put_m is) arrives
 
   -- a Respond keeps the invariant of a picture, and a load that it performs gives the flat value
   pub respond_keeps : BlockInvariant p n (flat_after flat did) r.next × IsLawful flat did
-  respond_keeps =
-      let good = by_request o.request refl r.requestor in
-      let P : Option Open → Type 0 = λ t. BlockInvariant p n (flat_after flat did) (record { caches = r.next.caches; memory = r.next.memory; transaction = t }) in
-      (subst P (sym r.closed) good.0, good.1)
+  respond_keeps = by_request o.request refl r.requestor

@@ -1,13 +1,12 @@
 -- Tests of the rows of an Ask, computed over the whole tables.
 use Rattle.std.proofs.Common.{◌≡◌, ◌&&◌, ◌||◌, Bool, true, false, not, Option, Some, refl}
-use Rattle.std.specs.Prelude.{is_some}
 use Rattle.snoop_model.proofs.Common.{Protocol, Op, CacheState, CacheEvent, CacheAction, CacheCell, Request, cell_of, asked}
 use Rattle.snoop_rules.specs.declared.names.CacheState.TheVariants as state
 use Rattle.snoop_rules.specs.declared.names.CacheEvent.TheVariants as event
 use Rattle.snoop_rules.specs.declared.names.CacheAction.TheVariants as action
 use Rattle.snoop_rules.proofs.Every.{all_protocols, all_protocols-at, all_states, all_states-at, all_memories, all_requests, all_payloads}
 use Rattle.snoop_model.specs.Invariant.Fits.{claims_of, is_owner, is_sharer, is_clean, wait_fits, in_protocol, same, fits}
-use Rattle.snoop_model.proofs.Tables.Every.{either, either-at, when, when_at, given, given_at, all_asks, all_asks-at, all_waits, all_waits-at}
+use Rattle.snoop_model.proofs.Tables.Every.{either, either-at, when, when_at, given, given_at, is_some_and, all_asks, all_asks-at, all_waits, all_waits-at}
 use Rattle.snoop_model.proofs.Tables.StateTests.{is_hit, carries}
 
 abbrev pub is_stall : CacheAction → Bool
@@ -59,7 +58,7 @@ is_idle_evict _ _ = false
 
 -- there is a row for each Ask of a core in the protocol but for an Evict in I
 abbrev pub has_ask_row : Protocol → CacheState → CacheEvent → Bool
-has_ask_row p s e = when (in_protocol p s) (λ _. is_idle_evict s e || is_some (cell_of p s e))
+has_ask_row p s e = when (in_protocol p s) (λ _. is_idle_evict s e || is_some_and (cell_of p s e) (λ row. true))
 
 has_ask_row_holds : all_protocols (λ p. all_states (λ s. all_asks (λ e. has_ask_row p s e))) ≡ true
 unfolding all_protocols all_memories all_states all_requests all_payloads all_asks all_waits either given when claims_of fits is_owner is_sharer is_clean wait_fits in_protocol same

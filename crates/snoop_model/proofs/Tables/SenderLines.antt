@@ -1,72 +1,56 @@
--- The table of senders as a test is the table of the definitions.
-use Rattle.std.proofs.Common.{◌≡◌, ℕ, Bool, true, false, cond, Option, Some, None, refl, arith}
-use Rattle.std.specs.Prelude.{Contains, IsSomeAnd}
-use Rattle.snoop_model.proofs.Common.{Protocol, MemState, MemEvent, MemAction, MemCell, Request, Payload, MemoryCell, memory_cell_of, arrival_at_memory, takes_payload, Picture, held_by}
-use Rattle.snoop_trace.specs.declared.protocol.Protocol.TheVariants as protocol
-use Rattle.snoop_rules.specs.declared.names.CacheState.TheVariants as state
-use Rattle.snoop_rules.specs.declared.names.MemState.TheVariants as mem
-use Rattle.snoop_rules.specs.declared.names.MemAction.TheVariants as mem_action
-use Rattle.snoop_rules.specs.declared.names.Request.TheVariants as request
-use Rattle.snoop_rules.specs.declared.names.Payload.TheVariants as payload
+-- The table of senders as a test.
+use denote.Enum.Bare.{same_true, sameb}
+use Rattle.std.proofs.Common.{◌≡◌, ◌&&◌, ℕ, Bool, true, false, Option, refl, ap}
+use Rattle.std.specs.List.{list_any}
+use Rattle.std.proofs.lemmas.Bool.{and_parts}
+use Rattle.std.proofs.lemmas.Map.Views.{Contains-from_any}
+use Rattle.snoop_model.proofs.Common.{Protocol, CacheState, MemState, Request, Payload, arrival_at_memory, takes_payload, Picture, held_by}
+use Rattle.snoop_rules.specs.contracts.names.CacheState.{the_type as states}
+use Rattle.snoop_rules.specs.contracts.names.MemState.{the_type as memories}
+use Rattle.snoop_rules.specs.contracts.names.Payload.{the_type as payloads}
 use Rattle.snoop_rules.specs.WhoSends.{Sender, Memory, Requestor, Other, sender_of, lines_of}
 use Rattle.snoop_model.specs.Moves.SenderTable.{IsSenderLine}
-use Rattle.snoop_model.proofs.Tables.RespondTests.{SettlesIf}
-use Rattle.snoop_model.proofs.Tables.SenderTests.{is_sender_line, follows_sender_table, after_respond, next_memory, next_of, some_and}
+use Rattle.snoop_model.proofs.Tables.Every.{is_some_and, some_and}
+use Rattle.snoop_model.proofs.Tables.RespondTests.{settled_row, settled_so}
 
-no_line : ◌≡◌ {A = Bool} false true → ⊥
-no_line h = cc
+abbrev same_sender : Sender → Sender → Bool
+same_sender Memory Memory = true
+same_sender (Requestor s) (Requestor t) = sameb states s t
+same_sender (Other s) (Other t) = sameb states s t
+same_sender _ _ = false
 
--- a line that the test passes is in the table, at place `k`
-pub in_lines : (p : Protocol) (q : Request) (m : MemState) (sender : Sender) (sent : Payload) (next done : MemState) → is_sender_line p q m sender sent next done ≡ true → Contains (lines_of p q m) (sender, sent, next, done)
-unfolding is_sender_line
-in_lines protocol.Mesi request.GetM mem.EorM (Other state.E) payload.Data mem.EorM mem.EorM h = (0, omega arith, refl)
-in_lines protocol.Mesi request.GetM mem.EorM (Other state.EiA) payload.Data mem.EorM mem.EorM h = (2, omega arith, refl)
-in_lines protocol.Mesi request.GetM mem.EorM (Other state.M) payload.Data mem.EorM mem.EorM h = (1, omega arith, refl)
-in_lines protocol.Mesi request.GetM mem.EorM (Other state.MiA) payload.Data mem.EorM mem.EorM h = (3, omega arith, refl)
-in_lines protocol.Mesi request.GetM mem.I Memory payload.Data mem.EorM mem.EorM h = (0, omega arith, refl)
-in_lines protocol.Mesi request.GetM mem.S Memory payload.Data mem.EorM mem.EorM h = (0, omega arith, refl)
-in_lines protocol.Mesi request.GetS mem.EorM (Other state.E) payload.Data mem.SD mem.S h = (0, omega arith, refl)
-in_lines protocol.Mesi request.GetS mem.EorM (Other state.EiA) payload.Data mem.SD mem.S h = (2, omega arith, refl)
-in_lines protocol.Mesi request.GetS mem.EorM (Other state.M) payload.Data mem.SD mem.S h = (1, omega arith, refl)
-in_lines protocol.Mesi request.GetS mem.EorM (Other state.MiA) payload.Data mem.SD mem.S h = (3, omega arith, refl)
-in_lines protocol.Mesi request.GetS mem.I Memory payload.DataE mem.EorM mem.EorM h = (0, omega arith, refl)
-in_lines protocol.Mesi request.GetS mem.S Memory payload.Data mem.S mem.S h = (0, omega arith, refl)
-in_lines protocol.Mesi request.PutM mem.EorM (Requestor state.EiA) payload.NoDataE mem.EorMD mem.I h = (1, omega arith, refl)
-in_lines protocol.Mesi request.PutM mem.EorM (Requestor state.IiA) payload.NoData mem.EorMD mem.EorM h = (2, omega arith, refl)
-in_lines protocol.Mesi request.PutM mem.EorM (Requestor state.MiA) payload.Data mem.EorMD mem.I h = (0, omega arith, refl)
-in_lines protocol.Mesi request.PutM mem.I (Requestor state.IiA) payload.NoData mem.ID mem.I h = (0, omega arith, refl)
-in_lines protocol.Mesi request.PutM mem.S (Requestor state.IiA) payload.NoData mem.SD mem.S h = (0, omega arith, refl)
-in_lines protocol.Msi request.GetM mem.IorS Memory payload.Data mem.M mem.M h = (0, omega arith, refl)
-in_lines protocol.Msi request.GetM mem.M (Other state.M) payload.Data mem.M mem.M h = (0, omega arith, refl)
-in_lines protocol.Msi request.GetM mem.M (Other state.MiA) payload.Data mem.M mem.M h = (1, omega arith, refl)
-in_lines protocol.Msi request.GetS mem.IorS Memory payload.Data mem.IorS mem.IorS h = (0, omega arith, refl)
-in_lines protocol.Msi request.GetS mem.M (Other state.M) payload.Data mem.IorSD mem.IorS h = (0, omega arith, refl)
-in_lines protocol.Msi request.GetS mem.M (Other state.MiA) payload.Data mem.IorSD mem.IorS h = (1, omega arith, refl)
-in_lines protocol.Msi request.PutM mem.IorS (Requestor state.IiA) payload.NoData mem.IorSD mem.IorS h = (0, omega arith, refl)
-in_lines protocol.Msi request.PutM mem.M (Requestor state.IiA) payload.NoData mem.MD mem.M h = (1, omega arith, refl)
-in_lines protocol.Msi request.PutM mem.M (Requestor state.MiA) payload.Data mem.MD mem.IorS h = (0, omega arith, refl)
-in_lines _ _ _ _ _ _ _ h = absurd (no_line h)
+same_sender-true : (x y : Sender) → same_sender x y ≡ true → x ≡ y
+same_sender-true Memory Memory h = refl
+same_sender-true (Requestor s) (Requestor t) h = ap Requestor (same_true states tt s t h)
+same_sender-true (Other s) (Other t) h = ap Other (same_true states tt s t h)
+same_sender-true _ _ h = cc
 
-memory_settles : (p : Protocol) (m : MemState) (e : Option MemEvent) (done : MemState) → next_memory p m e ≡ Some done → (act : MemAction) × IsSomeAnd e (λ event. MemoryCell p m event act done)
-memory_settles p m None done h = cc
-memory_settles p m (Some event) done h = go (memory_cell_of p m event) refl h
-  where
-    go : (row : Option MemCell) → memory_cell_of p m event ≡ row → next_of row ≡ Some done → (act : MemAction) × MemoryCell p m event act done
-    go None is k = cc
-    go (Some row) is k =
-        let e : row.next ≡ done = cc in
-        (row.action, rw (← e) is)
+-- who sends, the payload, and memory's state after the Order and after the Respond
+abbrev Row : Type 0
+Row = Sender × Payload × MemState × MemState
 
-settles_by : (b : Bool) (p : Protocol) (m : MemState) (sent : Payload) (done : MemState) → cond b (next_memory p m (arrival_at_memory sent)) (Some m) ≡ Some done
-    → (act : MemAction) × SettlesIf b p (arrival_at_memory sent) m act done
-settles_by true p m sent done h = memory_settles p m (arrival_at_memory sent) done h
-settles_by false p m sent done h = let same : done ≡ m = cc in (mem_action.None, (refl, same))
+abbrev same_row : Row → Row → Bool
+same_row x y = same_sender x.0 y.0 && (sameb payloads x.1 y.1 && (sameb memories x.2 y.2 && sameb memories x.3 y.3))
+
+same_row-true : (x y : Row) → same_row x y ≡ true → x ≡ y
+same_row-true x y h =
+    let (sender, rest) = and_parts (same_sender x.0 y.0) _ h in
+    let (sent, rest) = and_parts (sameb payloads x.1 y.1) _ rest in
+    let (next, done) = and_parts (sameb memories x.2 y.2) _ rest in
+    rw (same_sender-true x.0 y.0 sender, same_true payloads tt x.1 y.1 sent, same_true memories tt x.2 y.2 next, same_true memories tt x.3 y.3 done) refl
+
+-- these are on a line of the table, with memory's state after the Respond in its last column
+abbrev pub follows_sender_table : Protocol → Request → MemState → Sender → Payload → MemState → Bool
+follows_sender_table p q m sender sent next = is_some_and (settled_row p q next sent) (λ row. list_any (same_row (sender, sent, next, row.next)) (lines_of p q m))
 
 -- what a test that is led says
 pub led_line : (p : Protocol) (before : Picture) (c : ℕ) (q : Request) (from : Option ℕ) (sent : Payload) (next : MemState)
     → follows_sender_table p q before.memory.state (sender_of c (λ k. (held_by before k).state) from) sent next ≡ true → IsSenderLine p before c q from sent next
 led_line p before c q from sent next h =
-    let sender = sender_of c (λ k. (held_by before k).state) from in
-    let found = some_and (after_respond p q next sent) _ h in
-    let settles = settles_by (takes_payload q next) p next sent found.0 found.1 in
-    record { done = found.0; line = in_lines p q before.memory.state sender sent next found.0 found.2; act = settles.0; settled = settles.1 }
+    let found = some_and (settled_row p q next sent) _ h in
+    record {
+      done = found.0.next;
+      line = Contains-from_any same_row-true _ (lines_of p q before.memory.state) found.2;
+      act = found.0.action;
+      settled = (settled_so (takes_payload q next) p (arrival_at_memory sent) next found.0.action found.0.next).1 found.1;
+    }
