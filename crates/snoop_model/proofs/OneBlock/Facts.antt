@@ -1,17 +1,17 @@
 -- What follows from the invariant of one block.
-use Rattle.std.proofs.Common.{◌≡◌, ◌≢◌, ◌<◌, ◌&&◌, ◌||◌, ◌∙◌, ℕ, List, Bool, true, false, not, cond, eqb, Option, Some, None, refl, inl, inr, ap, sym, subst, length}
+use Rattle.std.proofs.Common.{◌≡◌, ◌≢◌, ◌<◌, ◌&&◌, ◌||◌, ◌∙◌, ℕ, List, Bool, true, false, not, cond, eqb, Option, Some, None, refl, inl, inr, sym, subst, length}
 use Rattle.std.specs.Prelude.{is_some}
 use Rattle.std.proofs.lemmas.Bool.{and_parts, both_ways, cases_Bool, cases_eq, eq-eqb, eqb-true, ne_eqb, not-true, or_right, cases_lt}
 use Rattle.std.proofs.Math.Bool.{and-false}
 use Rattle.std.proofs.lemmas.List.{get_or_past}
 use Rattle.std.proofs.lemmas.Option.{same_Some}
 use Rattle.snoop_model.proofs.Lines.TheSender.{IsBelow}
-use Rattle.snoop_model.proofs.Common.{Protocol, CacheState, Request, carries_value, Open, Line, Picture, held_by, held_at, nothing_held, keeps, moves_to, IsProper}
+use Rattle.snoop_model.proofs.Common.{Protocol, CacheState, Request, carries_value, Open, Line, Picture, held_by, held_at, nothing_held, keeps, IsProper}
 use Rattle.snoop_history.specs.Totals.{is_put_m}
-use Rattle.snoop_model.specs.Invariant.Fits.{Claims, Talk, is_owner, is_sharer, is_clean, in_protocol, same, wait_fits, fits}
+use Rattle.snoop_model.specs.Invariant.Fits.{is_owner, is_sharer, is_clean, in_protocol, same, wait_fits, fits}
 use Rattle.snoop_model.specs.Invariant.Block.{BlockInvariant, talk_of, own_open, owns}
 use Rattle.snoop_model.proofs.Tables.Every.{same_is}
-use Rattle.snoop_model.proofs.Tables.StateTests.{alone_rule, calm_talk, carries, fits_calm, is_calm, kept_reader, owned_rule}
+use Rattle.snoop_model.proofs.Tables.StateTests.{alone_rule, calm_talk, carries, fits_calm, is_calm, owned_rule}
 
 -- what holds of one core and of each other holds of each
 pub by_core : (c : ℕ) (P : ℕ → Type 0) → P c → ((d : ℕ) → d ≢ c → P d) → (d : ℕ) → P d
@@ -45,26 +45,12 @@ pub record LineFits (p : Protocol) (shared owning : Bool) (wait : Option Request
   pub clean : is_clean line.state ≡ true → memory ≡ words
   pub proper : IsProper line
 
--- what a core holds may be read as before, or no longer
-pub record Carried (old new : Line) : Type 0 where
-  pub reads : keeps new.state ≡ true → (keeps old.state ≡ true) × (new.kept ≡ old.kept)
-  pub cleans : is_clean new.state ≡ true → is_clean old.state ≡ true
-
-pub carried_kept : (old new : Line) (flat : List ℕ) → Carried old new → (keeps old.state ≡ true → old.kept ≡ Some flat) → keeps new.state ≡ true → new.kept ≡ Some flat
-carried_kept old new flat k was h = (k.reads h).1 ∙ was (k.reads h).0
-
-pub carried_same : (line : Line) → Carried line line
-carried_same line = record { reads = λ h. (h, refl); cleans = λ h. h }
-
--- a row that makes no reader of a core lets its words carry over
-pub carried_by : (old new : Line) (next : CacheState) → new.state ≡ next → (keeps next ≡ true → new.kept ≡ old.kept) → carries old.state next ≡ true → Carried old new
-carried_by old new next state kept carry =
-    let (read, clean) = and_parts (not (keeps next) || keeps old.state) (not (is_clean next) || is_clean old.state) carry in
-    rw state (record { reads = λ h. (implied _ _ read h, kept h); cleans = implied _ _ clean })
-
--- so does a move to the row's next state
-pub came_to : (old new : Line) (next : CacheState) → new ≡ moves_to next old → carries old.state next ≡ true → Carried old new
-came_to old new next comes carry = carried_by old new next (ap (λ (x : Line). x.state) comes) (λ e. ap (λ (x : Line). x.kept) comes ∙ kept_reader next old.kept e) carry
+-- a row that makes no reader, and no clean owner, of a core lets its words carry over
+pub carried_line : {p : Protocol} {shared owning shared' owning' : Bool} {wait wait' : Option Request} {words memory : List ℕ} (old new : Line) → LineFits p shared owning wait words memory old
+    → (keeps new.state ≡ true → new.kept ≡ old.kept) → fits p shared' owning' wait' new.state ≡ true → carries old.state new.state ≡ true → IsProper new → LineFits p shared' owning' wait' words memory new
+carried_line old new was kept fit carry proper =
+    let (read, clean) = and_parts (not (keeps new.state) || keeps old.state) _ carry in
+    record { fit = fit; kept = λ h. kept h ∙ was.kept (rw h at read); clean = λ h. was.clean (rw h at clean); proper = proper }
 
 pub put_calm : (o : Open) (d : ℕ) → is_put_m o.request ≡ true → is_calm (own_open (Some o) d) ≡ true
 put_calm o d h = elim (cases_Bool (eqb d o.core)) [ inl e ↦ rw e h | inr e ↦ rw e refl ]
@@ -87,26 +73,24 @@ owns_apart owner c d apart = elim (cases_Bool (owns owner c)) [
   | inr h ↦ rw (h, and-false (owns owner d)) refl
 ]
 
--- while a core owns the block, memory's value and data under way are claimed of nobody
-pub record Alone (claims : Claims) (talk : Option Talk) : Type 0 where
-  pub unshared : claims.shared ≡ false
-  pub unfresh : claims.fresh ≡ false
-  pub calm : calm_talk talk ≡ true
+module _ {p : Protocol} {n : ℕ} {flat : List ℕ} {picture : Picture} (g : BlockInvariant p n flat picture) where
+  pub line_of : (d : ℕ) → d < n → LineFits p g.claims.shared (owns g.owner d) (own_open picture.transaction d) flat picture.memory.value (held_by picture d)
+  line_of d d_in = record { fit = g.states d d_in; kept = g.kept d d_in; clean = g.clean d d_in; proper = g.proper d d_in }
 
-module _ {p : Protocol} {n : ℕ} {flat : List ℕ} {picture : Picture} (g : BlockInvariant p n flat picture) (c : ℕ) (owning : owns g.owner c ≡ true) where
-  pub owned_alone : Alone g.claims (talk_of picture.transaction)
-  owned_alone =
+  -- while a core owns the block, memory's value and data under way are claimed of nobody
+  pub owned_alone : (c : ℕ) → owns g.owner c ≡ true → (g.claims.shared ≡ false) × (g.claims.fresh ≡ false) × (calm_talk (talk_of picture.transaction) ≡ true)
+  owned_alone c owning =
       let is_owned : g.claims.owned ≡ true = sym g.is_owned ∙ rw (owner_is g.owner c owning) refl in
       let (unshared, h) = and_parts _ _ (owned_rule p picture.memory.state (talk_of picture.transaction) g.claims g.is_claims is_owned) in
       let (unfresh, calm) = and_parts _ _ h in
-      record { unshared = not-true _ unshared; unfresh = not-true _ unfresh; calm = calm }
+      (not-true _ unshared, not-true _ unfresh, calm)
 
   -- one writer alone, or only readers
-  pub one_writer : (d : ℕ) → d < n → d ≢ c → keeps (held_by picture d).state ≡ false
-  one_writer d d_in apart =
-      let a = owned_alone in
-      let fit = rw (a.unshared, owns_one g.owner c d owning apart) at (g.states d d_in) in
-      alone_rule p (held_by picture d).state (fits_calm p false false (own_open picture.transaction d) (held_by picture d).state (calm_wait picture.transaction d a.calm) fit)
+  pub one_writer : (c : ℕ) → owns g.owner c ≡ true → (d : ℕ) → d < n → d ≢ c → keeps (held_by picture d).state ≡ false
+  one_writer c owning d d_in apart =
+      let (unshared, unfresh, calm) = owned_alone c owning in
+      let fit = rw (unshared, owns_one g.owner c d owning apart) at (g.states d d_in) in
+      alone_rule p (held_by picture d).state (fits_calm p false false (own_open picture.transaction d) (held_by picture d).state (calm_wait picture.transaction d calm) fit)
 
 pub calm_carries : (t : Option Open) (o : Open) → calm_talk (talk_of t) ≡ true → t ≡ Some o → carries_value o.payload ≡ true → ⊥
 calm_carries t o h e carrying = both_ways _ (not-true _ (and_parts (is_put_m o.request) (not (carries_value o.payload)) (rw e at h)).1) carrying

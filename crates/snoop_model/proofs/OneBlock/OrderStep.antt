@@ -3,20 +3,20 @@ use Rattle.std.proofs.Common.{◌≡◌, ◌≢◌, ◌<◌, ◌&&◌, ◌||◌,
 use Rattle.std.specs.Prelude.{is_some}
 use Rattle.std.proofs.lemmas.Bool.{eq-eqb, ne_eqb, or_cases}
 use Rattle.std.proofs.lemmas.Option.{cond_some, same_Some}
-use Rattle.snoop_model.proofs.Common.{Protocol, CacheCell, MemCell, Request, Payload, cell_of, memory_cell_of, own, other, seen_by, at_memory, carries_value, waiting_request, Open, Line, Picture, held_by, Situation, picture_of, keeps, Orders}
+use Rattle.snoop_model.proofs.Common.{Protocol, CacheCell, MemCell, Request, Payload, cell_of, memory_cell_of, own, other, seen_by, at_memory, carries_value, waiting_request, Open, Picture, held_by, Situation, picture_of, keeps, Orders}
 use Rattle.snoop_rules.specs.WhoSends.{sender_of}
 use Rattle.snoop_history.specs.Totals.{is_put_m}
 use Rattle.snoop_model.specs.Pictures.Sends.{Sends, value_sent}
-use Rattle.snoop_model.specs.Invariant.Fits.{Claims, claims_of, is_clean, fits}
+use Rattle.snoop_model.specs.Invariant.Fits.{Claims, claims_of, fits}
 use Rattle.snoop_model.specs.Invariant.Block.{BlockInvariant, own_open, owns}
 use Rattle.snoop_model.proofs.Lines.TheSender.{IsBelow, sends_below}
-use Rattle.snoop_model.proofs.Tables.Every.{EachHolds, each_holds, some_and, some_each}
+use Rattle.snoop_model.proofs.Tables.Every.{EachHolds, some_and, some_each}
 use Rattle.snoop_model.proofs.Tables.OrderTests.{SendsSo, end_tests, order_rule, other_one, other_tests, payload_of, sends_so-true}
 use Rattle.snoop_model.proofs.Tables.Rows.{IsProper-order}
 use Rattle.snoop_model.proofs.Tables.SenderLines.{follows_sender_table}
 use Rattle.snoop_model.proofs.Tables.SentBy.{payload_from, sends_is, sends_row, memory_sends_row}
-use Rattle.snoop_model.proofs.Tables.StateTests.{carries}
-use Rattle.snoop_model.proofs.OneBlock.Facts.{by_core, Carried, came_to, carried_kept, in_place_in, is_it, is_itself, it_is, below_owner, owns_self, owns_other, owns_owned, owns_apart}
+use Rattle.snoop_model.proofs.Tables.StateTests.{carries, kept_reader}
+use Rattle.snoop_model.proofs.OneBlock.Facts.{LineFits, by_core, carried_line, in_place_in, is_it, it_is, line_of, owns_self, owns_other, owns_owned, owns_apart}
 
 -- all that an Order looks up of a picture that keeps its invariant
 pub record Looked {p : Protocol} {flat : List ℕ} {before : Picture} (good : BlockInvariant p (length before.caches) flat before) (c : ℕ) (q : Request) : Type 0 where
@@ -150,26 +150,25 @@ order_keeps s core block q new flat good in_row o =
     let opened : Open = record { core = core; request = q; block = block; payload = o.payload; value = value_sent before o.from o.payload; from = o.from } in
     let opened_is : (x : Open) → after.transaction ≡ Some x → opened ≡ x = λ x is_x. same_Some _ _ (sym o.opened ∙ is_x) in
     let is_memory : after.memory.state ≡ l.memory.next = o.memory.2 ∙ ap (λ (m : MemCell). m.next) (same_Some _ _ (sym o.memory.1 ∙ l.is_memory)) in
-    -- a core's state fits after it, and its words carry over
-    let line_after : (d : ℕ) → d < length before.caches → (fits p l.next.shared (owns (cond l.next.owned good.owner None) d) (own_open (Some opened) d) (held_by after d).state ≡ true) × Carried (held_by before d) (held_by after d) = λ d d_in.
+    let line_after : (d : ℕ) → d < length before.caches → LineFits p l.next.shared (owns (cond l.next.owned good.owner None) d) (own_open (Some opened) d) flat before.memory.value (held_by after d) = λ d d_in.
         let (row, is_row, fit, carry) = each_row l d d_in in
-        let t = o.taken.rows d d_in in
-        let same : row ≡ t.0 = same_Some _ _ (sym is_row ∙ t.1) in
-        (rw (t.2, owns_kept l.next.owned good.owner d) (rw same at fit), came_to _ _ t.0.next t.2 (rw same at carry)) in
+        let (taken, is_taken, moved) = o.taken.rows d d_in in
+        let same : row ≡ taken = same_Some _ _ (sym is_row ∙ is_taken) in
+        let old = held_by before d in
+        rw (moved, owns_kept l.next.owned good.owner d) (carried_line old _ (line_of good d d_in) (kept_reader taken.next old.kept)
+        (rw same at fit) (rw same at carry) (IsProper-order p old d core q taken.action taken.next (good.proper d d_in) is_taken)) in
     record {
       claims = l.next;
       is_claims = rw (o.opened, is_memory, is_sent) l.is_next;
       owner = cond l.next.owned good.owner None;
       owner_in = kept_in l.next.owned good.owner (length before.caches) good.owner_in;
       is_owned = kept_owned l.next.owned good.claims.owned good.owner good.is_owned l.ends.0;
-      states = λ d d_in. rw o.opened (line_after d d_in).0;
-      kept = λ d d_in h. carried_kept (held_by before d) (held_by after d) flat (line_after d d_in).1 (good.kept d d_in) h;
-      clean = λ d d_in h. o.value ∙ good.clean d d_in ((line_after d d_in).1.cleans h);
+      states = λ d d_in. rw o.opened (line_after d d_in).fit;
+      kept = λ d d_in. (line_after d d_in).kept;
+      clean = λ d d_in h. o.value ∙ (line_after d d_in).clean h;
       fresh = λ h. o.value ∙ elim (or_cases good.claims.fresh _ (rw h at l.ends.1.1.1.0)) [ inl is ↦ good.fresh is | inr is ↦ good.clean core in_row is ];
       carried = λ x is_x. rw (← opened_is x is_x) words;
-      proper = λ d d_in.
-          let t = o.taken.rows d d_in in
-          rw t.2 (IsProper-order p (held_by before d) d core q t.0.action t.0.next (good.proper d d_in) t.1);
+      proper = λ d d_in. (line_after d d_in).proper;
       requestor_in = λ x is_x. rw (← opened_is x is_x) in_row;
       sender_in = λ x is_x. rw (← opened_is x is_x) (λ sender is. meant_in l sender (sym from_meant ∙ is));
     }

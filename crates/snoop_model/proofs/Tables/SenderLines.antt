@@ -4,7 +4,7 @@ use Rattle.std.proofs.Common.{◌≡◌, ◌&&◌, ℕ, Bool, true, false, Optio
 use Rattle.std.specs.List.{list_any}
 use Rattle.std.proofs.lemmas.Bool.{and_parts}
 use Rattle.std.proofs.lemmas.Map.Views.{Contains-from_any}
-use Rattle.snoop_model.proofs.Common.{Protocol, CacheState, MemState, Request, Payload, arrival_at_memory, takes_payload, Picture, held_by}
+use Rattle.snoop_model.proofs.Common.{Protocol, MemState, Request, Payload, arrival_at_memory, takes_payload, Picture, held_by}
 use Rattle.snoop_rules.specs.contracts.names.CacheState.{the_type as states}
 use Rattle.snoop_rules.specs.contracts.names.MemState.{the_type as memories}
 use Rattle.snoop_rules.specs.contracts.names.Payload.{the_type as payloads}
