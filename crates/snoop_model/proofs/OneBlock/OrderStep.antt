@@ -151,12 +151,12 @@ order_keeps s core block q new flat good in_row o =
     let opened_is : (x : Open) → after.transaction ≡ Some x → opened ≡ x = λ x is_x. same_Some _ _ (sym o.opened ∙ is_x) in
     let is_memory : after.memory.state ≡ l.memory.next = o.memory.2 ∙ ap (λ (m : MemCell). m.next) (same_Some _ _ (sym o.memory.1 ∙ l.is_memory)) in
     let line_after : (d : ℕ) → d < length before.caches → LineFits p l.next.shared (owns (cond l.next.owned good.owner None) d) (own_open (Some opened) d) flat before.memory.value (held_by after d) = λ d d_in.
-        let (row, is_row, fit, carry) = each_row l d d_in in
-        let (taken, is_taken, moved) = o.taken.rows d d_in in
-        let same : row ≡ taken = same_Some _ _ (sym is_row ∙ is_taken) in
-        let old = held_by before d in
-        rw (moved, owns_kept l.next.owned good.owner d) (carried_line old _ (line_of good d d_in) (kept_reader taken.next old.kept)
-        (rw same at fit) (rw same at carry) (IsProper-order p old d core q taken.action taken.next (good.proper d d_in) is_taken)) in
+    let (row, is_row, fit, carry) = each_row l d d_in in
+    let (taken, is_taken, moved) = o.taken.rows d d_in in
+    let same : row ≡ taken = same_Some _ _ (sym is_row ∙ is_taken) in
+    let old = held_by before d in
+    rw (moved, owns_kept l.next.owned good.owner d) (carried_line old _ (line_of good d d_in) (kept_reader taken.next old.kept)
+    (rw same at fit) (rw same at carry) (IsProper-order p old d core q taken.action taken.next (good.proper d d_in) is_taken)) in
     record {
       claims = l.next;
       is_claims = rw (o.opened, is_memory, is_sent) l.is_next;

@@ -44,7 +44,7 @@ answered {p} {n} {flat} {before} {good} {o} a get =
     let ow = owns good.owner o.core in
     let fit = rw (a.opened, eq-eqb o.core o.core refl) at (good.states o.core (good.requestor_in o a.opened)) in
     some_each (row_for p s (arrival o.payload)) (answer_tests p o.request good.claims a.next ow)
-        (answers_one p o.request o.payload good.claims a.next (rw get at a.tests.1.1.1.1.1.0) s ow fit)
+    (answers_one p o.request o.payload good.claims a.next (rw get at a.tests.1.1.1.1.1.0) s ow fit)
 
 written_flat : (a : MemAction) (v old flat : List ℕ) → (writes a ≡ true → v ≡ flat) → (writes a ≡ false → old ≡ flat) → written a v old ≡ flat
 written_flat mem_action.Write v old flat new stays = new refl
@@ -139,18 +139,17 @@ module _ (s : Situation) (block : ℕ) (o : Open) (did : Option Did) (new : Situ
       let (row, is_row, (fit, (clean, (stores, _)))) = answered a get in
       let row_is : row ≡ f.fills.row = same_Some _ _ (sym is_row ∙ rw f.fills.arrives f.fills.is_row) in
       let words : (f.fills.after ≡ flat_after flat did) × IsLawful flat did × (fills_store f.fills.row.action ≡ false → flat_after flat did ≡ flat) =
-          rw f.logged (filled_words flat s.log c o.block f.asking.word f.value o.value f.fills.after f.fills.row.action f.asking.op (g.carried o r.opened (rw get at a.tests.0)) f.fills.fill f.fills.performed) in
+      rw f.logged (filled_words flat s.log c o.block f.asking.word f.value o.value f.fills.after f.fills.row.action f.asking.op (g.carried o r.opened (rw get at a.tests.0)) f.fills.fill f.fills.performed) in
       let same : is_get_m o.request ≡ false → flat_after flat did ≡ flat = λ h. words.2 (same_is _ _ (rw row_is at stores) ∙ h) in
       let filled : LineFits p a.next.shared (owns (cond gained (Some c) g.owner) c) None (flat_after flat did) r.next.memory.value f.line = rw f.fills.held (record {
         fit = rw owns_self (rw row_is at fit);
         kept = λ h. rw words.0 refl;
         clean = λ h. let (fresh, get_s) = and_parts g.claims.fresh _ (rw (row_is, h) at clean) in memory_flat (λ w. g.fresh fresh) ∙ sym (same (not-true _ get_s));
         proper = IsProper-fill p (held_by before c).state f.fills.event f.fills.row.action f.fills.row.next f.asking.op f.fills.after f.fills.fill f.fills.is_row;
-      }) in
-      (
+      }) in (
         closed (flat_after flat did) same (simp f.held (each_set before.caches c f.line nothing_held
-        (λ d x. d < n → LineFits p a.next.shared (owns (cond gained (Some c) g.owner) d) None (flat_after flat did) r.next.memory.value x) in_row (λ c_in. filled)
-        (λ d apart d_in. rw (owns_other gained c g.owner d apart) (stays (flat_after flat did) same d d_in (rw (r.opened, ne_eqb d c apart) refl))))),
+            (λ d x. d < n → LineFits p a.next.shared (owns (cond gained (Some c) g.owner) d) None (flat_after flat did) r.next.memory.value x) in_row (λ c_in. filled)
+            (λ d apart d_in. rw (owns_other gained c g.owner d apart) (stays (flat_after flat did) same d d_in (rw (r.opened, ne_eqb d c apart) refl))))),
         words.1,
       )
 
