@@ -1,5 +1,5 @@
 -- How often a block stands in a queue.
-use Rattle.std.proofs.Common.{◌≡◌, ◌≢◌, ℕ, zero, suc, ◌+◌, ◌<◌, ◌≤◌, not, cond, eqb, List, [], ◌∷◌, ◌++◌, length, filter, get_or, refl, inl, inr, ap, sym, ◌∙◌, arith}
+use Rattle.std.proofs.Common.{◌≡◌, ◌≢◌, ℕ, zero, suc, ◌+◌, ◌<◌, ◌≤◌, not, cond, eqb, List, [], ◌∷◌, ◌++◌, length, filter, get_or, refl, inl, inr, sym, ◌∙◌, arith}
 use Rattle.std.specs.Prelude.{count_by, Contains}
 use Rattle.std.proofs.lemmas.Bool.{cases_Bool, eq-eqb, ne_eqb}
 use Rattle.std.proofs.lemmas.Bool.Decides.{eqb_tells}
@@ -7,7 +7,7 @@ use Rattle.std.proofs.lemmas.List.{get_or-set_same, get_or-set_other}
 use Rattle.std.proofs.lemmas.List.Sums.{sum_by_push, sum_by-cons}
 use Rattle.snoop_bus.specs.Queues.{queue_of, after_issue, after_order}
 use Rattle.snoop_model.proofs.Lists.Facts.{one_if}
-use Rattle.snoop_model.proofs.Lists.Writes.{set_cases}
+use Rattle.snoop_model.proofs.Lists.Writes.{same_set}
 
 abbrev pub times : ℕ → List ℕ → ℕ
 times block queue = count_by (λ b. eqb b block) queue
@@ -42,50 +42,33 @@ times_gone : (taken : ℕ) (queue : List ℕ) → times taken (filter (λ b. not
 times_gone taken [] = refl
 times_gone taken (x ∷ queue) = elim (cases_Bool (eqb x taken)) [
   | inl e ↦ rw e (times_gone taken queue)
-  | inr e ↦
-      let none : one_if (eqb x taken) ≡ 0 = rw e refl in
-      rw e (omega (arith, times_cons taken x (filter (λ b. not (eqb b taken)) queue), times_gone taken queue))
+  | inr e ↦ rw e (simp e (omega (arith, times_gone taken queue)))
 ]
 
 times_left : (block taken : ℕ) (queue : List ℕ) → block ≢ taken → times block (filter (λ b. not (eqb b taken)) queue) ≡ times block queue
 times_left block taken [] apart = refl
 times_left block taken (x ∷ queue) apart = elim (eqb_tells x taken) [
-  | inl same ↦
-      let none : one_if (eqb x block) ≡ 0 = rw (same.1, ne_eqb taken block (λ e. apart (sym e))) refl in
-      rw same.0 (omega (arith, times_left block taken queue apart, times_cons block x queue))
-  | inr other ↦ rw other.0 (omega
-      (arith, times_left block taken queue apart, times_cons block x queue, times_cons block x (filter (λ b. not (eqb b taken)) queue)))
+  | inl same ↦ rw (same.0, same.1) (simp (ne_eqb taken block (λ e. apart (sym e))) (omega (arith, times_left block taken queue apart)))
+  | inr other ↦ rw other.0 (simp times_cons (omega (arith, times_left block taken queue apart)))
 ]
 
--- an issue adds its block to its core's queue once
 module _ (queues : List (List ℕ)) (core block : ℕ) where
+  -- an issue adds its block to its core's queue once
   pub issued_own : core < length queues → times block (queue_of (after_issue queues core block) core) ≡ times block (queue_of queues core) + 1
-  issued_own within =
-      rw (get_or-set_same queues core (queue_of queues core ++ block ∷ []) [] within) (times_push block block (queue_of queues core)
-      ∙ ap (λ t. times block (queue_of queues core) + one_if t) (eq-eqb block block refl))
+  issued_own within = rw get_or-set_same (times_push block block (queue_of queues core) ∙ rw (eq-eqb block block refl) refl)
 
   pub issued_others : (k : ℕ) → k ≢ core → queue_of (after_issue queues core block) k ≡ queue_of queues k
-  issued_others k apart = get_or-set_other queues core k (queue_of queues core ++ block ∷ []) [] apart
+  issued_others k apart = get_or-set_other queues core k _ [] apart
 
   pub issued_elsewhere : (k b : ℕ) → b ≢ block → times b (queue_of (after_issue queues core block) k) ≡ times b (queue_of queues k)
-  issued_elsewhere k b apart = elim (set_cases queues core k (queue_of queues core ++ block ∷ []) []) [
-    | inl here ↦
-        let none : one_if (eqb block b) ≡ 0 = rw (ne_eqb block b (λ e. apart (sym e))) refl in
-        let same : times b (queue_of queues core) ≡ times b (queue_of queues k) = ap (λ j. times b (queue_of queues j)) (sym here.0) in
-        omega (arith, ap (times b) here.1, times_push b block (queue_of queues core))
-    | inr e ↦ ap (times b) e
-  ]
+  issued_elsewhere k b apart = same_set (times b) queues core _ [] (rw (times_push, ne_eqb block b (λ e. apart (sym e))) (omega arith)) k
 
   -- an Order takes it out
   pub ordered_own : core < length queues → times block (queue_of (after_order queues core block) core) ≡ 0
-  ordered_own within =
-      rw (get_or-set_same queues core (filter (λ b. not (eqb b block)) (queue_of queues core)) [] within) (times_gone block (queue_of queues core))
+  ordered_own within = rw get_or-set_same (times_gone block (queue_of queues core))
 
   pub ordered_others : (k : ℕ) → k ≢ core → queue_of (after_order queues core block) k ≡ queue_of queues k
-  ordered_others k apart = get_or-set_other queues core k (filter (λ b. not (eqb b block)) (queue_of queues core)) [] apart
+  ordered_others k apart = get_or-set_other queues core k _ [] apart
 
   pub ordered_elsewhere : (k b : ℕ) → b ≢ block → times b (queue_of (after_order queues core block) k) ≡ times b (queue_of queues k)
-  ordered_elsewhere k b apart = elim (set_cases queues core k (filter (λ x. not (eqb x block)) (queue_of queues core)) []) [
-    | inl here ↦ ap (times b) here.1 ∙ (times_left b block (queue_of queues core) apart ∙ ap (λ j. times b (queue_of queues j)) (sym here.0))
-    | inr e ↦ ap (times b) e
-  ]
+  ordered_elsewhere k b apart = same_set (times b) queues core _ [] (times_left b block (queue_of queues core) apart) k

@@ -1,10 +1,10 @@
 -- What a write in one place does to a list of lists, and to sums over it.
-use Rattle.std.proofs.Common.{◌≡◌, ◌≢◌, ℕ, zero, suc, ◌+◌, ◌<◌, ◌≤◌, List, [], ◌∷◌, ◌++◌, length, filter, not, Bool, false, cond, Some, refl, ap, subst, arith, inl, inr, ◌⊎◌, true}
+use Rattle.std.proofs.Common.{◌≡◌, ◌≢◌, ℕ, zero, suc, ◌+◌, ◌<◌, ◌≤◌, List, [], ◌∷◌, ◌++◌, length, filter, not, Bool, false, cond, Some, refl, ap, arith, inl, inr, ◌⊎◌, true}
 use Rattle.std.specs.Prelude.{slice_index_or, slice_set, slice_get, All, ◌==◌, sum_by, count_by}
 use Rattle.std.proofs.lemmas.Bool.{eq-eqb, cases_eq, cases_lt}
-use Rattle.std.proofs.lemmas.Option.{none-some, same_Some}
+use Rattle.std.proofs.lemmas.Option.{get_or_from_slice_get, same_Some, slice_get_within}
 use Rattle.std.proofs.lemmas.List.{set_past, get_or_past, get_or-set_same, get_or-set_other, length_push}
-use Rattle.std.proofs.lemmas.List.Elements.{All-head, All-push, All-filter}
+use Rattle.std.proofs.lemmas.List.Elements.{All-push, All-filter}
 use Rattle.std.proofs.lemmas.List.Sums.{sum_by-set, sum_by-cons, length-filter, count_by-le-length}
 use Rattle.snoop_bus.specs.Queues.{queue_of, after_issue, after_order}
 use Rattle.snoop_model.proofs.Lists.Facts.{one_if}
@@ -24,32 +24,27 @@ each_set xs i a d P inside here others k = elim (cases_eq k i) [
   | inr apart ↦ rw (get_or-set_other xs i k a d apart) (others k apart)
 ]
 
+-- what holds of each value, and of the new one, holds of each then
+each_still : {A : Type 0} (xs : List A) (i : ℕ) (a d : A) (P : ℕ → A → Type 0) → ((k : ℕ) → P k (slice_index_or xs k d)) → P i a → (k : ℕ) → P k (slice_index_or (slice_set xs i a) k d)
+each_still xs i a d P all here k = elim (set_cases xs i k a d) [ inl p ↦ rw (p.1, p.0) here | inr e ↦ rw e (all k) ]
+
+-- a write of an equal leaves all equal
+pub same_set : {A B : Type 0} (f : A → B) (xs : List A) (i : ℕ) (a d : A) → f a ≡ f (slice_index_or xs i d) → (k : ℕ) → f (slice_index_or (slice_set xs i a) k d) ≡ f (slice_index_or xs k d)
+same_set f xs i a d same = each_still xs i a d (λ k x. f x ≡ f (slice_index_or xs k d)) (λ k. refl) same
+
 pub all_first : {A : Type 0} (P : A → Type 0) (xs : List A) (x : A) → All P xs → slice_get xs 0 ≡ Some x → P x
-all_first P [] x a h = cc
-all_first P (y ∷ ys) x a h = subst P (same_Some _ _ h) (All-head P y ys a)
+all_first P xs x all h = rw (get_or_from_slice_get xs 0 x x h) at (all 0 x (slice_get_within xs 0 x h))
 
 pub first_within : {A : Type 0} (xs : List (List A)) (i : ℕ) (x : A) → slice_get (slice_index_or xs i []) 0 ≡ Some x → i < length xs
-first_within xs i x h = elim (cases_lt i (length xs)) [
-  | inl lt ↦ lt
-  | inr ge ↦
-      absurd (none-some x (rw (get_or_past xs i [] ge) at h))
-]
+first_within xs i x h = grind (arith, get_or_past, slice_get_within (slice_index_or xs i []) 0 x h)
 
 -- what holds of each block of each core's line still holds after an issue and after an Order
-pub all_issued : (P : ℕ → ℕ → Type 0) (lines : List (List ℕ)) (core block : ℕ) → ((k : ℕ) → All (P k) (queue_of lines k)) → P core block → (k : ℕ) → All (P k) (queue_of (after_issue lines core block) k)
-all_issued P lines core block all here k =
-    elim (set_cases lines core k (queue_of lines core ++ block ∷ []) []) [
-      | inl p ↦ rw (p.1, p.0) (All-push (P core) (queue_of lines core) block (all core) here)
-      | inr e ↦ rw e (all k)
-    ]
+module _ (P : ℕ → ℕ → Type 0) (lines : List (List ℕ)) (core block : ℕ) (all : (k : ℕ) → All (P k) (queue_of lines k)) where
+  pub all_issued : P core block → (k : ℕ) → All (P k) (queue_of (after_issue lines core block) k)
+  all_issued here = each_still lines core _ [] (λ k line. All (P k) line) all (All-push (P core) (queue_of lines core) block (all core) here)
 
-pub all_ordered : (P : ℕ → ℕ → Type 0) (lines : List (List ℕ)) (core block : ℕ) → ((k : ℕ) → All (P k) (queue_of lines k)) → (k : ℕ) → All (P k) (queue_of (after_order lines core block) k)
-all_ordered P lines core block all k =
-    let left : List ℕ = filter (λ b. not (b == block)) (queue_of lines core) in
-    elim (set_cases lines core k left []) [
-      | inl p ↦ rw (p.1, p.0) (All-filter (λ b. not (b == block)) (P core) (queue_of lines core) (all core))
-      | inr e ↦ rw e (all k)
-    ]
+  pub all_ordered : (k : ℕ) → All (P k) (queue_of (after_order lines core block) k)
+  all_ordered = each_still lines core _ [] (λ k line. All (P k) line) all (All-filter (λ b. not (b == block)) (P core) (queue_of lines core) (all core))
 
 -- an issue adds one to the requests that wait, and an Order takes one away
 pub sum_issued : (lines : List (List ℕ)) (core block : ℕ) → sum_by length (after_issue lines core block) ≤ sum_by length lines + 1

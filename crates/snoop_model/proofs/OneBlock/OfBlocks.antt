@@ -1,9 +1,9 @@
 -- One block has a new picture, and the others are as they were.
-use Rattle.std.proofs.Common.{◌≡◌, ◌≢◌, ℕ, ◌<◌, List, length, Option, refl, inl, inr, ap, sym, ◌∙◌}
+use Rattle.std.proofs.Common.{◌≡◌, ◌≢◌, ℕ, ◌<◌, List, length, Option, refl, ◌∙◌}
 use Rattle.std.proofs.lemmas.List.{length-set, get_or-set_same, get_or-set_other}
 use Rattle.snoop_model.proofs.Common.{MemState, Item, Open, Line, MemLine, Picture, Situation, picture_of, with_picture, nothing_there}
 use Rattle.snoop_model.specs.Invariant.WellKept.{IsShaped}
-use Rattle.snoop_model.proofs.Lists.Writes.{each_set, set_cases}
+use Rattle.snoop_model.proofs.Lists.Writes.{each_set, same_set}
 
 pub same_picture : {caches caches' : List Line} {memory memory' : MemLine} {transaction transaction' : Option Open}
     → caches ≡ caches' → memory ≡ memory' → transaction ≡ transaction'
@@ -35,10 +35,7 @@ module _ (s : Situation) (block : ℕ) (next : Picture) (queues : List (List ℕ
 
   -- what the new picture leaves as it was is so of every block
   pub same_everywhere : {A : Type 0} (f : Picture → A) → f next ≡ f (picture_of s block) → (b : ℕ) → f (picture_of (changed s block next queues log) b) ≡ f (picture_of s b)
-  same_everywhere f same b = elim (set_cases s.pictures block b next nothing_there) [
-    | inl p ↦ ap f p.1 ∙ (same ∙ ap (λ (x : ℕ). f (picture_of s x)) (sym p.0))
-    | inr e ↦ ap f e
-  ]
+  same_everywhere f same b = same_set f s.pictures block next nothing_there same b
 
   pub shaped_after : IsShaped s → length next.caches ≡ length (picture_of s block).caches → length queues ≡ length s.queues → IsShaped (changed s block next queues log)
   shaped_after shaped as_wide as_many = record {

@@ -52,9 +52,6 @@ look {p} {flat} {before} good calm c q c_in waits =
       ends = ends;
     }
 
-pub seen_own : (c : ℕ) (q : Request) → seen_by c c q ≡ own q
-seen_own c q = rw (eq-eqb c c refl) refl
-
 pub seen_other : (d c : ℕ) (q : Request) → d ≢ c → seen_by d c q ≡ other q
 seen_other d c q apart = rw (ne_eqb d c apart) refl
 

@@ -14,12 +14,7 @@ use Rattle.snoop_model.proofs.Tables.Every.{given, given_at, all_talks, all_talk
 abbrev pub carries : CacheState → CacheState → Bool
 carries s next = (not (keeps next) || keeps s) && (not (is_clean next) || is_clean s)
 
--- an owner reads, and so does a clean one
-pub owner_reads : (s : CacheState) → is_owner s ≡ true → keeps s ≡ true
-unfolding is_owner
-owner_reads state.I h = cc
-owner_reads _ h = cc
-
+-- a clean owner reads
 pub clean_reads : (s : CacheState) → is_clean s ≡ true → keeps s ≡ true
 unfolding is_clean
 clean_reads state.I h = cc
