@@ -1,4 +1,8 @@
 -- The names that lemmas of the model use most, passed on from one place.
+pub use Rattle.std.specs.Prelude.{is_some}
+pub use Rattle.std.proofs.lemmas.Bool.{and_from, and_parts, both_ways, cases_Bool, cases_eq, cases_lt, not-true, or_cases}
+pub use Rattle.std.proofs.lemmas.List.{get_or_past}
+pub use Rattle.std.proofs.lemmas.Option.{none-some, same_Some}
 pub use Rattle.snoop_trace.specs.Extent.{Extent}
 pub use Rattle.snoop_trace.specs.declared.protocol.Protocol.{Protocol}
 pub use Rattle.snoop_trace.specs.declared.step.Op.{Op}
@@ -19,6 +23,8 @@ pub use Rattle.snoop_rules.specs.Cell.{Cell, cell_of}
 pub use Rattle.snoop_rules.specs.MemoryCell.{MemoryCell, memory_cell_of}
 pub use Rattle.snoop_rules.specs.Takers.{arrival, arrival_at_memory, asked, at_memory, carries_value, other, own, seen_by, takes_payload}
 pub use Rattle.snoop_rules.specs.Waits.{waiting_request}
+pub use Rattle.snoop_rules.specs.WhoSends.{Memory, Other, Requestor, Sender, lines_of, sender_of}
+pub use Rattle.snoop_history.specs.Totals.{is_get_m, is_put_m}
 pub use Rattle.snoop_history.specs.declared.items.Did.{Did}
 pub use Rattle.snoop_history.specs.declared.items.Item.{Item}
 pub use Rattle.snoop_bus.specs.Traffic.{Open}
@@ -31,3 +37,8 @@ pub use Rattle.snoop_model.specs.Pictures.Picture.{Picture, data_under_way, firs
 pub use Rattle.snoop_model.specs.Pictures.Situation.{CanOrder, HasOpen, Situation, StandsFirst, Waits, nothing_there, picture_of, reset, state_of, untouched, with_picture}
 pub use Rattle.snoop_model.specs.Pictures.Proper.{IsProper, awaited_request, keeps, missed_request, request_for}
 pub use Rattle.snoop_model.specs.Moves.Move.{ArrivesAtMemory, ArrivesFor, Asks, Fills, FillsRequestor, FirstMove, Hits, IsAbsent, IsWithin, MoveOn, Orders, Performs, Responds, Takes, TakesRow, TakesRows, came_of, is_load, kept_waiting, moves_to, next_did, queues_after, written}
+pub use Rattle.snoop_model.specs.Pictures.Sends.{IsOnlySender, Sends, value_sent}
+pub use Rattle.snoop_model.specs.Invariant.Fits.{Claims, Talk}
+unfoldable pub use Rattle.snoop_model.specs.Invariant.Fits.{claims_of, fits, in_protocol, is_clean, is_owner, is_sharer, same, wait_fits}
+pub use Rattle.snoop_model.specs.Invariant.Block.{BlockInvariant, own_open, owns, talk_of}
+pub use Rattle.snoop_model.specs.Invariant.WellKept.{IsShaped}

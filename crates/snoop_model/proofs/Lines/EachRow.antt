@@ -1,10 +1,7 @@
 -- The loop in which each core takes its row.
-use Rattle.std.proofs.Common.{◌≡◌, ℕ, ◌+◌, ◌<◌, ◌≤◌, List, length, ◌∙◌, ap, arith, inl, inr}
-use Rattle.std.specs.Prelude.{slice_set}
-use Rattle.std.proofs.lemmas.Bool.{cases_lt}
-use Rattle.std.proofs.lemmas.List.{length-set, get_or-set_other}
+use Rattle.std.proofs.Common.{◌≡◌, ℕ, ◌+◌, ◌<◌, ◌≤◌, List, length, ◌∙◌, ap, arith, inl, inr, slice_set, length-set, get_or-set_other}
+use Rattle.snoop_model.proofs.Common.{cases_lt, Protocol, CacheState, CacheAction, Request, Cell, seen_by, Line, held_at, nothing_held, TakesRow, moves_to}
 use Rattle.snoop_model.proofs.Lists.Writes.{each_set}
-use Rattle.snoop_model.proofs.Common.{Protocol, CacheState, CacheAction, Request, Cell, seen_by, Line, held_at, nothing_held, TakesRow, moves_to}
 
 -- the cores below n have taken their rows, and the others have not
 pub record Taking (protocol : Protocol) (requestor : ℕ) (request : Request) (old new : List Line) (n : ℕ) : Type 0 where

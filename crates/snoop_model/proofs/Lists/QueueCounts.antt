@@ -1,11 +1,8 @@
 -- How often a block stands in a queue.
-use Rattle.std.proofs.Common.{◌≡◌, ◌≢◌, ℕ, zero, suc, ◌+◌, ◌<◌, ◌≤◌, not, cond, eqb, List, [], ◌∷◌, ◌++◌, length, filter, get_or, refl, inl, inr, sym, ◌∙◌, arith}
-use Rattle.std.specs.Prelude.{count_by, Contains}
-use Rattle.std.proofs.lemmas.Bool.{cases_Bool, eq-eqb, ne_eqb}
+use Rattle.std.proofs.Common.{◌≡◌, ◌≢◌, ℕ, zero, suc, ◌+◌, ◌<◌, ◌≤◌, not, cond, eqb, List, [], ◌∷◌, ◌++◌, length, filter, get_or, refl, inl, inr, sym, ◌∙◌, arith, count_by, Contains, eq-eqb, ne_eqb, get_or-set_same, get_or-set_other}
+use Rattle.snoop_model.proofs.Common.{cases_Bool, queue_of, after_issue, after_order}
 use Rattle.std.proofs.lemmas.Bool.Decides.{eqb_tells}
-use Rattle.std.proofs.lemmas.List.{get_or-set_same, get_or-set_other}
 use Rattle.std.proofs.lemmas.List.Sums.{sum_by_push, sum_by-cons}
-use Rattle.snoop_bus.specs.Queues.{queue_of, after_issue, after_order}
 use Rattle.snoop_model.proofs.Lists.Facts.{one_if}
 use Rattle.snoop_model.proofs.Lists.Writes.{same_set}
 

@@ -1,6 +1,5 @@
 -- The pictures after each kind of move.
-use Rattle.std.proofs.Common.{◌≡◌, ℕ, ◌<◌, Option}
-use Rattle.std.proofs.lemmas.List.{get_or-set_same}
+use Rattle.std.proofs.Common.{◌≡◌, ℕ, ◌<◌, Option, get_or-set_same}
 use Rattle.snoop_model.proofs.Common.{Op, Request, Did, Open, Reply, held_by, nothing_held, nothing_there, with_line, Situation, picture_of, Asks, Orders, Responds, IsWithin}
 use Rattle.snoop_model.specs.Invariant.Invariant.{Invariant}
 use Rattle.snoop_model.proofs.OneBlock.OfBlocks.{in_pictures}

@@ -1,13 +1,9 @@
 -- An Ask keeps the invariant, and a load that it performs gives the flat value.
 use Rattle.std.proofs.Common.{◌≡◌, ◌≢◌, ◌<◌, ◌⊎◌, ◌∙◌, ℕ, List, true, not, length, Some, refl, inl, inr, sym}
-use Rattle.std.proofs.lemmas.Bool.{and_parts, both_ways, not-true}
-use Rattle.std.proofs.lemmas.Option.{same_Some}
-use Rattle.snoop_model.proofs.Common.{Protocol, Op, CacheAction, Cell, asked, carries_value, Open, Reply, Line, Picture, held_by, nothing_held, with_line, Situation, picture_of, Hits, Takes, Asks}
+use Rattle.snoop_model.proofs.Common.{and_parts, both_ways, not-true, same_Some, Protocol, Op, CacheAction, Cell, asked, carries_value, Open, Reply, Line, Picture, held_by, nothing_held, with_line, Situation, picture_of, Hits, Takes, Asks, is_clean, BlockInvariant, own_open, owns}
 use Rattle.snoop_trace.specs.declared.step.Op.TheVariants as op
 use Rattle.snoop_rules.specs.declared.names.CacheEvent.TheVariants as event
 use Rattle.snoop_rules.specs.declared.names.CacheAction.TheVariants as action
-use Rattle.snoop_model.specs.Invariant.Fits.{is_clean}
-use Rattle.snoop_model.specs.Invariant.Block.{BlockInvariant, own_open, owns}
 use Rattle.snoop_model.proofs.OneBlock.Operation.{did_in, flat_after, IsLawful}
 use Rattle.snoop_model.proofs.Lists.Writes.{each_set}
 use Rattle.snoop_model.proofs.OneBlock.Facts.{LineFits, calm_carries, carried_line, line_of, one_writer, owned_alone}

@@ -1,8 +1,6 @@
 -- One block has a new picture, and the others are as they were.
-use Rattle.std.proofs.Common.{◌≡◌, ◌≢◌, ℕ, ◌<◌, List, length, Option, refl, ◌∙◌}
-use Rattle.std.proofs.lemmas.List.{length-set, get_or-set_same, get_or-set_other}
-use Rattle.snoop_model.proofs.Common.{MemState, Item, Open, Line, MemLine, Picture, Situation, picture_of, with_picture, nothing_there}
-use Rattle.snoop_model.specs.Invariant.WellKept.{IsShaped}
+use Rattle.std.proofs.Common.{◌≡◌, ◌≢◌, ℕ, ◌<◌, List, length, Option, refl, ◌∙◌, length-set, get_or-set_same, get_or-set_other}
+use Rattle.snoop_model.proofs.Common.{MemState, Item, Open, Line, MemLine, Picture, Situation, picture_of, with_picture, nothing_there, IsShaped}
 use Rattle.snoop_model.proofs.Lists.Writes.{each_set, same_set}
 
 pub same_picture : {caches caches' : List Line} {memory memory' : MemLine} {transaction transaction' : Option Open}

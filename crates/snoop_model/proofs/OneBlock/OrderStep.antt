@@ -1,14 +1,7 @@
 -- An Order finds all its rows and one sender, and keeps the invariant.
-use Rattle.std.proofs.Common.{◌≡◌, ◌≢◌, ◌<◌, ◌&&◌, ◌||◌, ◌∙◌, ℕ, length, List, Bool, true, false, not, cond, eqb, Option, Some, None, refl, inl, inr, ap, sym}
-use Rattle.std.specs.Prelude.{is_some}
-use Rattle.std.proofs.lemmas.Bool.{eq-eqb, ne_eqb, or_cases}
-use Rattle.std.proofs.lemmas.Option.{cond_some, same_Some}
-use Rattle.snoop_model.proofs.Common.{Protocol, CacheCell, MemCell, Request, Payload, cell_of, memory_cell_of, own, other, seen_by, at_memory, carries_value, waiting_request, Open, Picture, held_by, Situation, picture_of, keeps, Orders}
-use Rattle.snoop_rules.specs.WhoSends.{sender_of}
-use Rattle.snoop_history.specs.Totals.{is_put_m}
-use Rattle.snoop_model.specs.Pictures.Sends.{Sends, value_sent}
-use Rattle.snoop_model.specs.Invariant.Fits.{Claims, claims_of, fits}
-use Rattle.snoop_model.specs.Invariant.Block.{BlockInvariant, own_open, owns}
+use Rattle.std.proofs.Common.{◌≡◌, ◌≢◌, ◌<◌, ◌&&◌, ◌||◌, ◌∙◌, ℕ, length, List, Bool, true, false, not, cond, eqb, Option, Some, None, refl, inl, inr, ap, sym, is_some, eq-eqb, ne_eqb}
+use Rattle.snoop_model.proofs.Common.{or_cases, same_Some, Protocol, CacheCell, MemCell, Request, Payload, cell_of, memory_cell_of, own, other, seen_by, at_memory, carries_value, waiting_request, Open, Picture, held_by, Situation, picture_of, keeps, Orders, sender_of, is_put_m, Sends, value_sent, Claims, claims_of, fits, BlockInvariant, own_open, owns}
+use Rattle.std.proofs.lemmas.Option.{cond_some}
 use Rattle.snoop_model.proofs.Lines.TheSender.{IsBelow, sends_below}
 use Rattle.snoop_model.proofs.Tables.Every.{EachHolds, some_and, some_each}
 use Rattle.snoop_model.proofs.Tables.OrderTests.{SendsSo, end_tests, order_rule, other_one, other_tests, payload_of, sends_so-true}

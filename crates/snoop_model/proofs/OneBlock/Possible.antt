@@ -1,12 +1,6 @@
 -- Each step finds its rows, and an Order exactly one sender.
 use Rattle.std.proofs.Common.{◌≡◌, ◌<◌, ℕ, length, List, true, false, Option, Some, None}
-use Rattle.std.proofs.lemmas.Bool.{and_parts}
-use Rattle.snoop_model.proofs.Common.{Protocol, Op, CacheCell, MemCell, Request, Payload, cell_of, memory_cell_of, asked, seen_by, at_memory, arrival, arrival_at_memory, takes_payload, waiting_request, Open, Picture, held_by}
-use Rattle.snoop_rules.specs.WhoSends.{sender_of}
-use Rattle.snoop_history.specs.Totals.{is_put_m}
-use Rattle.snoop_model.specs.Pictures.Sends.{IsOnlySender}
-use Rattle.snoop_model.specs.Invariant.Fits.{fits}
-use Rattle.snoop_model.specs.Invariant.Block.{BlockInvariant}
+use Rattle.snoop_model.proofs.Common.{and_parts, Protocol, Op, CacheCell, MemCell, Request, Payload, cell_of, memory_cell_of, asked, seen_by, at_memory, arrival, arrival_at_memory, takes_payload, waiting_request, Open, Picture, held_by, sender_of, is_put_m, IsOnlySender, fits, BlockInvariant}
 use Rattle.snoop_model.proofs.Tables.Every.{some_and, when_at}
 use Rattle.snoop_model.proofs.Tables.SenderLines.{follows_sender_table}
 use Rattle.snoop_model.proofs.OneBlock.Facts.{below_owner, is_itself}

@@ -1,11 +1,10 @@
 -- Tests of the rows of an Ask, computed over the whole tables.
 use Rattle.std.proofs.Common.{◌≡◌, ◌&&◌, ◌||◌, Bool, true, false, not, Option, Some, refl}
-use Rattle.snoop_model.proofs.Common.{Protocol, Op, CacheState, CacheEvent, CacheAction, CacheCell, Request, cell_of, asked}
+use Rattle.snoop_model.proofs.Common.{Protocol, Op, CacheState, CacheEvent, CacheAction, CacheCell, Request, cell_of, asked, claims_of, is_owner, is_sharer, is_clean, wait_fits, in_protocol, same, fits}
 use Rattle.snoop_rules.specs.declared.names.CacheState.TheVariants as state
 use Rattle.snoop_rules.specs.declared.names.CacheEvent.TheVariants as event
 use Rattle.snoop_rules.specs.declared.names.CacheAction.TheVariants as action
 use Rattle.snoop_rules.proofs.Every.{all_protocols, all_protocols-at, all_states, all_states-at, all_memories, all_requests, all_payloads}
-use Rattle.snoop_model.specs.Invariant.Fits.{claims_of, is_owner, is_sharer, is_clean, wait_fits, in_protocol, same, fits}
 use Rattle.snoop_model.proofs.Tables.Every.{either, either-at, when, when_at, given, given_at, is_some_and, all_asks, all_asks-at, all_waits, all_waits-at}
 use Rattle.snoop_model.proofs.Tables.StateTests.{is_hit, carries}
 

@@ -1,15 +1,13 @@
 -- A test that holds of each value of a type holds of any one, tests under a premise, and tests that compare.
+use Rattle.std.proofs.Common.{◌≡◌, ◌&&◌, Bool, true, false, Option, Some, None, List, [], ◌∷◌, refl, ap}
+use Rattle.snoop_model.proofs.Common.{and_parts, Op, CacheEvent, Request, asked, Talk, same}
 use denote.Enum.Bare.{Bare, same_true, sameb}
 use denote.Enum.Declared.{Declared}
-use Rattle.std.proofs.Common.{◌≡◌, ◌&&◌, Bool, true, false, Option, Some, None, List, [], ◌∷◌, refl, ap}
 use Rattle.std.specs.Prelude.{⊤}
 use Rattle.std.specs.List.{list_all}
-use Rattle.std.proofs.lemmas.Bool.{and_parts}
-use Rattle.snoop_model.proofs.Common.{Op, CacheEvent, Request, asked}
 use Rattle.snoop_trace.specs.declared.step.Op.TheVariants as op
 use Rattle.snoop_rules.specs.declared.names.CacheEvent.TheVariants as event
 use Rattle.snoop_rules.proofs.Every.{all_requests, all_requests-at, all_payloads, all_payloads-at}
-use Rattle.snoop_model.specs.Invariant.Fits.{Talk, same}
 
 unfoldable pub either : (Bool → Bool) → Bool
 either f = f true && f false

@@ -1,15 +1,10 @@
 -- A test of the rows of an Order, computed over the whole tables.
-use Rattle.std.proofs.Common.{◌≡◌, ◌&&◌, ◌||◌, Bool, true, not, cond, List, [], ◌∷◌, Option, Some, None, refl}
-use Rattle.std.specs.Prelude.{unwrap_or}
+use Rattle.std.proofs.Common.{◌≡◌, ◌&&◌, ◌||◌, Bool, true, not, cond, List, [], ◌∷◌, Option, Some, None, refl, unwrap_or}
+use Rattle.snoop_model.proofs.Common.{and_from, and_parts, Protocol, CacheState, CacheCell, MemState, MemCell, Request, Payload, cell_of, memory_cell_of, own, other, at_memory, carries_value, waiting_request, keeps, Memory, Requestor, Other, is_put_m, Claims, claims_of, is_owner, is_sharer, is_clean, wait_fits, in_protocol, same, fits}
 use Rattle.std.specs.Option.{option_or}
-use Rattle.std.proofs.lemmas.Bool.{and_from, and_parts}
-use Rattle.snoop_model.proofs.Common.{Protocol, CacheState, CacheCell, MemState, MemCell, Request, Payload, cell_of, memory_cell_of, own, other, at_memory, carries_value, waiting_request, keeps}
 use Rattle.snoop_rules.specs.declared.names.Payload.TheVariants as payload
 use Rattle.snoop_rules.specs.contracts.names.Payload.{the_type as payloads}
-use Rattle.snoop_rules.specs.WhoSends.{Memory, Requestor, Other}
 use Rattle.snoop_rules.proofs.Every.{all_protocols, all_protocols-at, all_states, all_states-at, all_memories, all_memories-at}
-use Rattle.snoop_history.specs.Totals.{is_put_m}
-use Rattle.snoop_model.specs.Invariant.Fits.{Claims, claims_of, is_owner, is_sharer, is_clean, wait_fits, in_protocol, same, fits}
 use Rattle.snoop_model.proofs.Tables.Every.{each, either, either-at, given, given_at, is_some_and, same_option, same_option-true, when, when_at}
 use Rattle.snoop_model.proofs.Tables.SenderLines.{follows_sender_table}
 use Rattle.snoop_model.proofs.Tables.SentBy.{sent_by, sent_by_memory}

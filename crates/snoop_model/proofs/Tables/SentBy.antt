@@ -1,10 +1,8 @@
 -- What a row sends, as a test.
 use Rattle.std.proofs.Common.{◌≡◌, ℕ, Option, Some, None, ap}
-use Rattle.std.proofs.lemmas.Option.{same_Some}
-use Rattle.snoop_model.proofs.Common.{Protocol, CacheState, CacheAction, CacheCell, MemState, MemAction, MemCell, Request, Payload, Target, cell_of, memory_cell_of, seen_by, at_memory, Picture, held_by}
+use Rattle.snoop_model.proofs.Common.{same_Some, Protocol, CacheState, CacheAction, CacheCell, MemState, MemAction, MemCell, Request, Payload, Target, cell_of, memory_cell_of, seen_by, at_memory, Picture, held_by, Sends}
 use Rattle.snoop_rules.specs.declared.names.CacheAction.TheVariants as action
 use Rattle.snoop_rules.specs.declared.names.MemAction.TheVariants as mem_action
-use Rattle.snoop_model.specs.Pictures.Sends.{Sends}
 
 -- the payload of a cache's action, if it sends
 abbrev pub payload_sent : CacheAction → Option Payload

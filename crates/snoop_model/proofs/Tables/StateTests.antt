@@ -1,13 +1,11 @@
 -- Tests of the states and of the table of claims, computed over all of them.
 use Rattle.std.proofs.Common.{List, ◌≡◌, ◌&&◌, ◌||◌, ℕ, Bool, true, false, not, cond, Option, Some, None, refl}
-use Rattle.snoop_model.proofs.Common.{Protocol, CacheState, CacheAction, MemState, Request, carries_value, kept_on, keeps}
+use Rattle.snoop_model.proofs.Common.{Protocol, CacheState, CacheAction, MemState, Request, carries_value, kept_on, keeps, is_put_m, Claims, Talk, claims_of, is_owner, is_sharer, is_clean, wait_fits, in_protocol, same, fits}
 use Rattle.snoop_trace.specs.declared.protocol.Protocol.TheVariants.{Msi, Mesi}
 use Rattle.snoop_rules.specs.declared.names.CacheState.TheVariants as state
 use Rattle.snoop_rules.specs.declared.names.CacheAction.TheVariants as action
 use Rattle.snoop_rules.specs.declared.names.Request.TheVariants.{PutM}
 use Rattle.snoop_rules.proofs.Every.{all_protocols, all_protocols-at, all_memories, all_memories-at, all_requests, all_payloads}
-use Rattle.snoop_history.specs.Totals.{is_put_m}
-use Rattle.snoop_model.specs.Invariant.Fits.{Claims, Talk, claims_of, is_owner, is_sharer, is_clean, wait_fits, in_protocol, same, fits}
 use Rattle.snoop_model.proofs.Tables.Every.{given, given_at, all_talks, all_talks-at}
 
 -- no row makes a reader, or a clean owner, of a core that was none
