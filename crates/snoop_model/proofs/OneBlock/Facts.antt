@@ -1,5 +1,5 @@
 -- What follows from the invariant of one block.
-use Rattle.std.proofs.Common.{◌≡◌, ◌≢◌, ◌<◌, ◌&&◌, ◌||◌, ◌∙◌, ℕ, List, Bool, true, false, not, cond, eqb, Option, Some, None, refl, inl, inr, sym, subst, length, is_some, eq-eqb, eqb-true, ne_eqb}
+use Rattle.std.proofs.Common.{◌≡◌, ◌≢◌, ◌<◌, ◌&&◌, ◌||◌, ◌∙◌, ℕ, List, Bool, true, false, not, eqb, Option, Some, None, refl, inl, inr, sym, subst, length, is_some, eq-eqb, eqb-true, ne_eqb}
 use Rattle.snoop_model.proofs.Common.{and_parts, both_ways, cases_Bool, cases_eq, not-true, cases_lt, get_or_past, same_Some, Protocol, CacheState, Request, carries_value, Open, Line, Picture, held_by, held_at, nothing_held, keeps, IsProper, is_put_m, is_owner, is_sharer, is_clean, in_protocol, same, wait_fits, fits, BlockInvariant, talk_of, own_open, owns}
 use Rattle.std.proofs.lemmas.Bool.{or_right}
 use Rattle.std.proofs.Math.Bool.{and-false}
@@ -103,22 +103,13 @@ pub is_itself : (sender : Option ℕ) → is_it sender sender ≡ true
 is_itself None = refl
 is_itself (Some d) = eq-eqb d d refl
 
--- a core that is there in the owner's place, or the owner
-pub in_place_in : (now : Bool) (c : ℕ) (owner : Option ℕ) (n : ℕ) → c < n → ((o : ℕ) → owner ≡ Some o → o < n) → (o : ℕ) → cond now (Some c) owner ≡ Some o → o < n
-in_place_in true c owner n c_in was o e = rw (← (same_Some c o e)) c_in
-in_place_in false c owner n c_in was o e = was o e
+-- an owner is one of the cores below n
+abbrev pub OwnerIn : ℕ → Option ℕ → Type 0
+OwnerIn n owner = (o : ℕ) → owner ≡ Some o → o < n
 
-pub owns_self : (now : Bool) (c : ℕ) (owner : Option ℕ) → owns (cond now (Some c) owner) c ≡ (now || owns owner c)
-owns_self true c owner = eq-eqb c c refl
-owns_self false c owner = refl
+pub core_in : (n c : ℕ) → c < n → OwnerIn n (Some c)
+core_in n c c_in o is = rw (← same_Some c o is) c_in
 
-pub owns_other : (now : Bool) (c : ℕ) (owner : Option ℕ) (d : ℕ) → d ≢ c → owns (cond now (Some c) owner) d ≡ (not now && owns owner d)
-owns_other true c owner d apart = ne_eqb d c apart
-owns_other false c owner d apart = refl
-
-pub owns_same : (now : Bool) (c : ℕ) (owner : Option ℕ) (d : ℕ) → now ≡ false → owns (cond now (Some c) owner) d ≡ (not now && owns owner d)
-owns_same now c owner d e = rw e refl
-
-pub below_owner : (n : ℕ) (owner : Option ℕ) → ((o : ℕ) → owner ≡ Some o → o < n) → IsBelow n owner
+pub below_owner : (n : ℕ) (owner : Option ℕ) → OwnerIn n owner → IsBelow n owner
 below_owner n None was = tt
 below_owner n (Some o) was = was o refl

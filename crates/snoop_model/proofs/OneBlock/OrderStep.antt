@@ -1,7 +1,9 @@
 -- An Order finds all its rows and one sender, and keeps the invariant.
-use Rattle.std.proofs.Common.{◌≡◌, ◌≢◌, ◌<◌, ◌&&◌, ◌||◌, ◌∙◌, ℕ, length, List, Bool, true, false, not, cond, eqb, Option, Some, None, refl, inl, inr, ap, sym, is_some, eq-eqb, ne_eqb}
+use Rattle.std.proofs.Common.{◌≡◌, ◌≢◌, ◌<◌, ◌∙◌, ℕ, length, List, Bool, true, false, not, cond, eqb, Option, Some, None, refl, inl, inr, ap, sym, is_some, eq-eqb, ne_eqb}
 use Rattle.snoop_model.proofs.Common.{or_cases, same_Some, Protocol, CacheCell, MemCell, Request, Payload, cell_of, memory_cell_of, own, other, seen_by, at_memory, carries_value, waiting_request, Open, Picture, held_by, Situation, picture_of, keeps, Orders, sender_of, is_put_m, Sends, value_sent, Claims, claims_of, fits, BlockInvariant, own_open, owns}
+use Rattle.std.proofs.lemmas.Bool.{cond_both}
 use Rattle.std.proofs.lemmas.Option.{cond_some}
+use Rattle.snoop_model.proofs.Lists.Facts.{of_choice}
 use Rattle.snoop_model.proofs.Lines.TheSender.{IsBelow, sends_below}
 use Rattle.snoop_model.proofs.Tables.Every.{EachHolds, some_and, some_each}
 use Rattle.snoop_model.proofs.Tables.OrderTests.{SendsSo, end_tests, order_rule, other_one, other_tests, payload_of, sends_so-true}
@@ -9,7 +11,7 @@ use Rattle.snoop_model.proofs.Tables.Rows.{IsProper-order}
 use Rattle.snoop_model.proofs.Tables.SenderLines.{follows_sender_table}
 use Rattle.snoop_model.proofs.Tables.SentBy.{payload_from, sends_is, sends_row, memory_sends_row}
 use Rattle.snoop_model.proofs.Tables.StateTests.{carries, kept_reader}
-use Rattle.snoop_model.proofs.OneBlock.Facts.{LineFits, by_core, carried_line, in_place_in, is_it, it_is, line_of, owns_self, owns_other, owns_owned, owns_apart}
+use Rattle.snoop_model.proofs.OneBlock.Facts.{LineFits, by_core, carried_line, is_it, it_is, line_of, OwnerIn, core_in, owns_owned, owns_apart}
 
 -- all that an Order looks up of a picture that keeps its invariant
 pub record Looked {p : Protocol} {flat : List ℕ} {before : Picture} (good : BlockInvariant p (length before.caches) flat before) (c : ℕ) (q : Request) : Type 0 where
@@ -48,19 +50,6 @@ look {p} {flat} {before} good calm c q c_in waits =
 pub seen_other : (d c : ℕ) (q : Request) → d ≢ c → seen_by d c q ≡ other q
 seen_other d c q apart = rw (ne_eqb d c apart) refl
 
--- who owns after an Order: who did, or nobody
-kept_in : (stays : Bool) (owner : Option ℕ) (n : ℕ) → ((o : ℕ) → owner ≡ Some o → o < n) → (o : ℕ) → cond stays owner None ≡ Some o → o < n
-kept_in true owner n was o e = was o e
-kept_in false owner n was o e = cc
-
-kept_owned : (stays owned : Bool) (owner : Option ℕ) → is_some owner ≡ owned → (not stays || owned) ≡ true → is_some (cond stays owner None) ≡ stays
-kept_owned true owned owner is h = is ∙ h
-kept_owned false owned owner is h = refl
-
-owns_kept : (stays : Bool) (owner : Option ℕ) (d : ℕ) → owns (cond stays owner None) d ≡ (stays && owns owner d)
-owns_kept true owner d = refl
-owns_kept false owner d = refl
-
 -- what an Order finds of a picture that keeps its invariant
 module _ {p : Protocol} {flat : List ℕ} {before : Picture} {good : BlockInvariant p (length before.caches) flat before} {c : ℕ} {q : Request} (l : Looked good c q) where
   abbrev pub sent : Payload
@@ -79,7 +68,7 @@ module _ {p : Protocol} {flat : List ℕ} {before : Picture} {good : BlockInvari
   abbrev pub HasRow : ℕ → Type 0
   HasRow d =
       (row : CacheCell) × (cell_of p (held_by before d).state (seen_by d c q) ≡ Some row)
-      × (fits p l.next.shared (l.next.owned && owns good.owner d) (cond (eqb d c) (Some q) None) row.next ≡ true) × (carries (held_by before d).state row.next ≡ true)
+      × (fits p l.next.shared (cond l.next.owned (owns good.owner d) false) (cond (eqb d c) (Some q) None) row.next ≡ true) × (carries (held_by before d).state row.next ≡ true)
 
   pub each_row : (d : ℕ) → d < length before.caches → HasRow d
   each_row = by_core c (λ d. d < length before.caches → HasRow d)
@@ -90,8 +79,8 @@ module _ {p : Protocol} {flat : List ℕ} {before : Picture} {good : BlockInvari
   abbrev pub meant : Option ℕ
   meant = cond (is_put_m q) (Some c) good.owner
 
-  pub meant_in : (d : ℕ) → meant ≡ Some d → d < length before.caches
-  meant_in = in_place_in (is_put_m q) c good.owner (length before.caches) l.requestor_in good.owner_in
+  pub meant_in : OwnerIn (length before.caches) meant
+  meant_in = cond_both (is_put_m q) (Some c) good.owner (OwnerIn (length before.caches)) (λ is. core_in (length before.caches) c l.requestor_in) (λ is. good.owner_in)
 
   -- this controller's line is in the table, and it has the block's words
   abbrev pub on_line : Option ℕ → Bool
@@ -103,15 +92,11 @@ module _ {p : Protocol} {flat : List ℕ} {before : Picture} {good : BlockInvari
 
   -- each controller sends if it is meant to
   pub sends : (from : Option ℕ) → IsBelow (length before.caches) from → SendsSo (payload_from p before c q from) (is_it meant from) sent (on_line from) (has_words from)
-  sends None below = rw (l.is_memory, none_meant (is_put_m q) good.owner, good.is_owned) (sends_so-true _ _ _ _ _ l.ends.1.1.1.1.0)
-    where
-      none_meant : (put : Bool) (owner : Option ℕ) → not (is_some (cond put (Some c) owner)) ≡ (not put && not (is_some owner))
-      none_meant true owner = refl
-      none_meant false owner = refl
+  sends None below = rw (l.is_memory, of_choice (λ x. not (is_some x)) (is_put_m q) (Some c) good.owner, good.is_owned) (sends_so-true _ _ _ _ _ l.ends.1.1.1.1.0)
   sends (Some k) below = by_core c (λ d. d < length before.caches → SendsSo (payload_from p before c q (Some d)) (owns meant d) sent (on_line (Some d)) (has_words (Some d)))
-      (λ c_in. rw (eq-eqb c c refl, l.is_row, owns_self (is_put_m q) c good.owner) (sends_so-true _ _ _ _ _ l.ends.1.1.1.1.1.0))
+      (λ c_in. rw (of_choice (λ x. owns x c) (is_put_m q) (Some c) good.owner, eq-eqb c c refl, l.is_row) (sends_so-true _ _ _ _ _ l.ends.1.1.1.1.1.0))
       (λ d apart d_in. let (row, is_row, tests) = other_core d d_in apart in
-      rw (ne_eqb d c apart, is_row, owns_other (is_put_m q) c good.owner d apart) (sends_so-true _ _ _ _ _ tests.1.1.0)) k below
+      rw (of_choice (λ x. owns x d) (is_put_m q) (Some c) good.owner, ne_eqb d c apart, is_row) (sends_so-true _ _ _ _ _ tests.1.1.0)) k below
 
   pub sends_if_meant : (from : Option ℕ) → IsBelow (length before.caches) from → is_it meant from ≡ true → Sends p before c q from sent
   sends_if_meant None below is = memory_sends_row _ _ ((sends None tt).is_sent ∙ rw is refl)
@@ -145,14 +130,14 @@ order_keeps s core block q new flat good in_row o =
     let (taken, is_taken, moved) = o.taken.rows d d_in in
     let same : row ≡ taken = same_Some _ _ (sym is_row ∙ is_taken) in
     let old = held_by before d in
-    rw (moved, owns_kept l.next.owned good.owner d) (carried_line old _ (line_of good d d_in) (kept_reader taken.next old.kept)
+    rw (moved, of_choice (λ x. owns x d) l.next.owned good.owner None) (carried_line old _ (line_of good d d_in) (kept_reader taken.next old.kept)
     (rw same at fit) (rw same at carry) (IsProper-order p old d core q taken.action taken.next (good.proper d d_in) is_taken)) in
     record {
       claims = l.next;
       is_claims = rw (o.opened, is_memory, is_sent) l.is_next;
       owner = cond l.next.owned good.owner None;
-      owner_in = kept_in l.next.owned good.owner (length before.caches) good.owner_in;
-      is_owned = kept_owned l.next.owned good.claims.owned good.owner good.is_owned l.ends.0;
+      owner_in = cond_both l.next.owned good.owner None (OwnerIn (length before.caches)) (λ stays. good.owner_in) (λ gone o is. cc);
+      is_owned = cond_both l.next.owned good.owner None (λ x. is_some x ≡ l.next.owned) (λ stays. good.is_owned ∙ (rw stays at l.ends.0 ∙ sym stays)) sym;
       states = λ d d_in. rw o.opened (line_after d d_in).fit;
       kept = λ d d_in. (line_after d d_in).kept;
       clean = λ d d_in h. o.value ∙ (line_after d d_in).clean h;

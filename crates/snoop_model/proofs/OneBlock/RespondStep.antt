@@ -6,12 +6,14 @@ use Rattle.snoop_trace.specs.declared.step.Op.TheVariants as op
 use Rattle.snoop_rules.specs.declared.names.CacheAction.TheVariants as action
 use Rattle.snoop_rules.specs.declared.names.MemAction.TheVariants as mem_action
 use Rattle.snoop_rules.specs.declared.names.Request.TheVariants as request
+use Rattle.snoop_model.proofs.Lists.Facts.{of_choice}
+use Rattle.std.proofs.lemmas.Bool.{cond_both}
 use Rattle.snoop_model.proofs.Lists.Writes.{each_set}
 use Rattle.snoop_model.proofs.Tables.Every.{EachHolds, same_is, some_and, some_each}
 use Rattle.snoop_model.proofs.Tables.RespondTests.{answer_tests, answers_one, fills_store, gains, respond_rule, respond_tests, row_for, settled_row, settled_so, stay_one, writes}
 use Rattle.snoop_model.proofs.Tables.Rows.{IsProper-fill}
 use Rattle.snoop_model.proofs.Tables.StateTests.{clean_reads, fits_calm, is_calm}
-use Rattle.snoop_model.proofs.OneBlock.Facts.{LineFits, in_place_in, owns_other, owns_owned, owns_same, owns_self, put_calm}
+use Rattle.snoop_model.proofs.OneBlock.Facts.{LineFits, OwnerIn, core_in, owns_owned, put_calm}
 use Rattle.snoop_model.proofs.OneBlock.Operation.{flat_after, IsLawful}
 
 -- all that a Respond looks up of a picture that keeps its invariant
@@ -90,7 +92,7 @@ module _ (s : Situation) (block : ℕ) (o : Open) (did : Option Did) (new : Situ
 
   -- a core that is not answered keeps its line, which fits then, if the block's words change only at a GetM
   stays : (words : List ℕ) → (is_get_m o.request ≡ false → words ≡ flat) → (d : ℕ) → d < n → is_calm (own_open before.transaction d) ≡ true
-      → LineFits p a.next.shared (not gained && owns g.owner d) None words r.next.memory.value (held_by before d)
+      → LineFits p a.next.shared (cond gained false (owns g.owner d)) None words r.next.memory.value (held_by before d)
   stays words same d d_in calm =
       let s = (held_by before d).state in
       let fit = fits_calm p g.claims.shared (owns g.owner d) (own_open before.transaction d) s calm (g.states d d_in) in
@@ -114,7 +116,7 @@ module _ (s : Situation) (block : ℕ) (o : Open) (did : Option Did) (new : Situ
         claims = a.next;
         is_claims = simp r.closed (rw memory_is at a.is_next);
         owner = cond gained (Some o.core) g.owner;
-        owner_in = in_place_in gained o.core g.owner n (g.requestor_in o r.opened) g.owner_in;
+        owner_in = cond_both gained (Some o.core) g.owner (OwnerIn n) (λ is. core_in n o.core (g.requestor_in o r.opened)) (λ is. g.owner_in);
         is_owned = owned_after g.claims.owned a.next.owned o.core g.owner g.is_owned a.tests.1.0;
         states = λ d d_in. simp r.closed (lines d d_in).fit;
         kept = λ d d_in. (lines d d_in).kept;
@@ -136,21 +138,22 @@ module _ (s : Situation) (block : ℕ) (o : Open) (did : Option Did) (new : Situ
       rw f.logged (filled_words flat s.log c o.block f.asking.word f.value o.value f.fills.after f.fills.row.action f.asking.op (g.carried o r.opened (rw get at a.tests.0)) f.fills.fill f.fills.performed) in
       let same : is_get_m o.request ≡ false → flat_after flat did ≡ flat = λ h. words.2 (same_is _ _ (rw row_is at stores) ∙ h) in
       let filled : LineFits p a.next.shared (owns (cond gained (Some c) g.owner) c) None (flat_after flat did) r.next.memory.value f.line = rw f.fills.held (record {
-        fit = rw owns_self (rw row_is at fit);
+        fit = rw (of_choice (λ x. owns x c) gained (Some c) g.owner, eq-eqb c c refl) (rw row_is at fit);
         kept = λ h. rw words.0 refl;
         clean = λ h. let (fresh, get_s) = and_parts g.claims.fresh _ (rw (row_is, h) at clean) in memory_flat (λ w. g.fresh fresh) ∙ sym (same (not-true _ get_s));
         proper = IsProper-fill p (held_by before c).state f.fills.event f.fills.row.action f.fills.row.next f.asking.op f.fills.after f.fills.fill f.fills.is_row;
       }) in (
         closed (flat_after flat did) same (simp f.held (each_set before.caches c f.line nothing_held
             (λ d x. d < n → LineFits p a.next.shared (owns (cond gained (Some c) g.owner) d) None (flat_after flat did) r.next.memory.value x) in_row (λ c_in. filled)
-            (λ d apart d_in. rw (owns_other gained c g.owner d apart) (stays (flat_after flat did) same d d_in (rw (r.opened, ne_eqb d c apart) refl))))),
+            (λ d apart d_in. rw (of_choice (λ x. owns x d) gained (Some c) g.owner, ne_eqb d c apart) (stays (flat_after flat did) same d d_in (rw (r.opened, ne_eqb d c apart) refl))))),
         words.1,
       )
 
   -- a PutM's end changes no line
   respond_put : is_put_m o.request ≡ true → r.next.caches ≡ before.caches → BlockInvariant p n flat r.next
-  respond_put put same = closed flat (λ h. refl) (λ d d_in. simp same (rw (owns_same gained o.core g.owner d (not-true _ (rw put at a.tests.1.1.0)))
-      (stays flat (λ h. refl) d d_in (rw r.opened (put_calm o d put)))))
+  respond_put put same =
+      let no_gain : gained ≡ false = not-true _ (rw put at a.tests.1.1.0) in
+      closed flat (λ h. refl) (λ d d_in. simp same (rw no_gain (rw no_gain at (stays flat (λ h. refl) d d_in (rw r.opened (put_calm o d put))))))
 
   by_request : (q : Request) → o.request ≡ q → ArrivesFor q o p s.log before.caches r.next.caches did → BlockInvariant p n (flat_after flat did) r.next × IsLawful flat did
   by_request request.PutM is arrives = rw arrives.1 (respond_put (ap is_put_m is) arrives.0, tt)

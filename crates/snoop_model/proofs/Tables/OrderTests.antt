@@ -1,5 +1,5 @@
 -- A test of the rows of an Order, computed over the whole tables.
-use Rattle.std.proofs.Common.{◌≡◌, ◌&&◌, ◌||◌, Bool, true, not, cond, List, [], ◌∷◌, Option, Some, None, refl, unwrap_or}
+use Rattle.std.proofs.Common.{◌≡◌, ◌&&◌, ◌||◌, Bool, true, false, not, cond, List, [], ◌∷◌, Option, Some, None, refl, unwrap_or}
 use Rattle.snoop_model.proofs.Common.{and_from, and_parts, Protocol, CacheState, CacheCell, MemState, MemCell, Request, Payload, cell_of, memory_cell_of, own, other, at_memory, carries_value, waiting_request, keeps, Memory, Requestor, Other, is_put_m, Claims, claims_of, is_owner, is_sharer, is_clean, wait_fits, in_protocol, same, fits}
 use Rattle.std.specs.Option.{option_or}
 use Rattle.snoop_rules.specs.declared.names.Payload.TheVariants as payload
@@ -33,8 +33,8 @@ payload_of row memory = unwrap_or (option_or (sent_by (Some row)) (sent_by_memor
 -- another core, which owns the block or not, has a row: its state fits after it, and carries over, and it sends where it owns and the request is no PutM
 abbrev pub other_tests : Protocol → MemState → Request → MemCell → Payload → Claims → CacheState → Bool → CacheCell → List Bool
 other_tests p m q memory pl after s owns row =
-    fits p after.shared (after.owned && owns) None row.next ∷ carries s row.next
-    ∷ sends_so (sent_by (Some row)) (not (is_put_m q) && owns) pl (follows_sender_table p q m (Other s) pl memory.next) (keeps s) ∷ []
+    fits p after.shared (cond after.owned owns false) None row.next ∷ carries s row.next
+    ∷ sends_so (sent_by (Some row)) (cond (is_put_m q) false owns) pl (follows_sender_table p q m (Other s) pl memory.next) (keeps s) ∷ []
 
 unfoldable pub others_all : Protocol → MemState → Claims → Bool → Request → MemCell → Payload → Claims → Bool
 others_all p m st requestor_owns q memory pl after =
@@ -52,11 +52,11 @@ other_one p m st requestor_owns q memory pl after h s owns fit apart owned =
 abbrev pub end_tests : Protocol → MemState → Claims → CacheState → Bool → Request → MemCell → CacheCell → Claims → List Bool
 end_tests p m st s owns q memory row after =
     (not after.owned || st.owned)
-    ∷ fits p after.shared (after.owned && owns) (Some q) row.next
+    ∷ fits p after.shared (cond after.owned owns false) (Some q) row.next
     ∷ carries s row.next
     ∷ (not after.fresh || (st.fresh || is_clean s))
-    ∷ sends_so (sent_by_memory (Some memory)) (not (is_put_m q) && not st.owned) (payload_of row memory) (follows_sender_table p q m Memory (payload_of row memory) memory.next) st.fresh
-    ∷ sends_so (sent_by (Some row)) (is_put_m q || owns) (payload_of row memory) (follows_sender_table p q m (Requestor s) (payload_of row memory) memory.next) (keeps s)
+    ∷ sends_so (sent_by_memory (Some memory)) (cond (is_put_m q) false (not st.owned)) (payload_of row memory) (follows_sender_table p q m Memory (payload_of row memory) memory.next) st.fresh
+    ∷ sends_so (sent_by (Some row)) (cond (is_put_m q) true owns) (payload_of row memory) (follows_sender_table p q m (Requestor s) (payload_of row memory) memory.next) (keeps s)
     ∷ others_all p m st owns q memory (payload_of row memory) after
     ∷ []
 

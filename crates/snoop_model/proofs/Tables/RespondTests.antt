@@ -48,7 +48,7 @@ gains before after = not before.owned && after.owned
 -- the requestor's row for the data: its state fits after it, it is clean only where memory's value is the block's, and it stores at a GetM
 abbrev pub answer_tests : Protocol → Request → Claims → Claims → Bool → CacheCell → List Bool
 answer_tests p q st after owns row =
-    fits p after.shared (gains st after || owns) None row.next ∷ (not (is_clean row.next) || (st.fresh && not (is_get_m q))) ∷ same (fills_store row.action) (is_get_m q) ∷ []
+    fits p after.shared (cond (gains st after) true owns) None row.next ∷ (not (is_clean row.next) || (st.fresh && not (is_get_m q))) ∷ same (fills_store row.action) (is_get_m q) ∷ []
 
 -- the requestor of a GetS or a GetM has that row
 unfoldable pub answers_all : Protocol → Request → Payload → Claims → Claims → Bool
@@ -62,7 +62,7 @@ answers_one p q pl st after h s owns fit = when_at _ _ fit (either-at _ (all_sta
 
 -- another core fits after it as it is, and after a GetM it may not read
 abbrev pub stays_so : Protocol → Request → Claims → Claims → CacheState → Bool → Bool
-stays_so p q st after s owns = fits p after.shared (not (gains st after) && owns) None s && (not (is_get_m q) || not (keeps s))
+stays_so p q st after s owns = fits p after.shared (cond (gains st after) false owns) None s && (not (is_get_m q) || not (keeps s))
 
 unfoldable pub stay_all : Protocol → Request → Claims → Claims → Bool
 stay_all p q st after = all_states (λ s. either (λ owns. when (fits p st.shared owns None s && (not owns || st.owned)) (λ _. stays_so p q st after s owns)))
