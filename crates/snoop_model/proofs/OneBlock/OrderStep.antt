@@ -1,12 +1,12 @@
 -- An Order finds all its rows and one sender, and keeps the invariant.
 use Rattle.std.proofs.Common.{◌≡◌, ◌≢◌, ◌<◌, ◌∙◌, ℕ, length, List, Bool, true, false, not, cond, eqb, Option, Some, None, refl, inl, inr, ap, sym, is_some, eq-eqb, ne_eqb}
-use Rattle.snoop_model.proofs.Common.{or_cases, same_Some, Protocol, CacheCell, MemCell, Request, Payload, cell_of, memory_cell_of, own, other, seen_by, at_memory, carries_value, waiting_request, Open, Picture, held_by, Situation, picture_of, keeps, Orders, sender_of, is_put_m, Sends, value_sent, Claims, claims_of, fits, BlockInvariant, own_open, owns}
+use Rattle.snoop_model.proofs.Common.{and_from, or_cases, same_Some, Protocol, CacheCell, MemCell, Request, Payload, cell_of, memory_cell_of, own, other, seen_by, at_memory, carries_value, waiting_request, Open, Picture, held_by, Situation, picture_of, keeps, Orders, sender_of, is_put_m, Sends, value_sent, Claims, claims_of, fits, BlockInvariant, own_open, owns}
 use Rattle.std.proofs.lemmas.Bool.{cond_both}
 use Rattle.std.proofs.lemmas.Option.{cond_some}
 use Rattle.snoop_model.proofs.Lists.Facts.{of_choice}
 use Rattle.snoop_model.proofs.Lines.TheSender.{IsBelow, sends_below}
-use Rattle.snoop_model.proofs.Tables.Every.{EachHolds, some_and, some_each}
-use Rattle.snoop_model.proofs.Tables.OrderTests.{SendsSo, end_tests, order_rule, other_one, other_tests, payload_of, sends_so-true}
+use Rattle.snoop_model.proofs.Tables.Every.{all_fitting-at, when_at, EachHolds, some_and, some_each}
+use Rattle.snoop_model.proofs.Tables.OrderTests.{SendsSo, end_tests, order_rule, other_tests, payload_of, sends_so-true}
 use Rattle.snoop_model.proofs.Tables.Rows.{IsProper-order}
 use Rattle.snoop_model.proofs.Tables.SenderLines.{follows_sender_table}
 use Rattle.snoop_model.proofs.Tables.SentBy.{payload_from, sends_is, sends_row, memory_sends_row}
@@ -35,17 +35,7 @@ look {p} {flat} {before} good calm c q c_in waits =
     let (memory, is_memory, test) = some_and (memory_cell_of p m (at_memory q)) _ test in
     let (row, is_row, test) = some_and (cell_of p s (own q)) _ test in
     let (next, is_next, ends) = some_each (claims_of p memory.next (Some (q, payload_of row memory))) (end_tests p m good.claims s ow q memory row) test in
-    record {
-      requestor_in = c_in;
-      calm = calm;
-      memory = memory;
-      is_memory = is_memory;
-      row = row;
-      is_row = is_row;
-      next = next;
-      is_next = is_next;
-      ends = ends;
-    }
+    record { requestor_in = c_in; calm = calm; memory = memory; is_memory = is_memory; row = row; is_row = is_row; next = next; is_next = is_next; ends = ends }
 
 pub seen_other : (d c : ℕ) (q : Request) → d ≢ c → seen_by d c q ≡ other q
 seen_other d c q apart = rw (ne_eqb d c apart) refl
@@ -61,8 +51,9 @@ module _ {p : Protocol} {flat : List ℕ} {before : Picture} {good : BlockInvari
   other_core d d_in apart =
       let s = (held_by before d).state in
       let ow = owns good.owner d in
-      some_each (cell_of p s (other q)) (other_tests p before.memory.state q l.memory sent l.next s ow) (other_one p before.memory.state good.claims (owns good.owner c) q
-      l.memory sent l.next l.ends.1.1.1.1.1.1.0 s ow (rw l.calm at (good.states d d_in)) (owns_apart good.owner c d apart) (owns_owned good.owner d _ good.is_owned))
+      let apart_owned = and_from _ _ (owns_apart good.owner c d apart) (owns_owned good.owner d _ good.is_owned) in
+      some_each (cell_of p s (other q)) (other_tests p before.memory.state q l.memory sent l.next s ow)
+          (when_at _ _ apart_owned (all_fitting-at p good.claims.shared None _ l.ends.1.1.1.1.1.1.0 s ow (rw l.calm at (good.states d d_in))))
 
   -- a core has its row, with which its state fits after it, and its words carry over
   abbrev pub HasRow : ℕ → Type 0
@@ -99,15 +90,15 @@ module _ {p : Protocol} {flat : List ℕ} {before : Picture} {good : BlockInvari
       rw (of_choice (λ x. owns x d) (is_put_m q) (Some c) good.owner, ne_eqb d c apart, is_row) (sends_so-true _ _ _ _ _ tests.1.1.0)) k below
 
   pub sends_if_meant : (from : Option ℕ) → IsBelow (length before.caches) from → is_it meant from ≡ true → Sends p before c q from sent
-  sends_if_meant None below is = memory_sends_row _ _ ((sends None tt).is_sent ∙ rw is refl)
-  sends_if_meant (Some d) below is = (below, sends_row _ _ ((sends (Some d) below).is_sent ∙ rw is refl))
+  sends_if_meant None below is = memory_sends_row _ _ ((sends None tt).0 ∙ rw is refl)
+  sends_if_meant (Some d) below is = (below, sends_row _ _ ((sends (Some d) below).0 ∙ rw is refl))
 
   -- one that sends is meant to, and what it sends is this payload, whose words it has
   pub sender_told : (from : Option ℕ) (payload : Payload) → Sends p before c q from payload → (from ≡ meant) × (payload ≡ sent) × (carries_value payload ≡ true → value_sent before from payload ≡ flat)
   sender_told from payload does =
       let so = sends from (sends_below p before c q from payload does) in
-      let (is, same) = cond_some _ sent payload (sym so.is_sent ∙ sends_is p before c q from payload does) in
-      (it_is meant from is, sym same, λ carrying. words from carrying ((so.led is).1 (rw same carrying)) does)
+      let (is, same) = cond_some _ sent payload (sym so.0 ∙ sends_is p before c q from payload does) in
+      (it_is meant from is, sym same, λ carrying. words from carrying ((so.1 is).1 (rw same carrying)) does)
     where
       words : (from : Option ℕ) → carries_value payload ≡ true → has_words from ≡ true → Sends p before c q from payload → value_sent before from payload ≡ flat
       words None carrying has does = rw carrying (good.fresh has)

@@ -1,7 +1,7 @@
 -- Each step finds its rows, and an Order exactly one sender.
 use Rattle.std.proofs.Common.{◌≡◌, ◌<◌, ℕ, length, List, true, false, Option, Some, None}
-use Rattle.snoop_model.proofs.Common.{and_parts, Protocol, Op, CacheCell, MemCell, Request, Payload, cell_of, memory_cell_of, asked, seen_by, at_memory, arrival, arrival_at_memory, takes_payload, waiting_request, Open, Picture, held_by, sender_of, is_put_m, IsOnlySender, fits, BlockInvariant}
-use Rattle.snoop_model.proofs.Tables.Every.{some_and, when_at}
+use Rattle.snoop_model.proofs.Common.{owns, own_open, Protocol, Op, CacheCell, MemCell, Request, Payload, cell_of, memory_cell_of, asked, seen_by, at_memory, arrival, arrival_at_memory, takes_payload, waiting_request, Open, Picture, held_by, sender_of, is_put_m, IsOnlySender, BlockInvariant}
+use Rattle.snoop_model.proofs.Tables.Every.{some_and}
 use Rattle.snoop_model.proofs.Tables.SenderLines.{follows_sender_table}
 use Rattle.snoop_model.proofs.OneBlock.Facts.{below_owner, is_itself}
 use Rattle.snoop_model.proofs.OneBlock.OrderStep.{each_row, look, meant, meant_in, sender_told, sends, sends_if_meant, sent}
@@ -31,15 +31,14 @@ order_possible p flat before c q good c_in waits calm =
       from = meant l;
       payload = sent l;
       sender = record { sends = sends_if_meant l (meant l) below itself; alone = λ another payload does. (sender_told l another payload does).0 };
-      order_line = ((sends l (meant l) below).led itself).0;
+      order_line = ((sends l (meant l) below).1 itself).0;
     }
 
 -- an Ask finds its row; an Evict in I has none and needs none
 pub ask_possible : (p : Protocol) (n : ℕ) (flat : List ℕ) (before : Picture) (c : ℕ) (o : Op) → BlockInvariant p n flat before → c < n → is_idle_evict (held_by before c).state (asked o) ≡ false → (r : CacheCell) × (cell_of p (held_by before c).state (asked o) ≡ Some r)
-unfolding fits
 ask_possible p n flat before c o good c_in busy =
     let s = (held_by before c).state in
-    let (row, is_row, _) = some_and (cell_of p s (asked o)) _ (rw busy at (when_at _ _ (and_parts _ _ (good.states c c_in)).0 (ask_row p s o))) in
+    let (row, is_row, _) = some_and (cell_of p s (asked o)) _ (rw busy at (ask_row p good.claims.shared (owns good.owner c) (own_open before.transaction c) s o (good.states c c_in))) in
     (row, is_row)
 
 -- a Respond finds its rows

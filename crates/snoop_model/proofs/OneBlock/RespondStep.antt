@@ -9,8 +9,8 @@ use Rattle.snoop_rules.specs.declared.names.Request.TheVariants as request
 use Rattle.snoop_model.proofs.Lists.Facts.{of_choice}
 use Rattle.std.proofs.lemmas.Bool.{cond_both}
 use Rattle.snoop_model.proofs.Lists.Writes.{each_set}
-use Rattle.snoop_model.proofs.Tables.Every.{EachHolds, same_is, some_and, some_each}
-use Rattle.snoop_model.proofs.Tables.RespondTests.{answer_tests, answers_one, fills_store, gains, respond_rule, respond_tests, row_for, settled_row, settled_so, stay_one, writes}
+use Rattle.snoop_model.proofs.Tables.Every.{all_fitting-at, when_at, EachHolds, same_is, some_and, some_each}
+use Rattle.snoop_model.proofs.Tables.RespondTests.{answer_tests, fills_store, gains, respond_rule, respond_tests, row_for, settled_row, settled_so, writes}
 use Rattle.snoop_model.proofs.Tables.Rows.{IsProper-fill}
 use Rattle.snoop_model.proofs.Tables.StateTests.{clean_reads, fits_calm, is_calm}
 use Rattle.snoop_model.proofs.OneBlock.Facts.{LineFits, OwnerIn, core_in, owns_owned, put_calm}
@@ -40,7 +40,7 @@ answered {p} {n} {flat} {before} {good} {o} a get =
     let ow = owns good.owner o.core in
     let fit = rw (a.opened, eq-eqb o.core o.core refl) at (good.states o.core (good.requestor_in o a.opened)) in
     some_each (row_for p s (arrival o.payload)) (answer_tests p o.request good.claims a.next ow)
-    (answers_one p o.request o.payload good.claims a.next (rw get at a.tests.1.1.1.1.1.0) s ow fit)
+    (all_fitting-at p good.claims.shared (Some o.request) _ (rw get at a.tests.1.1.1.1.1.0) s ow fit)
 
 written_flat : (a : MemAction) (v old flat : List ℕ) → (writes a ≡ true → v ≡ flat) → (writes a ≡ false → old ≡ flat) → written a v old ≡ flat
 written_flat mem_action.Write v old flat new stays = new refl
@@ -96,7 +96,7 @@ module _ (s : Situation) (block : ℕ) (o : Open) (did : Option Did) (new : Situ
   stays words same d d_in calm =
       let s = (held_by before d).state in
       let fit = fits_calm p g.claims.shared (owns g.owner d) (own_open before.transaction d) s calm (g.states d d_in) in
-      let (fit_after, blind) = and_parts _ _ (stay_one p o.request g.claims a.next a.tests.1.1.1.1.1.1.0 s (owns g.owner d) fit (owns_owned g.owner d g.claims.owned g.is_owned)) in
+      let (fit_after, blind) = and_parts _ _ (when_at _ _ (owns_owned g.owner d g.claims.owned g.is_owned) (all_fitting-at p g.claims.shared None _ a.tests.1.1.1.1.1.1.0 s (owns g.owner d) fit)) in
       let reads : keeps s ≡ true → words ≡ flat = λ h. elim (cases_Bool (is_get_m o.request)) [
         | inl m ↦ absurd (both_ways _ (not-true _ (rw m at blind)) h)
         | inr m ↦ same m

@@ -1,13 +1,11 @@
 -- A test that holds of each value of a type holds of any one, tests under a premise, and tests that compare.
 use Rattle.std.proofs.Common.{◌≡◌, ◌&&◌, Bool, true, false, Option, Some, None, List, [], ◌∷◌, refl, ap}
-use Rattle.snoop_model.proofs.Common.{and_parts, Op, CacheEvent, Request, asked, Talk, same}
+use Rattle.snoop_model.proofs.Common.{Protocol, CacheState, Request, and_parts, fits, same}
 use denote.Enum.Bare.{Bare, same_true, sameb}
 use denote.Enum.Declared.{Declared}
 use Rattle.std.specs.Prelude.{⊤}
 use Rattle.std.specs.List.{list_all}
-use Rattle.snoop_trace.specs.declared.step.Op.TheVariants as op
-use Rattle.snoop_rules.specs.declared.names.CacheEvent.TheVariants as event
-use Rattle.snoop_rules.proofs.Every.{all_requests, all_requests-at, all_payloads, all_payloads-at}
+use Rattle.snoop_rules.proofs.Every.{all_states, all_states-at}
 
 unfoldable pub either : (Bool → Bool) → Bool
 either f = f true && f false
@@ -76,28 +74,19 @@ same_option-true D bare None None h = refl
 same_option-true D bare (Some a) (Some b) h = ap (λ (x : D.D). Some x) (same_true D bare a b h)
 same_option-true D bare _ _ h = cc
 
--- the three events of an Ask
-unfoldable pub all_asks : (CacheEvent → Bool) → Bool
-all_asks f = f event.Load && (f event.Store && f event.Evict)
+-- a test of each value, and of none
+unfoldable pub all_options : {A : Type 0} → ((A → Bool) → Bool) → (Option A → Bool) → Bool
+all_options all test = test None && all (λ a. test (Some a))
 
-pub all_asks-at : (f : CacheEvent → Bool) → all_asks f ≡ true → (o : Op) → f (asked o) ≡ true
-unfolding all_asks
-all_asks-at f h op.Load = (and_parts _ _ h).0
-all_asks-at f h (op.Store v) = (and_parts _ _ (and_parts _ _ h).1).0
-all_asks-at f h op.Evict = (and_parts _ _ (and_parts _ _ h).1).1
+pub all_options-at : {A : Type 0} (all : (A → Bool) → Bool) → ((f : A → Bool) → all f ≡ true → (a : A) → f a ≡ true) → (test : Option A → Bool) → all_options all test ≡ true → (o : Option A) → test o ≡ true
+unfolding all_options
+all_options-at all at test h None = (and_parts _ _ h).0
+all_options-at all at test h (Some a) = at _ (and_parts (test None) _ h).1 a
 
-unfoldable pub all_waits : (Option Request → Bool) → Bool
-all_waits f = f None && all_requests (λ q. f (Some q))
+-- a test of each state that fits, of a core that owns the block or not
+unfoldable pub all_fitting : Protocol → Bool → Option Request → (CacheState → Bool → Bool) → Bool
+all_fitting p shared wait test = all_states (λ s. either (λ owns. when (fits p shared owns wait s) (λ _. test s owns)))
 
-pub all_waits-at : (f : Option Request → Bool) → all_waits f ≡ true → (w : Option Request) → f w ≡ true
-unfolding all_waits
-all_waits-at f h None = (and_parts _ _ h).0
-all_waits-at f h (Some q) = all_requests-at _ (and_parts (f None) _ h).1 q
-
-unfoldable pub all_talks : (Option Talk → Bool) → Bool
-all_talks f = f None && all_requests (λ q. all_payloads (λ pl. f (Some (q, pl))))
-
-pub all_talks-at : (f : Option Talk → Bool) → all_talks f ≡ true → (t : Option Talk) → f t ≡ true
-unfolding all_talks
-all_talks-at f h None = (and_parts _ _ h).0
-all_talks-at f h (Some t) = all_payloads-at _ (all_requests-at _ (and_parts (f None) _ h).1 t.0) t.1
+pub all_fitting-at : (p : Protocol) (shared : Bool) (wait : Option Request) (test : CacheState → Bool → Bool) → all_fitting p shared wait test ≡ true → (s : CacheState) (owns : Bool) → fits p shared owns wait s ≡ true → test s owns ≡ true
+unfolding all_fitting
+all_fitting-at p shared wait test h s owns fit = when_at _ _ fit (either-at _ (all_states-at _ h s) owns)

@@ -1,11 +1,11 @@
 -- A test of the rows of an Order, computed over the whole tables.
 use Rattle.std.proofs.Common.{◌≡◌, ◌&&◌, ◌||◌, Bool, true, false, not, cond, List, [], ◌∷◌, Option, Some, None, refl, unwrap_or}
-use Rattle.snoop_model.proofs.Common.{and_from, and_parts, Protocol, CacheState, CacheCell, MemState, MemCell, Request, Payload, cell_of, memory_cell_of, own, other, at_memory, carries_value, waiting_request, keeps, Memory, Requestor, Other, is_put_m, Claims, claims_of, is_owner, is_sharer, is_clean, wait_fits, in_protocol, same, fits}
+use Rattle.snoop_model.proofs.Common.{and_parts, Protocol, CacheState, CacheCell, MemState, MemCell, Request, Payload, cell_of, memory_cell_of, own, other, at_memory, carries_value, waiting_request, keeps, Memory, Requestor, Other, is_put_m, Claims, claims_of, is_owner, is_sharer, is_clean, wait_fits, in_protocol, same, fits}
 use Rattle.std.specs.Option.{option_or}
 use Rattle.snoop_rules.specs.declared.names.Payload.TheVariants as payload
 use Rattle.snoop_rules.specs.contracts.names.Payload.{the_type as payloads}
-use Rattle.snoop_rules.proofs.Every.{all_protocols, all_protocols-at, all_states, all_states-at, all_memories, all_memories-at}
-use Rattle.snoop_model.proofs.Tables.Every.{each, either, either-at, given, given_at, is_some_and, same_option, same_option-true, when, when_at}
+use Rattle.snoop_rules.proofs.Every.{all_protocols, all_protocols-at, all_states, all_memories, all_memories-at}
+use Rattle.snoop_model.proofs.Tables.Every.{all_fitting, all_fitting-at, each, either, given, given_at, is_some_and, same_option, same_option-true, when, when_at}
 use Rattle.snoop_model.proofs.Tables.SenderLines.{follows_sender_table}
 use Rattle.snoop_model.proofs.Tables.SentBy.{sent_by, sent_by_memory}
 use Rattle.snoop_model.proofs.Tables.StateTests.{carries}
@@ -14,17 +14,13 @@ use Rattle.snoop_model.proofs.Tables.StateTests.{carries}
 abbrev pub sends_so : Option Payload → Bool → Payload → Bool → Bool → Bool
 sends_so sent meant pl on_line has_words = same_option payloads sent (cond meant (Some pl) None) && (not meant || (on_line && (not (carries_value pl) || has_words)))
 
-pub record SendsSo (sent : Option Payload) (meant : Bool) (pl : Payload) (on_line has_words : Bool) : Type 0 where
-  pub is_sent : sent ≡ cond meant (Some pl) None
-  pub led : meant ≡ true → (on_line ≡ true) × (carries_value pl ≡ true → has_words ≡ true)
+abbrev pub SendsSo : Option Payload → Bool → Payload → Bool → Bool → Type 0
+SendsSo sent meant pl on_line has_words = (sent ≡ cond meant (Some pl) None) × (meant ≡ true → (on_line ≡ true) × (carries_value pl ≡ true → has_words ≡ true))
 
 pub sends_so-true : (sent : Option Payload) (meant : Bool) (pl : Payload) (on_line has_words : Bool) → sends_so sent meant pl on_line has_words ≡ true → SendsSo sent meant pl on_line has_words
 sends_so-true sent meant pl on_line has_words h =
-    let (is, rest) = and_parts (same_option payloads sent (cond meant (Some pl) None)) _ h in
-    record {
-      is_sent = same_option-true payloads tt _ _ is;
-      led = λ e. let (line, words) = and_parts on_line _ (rw e at rest) in (line, λ carrying. rw carrying at words);
-    }
+    let (is_sent, rest) = and_parts (same_option payloads sent (cond meant (Some pl) None)) _ h in
+    (same_option-true payloads tt _ _ is_sent, λ e. let (line, words) = and_parts on_line _ (rw e at rest) in (line, λ carrying. rw carrying at words))
 
 -- the payload of an Order, from the requestor's row, or memory's, or an owner's
 abbrev pub payload_of : CacheCell → MemCell → Payload
@@ -36,18 +32,6 @@ other_tests p m q memory pl after s owns row =
     fits p after.shared (cond after.owned owns false) None row.next ∷ carries s row.next
     ∷ sends_so (sent_by (Some row)) (cond (is_put_m q) false owns) pl (follows_sender_table p q m (Other s) pl memory.next) (keeps s) ∷ []
 
-unfoldable pub others_all : Protocol → MemState → Claims → Bool → Request → MemCell → Payload → Claims → Bool
-others_all p m st requestor_owns q memory pl after =
-    all_states (λ s. either (λ owns. when (fits p st.shared owns None s && (not (owns && requestor_owns) && (not owns || st.owned)))
-    (λ _. is_some_and (cell_of p s (other q)) (λ row. each (other_tests p m q memory pl after s owns row)))))
-
-pub other_one : (p : Protocol) (m : MemState) (st : Claims) (requestor_owns : Bool) (q : Request) (memory : MemCell) (pl : Payload) (after : Claims)
-    → others_all p m st requestor_owns q memory pl after ≡ true → (s : CacheState) (owns : Bool) → fits p st.shared owns None s ≡ true → not (owns && requestor_owns) ≡ true
-    → (not owns || st.owned) ≡ true → is_some_and (cell_of p s (other q)) (λ row. each (other_tests p m q memory pl after s owns row)) ≡ true
-unfolding others_all
-other_one p m st requestor_owns q memory pl after h s owns fit apart owned =
-    when_at _ _ (and_from _ _ fit (and_from _ _ apart owned)) (either-at _ (all_states-at _ h s) owns)
-
 -- what is asked of an Order, with memory's row, the requestor's, and the claims after it
 abbrev pub end_tests : Protocol → MemState → Claims → CacheState → Bool → Request → MemCell → CacheCell → Claims → List Bool
 end_tests p m st s owns q memory row after =
@@ -57,7 +41,8 @@ end_tests p m st s owns q memory row after =
     ∷ (not after.fresh || (st.fresh || is_clean s))
     ∷ sends_so (sent_by_memory (Some memory)) (cond (is_put_m q) false (not st.owned)) (payload_of row memory) (follows_sender_table p q m Memory (payload_of row memory) memory.next) st.fresh
     ∷ sends_so (sent_by (Some row)) (cond (is_put_m q) true owns) (payload_of row memory) (follows_sender_table p q m (Requestor s) (payload_of row memory) memory.next) (keeps s)
-    ∷ others_all p m st owns q memory (payload_of row memory) after
+    ∷ all_fitting p st.shared None (λ s other_owns. when (not (other_owns && owns) && (not other_owns || st.owned))
+        (λ _. is_some_and (cell_of p s (other q)) (λ row_seen. each (other_tests p m q memory (payload_of row memory) after s other_owns row_seen))))
     ∷ []
 
 abbrev pub order_test : Protocol → MemState → Claims → CacheState → Bool → Request → Bool
@@ -66,12 +51,12 @@ order_test p m st s owns q =
     (λ row. is_some_and (claims_of p memory.next (Some (q, payload_of row memory))) (λ after. each (end_tests p m st s owns q memory row after))))
 
 -- an Order at a quiet line, by a core whose state fits
-order_case : Protocol → MemState → CacheState → Bool → Bool
-order_case p m s owns =
-    given (claims_of p m None) (λ st. when (fits p st.shared owns None s && (not owns || st.owned)) (λ _. given (waiting_request s) (λ q. order_test p m st s owns q)))
+order_case : Protocol → MemState → Bool
+order_case p m =
+    given (claims_of p m None) (λ st. all_fitting p st.shared None (λ s owns. when (not owns || st.owned) (λ _. given (waiting_request s) (λ q. order_test p m st s owns q))))
 
-order_holds : all_protocols (λ p. all_memories (λ m. all_states (λ s. either (λ owns. order_case p m s owns)))) ≡ true
-unfolding order_case others_all all_protocols all_memories all_states either given when claims_of fits is_owner is_sharer is_clean wait_fits in_protocol same
+order_holds : all_protocols (λ p. all_memories (λ m. order_case p m)) ≡ true
+unfolding order_case all_fitting all_protocols all_memories all_states either given when claims_of fits is_owner is_sharer is_clean wait_fits in_protocol same
 order_holds = refl
 
 -- what was tried holds of each Order at a quiet line
@@ -79,5 +64,5 @@ pub order_rule : (p : Protocol) (m : MemState) (st : Claims) (s : CacheState) (o
     → (not owns || st.owned) ≡ true → waiting_request s ≡ Some q → order_test p m st s owns q ≡ true
 unfolding order_case
 order_rule p m st s owns q is_claims fit owned is_waiting =
-    let all : order_case p m s owns ≡ true = either-at _ (all_states-at _ (all_memories-at _ (all_protocols-at _ order_holds p) m) s) owns in
-    given_at _ _ q is_waiting (when_at _ _ (and_from _ _ fit owned) (given_at _ _ st is_claims all))
+    let all = given_at _ _ st is_claims (all_memories-at _ (all_protocols-at _ order_holds p) m) in
+    given_at _ _ q is_waiting (when_at _ _ owned (all_fitting-at p st.shared None _ all s owns fit))

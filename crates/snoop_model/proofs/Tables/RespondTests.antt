@@ -1,10 +1,10 @@
 -- A test of the rows of a Respond, computed over the whole tables.
 use Rattle.std.proofs.Common.{◌≡◌, ◌&&◌, ◌||◌, Bool, true, false, not, cond, List, [], ◌∷◌, Option, Some, None, refl, ap, sym, MatchBool, IsSomeAnd, ◌↔◌}
-use Rattle.snoop_model.proofs.Common.{and_from, same_Some, Protocol, CacheState, CacheEvent, CacheAction, CacheCell, MemState, MemEvent, MemAction, MemCell, Request, Payload, cell_of, MemoryCell, memory_cell_of, arrival, arrival_at_memory, takes_payload, carries_value, keeps, is_put_m, is_get_m, Claims, claims_of, is_owner, is_sharer, is_clean, wait_fits, in_protocol, same, fits}
+use Rattle.snoop_model.proofs.Common.{same_Some, Protocol, CacheState, CacheEvent, CacheAction, CacheCell, MemState, MemEvent, MemAction, MemCell, Request, Payload, cell_of, MemoryCell, memory_cell_of, arrival, arrival_at_memory, takes_payload, carries_value, keeps, is_put_m, is_get_m, Claims, claims_of, is_owner, is_sharer, is_clean, wait_fits, in_protocol, same, fits}
 use Rattle.snoop_rules.specs.declared.names.CacheAction.TheVariants as action
 use Rattle.snoop_rules.specs.declared.names.MemAction.TheVariants as mem_action
-use Rattle.snoop_rules.proofs.Every.{all_protocols, all_protocols-at, all_states, all_states-at, all_memories, all_memories-at, all_requests, all_requests-at, all_payloads, all_payloads-at}
-use Rattle.snoop_model.proofs.Tables.Every.{each, either, either-at, given, given_at, is_some_and, when, when_at}
+use Rattle.snoop_rules.proofs.Every.{all_protocols, all_protocols-at, all_states, all_memories, all_memories-at, all_requests, all_requests-at, all_payloads, all_payloads-at}
+use Rattle.snoop_model.proofs.Tables.Every.{all_fitting, each, either, given, given_at, is_some_and, when}
 
 -- the row for an event, if there are both
 abbrev pub row_for : Protocol → CacheState → Option CacheEvent → Option CacheCell
@@ -50,27 +50,9 @@ abbrev pub answer_tests : Protocol → Request → Claims → Claims → Bool �
 answer_tests p q st after owns row =
     fits p after.shared (cond (gains st after) true owns) None row.next ∷ (not (is_clean row.next) || (st.fresh && not (is_get_m q))) ∷ same (fills_store row.action) (is_get_m q) ∷ []
 
--- the requestor of a GetS or a GetM has that row
-unfoldable pub answers_all : Protocol → Request → Payload → Claims → Claims → Bool
-answers_all p q pl st after =
-    all_states (λ s. either (λ owns. when (fits p st.shared owns (Some q) s) (λ _. is_some_and (row_for p s (arrival pl)) (λ row. each (answer_tests p q st after owns row)))))
-
-pub answers_one : (p : Protocol) (q : Request) (pl : Payload) (st after : Claims) → answers_all p q pl st after ≡ true → (s : CacheState) (owns : Bool) → fits p st.shared owns (Some q) s ≡ true
-    → is_some_and (row_for p s (arrival pl)) (λ row. each (answer_tests p q st after owns row)) ≡ true
-unfolding answers_all
-answers_one p q pl st after h s owns fit = when_at _ _ fit (either-at _ (all_states-at _ h s) owns)
-
 -- another core fits after it as it is, and after a GetM it may not read
 abbrev pub stays_so : Protocol → Request → Claims → Claims → CacheState → Bool → Bool
 stays_so p q st after s owns = fits p after.shared (cond (gains st after) false owns) None s && (not (is_get_m q) || not (keeps s))
-
-unfoldable pub stay_all : Protocol → Request → Claims → Claims → Bool
-stay_all p q st after = all_states (λ s. either (λ owns. when (fits p st.shared owns None s && (not owns || st.owned)) (λ _. stays_so p q st after s owns)))
-
-pub stay_one : (p : Protocol) (q : Request) (st after : Claims) → stay_all p q st after ≡ true → (s : CacheState) (owns : Bool) → fits p st.shared owns None s ≡ true
-    → (not owns || st.owned) ≡ true → stays_so p q st after s owns ≡ true
-unfolding stay_all
-stay_one p q st after h s owns fit owned = when_at _ _ (and_from _ _ fit owned) (either-at _ (all_states-at _ h s) owns)
 
 -- what is asked of a Respond, with memory's row and the claims after it
 abbrev pub respond_tests : Protocol → Request → Payload → Claims → MemCell → Claims → List Bool
@@ -80,8 +62,8 @@ respond_tests p q pl st row after =
     ∷ not (is_put_m q && gains st after)
     ∷ (not (writes row.action) || carries_value pl)
     ∷ (not after.fresh || (not (is_get_m q) && (writes row.action || st.fresh)))
-    ∷ (is_put_m q || answers_all p q pl st after)
-    ∷ stay_all p q st after
+    ∷ (is_put_m q || all_fitting p st.shared (Some q) (λ s owns. is_some_and (row_for p s (arrival pl)) (λ answer. each (answer_tests p q st after owns answer))))
+    ∷ all_fitting p st.shared None (λ s owns. when (not owns || st.owned) (λ _. stays_so p q st after s owns))
     ∷ []
 
 abbrev pub respond_test : Protocol → MemState → Request → Payload → Claims → Bool
@@ -91,7 +73,7 @@ respond_case : Protocol → MemState → Request → Payload → Bool
 respond_case p m q pl = given (claims_of p m (Some (q, pl))) (λ st. respond_test p m q pl st)
 
 respond_holds : all_protocols (λ p. all_memories (λ m. all_requests (λ q. all_payloads (λ pl. respond_case p m q pl)))) ≡ true
-unfolding respond_case answers_all stay_all all_protocols all_memories all_states all_requests all_payloads either given when claims_of fits is_owner is_sharer is_clean wait_fits in_protocol same
+unfolding respond_case all_fitting all_protocols all_memories all_states all_requests all_payloads either given when claims_of fits is_owner is_sharer is_clean wait_fits in_protocol same
 respond_holds = refl
 
 -- what was tried holds of each Respond

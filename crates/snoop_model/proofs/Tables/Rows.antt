@@ -50,13 +50,13 @@ answers action.Drop = true
 answers _ = false
 
 -- the request that has missed once one is issued at this event
-abbrev missed_at : CacheEvent → Option Request
+abbrev pub missed_at : CacheEvent → Option Request
 missed_at event.Load = Some GetS
 missed_at event.Store = Some GetM
 missed_at _ = None
 
 -- the request that serves what is asked
-abbrev serving : CacheEvent → Option Request
+abbrev pub serving : CacheEvent → Option Request
 serving event.Evict = Some PutM
 serving e = missed_at e
 
@@ -114,7 +114,7 @@ pub awaited_rule : (p : Protocol) (s : CacheState) (e : CacheEvent) (a : CacheAc
     → may_await e (awaited_request s) ≡ Some r
 awaited_rule p s e a n r row awaits = sym (same_request-true (Some r) _ (rw awaits at (row_rule p s e a n row).1.1.1.0))
 
-serving-asked : (asking : Op) → serving (asked asking) ≡ Some (request_for asking)
+pub serving-asked : (asking : Op) → serving (asked asking) ≡ Some (request_for asking)
 serving-asked op.Evict = refl
 serving-asked _ = refl
 

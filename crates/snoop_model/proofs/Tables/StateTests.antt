@@ -5,8 +5,8 @@ use Rattle.snoop_trace.specs.declared.protocol.Protocol.TheVariants.{Msi, Mesi}
 use Rattle.snoop_rules.specs.declared.names.CacheState.TheVariants as state
 use Rattle.snoop_rules.specs.declared.names.CacheAction.TheVariants as action
 use Rattle.snoop_rules.specs.declared.names.Request.TheVariants.{PutM}
-use Rattle.snoop_rules.proofs.Every.{all_protocols, all_protocols-at, all_memories, all_memories-at, all_requests, all_payloads}
-use Rattle.snoop_model.proofs.Tables.Every.{given, given_at, all_talks, all_talks-at}
+use Rattle.snoop_rules.proofs.Every.{all_protocols, all_protocols-at, all_memories, all_memories-at, all_requests, all_requests-at, all_payloads, all_payloads-at}
+use Rattle.snoop_model.proofs.Tables.Every.{given, given_at, all_options, all_options-at}
 
 -- no row makes a reader, or a clean owner, of a core that was none
 abbrev pub carries : CacheState → CacheState → Bool
@@ -44,14 +44,14 @@ brings_data (Some t) = carries_value t.1
 abbrev claims_case : Protocol → MemState → Option Talk → Bool
 claims_case p m t = given (claims_of p m t) (λ st. cond st.owned (not st.shared && (not st.fresh && calm_talk t)) (brings_data t || st.fresh))
 
-claims_hold : all_protocols (λ p. all_memories (λ m. all_talks (λ t. claims_case p m t))) ≡ true
-unfolding all_protocols all_memories all_talks all_requests all_payloads given claims_of
+claims_hold : all_protocols (λ p. all_memories (λ m. all_options (λ f. all_requests (λ q. all_payloads (λ pl. f (q, pl)))) (λ t. claims_case p m t))) ≡ true
+unfolding all_protocols all_memories all_options all_requests all_payloads given claims_of
 claims_hold = refl
 
 module _ (p : Protocol) (m : MemState) (t : Option Talk) (st : Claims) (is_claims : claims_of p m t ≡ Some st) where
   claims_rule : cond st.owned (not st.shared && (not st.fresh && calm_talk t)) (brings_data t || st.fresh) ≡ true
   claims_rule =
-      let h : claims_case p m t ≡ true = all_talks-at _ (all_memories-at _ (all_protocols-at _ claims_hold p) m) t in
+      let h : claims_case p m t ≡ true = all_options-at (λ f. all_requests (λ q. all_payloads (λ pl. f (q, pl)))) (λ f h t. all_payloads-at _ (all_requests-at _ h t.0) t.1) _ (all_memories-at _ (all_protocols-at _ claims_hold p) m) t in
       given_at _ _ st is_claims h
 
   pub owned_rule : st.owned ≡ true → (not st.shared && (not st.fresh && calm_talk t)) ≡ true
