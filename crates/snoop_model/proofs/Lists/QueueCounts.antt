@@ -1,8 +1,8 @@
 -- How often a block stands in a queue.
-use Rattle.std.proofs.Common.{◌≡◌, ◌≢◌, ℕ, zero, suc, ◌+◌, ◌<◌, ◌≤◌, not, cond, eqb, List, [], ◌∷◌, ◌++◌, length, filter, get_or, refl, inl, inr, sym, ◌∙◌, arith, count_by, Contains, eq-eqb, ne_eqb, get_or-set_same, get_or-set_other}
+use Rattle.std.proofs.Common.{◌≡◌, ◌≢◌, ℕ, suc, ◌+◌, ◌<◌, ◌≤◌, not, cond, eqb, List, [], ◌∷◌, ◌++◌, length, filter, refl, inl, inr, sym, ◌∙◌, arith, count_by, Contains, eq-eqb, ne_eqb, get_or-set_same, get_or-set_other}
 use Rattle.snoop_model.proofs.Common.{cases_Bool, queue_of, after_issue, after_order}
 use Rattle.std.proofs.lemmas.Bool.Decides.{eqb_tells}
-use Rattle.std.proofs.lemmas.List.Sums.{sum_by_push, sum_by-cons}
+use Rattle.std.proofs.lemmas.List.Sums.{get_or-le-sum_by, sum_by_push, sum_by-cons}
 use Rattle.snoop_model.proofs.Lists.Facts.{one_if}
 use Rattle.snoop_model.proofs.Lists.Writes.{same_set}
 
@@ -27,12 +27,7 @@ counted_in block (x ∷ queue) some = elim (eqb_tells x block) [
 ]
 
 pub in_counted : (block : ℕ) (queue : List ℕ) → Contains queue block → 1 ≤ times block queue
-in_counted block [] there = let below = there.1 in absurd (omega arith)
-in_counted block (x ∷ queue) there = at there.0 there.1 there.2 (in_counted block queue)
-  where
-    at : (k : ℕ) → k < suc (length queue) → get_or (x ∷ queue) k block ≡ block → (Contains queue block → 1 ≤ times block queue) → 1 ≤ times block (x ∷ queue)
-    at zero below is rest = let one : one_if (eqb x block) ≡ 1 = rw (is, eq-eqb block block refl) refl in omega (arith, times_cons block x queue)
-    at (suc k) below is rest = let some = rest (k, omega arith, is) in omega (arith, times_cons block x queue)
+in_counted block queue (k, below, is) = rw (is, eq-eqb block block refl) at (get_or-le-sum_by (λ b. one_if (eqb b block)) queue k block below)
 
 -- a block is taken out of a queue, and the others stay
 times_gone : (taken : ℕ) (queue : List ℕ) → times taken (filter (λ b. not (eqb b taken)) queue) ≡ 0

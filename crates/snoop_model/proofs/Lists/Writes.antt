@@ -1,10 +1,10 @@
 -- What a write in one place does to a list of lists, and to sums over it.
-use Rattle.std.proofs.Common.{◌≡◌, ◌≢◌, ℕ, zero, suc, ◌+◌, ◌<◌, ◌≤◌, List, [], ◌∷◌, ◌++◌, length, filter, not, Bool, false, cond, Some, refl, ap, arith, inl, inr, ◌⊎◌, true, slice_index_or, slice_set, slice_get, All, ◌==◌, sum_by, count_by, eq-eqb, get_or-set_same, get_or-set_other}
+use Rattle.std.proofs.Common.{◌≡◌, ◌≢◌, ℕ, zero, suc, ◌+◌, ◌<◌, ◌≤◌, List, [], ◌∷◌, ◌++◌, length, filter, not, Bool, false, Some, refl, ap, arith, inl, inr, ◌⊎◌, true, slice_index_or, slice_set, slice_get, All, ◌==◌, sum_by, count_by, eq-eqb, get_or-set_same, get_or-set_other}
 use Rattle.snoop_model.proofs.Common.{cases_eq, cases_lt, same_Some, get_or_past, queue_of, after_issue, after_order}
 use Rattle.std.proofs.lemmas.Option.{get_or_from_slice_get, slice_get_within}
 use Rattle.std.proofs.lemmas.List.{set_past, length_push}
 use Rattle.std.proofs.lemmas.List.Elements.{All-push, All-filter}
-use Rattle.std.proofs.lemmas.List.Sums.{sum_by-set, sum_by-cons, length-filter, count_by-le-length}
+use Rattle.std.proofs.lemmas.List.Sums.{sum_by-set, length-filter, count_by-le-length}
 use Rattle.snoop_model.proofs.Lists.Facts.{one_if}
 
 -- what stands in a place after a write
@@ -57,8 +57,7 @@ left_shorter : (line : List ℕ) (block : ℕ) → slice_get line 0 ≡ Some blo
 left_shorter [] block h = cc
 left_shorter (x ∷ xs) block h =
     let p : ℕ → Bool = λ b. not (b == block) in
-    let none : cond {A = ℕ} (p x) 1 0 ≡ 0 = rw (eq-eqb x block (same_Some _ _ h)) refl in
-    omega (arith, length-filter p (x ∷ xs), sum_by-cons (λ y. cond (p y) 1 0) x xs, none, count_by-le-length p xs)
+    rw (eq-eqb x block (same_Some _ _ h)) (omega (arith, length-filter p xs, count_by-le-length p xs))
 
 pub sum_ordered : (lines : List (List ℕ)) (core block : ℕ) → slice_get (queue_of lines core) 0 ≡ Some block → sum_by length (after_order lines core block) + 1 ≤ sum_by length lines
 sum_ordered lines core block first =

@@ -1,8 +1,7 @@
 -- What holds of every row, found by trying all.
 use Rattle.std.proofs.Common.{List, ◌≡◌, ℕ, Bool, true, false, not, ◌&&◌, ◌||◌, Option, Some, None, [], ◌∷◌, refl, sym, ◌∙◌, is_some, option_map, ◌==◌, if◌then◌else◌}
-use Rattle.snoop_model.proofs.Common.{and_parts, same_Some, Protocol, Op, CacheState, CacheEvent, CacheAction, CacheCell, Request, Cell, asked, own, other, seen_by, waiting_request, Line, kept_on, keeps, request_for, missed_request, awaited_request, IsProper, moves_to, kept_waiting, is_load, same}
+use Rattle.snoop_model.proofs.Common.{same_Some, Protocol, Op, CacheState, CacheEvent, CacheAction, CacheCell, Request, Cell, asked, own, other, seen_by, waiting_request, Line, kept_on, keeps, request_for, missed_request, awaited_request, IsProper, moves_to, kept_waiting, is_load, same}
 use Rattle.std.proofs.Math.Bool.{and-true, and-false}
-use Rattle.std.specs.Option.{option_map_or}
 use Rattle.snoop_trace.specs.declared.step.Op.TheVariants as op
 use Rattle.snoop_rules.specs.declared.names.CacheState.TheVariants.{I, ImAd, IiA}
 use Rattle.snoop_rules.specs.declared.names.CacheEvent.TheVariants as event
@@ -19,16 +18,6 @@ same_request = same_option requests
 
 pub same_request-true : (a b : Option Request) → same_request a b ≡ true → a ≡ b
 same_request-true = same_option-true requests tt
-
--- two Booleans and two pairs of requests are the same
-abbrev same_three : Bool → Bool → Option Request → Option Request → Option Request → Option Request → Bool
-same_three x y a b c d = same x y && (same_request a b && same_request c d)
-
-same_three-true : {x y : Bool} {a b c d : Option Request} → same_three x y a b c d ≡ true → (x ≡ y) × (a ≡ b) × (c ≡ d)
-same_three-true h =
-    let (l, r) = and_parts _ _ h in
-    let (m, n) = and_parts _ _ r in
-    (same_is _ _ l, same_request-true _ _ m, same_request-true _ _ n)
 
 -- kept words are given up in this state
 abbrev given_up : CacheState → Bool
@@ -80,24 +69,29 @@ may_await event.Evict before = before
 may_await _ before = None
 
 -- what an action does to what is kept, to what has missed and to what waits: an issue, of the request that serves, begins to wait where nothing did; a fill ends what has missed; a hit, of kept words, and an Evict's drop, leave both
-abbrev does_so : CacheState → CacheEvent → CacheState → CacheAction → Bool
-does_so s e n (action.Issue q) =
-    same_three (keeps n) (keeps s && not (given_up n)) (waiting_request s) None (waiting_request n) (Some q) &&
-    (same_request (serving e) (Some q) && (same_request (missed_request s) None && same_request (missed_request n) (missed_at e)))
-does_so s e n action.Hit = (keeps s && not (is_evict e)) && same_three (keeps n) true (missed_request s) (missed_request n) (waiting_request n)
-    (waiting_request s)
-does_so s e n action.Drop = is_evict e && same_three (keeps n) (keeps s && not (given_up n)) (missed_request s) (missed_request n) (waiting_request n)
-    (waiting_request s)
-does_so s e n action.FillLoad = same_three (keeps n) true (missed_request n) None (waiting_request n) (waiting_request s)
-does_so s e n action.FillStore = same_three (keeps n) true (missed_request n) None (waiting_request n) (waiting_request s)
-does_so s e n _ = true
+abbrev action_tests : CacheState → CacheEvent → CacheState → CacheAction → List Bool
+action_tests s e n (action.Issue q) =
+    same (keeps n) (keeps s && not (given_up n)) ∷ same_request (waiting_request s) None ∷ same_request (waiting_request n) (Some q)
+    ∷ same_request (missed_request s) None ∷ same_request (missed_request n) (missed_at e) ∷ same_request (Some q) (serving e) ∷ []
+action_tests s e n action.Hit =
+    keeps n ∷ same_request (missed_request s) (missed_request n) ∷ same_request (waiting_request n) (waiting_request s) ∷ keeps s ∷ not (is_evict e) ∷ []
+action_tests s e n action.Drop =
+    same (keeps n) (keeps s && not (given_up n)) ∷ same_request (missed_request s) (missed_request n) ∷ same_request (waiting_request n) (waiting_request s) ∷ is_evict e ∷ []
+action_tests s e n action.FillLoad = keeps n ∷ same_request (missed_request n) None ∷ same_request (waiting_request n) (waiting_request s) ∷ []
+action_tests s e n action.FillStore = keeps n ∷ same_request (missed_request n) None ∷ same_request (waiting_request n) (waiting_request s) ∷ []
+action_tests s e n _ = []
 
--- what is asked of a row: that it answers what is asked; what its action does; at an Order, that a core's own request ends its waiting, and another's leaves it; and what may be awaited then
+-- at an Order, a core's own request ends its waiting, and another's leaves it
+abbrev order_tests : CacheState → Option Bool → CacheState → List Bool
+order_tests s None n = []
+order_tests s (Some mine) n =
+    same (keeps n) (keeps s && not (given_up n)) ∷ same_request (missed_request s) (missed_request n)
+    ∷ same_request (waiting_request n) (if mine then None else waiting_request s) ∷ []
+
+-- what is asked of a row: that it answers what is asked, what its action does and what an Order does, and what may be awaited then
 abbrev row_tests : CacheState → CacheEvent → CacheCell → List Bool
 row_tests s e row =
-    (not (is_some (serving e)) || answers row.action) ∷ does_so s e row.next row.action
-    ∷ option_map_or (λ mine. same_three (keeps row.next) (keeps s && not (given_up row.next)) (missed_request s) (missed_request row.next) (waiting_request row.next)
-    (if mine then None else waiting_request s)) (is_own e) true
+    (not (is_some (serving e)) || answers row.action) ∷ each (action_tests s e row.next row.action) ∷ each (order_tests s (is_own e) row.next)
     ∷ (not (is_some (awaited_request row.next)) || same_request (awaited_request row.next) (may_await e (awaited_request s))) ∷ []
 
 abbrev row_test : Protocol → CacheState → CacheEvent → CacheCell → Bool
@@ -109,6 +103,9 @@ row_test_holds = refl
 
 row_rule : (p : Protocol) (s : CacheState) (e : CacheEvent) (a : CacheAction) (n : CacheState) → Cell p s e a n → EachHolds (row_tests s e (record { action = a; next = n }))
 row_rule p s e a n row = each_holds (row_tests s e (record { action = a; next = n })) (each_row-at row_test row_test_holds p s e a n row)
+
+action_rule : (p : Protocol) (s : CacheState) (e : CacheEvent) (a : CacheAction) (n : CacheState) → Cell p s e a n → EachHolds (action_tests s e n a)
+action_rule p s e a n row = each_holds (action_tests s e n a) (row_rule p s e a n row).1.0
 
 pub awaited_rule : (p : Protocol) (s : CacheState) (e : CacheEvent) (a : CacheAction) (n : CacheState) (r : Request) → Cell p s e a n → awaited_request n ≡ Some r
     → may_await e (awaited_request s) ≡ Some r
@@ -133,24 +130,19 @@ IsProper-move old n proper kept missed = record { kept = is_some-kept_on n old.k
 
 -- an issue makes a core wait that did not
 module _ (p : Protocol) (s : CacheState) (e : CacheEvent) (q : Request) (n : CacheState) (row : Cell p s e (action.Issue q) n) where
-  issue_parts : (same_three (keeps n) (keeps s && not (given_up n)) (waiting_request s) None (waiting_request n) (Some q) ≡ true) ×
-      ((same_request (serving e) (Some q) && (same_request (missed_request s) None && same_request (missed_request n) (missed_at e))) ≡ true)
-  issue_parts = and_parts _ _ (row_rule p s e (action.Issue q) n row).1.0
-
-  issue_facts : (keeps n ≡ (keeps s && not (given_up n))) × (waiting_request s ≡ None) × (waiting_request n ≡ Some q)
-  issue_facts = same_three-true issue_parts.0
+  issue_facts : (keeps n ≡ (keeps s && not (given_up n))) × (Some q ≡ serving e)
+  issue_facts = let (kept, (_, (_, (_, (_, (served, _)))))) = action_rule p s e (action.Issue q) n row in (same_is _ _ kept, same_request-true _ _ served)
 
   pub issue-waits : (waiting_request s ≡ None) × (waiting_request n ≡ Some q)
-  issue-waits = (issue_facts.1, issue_facts.2)
+  issue-waits = let (_, (stood, (waits, _))) = action_rule p s e (action.Issue q) n row in (same_request-true _ _ stood, same_request-true _ _ waits)
 
   -- where a request is issued no operation had missed, and then the one that is asked has
   pub issue-missed : (missed_request s ≡ None) × (missed_request n ≡ missed_at e)
-  issue-missed = let parts = and_parts _ _ (and_parts _ _ issue_parts.1).1 in (same_request-true _ _ parts.0, same_request-true _ _ parts.1)
+  issue-missed = let (_, (_, (_, (none, (missed, _))))) = action_rule p s e (action.Issue q) n row in (same_request-true _ _ none, same_request-true _ _ missed)
 
 pub issue_serves : (p : Protocol) (s : CacheState) (asking : Op) (q : Request) (n : CacheState) → Cell p s (asked asking) (action.Issue q) n
     → q ≡ request_for asking
-issue_serves p s asking q n row =
-    same_Some _ _ (sym (same_request-true _ _ (and_parts _ _ (issue_parts p s (asked asking) q n row).1).0) ∙ serving-asked asking)
+issue_serves p s asking q n row = same_Some _ _ ((issue_facts p s (asked asking) q n row).1 ∙ serving-asked asking)
 
 pub asked_missed : (word : ℕ) (asking : Op) → option_map (λ access. request_for access.op) (kept_waiting word asking) ≡ missed_at (asked asking)
 asked_missed word op.Evict = refl
@@ -166,15 +158,15 @@ IsProper-issue p old word asking q n proper row = record {
 module _ (p : Protocol) (s : CacheState) (e : CacheEvent) (n : CacheState) where
   -- a hit keeps a value, and what waits goes on waiting
   pub hit_facts : Cell p s e action.Hit n → (keeps n ≡ true) × (missed_request s ≡ missed_request n) × (waiting_request n ≡ waiting_request s)
-  hit_facts row = same_three-true (and_parts _ _ (row_rule p s e action.Hit n row).1.0).1
+  hit_facts row = let (kept, (missed, (waits, _))) = action_rule p s e action.Hit n row in (kept, same_request-true _ _ missed, same_request-true _ _ waits)
 
   -- it is no Evict, of words that are kept
   pub hit_keeps : Cell p s e action.Hit n → (keeps s ≡ true) × (not (is_evict e) ≡ true)
-  hit_keeps row = and_parts _ _ (and_parts _ _ (row_rule p s e action.Hit n row).1.0).0
+  hit_keeps row = let (_, (_, (_, (kept, (no_evict, _))))) = action_rule p s e action.Hit n row in (kept, no_evict)
 
   -- what waits at a drop, which leaves nothing, goes on waiting too
   pub drop_facts : Cell p s e action.Drop n → (keeps n ≡ (keeps s && not (given_up n))) × (missed_request s ≡ missed_request n) × (waiting_request n ≡ waiting_request s)
-  drop_facts row = same_three-true (and_parts _ _ (row_rule p s e action.Drop n row).1.0).1
+  drop_facts row = let (kept, (missed, (waits, _))) = action_rule p s e action.Drop n row in (same_is _ _ kept, same_request-true _ _ missed, same_request-true _ _ waits)
 
   pub drop-waits : Cell p s e action.Drop n → waiting_request n ≡ waiting_request s
   drop-waits row = (drop_facts row).2
@@ -185,7 +177,7 @@ IsProper-hit p old e n after proper row = let f = hit_facts p old.state e n row 
 
 -- only an Evict drops a line
 pub drop_evicts : (p : Protocol) (s : CacheState) (asking : Op) (n : CacheState) → Cell p s (asked asking) action.Drop n → asking ≡ op.Evict
-drop_evicts p s asking n row = by_op asking (and_parts _ _ (row_rule p s (asked asking) action.Drop n row).1.0).0
+drop_evicts p s asking n row = by_op asking (action_rule p s (asked asking) action.Drop n row).1.1.1.0
   where
     by_op : (o : Op) → is_evict (asked o) ≡ true → o ≡ op.Evict
     by_op op.Evict h = refl
@@ -202,7 +194,9 @@ seen_own _ _ = refl
 
 pub order_facts : (p : Protocol) (s : CacheState) (k core : ℕ) (q : Request) (a : CacheAction) (n : CacheState) → Cell p s (seen_by k core q) a n
     → (keeps n ≡ (keeps s && not (given_up n))) × (missed_request s ≡ missed_request n) × (waiting_request n ≡ (if k == core then None else waiting_request s))
-order_facts p s k core q a n row = same_three-true (rw (seen_own (k == core) q) at (row_rule p s (seen_by k core q) a n row).1.1.0)
+order_facts p s k core q a n row =
+    let (kept, (missed, (waits, _))) = each_holds (order_tests s (Some (k == core)) n) (rw (seen_own (k == core) q) at (row_rule p s (seen_by k core q) a n row).1.1.0) in
+    (same_is _ _ kept, same_request-true _ _ missed, same_request-true _ _ waits)
 
 pub IsProper-order : (p : Protocol) (old : Line) (k core : ℕ) (q : Request) (a : CacheAction) (n : CacheState) → IsProper old → Cell p old.state (seen_by k core q) a n → IsProper (moves_to n old)
 IsProper-order p old k core q a n proper row = let (kept, missed, _) = order_facts p old.state k core q a n row in IsProper-move old n proper kept missed
@@ -210,8 +204,8 @@ IsProper-order p old k core q a n proper row = let (kept, missed, _) = order_fac
 -- a fill ends all waiting and keeps a value
 module _ (p : Protocol) (s : CacheState) (e : CacheEvent) (a : CacheAction) (n : CacheState) where
   fill_facts : (asking : Op) → a ≡ (if is_load asking then action.FillLoad else action.FillStore) → Cell p s e a n → (keeps n ≡ true) × (missed_request n ≡ None) × (waiting_request n ≡ waiting_request s)
-  fill_facts op.Load fill row = same_three-true (rw fill at (row_rule p s e a n row).1.0)
-  fill_facts _ fill row = same_three-true (rw fill at (row_rule p s e a n row).1.0)
+  fill_facts op.Load fill row = let (kept, (missed, (waits, _))) = rw fill at (action_rule p s e a n row) in (kept, same_request-true _ _ missed, same_request-true _ _ waits)
+  fill_facts _ fill row = let (kept, (missed, (waits, _))) = rw fill at (action_rule p s e a n row) in (kept, same_request-true _ _ missed, same_request-true _ _ waits)
 
   pub fill-waits : (asking : Op) → a ≡ (if is_load asking then action.FillLoad else action.FillStore) → Cell p s e a n → waiting_request n ≡ waiting_request s
   fill-waits asking fill row = (fill_facts asking fill row).2
