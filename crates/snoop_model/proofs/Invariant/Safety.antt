@@ -18,7 +18,7 @@ use Rattle.snoop_model.proofs.Runs.GoOn.{moves_on}
 use Rattle.snoop_model.proofs.Steps.GoesNext.{order_made}
 use Rattle.snoop_model.proofs.Queues.Moves.{on_kept, starts_well}
 use Rattle.snoop_model.proofs.Invariant.Moves.{move_keeps}
-use Rattle.snoop_model.proofs.Invariant.FlatMemory.{word_flat}
+use Rattle.snoop_model.proofs.Invariant.Moves.{word_flat}
 use Rattle.snoop_trace.specs.Words.{word_at}
 use Rattle.snoop_model.proofs.Runs.Along.{kept_along}
 

@@ -17,7 +17,7 @@ use Rattle.snoop_model.specs.Invariant.WellKept.{IsWellKept}
 use Rattle.snoop_model.proofs.Tables.Rows.{IsProper-drop}
 use Rattle.snoop_model.proofs.Turns.WaitingWorks.{stall_busy, busy_cases}
 use Rattle.snoop_model.proofs.OneBlock.OfBlocks.{in_pictures, picture_here}
-use Rattle.snoop_model.proofs.Invariant.Coherence.{each_line}
+use Rattle.snoop_model.proofs.Invariant.Coherence.{held_within}
 use Rattle.std.proofs.lemmas.List.{get_or-set_same}
 
 -- a drop leaves the block in I
@@ -53,9 +53,9 @@ module _ (s : Situation) (g : Invariant s) where
   pub clean_in_memory : (core block : ℕ) → (state_of s core block ≡ state.E) ⊎ (state_of s core block ≡ state.EiA) → (picture_of s block).memory.value ≡ flat_words s.log block
   unfolding is_clean
   clean_in_memory core block clean =
-      each_line s g core block (λ x. (x.state ≡ state.E) ⊎ (x.state ≡ state.EiA) → (picture_of s block).memory.value ≡ flat_words s.log block)
-      (λ within is. (g.blocks block within.1).clean core within.0 (elim is [ inl e ↦ rw e refl | inr e ↦ rw e refl ]))
-      (λ is. elim is [ inl e ↦ cc | inr e ↦ cc ]) clean
+      let is : is_clean (state_of s core block) ≡ true = elim clean [ inl e ↦ rw e refl | inr e ↦ rw e refl ] in
+      let within = held_within s g core block (λ x. is_clean x.state ≡ true) (λ h. cc) is in
+      (g.blocks block within.1).clean core within.0 is
 
   -- an operation is stalled only where the core's request for the block waits or is open
   pub stall_waits : IsWellKept s → (core block word : ℕ) (asking : Op) (state : CacheState) → Refuses s (Ask core block word asking) (Stalled state)

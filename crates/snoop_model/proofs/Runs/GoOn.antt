@@ -8,7 +8,7 @@ use Rattle.snoop_model.specs.Invariant.WellKept.{IsWellKept}
 use Rattle.snoop_model.specs.Turns.TurnLaws.{KeepsWell}
 use Rattle.snoop_model.specs.Invariant.Invariant.{Invariant}
 use Rattle.snoop_model.proofs.Invariant.Runs.{reset_invariant}
-use Rattle.snoop_model.proofs.Invariant.Steps.{first_keeps}
+use Rattle.snoop_model.proofs.Invariant.Moves.{move_keeps}
 use Rattle.snoop_model.proofs.Queues.Moves.{keeps_well, starts_well}
 use Rattle.snoop_model.proofs.Steps.Next.{next_of}
 use Rattle.snoop_model.proofs.Queues.Waiting.{AreQueued}
@@ -30,7 +30,7 @@ abbrev pub IsSteady : Situation → Type 0
 IsSteady s = Invariant s × IsWellKept s
 
 pub steady_on : KeepsWell → (old : Situation) (step : Step) (outcome : Result Reply Refused) (new : Situation) → IsSteady old → GoesFirst old step outcome new → IsSteady new
-steady_on keeps old step (Ok answer) new steady goes = (first_keeps old step answer new steady.0 goes, keeps old new step answer steady.1 goes)
+steady_on keeps old step (Ok answer) new steady goes = (move_keeps goes.0 old step answer new steady.0 goes.1.1, keeps old new step answer steady.1 goes)
 steady_on keeps old step (Err cause) new steady goes = rw goes.1 steady
 
 -- it holds at reset, and after each step of a run
