@@ -2,7 +2,5 @@
 pub mod Moves
 pub mod Runs
 pub mod Coherence
-pub mod Served
 pub mod Safety
 pub mod Steps
-pub mod TableLines

@@ -1,12 +1,12 @@
 -- The invariant holds at reset, and after each step of a run.
-use Rattle.std.proofs.Common.{Some, ◌≡◌, ℕ, zero, suc, map, ◌+◌, ◌<◌, List, [], ◌∷◌, replicate, Bool, true, false, None, refl, inl, inr, ap, sym, arith}
-use Rattle.std.specs.Prelude.{Result, Ok, Err}
+use Rattle.std.proofs.Common.{Option, Some, ◌≡◌, ℕ, zero, suc, map, ◌+◌, ◌<◌, List, [], ◌∷◌, replicate, Bool, true, false, None, refl, inl, inr, ap, sym, arith}
+use Rattle.std.specs.Prelude.{option_map, Result, Ok, Err}
 use Rattle.std.proofs.lemmas.Bool.{cases_lt}
 use Rattle.std.proofs.lemmas.List.{length-replicate, get_or-replicate, get_or_past}
 use Rattle.std.proofs.lemmas.List.Elements.{All-nil}
 use Rattle.std.proofs.lemmas.Option.{none-some}
 use Rattle.std.specs.List.{range_with_len}
-use Rattle.snoop_model.proofs.Common.{Extent, Protocol, Step, Reply, Refused, Picture, first_memory, held_by, nothing_held, Situation, picture_of, reset, untouched, nothing_there, IsProper, IsWithin}
+use Rattle.snoop_model.proofs.Common.{Access, request_for, Extent, Protocol, Step, Reply, Refused, Picture, first_memory, held_by, nothing_held, Situation, picture_of, reset, untouched, nothing_there, IsProper, IsWithin}
 use Rattle.snoop_trace.specs.Words.{IsWord, zero_words}
 use Rattle.snoop_history.specs.History.{flat, flat_words}
 use Rattle.snoop_trace.specs.declared.protocol.Protocol.TheVariants as protocol
@@ -22,6 +22,11 @@ use Rattle.snoop_model.proofs.Invariant.Moves.{move_keeps}
 
 pub nothing_proper : IsProper nothing_held
 nothing_proper = record { kept = refl; waiting = refl }
+
+-- in a line whose state has missed nothing no operation waits
+pub nothing_waits : (waiting : Option Access) → option_map (λ access. request_for access.op) waiting ≡ None → waiting ≡ None
+nothing_waits None h = refl
+nothing_waits (Some access) h = cc
 
 -- where the block's value is at reset: with memory, and with each sharer under MSI
 first_claims : (p : Protocol) → (shared : Bool) × (claims_of p (first_memory p) None ≡ Some (record { owned = false; shared = shared; fresh = true }))

@@ -9,6 +9,7 @@ use Rattle.snoop_model.specs.Runs.Once.{asked_access, did_access, accesses_in}
 use Rattle.snoop_model.proofs.Lists.Facts.{either_way}
 use Rattle.snoop_model.proofs.OneBlock.Operation.{did_in}
 use Rattle.snoop_model.proofs.Once.Owed.{answers_are}
+use Rattle.snoop_model.proofs.Invariant.Runs.{nothing_waits}
 use Rattle.snoop_trace.specs.declared.step.Op.TheVariants as op
 use Rattle.snoop_rules.specs.declared.names.CacheAction.TheVariants as action
 use Rattle.snoop_model.proofs.Tables.Rows.{issue-missed, drop_evicts}
@@ -65,10 +66,6 @@ line_once p action.Hit next log core block word asking old new answer entry prop
 line_once p (action.Issue q) next log core block word asking old new answer entry proper row t =
     let none = nothing_waits old.waiting (proper.waiting ∙ (issue-missed p old.state (asked asking) q next row).0) in
     rw (t.0, t.2, none) (IsPermutation-refl (option_to_list (kept_waiting word asking)))
-  where
-    nothing_waits : (waiting : Option Access) → option_map (λ access. request_for access.op) waiting ≡ None → waiting ≡ None
-    nothing_waits None h = refl
-    nothing_waits (Some access) h = cc
 line_once p action.Drop next log core block word asking old new answer entry proper row t =
     rw (t.0, t.2, drop_evicts p old.state asking next row) (unchanged (option_to_list old.waiting))
 line_once p _ next log core block word asking old new answer entry proper row t = absurd t
