@@ -5,16 +5,16 @@ use Rattle.std.specs.List.Sorted.{IsPermutation}
 use Rattle.std.specs.List.{cons_option}
 use Rattle.std.proofs.lemmas.List.Sorted.{Contains-permutation, IsPermutation-sym}
 use Rattle.std.proofs.lemmas.List.Elements.{Contains-append_left, Contains-append_right, Contains-append_cases}
-use Rattle.std.proofs.lemmas.List.{append_cancel_left}
+use Rattle.std.proofs.lemmas.List.{append_cancel_left, map-append}
 use Rattle.std.proofs.lemmas.Bool.{cases_Bool, eqb-true}
 use Rattle.std.proofs.lemmas.Option.{same_Some}
-use Rattle.snoop_model.proofs.Common.{Step, Did, Item, Access, Reply, held_by, Situation, picture_of, FirstMove}
-use Rattle.snoop_history.specs.History.{answers_of, last_or}
-use Rattle.snoop_history.proofs.Pushed.{answers_of-push, of_core}
+use Rattle.snoop_model.proofs.Common.{Step, Ask, Order, Respond, Did, Item, Access, Reply, held_by, Situation, picture_of, FirstMove, came_of}
+use Rattle.snoop_history.specs.declared.items.Item.TheVariants as item
+use Rattle.snoop_history.specs.History.{answers_of}
+use Rattle.snoop_history.proofs.Pushed.{answers_of-push, last_or-append, of_core}
 use Rattle.snoop_model.specs.Runs.Once.{asked_access, did_access, waiting_at, OnceMore}
 use Rattle.snoop_model.specs.Runs.Owed.{IsLast, IsOwed, Owes}
 use Rattle.snoop_model.proofs.OneBlock.Operation.{did_in}
-use Rattle.snoop_model.proofs.Runs.Logged.{move-log}
 
 -- a core's operations with one item more
 pub answers_are : (log : List Item) (entry : Option Item) (core : ℕ) → answers_of (log ++ option_to_list entry) core ≡ answers_of log core ++ of_core core (did_in entry)
@@ -24,10 +24,6 @@ answers_are log (Some entry) core = answers_of-push log entry core
 pub one_or_none : (core : ℕ) (o : Option Did) → (of_core core o ≡ []) ⊎ ((d : Did) × (of_core core o ≡ d ∷ []))
 one_or_none core None = inl refl
 one_or_none core (Some d) = elim (cases_Bool (d.core == core)) [ inl e ↦ inr (d, rw e refl) | inr e ↦ inl (rw e refl) ]
-
-last_push : (o : Option Did) (xs : List Did) (d : Did) → last_or o (map (λ x. Some x) (xs ++ d ∷ [])) ≡ Some d
-last_push o [] d = refl
-last_push o (x ∷ xs) d = last_push (Some x) xs d
 
 one_in : (o : Option Access) (wanted : Access) → o ≡ Some wanted → Contains (option_to_list o) wanted
 one_in o wanted is = rw is (zero, omega arith, refl)
@@ -40,6 +36,22 @@ in_one (Some x) wanted (suc k, inside, is) = absurd (omega (arith, inside))
 cons_one : (o : Option Access) → cons_option o [] ≡ option_to_list o
 cons_one None = refl
 cons_one (Some x) = refl
+
+-- what a permutation of two lists has in one of them it has in one of the two others
+either_side : (xs ys zs ws : List Access) (wanted : Access) → IsPermutation (xs ++ ys) (zs ++ ws) → Contains xs wanted ⊎ Contains ys wanted → Contains zs wanted ⊎ Contains ws wanted
+either_side xs ys zs ws wanted same now = Contains-append_cases zs ws wanted (Contains-permutation _ _ wanted same (elim now [
+  | inl l ↦ Contains-append_left xs ys wanted l
+  | inr r ↦ Contains-append_right xs ys wanted r
+]))
+
+-- a move adds at most one item to the log
+pub move-log : (old new : Situation) (step : Step) (answer : Reply) → FirstMove old step answer new → (entry : Option Item) × (new.log ≡ old.log ++ option_to_list entry)
+move-log old new (Ask core block word asking) answer m = elim m.1.1.moves [
+  | inl absent ↦ (None, rw absent.3 (sym (append-nil old.log)))
+  | inr asks ↦ (asks.entry, rw asks.after refl)
+]
+move-log old new (Order core) answer m = (Some (item.Sent (record { core = core; request = m.1.1.request; block = m.0 })), rw m.1.1.orders.after refl)
+move-log old new (Respond block) answer m = (Some (item.Came (came_of m.1.1.closing) m.1.1.did), rw m.1.1.responds.after refl)
 
 -- the operation that a move performs, if any
 abbrev pub performed_by : (s t : Situation) (step : Step) (answer : Reply) → FirstMove s step answer t → Option Did
@@ -63,43 +75,27 @@ module _ (s t : Situation) (step : Step) (answer : Reply) (move : FirstMove s st
   -- an operation that the move performs, or that waits after it, waited before it or is asked by it
   pub waited_or_asked : Contains done_here wanted ⊎ ((held_by (picture_of t block) core).waiting ≡ Some wanted)
       → ((held_by (picture_of s block) core).waiting ≡ Some wanted) ⊎ (asked_access core block step ≡ Some wanted)
-  waited_or_asked now =
-      let there : Contains (done_here ++ waiting_at t core block) wanted = elim now [
-        | inl did ↦ Contains-append_left done_here (waiting_at t core block) wanted did
-        | inr waits ↦ Contains-append_right done_here (waiting_at t core block) wanted (one_in _ wanted waits)
-      ] in
-      let was = Contains-permutation _ _ wanted (IsPermutation-sym _ _ balance) there in
-      elim (Contains-append_cases (waiting_at s core block) (option_to_list (asked_access core block step)) wanted was) [
-        | inl waited ↦ inl (in_one _ wanted waited)
-        | inr asked ↦ inr (in_one _ wanted asked)
-      ]
-
-  -- what waited before it, or is asked by it, is performed by it or waits
-  done_or_waits : ((held_by (picture_of s block) core).waiting ≡ Some wanted) ⊎ (asked_access core block step ≡ Some wanted)
-      → Contains done_here wanted ⊎ ((held_by (picture_of t block) core).waiting ≡ Some wanted)
-  done_or_waits was =
-      let asked = option_to_list (asked_access core block step) in
-      let there : Contains (waiting_at s core block ++ asked) wanted = elim was [
-        | inl waited ↦ Contains-append_left (waiting_at s core block) asked wanted (one_in _ wanted waited)
-        | inr is ↦ Contains-append_right (waiting_at s core block) asked wanted (one_in _ wanted is)
-      ] in
-      elim (Contains-append_cases done_here (waiting_at t core block) wanted (Contains-permutation _ _ wanted balance there)) [
-        | inl did ↦ inl did
-        | inr waits ↦ inr (in_one _ wanted waits)
-      ]
+  waited_or_asked now = elim (either_side _ _ _ _ wanted (IsPermutation-sym _ _ balance) (elim now [ inl did ↦ inl did | inr waits ↦ inr (one_in _ wanted waits) ])) [
+    | inl waited ↦ inl (in_one _ wanted waited)
+    | inr asked ↦ inr (in_one _ wanted asked)
+  ]
 
   -- what the move performs is then the core's last operation
   is_last : Contains done_here wanted → IsLast t core block wanted
   is_last here = elim (one_or_none core (performed_by s t step answer move)) [
     | inl none ↦ absurd (omega (arith, (rw none at here).1))
     | inr (d, is) ↦ elim (cases_Bool (d.block == block)) [
-      | inl on ↦ (d, rw (answers_after, is) (last_push None (answers_of s.log core) d), eqb-true d.block block on, same_Some _ _ (in_one (Some (did_access d)) wanted (rw (is, on) at here)))
+      | inl on ↦ (d, rw (answers_after, is, map-append Some (answers_of s.log core) (d ∷ []), last_or-append None (map Some (answers_of s.log core)) (Some d ∷ [])) refl, eqb-true d.block block on, same_Some _ _ (in_one (Some (did_access d)) wanted (rw (is, on) at here)))
       | inr off ↦ absurd (omega (arith, (rw (is, off) at here).1))
     ]
   ]
 
+  -- and what waited before it, or is asked by it, is performed by it or waits
   pub owed_after : ((held_by (picture_of s block) core).waiting ≡ Some wanted) ⊎ (asked_access core block step ≡ Some wanted) → IsOwed t core block wanted
-  owed_after was = elim (done_or_waits was) [ inl here ↦ inr (is_last here) | inr waits ↦ inl waits ]
+  owed_after was = elim (either_side _ _ _ _ wanted balance (elim was [ inl waited ↦ inl (one_in _ wanted waited) | inr asked ↦ inr (one_in _ wanted asked) ])) [
+    | inl here ↦ inr (is_last here)
+    | inr waits ↦ inl (in_one _ wanted waits)
+  ]
 
 pub owes : Owes
 owes s t step answer move once core block wanted was = owed_after s t step answer move once core block wanted was

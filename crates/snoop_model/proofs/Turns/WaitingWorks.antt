@@ -9,6 +9,7 @@ use Rattle.snoop_rules.proofs.Every.{all_protocols, all_states, all_events}
 use Rattle.snoop_rules.proofs.Rows.{each_row, each_row-at}
 use Rattle.snoop_model.specs.Turns.Serving.{IsServing}
 use Rattle.snoop_model.specs.Invariant.WellKept.{IsWellKept}
+use Rattle.snoop_model.proofs.Tables.AskTests.{is_stall}
 use Rattle.snoop_model.proofs.Tables.WaitingRows.{has_missed}
 use Rattle.snoop_model.proofs.Queues.Waiting.{waits_queued}
 
@@ -16,12 +17,8 @@ use Rattle.snoop_model.proofs.Queues.Waiting.{waits_queued}
 abbrev pub is_busy : CacheState → Bool
 is_busy state = is_some (waiting_request state) || is_some (awaited_request state)
 
-abbrev pub stalls : CacheAction → Bool
-stalls action.Stall = true
-stalls _ = false
-
-abbrev pub stall_test : Protocol → CacheState → CacheEvent → CacheCell → Bool
-stall_test p s e row = not (stalls row.action) || is_busy s
+abbrev stall_test : Protocol → CacheState → CacheEvent → CacheCell → Bool
+stall_test p s e row = not (is_stall row.action) || is_busy s
 
 stall_test_holds : each_row stall_test ≡ true
 unfolding each_row all_protocols all_states all_events
