@@ -32,8 +32,7 @@ use Rattle.snoop_model.proofs.Invariant.Runs.{reset_invariant, reset_open, nothi
 use Rattle.snoop_model.proofs.Queues.Moves.{on_kept, starts_well}
 use Rattle.snoop_model.proofs.Runs.Along.{kept_along}
 use Rattle.snoop_model.proofs.Runs.GoOn.{moves_on}
-use Rattle.snoop_model.proofs.Steps.GoesNext.{order_made}
-use Rattle.snoop_model.proofs.Steps.IsNext.{settled_is}
+use Rattle.snoop_model.proofs.Steps.GoesNext.{order_made, settled_is}
 use Rattle.snoop_model.proofs.Turns.WaitingWorks.{stall_busy, busy_cases}
 
 -- a drop at an Evict leaves the block in I

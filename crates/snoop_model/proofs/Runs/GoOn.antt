@@ -12,8 +12,7 @@ use Rattle.snoop_model.proofs.Invariant.Moves.{move_keeps}
 use Rattle.snoop_model.proofs.Queues.Moves.{keeps_well, starts_well}
 use Rattle.snoop_model.proofs.Steps.Next.{next_of}
 use Rattle.snoop_model.proofs.Queues.Waiting.{AreQueued}
-use Rattle.snoop_model.proofs.Steps.GoesNext.{goes_next}
-use Rattle.snoop_model.proofs.Steps.IsNext.{goes_is}
+use Rattle.snoop_model.proofs.Steps.GoesNext.{goes_is, goes_next}
 use Rattle.snoop_model.proofs.Runs.Along.{kept_along}
 
 -- a step that is not refused is a move, an Order's on the first block of its core's queue
