@@ -1,6 +1,6 @@
 -- A move keeps the invariant of the machine.
 use Rattle.std.proofs.Common.{◌≡◌, ◌≢◌, ℕ, ◌<◌, Bool, true, false, not, List, [], ◌∷◌, ◌++◌, length, Option, Some, None, refl, inl, inr, ap, sym, ◌∙◌, subst, arith}
-use Rattle.std.specs.Prelude.{option_to_list, IfSome, All, ⊤, if◌then◌else◌}
+use Rattle.std.specs.Prelude.{◌==◌, option_to_list, slice_set, IfSome, All, ⊤, if◌then◌else◌}
 use Rattle.std.specs.Option.{option_map_or}
 use Rattle.std.proofs.Math.Bool.{and-false}
 use Rattle.std.proofs.lemmas.List.{append-nil, length-set, get_or-set_same, get_or-set_other}
@@ -57,15 +57,18 @@ flat_here : (log : List Item) (entry : Option Item) (block : ℕ) → IsOn block
 flat_here log None block on = rw append-nil refl
 flat_here log (Some entry) block on = let so = after (operation_of entry) on in words_are log entry block _ so.0 so.1
   where
+    stored : (did : Did) (k : ℕ) → k < 64 → word_at (slice_set (flat_words log block) did.word did.value) k ≡ (if did.word == k then did.value else flat log block k)
+    stored did k h = elim (eqb_tells did.word k) [
+      | inl t ↦ rw (t.0, t.1) (get_or-set_same (flat_words log block) k did.value 0 (rw length-map-range_with_len h))
+      | inr t ↦ rw t.0 (get_or-set_other (flat_words log block) did.word k did.value 0 (λ e. t.1 (sym e)) ∙ word_flat log block k h)
+    ]
+
     after : (did : Option Did) → IsOn block did → (length (flat_after (flat_words log block) did) ≡ 64)
         × ((k : ℕ) → k < 64 → word_at (flat_after (flat_words log block) did) k ≡ option_map_or (λ d. if is_store_to block k d then d.value else flat log block k) did (flat log block k))
     after None on = (length-map-range_with_len (flat log block) 0 64, word_flat log block)
     after (Some did) on = elim (cases_Bool did.load) [
       | inl e ↦ rw e (length-map-range_with_len (flat log block) 0 64, word_flat log block)
-      | inr e ↦ rw (e, eq-eqb did.block block on) (length-set (flat_words log block) did.word did.value ∙ length-map-range_with_len (flat log block) 0 64, λ k h. elim (eqb_tells did.word k) [
-        | inl t ↦ rw (t.0, t.1) (get_or-set_same (flat_words log block) k did.value 0 (rw length-map-range_with_len h))
-        | inr t ↦ rw t.0 (get_or-set_other (flat_words log block) did.word k did.value 0 (λ e. t.1 (sym e)) ∙ word_flat log block k h)
-      ])
+      | inr e ↦ rw (e, eq-eqb did.block block on) (length-set (flat_words log block) did.word did.value ∙ length-map-range_with_len (flat log block) 0 64, λ k h. stored did k h)
     ]
 
 -- the move's item may come next, if there is one

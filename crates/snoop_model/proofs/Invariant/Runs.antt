@@ -84,11 +84,7 @@ reset_shaped p shape = record {
 
 -- flat memory at reset
 flat_reset : (block : ℕ) → flat_words [] block ≡ zero_words
-flat_reset block = sym (replicate-map 64 0)
-  where
-    replicate-map : (n a : ℕ) → replicate n 0 ≡ map (flat [] block) (range_with_len a n)
-    replicate-map zero a = refl
-    replicate-map (suc n) a = ap (λ (l : List ℕ). 0 ∷ l) (replicate-map n (a + 1))
+flat_reset block = refl
 
 pub reset_invariant : (p : Protocol) (shape : Extent) → Invariant (reset p shape)
 reset_invariant p shape = record {

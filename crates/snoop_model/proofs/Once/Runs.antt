@@ -96,9 +96,11 @@ module _ (old : Situation) (b c : ℕ) where
   balances : (held : Line) (asked : List Access) (did : Option Did) → c < length (picture_of old b).caches → IsBy c b did
       → IsPermutation (option_to_list (held_by (picture_of old b) c).waiting ++ asked) (done did ++ option_to_list held.waiting)
       → Balances asked did (slice_set (picture_of old b).caches c held)
-  balances held asked did inside by here = (by, each_set (picture_of old b).caches c held nothing_held
+  balances held asked did inside by here =
+      let lines = each_set (picture_of old b).caches c held nothing_held
       (λ k x. IsPermutation (waiting_at old k b ++ cond (eqb c k) asked []) (cond (eqb c k) (done did) [] ++ option_to_list x.waiting)) inside
-      (rw (eq-eqb c c refl) here) (λ k apart. rw (ne_eqb c k (λ e. apart (sym e))) (unchanged (waiting_at old k b))))
+      (rw (eq-eqb c c refl) here) (λ k apart. rw (ne_eqb c k (λ e. apart (sym e))) (unchanged (waiting_at old k b))) in
+      (by, lines)
 
   -- where nothing is asked or done, and each line's operation waits as before
   rests : (lines : List Line) → ((k : ℕ) → (held_at lines k).waiting ≡ (held_by (picture_of old b) k).waiting) → Balances [] None lines

@@ -97,8 +97,8 @@ module _ (s : Situation) (kept : IsWellKept s) (core block word : ℕ) (asking :
       let missed = (issue-missed s.protocol line.state (asked asking) request next row).1 in
       let in_queues : core < length s.queues = rw kept.shaped.queues within.0 in
       one_line (action.Issue request) (after_issue s.queues core block) row (rw taken.0 refl) (length-set s.queues core _)
-          (rw (is, issued_own s.queues core block in_queues, kept.queued core block, was) refl) (issued_others s.queues core block) (issued_elsewhere s.queues core block)
-          (rw taken.0 (λ access h. rw (missed, ← asked_missed word asking, h) refl))
+      (rw (is, issued_own s.queues core block in_queues, kept.queued core block, was) refl) (issued_others s.queues core block) (issued_elsewhere s.queues core block)
+      (rw taken.0 (λ access h. rw (missed, ← asked_missed word asking, h) refl))
   kept_taken _ row taken = absurd taken
 
 -- who waits once each core has taken its row: the requestor no longer, each other core as before

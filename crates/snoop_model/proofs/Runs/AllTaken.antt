@@ -16,8 +16,7 @@ all_ok replies = map (λ reply. Ok reply) replies
 
 pub taken_goes_on : TakenGoesOn
 taken_goes_on protocol shape steps step answer middle new taken move =
-    let run = run_more GoesFirst steps (all_ok taken.0) (reset protocol shape) middle new step (Ok answer) taken.1 move in
-    (taken.0 ++ answer ∷ [], subst (λ (outcomes : List (Result Reply Refused)). FirstRunFrom (reset protocol shape) (steps ++ step ∷ []) outcomes new) (sym (map-append (λ (reply : Reply). Ok reply) taken.0 (answer ∷ []))) run)
+    (taken.0 ++ answer ∷ [], rw map-append (run_more GoesFirst steps (all_ok taken.0) (reset protocol shape) middle new step (Ok answer) taken.1 move))
 
 -- the same steps as a run on any block
 goes_on_any : (old : Situation) (step : Step) (outcome : Result Reply Refused) (new : Situation) → GoesFirst old step outcome new → Goes old step outcome new

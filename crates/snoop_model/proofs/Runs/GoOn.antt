@@ -1,5 +1,5 @@
 -- From every situation of a run each step leads on, in one way: it is a move, or refused for a cause.
-use Rattle.std.proofs.Common.{◌≡◌, None, List, [], ◌∷◌, refl, ap, sym, ◌∙◌}
+use Rattle.std.proofs.Common.{◌≡◌, None, List, [], ◌∷◌, refl, ap, sym, ◌∙◌, rules}
 use Rattle.std.specs.Prelude.{Result, Ok, Err}
 use Rattle.snoop_model.proofs.Common.{Extent, Protocol, Step, Reply, Refused, Situation, reset, FirstMove}
 use Rattle.snoop_model.specs.Runs.Run.{GoesFirst, FirstRunFrom}
@@ -62,7 +62,4 @@ run_one (step ∷ steps) (outcome ∷ outcomes) (outcome' ∷ outcomes') old new
     let rest : FirstRunFrom a.0 steps outcomes' new' = rw (ap (λ x. x.1) here) b.1.1 in
     let on = run_one steps outcomes outcomes' a.0 new new' (steady_on keeps_well old step outcome a.0 steady a.1.0) a.1.1 rest in
     (ap (λ x. x.0 ∷ outcomes) here ∙ ap (λ l. outcome' ∷ l) on.0, on.1)
-run_one [] (outcome ∷ outcomes) outcomes' old new new' steady a b = absurd a
-run_one [] [] (outcome ∷ outcomes) old new new' steady a b = absurd b
-run_one (step ∷ steps) [] outcomes' old new new' steady a b = absurd a
-run_one (step ∷ steps) (outcome ∷ outcomes) [] old new new' steady a b = absurd b
+run_one _ _ _ old new new' steady a b = search rules

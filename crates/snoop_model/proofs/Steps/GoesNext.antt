@@ -237,10 +237,12 @@ module _ (s : Situation) (g : Invariant s) where
           let parts = and_parts _ _ there in
           rw (lt-ltb core s.shape.cores in_cores, there) (goes_within s core block word asking (in_cores, ltb-true block s.shape.blocks parts.0)
           ((word_decides s.shape word asking).0 parts.1) g)
-      | inr none ↦ rw (lt-ltb core s.shape.cores in_cores, none) ((in_cores, elim (and_cases _ _ none) [
-        | inl past ↦ inl (ltb-false block s.shape.blocks past)
-        | inr wordless ↦ inr (λ has. both_ways _ wordless ((word_decides s.shape word asking).1 has))
-      ]), refl)
+      | inr none ↦
+          let nowhere : (s.shape.blocks ≤ block) ⊎ (¬ HasWord s.shape word asking) = elim (and_cases _ _ none) [
+            | inl past ↦ inl (ltb-false block s.shape.blocks past)
+            | inr wordless ↦ inr (λ has. both_ways _ wordless ((word_decides s.shape word asking).1 has))
+          ] in
+          rw (lt-ltb core s.shape.cores in_cores, none) ((in_cores, nowhere), refl)
     ]
   ]
 
