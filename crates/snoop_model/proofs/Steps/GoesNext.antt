@@ -59,24 +59,12 @@ module _ (s : Situation) (core block word : ℕ) (asking : Op) where
   takes_is action.Drop next held answer entry t = rw (t.0, t.1, t.2) refl
   takes_is _ next held answer entry t = absurd t
 
-  asks_is : (answer : Reply) (new : Situation)
-      → IsAbsent s core block asking answer new ⊎ Asks s core block word asking answer new
-      → ◌≡◌ {A = Next} (Ok answer, new) (next_asked s core block word asking)
-  asks_is answer new (inl a) = rw (a.2, a.3, a.1, a.0) refl
-  asks_is answer new (inr a) = rw (a.after, a.is_row) (takes_is a.row.action a.row.next a.held answer a.entry a.taken)
-
   in_place : block < s.shape.blocks → HasWord s.shape word asking → (ltb block s.shape.blocks && has_word s.shape word asking) ≡ true
   in_place within has = and_from _ _ (lt-ltb block s.shape.blocks within) ((word_decides s.shape word asking).1 has)
 
   no_place : (s.shape.blocks ≤ block) ⊎ (¬ HasWord s.shape word asking) → (ltb block s.shape.blocks && has_word s.shape word asking) ≡ false
   no_place (inl past) = and_left _ _ (le-ltb block s.shape.blocks past)
   no_place (inr none) = and_right _ _ (false_from_ne_true _ (λ e. none ((word_decides s.shape word asking).0 e)))
-
-  ask_refused : (cause : Refused) → Refuses s (Ask core block word asking) cause → ◌≡◌ {A = Next} (Err cause, s) (next_of s (Ask core block word asking))
-  ask_refused NoCore h = rw (le-ltb core s.shape.cores h) refl
-  ask_refused NoBlock h = rw (lt-ltb core s.shape.cores h.0, no_place h.1) refl
-  ask_refused (Stalled held) h = rw (lt-ltb core s.shape.cores h.0.0, in_place h.0.1 h.3, h.1, h.2.1) refl
-  ask_refused _ h = absurd h
 
 -- An Order.
 module _ (p : Protocol) (before : Picture) (core : ℕ) (q : Request) where
@@ -98,20 +86,6 @@ module _ (p : Protocol) (before : Picture) (core : ℕ) (q : Request) where
           let silent : from ≡ Some n → ⊥ = λ e. (let sends = rw e at (sends_is p before core q from payload sent.sends) in cc) in
           rw is (rest (lower from below silent))
 
-orders_is : (s : Situation) (core block : ℕ) (q : Request) (new : Situation) → Orders s core block q new
-    → ◌≡◌ {A = Next} (Ok (reply.Ordered q), new) (next_ordered s core block q)
-orders_is s core block q new o =
-    let p = s.protocol in
-    let before : Picture = picture_of s block in
-    let from = sender_is p before core q (length before.caches) (omega arith) o.from o.payload o.sent
-    (sends_below p before core q o.from o.payload o.sent.sends) in
-    let caches = fill_by_all (line_after p before core q) o.next.caches (length before.caches) nothing_held o.taken.same_length
-    (λ k below. (let row = o.taken.rows k below in row.2 ∙ rw row.1 refl)) in
-    let next : o.next ≡ next_picture p before core q block =
-    same_picture caches (same_memory (o.memory.2 ∙ rw o.memory.1 refl) o.value)
-    (o.opened ∙ rw (from, sends_is p before core q o.from o.payload o.sent.sends) refl) in
-    rw (o.after, next) refl
-
 -- A Respond.
 pub settled_is : (takes : Bool) (p : Protocol) (found : Option MemEvent) (m : MemState) (act : MemAction) (next : MemState)
     → SettlesIf takes p found m act next → (act, next) ≡ settled takes p found m
@@ -120,38 +94,42 @@ settled_is true p (Some e) m act next h = rw h refl
 settled_is false p found m act next h = rw (h.0, h.1) refl
 
 module _ (closing : Open) (p : Protocol) (log : List Item) (old new : List Line) (did : Option Did) where
-  fills_is : FillsRequestor closing p log old new did → (new, did) ≡ filled closing p log old (held_at old closing.core).waiting
-  fills_is f =
-      let does = performs_is f.asking.word f.asking.op closing.value f.value f.fills.after f.fills.performed in
-      rw (f.held, f.logged, f.fills.held, f.fills.waited, f.fills.arrives, f.fills.is_row, does.0, does.1) refl
-
   arrives_is : (q : Request) → ArrivesFor q closing p log old new did → (new, did) ≡ brought closing p log old q
   arrives_is request.PutM a = rw (a.0, a.1) refl
-  arrives_is _ a = fills_is a
-
-closed_is : (s : Situation) (block : ℕ) (o : Open) (did : Option Did) (new : Situation) → Responds s block o did new
-    → ◌≡◌ {A = Next} (Ok (reply.Came o.payload o.from did), new) (next_closed s block o)
-closed_is s block o did new r =
-    let before : Picture = picture_of s block in
-    let caches = arrives_is o s.protocol s.log before.caches r.next.caches did o.request r.requestor in
-    let memory = settled_is (takes_payload o.request before.memory.state) s.protocol
-    (arrival_at_memory o.payload) before.memory.state r.memory.act r.next.memory.state r.memory.settled in
-    let next = same_picture (ap (λ x. x.0) caches) (same_memory (ap (λ x. x.1) memory)
-    (r.memory.value ∙ ap (λ x. written x.0 o.value before.memory.value) memory)) r.closed in
-    rw (r.after, next, ap (λ x. x.1) caches) refl
+  arrives_is _ f =
+      let does = performs_is f.asking.word f.asking.op closing.value f.value f.fills.after f.fills.performed in
+      rw (f.held, f.logged, f.fills.held, f.fills.waited, f.fills.arrives, f.fills.is_row, does.0, does.1) refl
 
 -- a move comes to what is computed
 move_is : (s : Situation) (step : Step) (answer : Reply) (new : Situation) → FirstMove s step answer new
     → ◌≡◌ {A = Next} (Ok answer, new) (next_of s step)
-move_is s (Ask core on word asking) answer new m =
-    rw (m.1.1.on_block, lt-ltb core s.shape.cores m.1.1.within.0, in_place s core m.0 word asking m.1.1.within.1 m.1.1.has_word)
-    (asks_is s core m.0 word asking answer new m.1.1.moves)
-move_is s (Order core) answer new m =
-    let ready = m.1.1.orders.ready in
-    rw (m.1.1.answered, lt-ltb core s.shape.cores m.1.1.within.0, m.1.0, ready.1, ready.0) (orders_is s core m.0 m.1.1.request new m.1.1.orders)
-move_is s (Respond on) answer new m =
-    rw (m.1.1.on_block, m.1.1.answered, lt-ltb m.0 s.shape.blocks m.1.1.within, m.1.1.responds.opened)
-    (closed_is s m.0 m.1.1.closing m.1.1.did new m.1.1.responds)
+move_is s (Ask core on word asking) answer new (block, (first, m)) =
+    rw (m.on_block, lt-ltb core s.shape.cores m.within.0, in_place s core block word asking m.within.1 m.has_word) (elim m.moves [
+      | inl a ↦ rw (a.2, a.3, a.1, a.0) refl
+      | inr a ↦ rw (a.after, a.is_row) (takes_is s core block word asking a.row.action a.row.next a.held answer a.entry a.taken)
+    ])
+move_is s (Order core) answer new (block, (first, m)) =
+    let p = s.protocol in
+    let q = m.request in
+    let o = m.orders in
+    let before : Picture = picture_of s block in
+    let sends = sends_is p before core q o.from o.payload o.sent.sends in
+    let from = sender_is p before core q (length before.caches) (omega arith) o.from o.payload o.sent (sends_below p before core q o.from o.payload o.sent.sends) in
+    let caches = fill_by_all (line_after p before core q) o.next.caches (length before.caches) nothing_held o.taken.same_length
+    (λ k below. (let row = o.taken.rows k below in row.2 ∙ rw row.1 refl)) in
+    let next : o.next ≡ next_picture p before core q block =
+    same_picture caches (same_memory (o.memory.2 ∙ rw o.memory.1 refl) o.value) (o.opened ∙ rw (from, sends) refl) in
+    rw (m.answered, lt-ltb core s.shape.cores m.within.0, first, o.ready.1, o.ready.0, o.after, next) refl
+move_is s (Respond on) answer new (block, (first, m)) =
+    let r = m.responds in
+    let o = m.closing in
+    let before : Picture = picture_of s block in
+    let caches = arrives_is o s.protocol s.log before.caches r.next.caches m.did o.request r.requestor in
+    let memory = settled_is (takes_payload o.request before.memory.state) s.protocol
+    (arrival_at_memory o.payload) before.memory.state r.memory.act r.next.memory.state r.memory.settled in
+    let next = same_picture (ap (λ x. x.0) caches) (same_memory (ap (λ x. x.1) memory)
+    (r.memory.value ∙ ap (λ x. written x.0 o.value before.memory.value) memory)) r.closed in
+    rw (m.on_block, m.answered, lt-ltb block s.shape.blocks m.within, r.opened, r.after, next, ap (λ x. x.1) caches) refl
 
 -- and so does a refusal
 module _ (s : Situation) (queued : AreQueued s) where
@@ -160,7 +138,10 @@ module _ (s : Situation) (queued : AreQueued s) where
   none_first core none (Some block) is = let waits = first_waits s queued core block is in absurd (none block waits.0 waits.1)
 
   refused_is : (step : Step) (cause : Refused) → Refuses s step cause → ◌≡◌ {A = Next} (Err cause, s) (next_of s step)
-  refused_is (Ask core block word asking) cause h = ask_refused s core block word asking cause h
+  refused_is (Ask core block word asking) NoCore h = rw (le-ltb core s.shape.cores h) refl
+  refused_is (Ask core block word asking) NoBlock h = rw (lt-ltb core s.shape.cores h.0, no_place s core block word asking h.1) refl
+  refused_is (Ask core block word asking) (Stalled held) h =
+      rw (lt-ltb core s.shape.cores h.0.0, in_place s core block word asking h.0.1 h.3, h.1, h.2.1) refl
   refused_is (Order core) NoCore h = rw (le-ltb core s.shape.cores h) refl
   refused_is (Order core) NothingWaiting h = rw (lt-ltb core s.shape.cores h.0, none_first core h.1 (slice_get (queue_of s.queues core) 0) refl) refl
   refused_is (Order core) (BusTaken block) h = rw (lt-ltb core s.shape.cores h.0, h.1, h.2) refl
@@ -172,7 +153,6 @@ module _ (s : Situation) (queued : AreQueued s) where
   goes_is step (Ok answer) new goes = move_is s step answer new goes
   goes_is step (Err cause) new goes = rw goes.1 (refused_is step cause goes.0)
 
--- a step goes as it is computed
 some_kept : (kept : Option (List ℕ)) → is_some kept ≡ true → kept ≡ Some (unwrap_or kept zero_words)
 some_kept None h = cc
 some_kept (Some v) h = refl
@@ -224,7 +204,7 @@ module _ (s : Situation) (core block word : ℕ) (asking : Op) (within : IsWithi
             rw row.1 (goes_by row.0.action row.0.next row.1 (good.proper core within.0))
       ]
 
--- the step goes as it is computed
+-- a step goes as it is computed
 abbrev pub GoesNext : Situation → Step → Type 0
 GoesNext s step = GoesFirst s step (next_of s step).0 (next_of s step).1
 
