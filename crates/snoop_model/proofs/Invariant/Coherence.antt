@@ -1,12 +1,12 @@
 -- What the invariant says of a situation: one writer, current copies and memory, all rows, one sender.
-use Rattle.std.proofs.Common.{◌≡◌, ◌≢◌, ℕ, true, false, not, List, [], Option, Some, None, refl, inl, inr, sym, ◌∙◌, arith, rules}
+use Rattle.std.proofs.Common.{◌≡◌, ◌≢◌, ℕ, true, false, List, [], Option, Some, None, refl, inl, inr, sym, ◌∙◌, arith, rules}
 use Rattle.std.specs.Prelude.{◌<◌, ◌↔◌, IfSome, IsSome, IsSomeAnd, ◌≤◌}
 use Rattle.std.specs.Option.{ForSome}
 use Rattle.std.proofs.lemmas.Bool.{and_parts, both_ways, cases_Bool, cases_lt, eq-eqb, false_from_ne_true}
 use Rattle.std.proofs.lemmas.List.{get_or_past}
 use Rattle.std.proofs.lemmas.Option.{none-some}
 use Rattle.snoop_model.proofs.Lists.Facts.{if_some}
-use Rattle.snoop_model.proofs.Common.{Protocol, Op, Step, Ask, Order, Respond, CacheState, CacheEvent, MemState, MemEvent, Request, Cell, asked, seen_by, arrival, arrival_at_memory, carries_value, waiting_request, Open, Line, Picture, held_by, nothing_held, data_under_way, Situation, picture_of, state_of, Waits, CanOrder, HasOpen, nothing_there, keeps, awaited_request, IsWithin}
+use Rattle.snoop_model.proofs.Common.{Protocol, Op, Step, Ask, Order, Respond, CacheState, CacheEvent, MemEvent, Request, asked, seen_by, arrival, arrival_at_memory, carries_value, waiting_request, Open, Line, Picture, held_by, nothing_held, data_under_way, Situation, picture_of, state_of, Waits, CanOrder, HasOpen, nothing_there, keeps, awaited_request, IsWithin}
 use Rattle.snoop_trace.specs.declared.step.Op.TheVariants as op
 use Rattle.snoop_trace.specs.declared.protocol.Protocol.TheVariants.{Mesi}
 use Rattle.snoop_rules.specs.declared.names.CacheState.TheVariants as state

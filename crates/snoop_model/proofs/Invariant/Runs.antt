@@ -1,14 +1,13 @@
 -- The invariant holds at reset, and after each step of a run.
-use Rattle.std.proofs.Common.{Option, Some, ◌≡◌, ℕ, zero, suc, map, ◌+◌, ◌<◌, List, [], ◌∷◌, replicate, Bool, true, false, None, refl, inl, inr, ap, sym, arith}
+use Rattle.std.proofs.Common.{Option, Some, ◌≡◌, ℕ, ◌<◌, [], replicate, Bool, true, false, None, refl, inl, inr, arith}
 use Rattle.std.specs.Prelude.{option_map, Result, Ok, Err}
 use Rattle.std.proofs.lemmas.Bool.{cases_lt}
 use Rattle.std.proofs.lemmas.List.{length-replicate, get_or-replicate, get_or_past}
 use Rattle.std.proofs.lemmas.List.Elements.{All-nil}
 use Rattle.std.proofs.lemmas.Option.{none-some}
-use Rattle.std.specs.List.{range_with_len}
 use Rattle.snoop_model.proofs.Common.{Access, request_for, Extent, Protocol, Step, Reply, Refused, Picture, first_memory, held_by, nothing_held, Situation, picture_of, reset, untouched, nothing_there, IsProper, IsWithin}
 use Rattle.snoop_trace.specs.Words.{IsWord, zero_words}
-use Rattle.snoop_history.specs.History.{flat, flat_words}
+use Rattle.snoop_history.specs.History.{flat_words}
 use Rattle.snoop_trace.specs.declared.protocol.Protocol.TheVariants as protocol
 use Rattle.snoop_rules.specs.declared.names.CacheState.TheVariants.{I}
 use Rattle.snoop_model.specs.declared.replies.Refused.TheVariants.{NoMemory}

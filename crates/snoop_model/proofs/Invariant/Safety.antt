@@ -3,7 +3,7 @@ use Rattle.std.proofs.Common.{◌≡◌, ℕ, List, ◌<◌, ◌≤◌, ◌++◌
 use Rattle.std.specs.Prelude.{option_map, option_to_list, Result, Ok, Err, IfSome, is_some}
 use Rattle.std.proofs.lemmas.Option.{same_Some}
 use Rattle.std.proofs.lemmas.List.{get_or-set_same}
-use Rattle.snoop_model.proofs.Common.{Extent, Protocol, Op, Step, Ask, Order, Respond, CacheState, CacheAction, CacheCell, Request, Item, Cell, cell_of, asked, arrival_at_memory, takes_payload, Reply, Refused, Line, Picture, held_by, nothing_held, with_line, Situation, picture_of, with_picture, state_of, Waits, HasOpen, reset, IsProper, keeps, Takes, Orders, MoveOn, moves_to, queues_after}
+use Rattle.snoop_model.proofs.Common.{Extent, Protocol, Op, Step, Ask, Order, Respond, CacheState, CacheAction, CacheCell, Request, Item, Cell, cell_of, asked, arrival_at_memory, takes_payload, Reply, Refused, Line, Picture, held_by, nothing_held, with_line, Situation, picture_of, with_picture, state_of, Waits, HasOpen, reset, IsProper, keeps, Takes, Orders, MoveOn, queues_after}
 use Rattle.snoop_trace.specs.Words.{word_at}
 use Rattle.snoop_trace.specs.declared.step.Op.TheVariants as op
 use Rattle.snoop_trace.specs.declared.protocol.Protocol.TheVariants.{Msi, Mesi}

@@ -4,10 +4,9 @@ use Rattle.std.specs.Prelude.{◌==◌, if◌then◌else◌, option_to_list, is_
 use Rattle.std.proofs.lemmas.Bool.{cases_lt, eq-eqb, ne_eqb}
 use Rattle.std.proofs.lemmas.Option.{none-some, same_Some}
 use Rattle.std.proofs.lemmas.List.{length-set, get_or_past, get_or-set_same}
-use Rattle.snoop_model.proofs.Common.{Extent, Protocol, Op, Step, Ask, Order, Respond, CacheState, CacheAction, Request, Cell, asked, waiting_request, Did, Item, Open, after_issue, after_order, queue_of, Access, Reply, Line, Picture, held_at, held_by, nothing_held, with_line, Situation, picture_of, state_of, reset, missed_request, awaited_request, ArrivesFor, FillsRequestor, Orders, Responds, Takes, TakesRows, IsWithin, MoveOn, queues_after}
+use Rattle.snoop_model.proofs.Common.{Protocol, Op, Step, Ask, Order, Respond, CacheState, CacheAction, Request, Cell, asked, waiting_request, Did, Item, Open, after_issue, after_order, queue_of, Access, Reply, Line, Picture, held_at, held_by, nothing_held, with_line, Situation, picture_of, state_of, reset, missed_request, awaited_request, ArrivesFor, FillsRequestor, Responds, Takes, TakesRows, IsWithin, MoveOn, queues_after}
 use Rattle.snoop_rules.specs.declared.names.CacheAction.TheVariants as action
 use Rattle.snoop_model.specs.Invariant.WellKept.{IsWellKept}
-use Rattle.snoop_model.specs.Turns.Serving.{IsServing}
 use Rattle.snoop_model.specs.Turns.TurnLaws.{StartsWell, KeepsWell}
 use Rattle.snoop_model.proofs.Lists.Facts.{one_if, replicated}
 use Rattle.snoop_model.proofs.Lists.Writes.{each_set}

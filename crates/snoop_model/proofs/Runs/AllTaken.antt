@@ -1,5 +1,5 @@
 -- Runs whose steps were all taken.
-use Rattle.std.proofs.Common.{◌≡◌, List, [], ◌∷◌, ◌++◌, map, refl, ap, sym, subst}
+use Rattle.std.proofs.Common.{◌≡◌, List, [], ◌∷◌, ◌++◌, map, refl, ap}
 use Rattle.std.specs.Prelude.{Result, Ok, Err}
 use Rattle.snoop_model.proofs.Common.{Step, Reply, Refused, Situation, reset}
 use Rattle.snoop_model.specs.declared.replies.Refused.TheVariants.{NoMemory}

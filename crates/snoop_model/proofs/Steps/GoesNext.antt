@@ -6,12 +6,11 @@ use Rattle.std.proofs.Math.Dec.{ltb}
 use Rattle.std.proofs.lemmas.Bool.{and_from, and_left, and_right, cases_eq, false_from_ne_true, le-ltb, lt-ltb, and_cases, and_parts, both_ways, cases_Bool, cases_lt, ltb-false, ltb-true}
 use Rattle.std.proofs.lemmas.Bool.Decides.{Decides-and, Decides-ltb}
 use Rattle.std.proofs.lemmas.List.FromFn.{fill_by_all, get_or-map-range_with_len, length-map-range_with_len}
-use Rattle.snoop_model.proofs.Common.{Extent, Protocol, Op, Step, Ask, Order, Respond, CacheState, CacheAction, MemState, MemEvent, MemAction, Request, Payload, arrival_at_memory, takes_payload, Did, Item, Open, queue_of, Reply, Refused, Line, Picture, held_at, held_by, nothing_held, Situation, picture_of, Takes, FillsRequestor, ArrivesFor, Asks, Orders, Responds, IsAbsent, FirstMove, Performs, written, CacheEvent, CacheCell, MemCell, Cell, asked, seen_by, arrival, Access, state_of, CanOrder, StandsFirst, request_for, missed_request, IsProper, Hits, is_load, IsWithin}
+use Rattle.snoop_model.proofs.Common.{Extent, Protocol, Op, Step, Ask, Order, Respond, CacheState, CacheAction, MemState, MemEvent, MemAction, Request, Payload, arrival_at_memory, takes_payload, Did, Item, Open, queue_of, Reply, Refused, Line, Picture, held_at, held_by, nothing_held, Situation, picture_of, Takes, FillsRequestor, ArrivesFor, Orders, Responds, FirstMove, Performs, written, CacheEvent, CacheCell, MemCell, Cell, asked, seen_by, arrival, Access, state_of, CanOrder, StandsFirst, request_for, missed_request, IsProper, Hits, is_load, IsWithin}
 use Rattle.snoop_trace.specs.Words.{HasWord, word_places, zero_words}
 use Rattle.snoop_trace.specs.declared.step.Op.TheVariants as op
 use Rattle.snoop_rules.specs.declared.names.CacheAction.TheVariants as action
 use Rattle.snoop_rules.specs.declared.names.Request.TheVariants as request
-use Rattle.snoop_model.specs.declared.replies.Reply.TheVariants as reply
 use Rattle.snoop_model.specs.declared.replies.Refused.TheVariants.{NoCore, NoBlock, Stalled, NothingWaiting, BusTaken, NoTransaction}
 use Rattle.snoop_model.specs.Pictures.Sends.{IsOnlySender}
 use Rattle.snoop_model.specs.Moves.Refuses.{Refuses, WaitsOnNone}
@@ -30,7 +29,7 @@ use Rattle.snoop_rules.proofs.Rows.{each_row, each_row-at}
 use Rattle.snoop_history.specs.History.{flat_words}
 use Rattle.snoop_history.specs.Totals.{is_put_m}
 use Rattle.snoop_model.specs.Invariant.Invariant.{Invariant}
-use Rattle.snoop_model.proofs.Tables.Rows.{same_request, is_evict, asked_answers, hit_keeps}
+use Rattle.snoop_model.proofs.Tables.Rows.{is_evict, asked_answers, hit_keeps}
 use Rattle.snoop_model.proofs.Tables.AskTests.{is_idle_evict}
 use Rattle.snoop_model.proofs.Invariant.Coherence.{orders_follow_sender_table, finds_rows, idle_evict, waits_within}
 use Rattle.snoop_model.proofs.OneBlock.Facts.{implied}

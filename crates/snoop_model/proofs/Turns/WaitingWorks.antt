@@ -1,8 +1,8 @@
 -- A core that waits has its work under way.
-use Rattle.std.proofs.Common.{◌≡◌, ℕ, Bool, true, false, not, ◌||◌, Option, Some, None, refl, inl, inr, ◌⊎◌}
+use Rattle.std.proofs.Common.{◌≡◌, ℕ, Bool, true, not, ◌||◌, Option, Some, None, refl, inl, inr, ◌⊎◌}
 use Rattle.std.specs.Prelude.{is_some}
 use Rattle.std.proofs.lemmas.List.Elements.{All-contains}
-use Rattle.snoop_model.proofs.Common.{Protocol, CacheState, CacheEvent, CacheAction, CacheCell, Request, Cell, waiting_request, queue_of, Situation, state_of, awaited_request}
+use Rattle.snoop_model.proofs.Common.{Protocol, CacheState, CacheEvent, CacheCell, Request, Cell, waiting_request, queue_of, Situation, state_of, awaited_request}
 use Rattle.snoop_rules.specs.declared.names.CacheState.TheVariants.{I}
 use Rattle.snoop_rules.specs.declared.names.CacheAction.TheVariants as action
 use Rattle.snoop_rules.proofs.Every.{all_protocols, all_states, all_events}
