@@ -31,3 +31,22 @@ pub use Rattle.snoop_model.specs.Pictures.Picture.{Picture, data_under_way, firs
 pub use Rattle.snoop_model.specs.Pictures.Situation.{CanOrder, HasOpen, Situation, StandsFirst, Waits, nothing_there, picture_of, reset, state_of, untouched, with_picture}
 pub use Rattle.snoop_model.specs.Pictures.Proper.{IsProper, awaited_request, keeps, missed_request, request_for}
 pub use Rattle.snoop_model.specs.Moves.Move.{ArrivesAtMemory, ArrivesFor, Asks, Fills, FillsRequestor, FirstMove, Hits, IsAbsent, IsWithin, MoveOn, Orders, Performs, Responds, Takes, TakesRow, TakesRows, came_of, is_load, kept_waiting, moves_to, next_did, queues_after, written}
+pub use Rattle.snoop_history.specs.History.{answers_of, flat, flat_words, is_store_to, IsNext, Legal, operation_of, operations, stores}
+pub use Rattle.snoop_history.specs.Totals.{is_put_m}
+pub use Rattle.snoop_model.specs.Invariant.Block.{BlockInvariant, own_open, owns, talk_of}
+pub use Rattle.snoop_model.specs.Invariant.Invariant.{Invariant}
+pub use Rattle.snoop_model.specs.Invariant.WellKept.{IsShaped, IsWellKept}
+pub use Rattle.snoop_model.specs.Moves.Refuses.{Refuses, WaitsOnNone}
+pub use Rattle.snoop_model.specs.Moves.SenderTable.{IsOpenByTable, IsSenderLine, OrdersFollowSenderTable}
+pub use Rattle.snoop_model.specs.Pictures.Sends.{IsOnlySender, value_sent}
+pub use Rattle.snoop_model.specs.Runs.Once.{accesses_in, asked_access, did_access, Once, OnceMore, taken, waiting_at}
+pub use Rattle.snoop_model.specs.Runs.Owed.{ClosedIsLast, EndsAtOnce, IsLast, IsOwed, Owes}
+pub use Rattle.snoop_model.specs.Runs.Run.{FirstRunFrom, Goes, GoesFirst, RunBy, TakenGoesOn}
+pub use Rattle.snoop_model.specs.Turns.Serving.{has_transaction, IsServing}
+pub use Rattle.snoop_model.specs.Turns.TurnLaws.{ComesToRest, Ends, KeepsWell, NeverRefused, Pays, ServesOn, StartsWell, TurnLaws}
+pub use Rattle.snoop_trace.specs.Words.{Data, HasWord, IsWord, word_at, word_places, zero_words}
+pub use Rattle.std.proofs.lemmas.Bool.{cases_Bool, cases_lt, eq-eqb, ne_eqb}
+pub use Rattle.std.proofs.lemmas.List.{get_or-set_same, get_or_past, map-append}
+pub use Rattle.std.proofs.lemmas.Option.{none-some, same_Some}
+pub use Rattle.std.specs.Option.{option_map_or}
+pub use Rattle.std.specs.Prelude.{Contains, Err, IfSome, is_some, Ok, option_map, option_to_list, Result, slice_get}

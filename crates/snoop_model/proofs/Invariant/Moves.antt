@@ -1,23 +1,16 @@
 -- A move keeps the invariant of the machine.
 use Rattle.std.proofs.Common.{◌≡◌, ◌≢◌, ℕ, ◌<◌, Bool, true, false, not, List, [], ◌∷◌, ◌++◌, length, Option, Some, None, refl, inl, inr, ap, sym, ◌∙◌, subst, arith}
 use Rattle.std.specs.Prelude.{◌==◌, option_to_list, slice_set, IfSome, All, ⊤, if◌then◌else◌}
-use Rattle.std.specs.Option.{option_map_or}
 use Rattle.std.proofs.Math.Bool.{and-false}
 use Rattle.std.proofs.lemmas.List.{append-nil, length-set, get_or-set_same, get_or-set_other}
 use Rattle.std.proofs.lemmas.List.Elements.{All-nil, All-cons, All-append, filter_map-append}
 use Rattle.std.proofs.lemmas.List.FromFn.{length-map-range_with_len, get_or-map-range_with_len, fill_by_all}
-use Rattle.std.proofs.lemmas.Bool.{cases_Bool, eq-eqb, ne_eqb}
 use Rattle.std.proofs.lemmas.Bool.Decides.{eqb_tells}
-use Rattle.std.proofs.lemmas.Option.{none-some, same_Some}
-use Rattle.snoop_model.proofs.Common.{Extent, Op, Step, Ask, Order, Respond, CacheState, CacheAction, Request, Did, Item, Open, after_order, Access, Reply, Line, Picture, held_at, held_by, nothing_held, with_line, Situation, picture_of, Takes, ArrivesFor, IsWithin, MoveOn, kept_waiting, queues_after, came_of, next_did, Performs}
-use Rattle.snoop_trace.specs.Words.{HasWord, IsWord, word_at}
+use Rattle.snoop_model.proofs.Common.{Access, after_order, ArrivesFor, Ask, BlockInvariant, CacheAction, CacheState, came_of, cases_Bool, Did, eq-eqb, Extent, flat, flat_words, HasWord, held_at, held_by, Invariant, is_store_to, IsNext, IsWithin, IsWord, Item, kept_waiting, Legal, Line, MoveOn, ne_eqb, next_did, none-some, nothing_held, Op, Open, operation_of, operations, option_map_or, Order, Performs, Picture, picture_of, queues_after, Reply, Request, Respond, same_Some, Situation, Step, stores, Takes, with_line, word_at}
 use Rattle.snoop_trace.specs.declared.step.Op.TheVariants as op
 use Rattle.snoop_rules.specs.declared.names.CacheAction.TheVariants as action
 use Rattle.snoop_history.specs.declared.items.Item.TheVariants as item
-use Rattle.snoop_history.specs.History.{flat, flat_words, operation_of, operations, stores, is_store_to, Legal, IsNext}
 use Rattle.snoop_history.proofs.Legal.{flat-grows, legal-grows}
-use Rattle.snoop_model.specs.Invariant.Block.{BlockInvariant}
-use Rattle.snoop_model.specs.Invariant.Invariant.{Invariant}
 use Rattle.snoop_model.proofs.Lists.Writes.{each_set}
 use Rattle.snoop_model.proofs.OneBlock.Facts.{each_held}
 use Rattle.snoop_model.proofs.OneBlock.Operation.{did_in, flat_after, IsLawful}

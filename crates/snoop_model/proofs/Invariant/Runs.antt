@@ -1,21 +1,12 @@
 -- The invariant holds at reset, and after each step of a run.
 use Rattle.std.proofs.Common.{Option, Some, ◌≡◌, ℕ, ◌<◌, [], replicate, Bool, true, false, None, refl, inl, inr, arith}
-use Rattle.std.specs.Prelude.{option_map, Result, Ok, Err}
-use Rattle.std.proofs.lemmas.Bool.{cases_lt}
 use Rattle.std.proofs.lemmas.List.{length-replicate, get_or-replicate, get_or_past}
 use Rattle.std.proofs.lemmas.List.Elements.{All-nil}
-use Rattle.std.proofs.lemmas.Option.{none-some}
-use Rattle.snoop_model.proofs.Common.{Access, request_for, Extent, Protocol, Step, Reply, Refused, Picture, first_memory, held_by, nothing_held, Situation, picture_of, reset, untouched, nothing_there, IsProper, IsWithin}
-use Rattle.snoop_trace.specs.Words.{IsWord, zero_words}
-use Rattle.snoop_history.specs.History.{flat_words}
+use Rattle.snoop_model.proofs.Common.{Access, BlockInvariant, cases_lt, Err, Extent, first_memory, flat_words, Goes, held_by, Invariant, IsProper, IsShaped, IsWithin, IsWord, none-some, nothing_held, nothing_there, Ok, option_map, Picture, picture_of, Protocol, Refused, Reply, request_for, reset, Result, Situation, Step, untouched, zero_words}
 use Rattle.snoop_trace.specs.declared.protocol.Protocol.TheVariants as protocol
 use Rattle.snoop_rules.specs.declared.names.CacheState.TheVariants.{I}
 use Rattle.snoop_model.specs.declared.replies.Refused.TheVariants.{NoMemory}
-use Rattle.snoop_model.specs.Runs.Run.{Goes}
 use Rattle.snoop_model.specs.Invariant.Fits.{claims_of, is_owner, is_sharer, is_clean, wait_fits, in_protocol, same, fits}
-use Rattle.snoop_model.specs.Invariant.Block.{BlockInvariant}
-use Rattle.snoop_model.specs.Invariant.Invariant.{Invariant}
-use Rattle.snoop_model.specs.Invariant.WellKept.{IsShaped}
 use Rattle.snoop_model.proofs.Lists.Facts.{replicated}
 use Rattle.snoop_model.proofs.Invariant.Moves.{move_keeps}
 

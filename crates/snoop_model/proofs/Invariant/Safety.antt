@@ -1,25 +1,15 @@
 -- What every machine keeps makes it safe, and its steps keep it.
 use Rattle.std.proofs.Common.{◌≡◌, ℕ, List, ◌<◌, ◌≤◌, ◌++◌, Option, Some, None, refl, ap, sym, ◌∙◌, arith, inl, inr, ◌⊎◌, true}
-use Rattle.std.specs.Prelude.{option_map, option_to_list, Result, Ok, Err, IfSome, is_some}
-use Rattle.std.proofs.lemmas.Option.{same_Some}
-use Rattle.std.proofs.lemmas.List.{get_or-set_same}
-use Rattle.snoop_model.proofs.Common.{Extent, Protocol, Op, Step, Ask, Order, Respond, CacheState, CacheAction, CacheCell, Request, Item, Cell, cell_of, asked, arrival_at_memory, takes_payload, Reply, Refused, Line, Picture, held_by, nothing_held, with_line, Situation, picture_of, with_picture, state_of, Waits, HasOpen, reset, IsProper, keeps, Takes, Orders, MoveOn, queues_after}
-use Rattle.snoop_trace.specs.Words.{word_at}
+use Rattle.snoop_model.proofs.Common.{arrival_at_memory, Ask, asked, CacheAction, CacheCell, CacheState, Cell, cell_of, Err, Extent, flat, flat_words, get_or-set_same, Goes, HasOpen, held_by, IfSome, Invariant, is_some, IsOpenByTable, IsProper, IsSenderLine, IsWellKept, Item, keeps, Line, MoveOn, nothing_held, Ok, Op, option_map, option_to_list, Order, Orders, Picture, picture_of, Protocol, queues_after, Refused, Refuses, Reply, Request, reset, Respond, Result, RunBy, same_Some, Situation, state_of, Step, Takes, takes_payload, Waits, with_line, with_picture, word_at}
 use Rattle.snoop_trace.specs.declared.step.Op.TheVariants as op
 use Rattle.snoop_trace.specs.declared.protocol.Protocol.TheVariants.{Msi, Mesi}
 use Rattle.snoop_rules.specs.declared.names.CacheState.TheVariants as state
 use Rattle.snoop_rules.specs.declared.names.CacheAction.TheVariants as action
-use Rattle.snoop_history.specs.History.{flat, flat_words}
 use Rattle.snoop_model.specs.declared.replies.Reply.TheVariants.{Gone}
 use Rattle.snoop_model.specs.declared.replies.Refused.TheVariants.{Stalled}
 use Rattle.snoop_model.specs.Coherent.{IsCoherent}
-use Rattle.snoop_model.specs.Moves.Refuses.{Refuses}
-use Rattle.snoop_model.specs.Moves.SenderTable.{IsSenderLine, IsOpenByTable}
-use Rattle.snoop_model.specs.Runs.Run.{Goes, RunBy}
 use Rattle.snoop_model.specs.Runs.Safe.{IsSafe}
 use Rattle.snoop_model.specs.Invariant.Fits.{is_clean}
-use Rattle.snoop_model.specs.Invariant.Invariant.{Invariant}
-use Rattle.snoop_model.specs.Invariant.WellKept.{IsWellKept}
 use Rattle.snoop_model.specs.Invariant.MachineKeeps.{AreOnSenderLines, MachineKeeps}
 use Rattle.snoop_model.proofs.Lists.Facts.{if_some}
 use Rattle.snoop_model.proofs.Tables.Rows.{IsProper-drop}

@@ -1,9 +1,7 @@
 -- What the machine's own steps need of the laws: from any coherent situation each does its load or store once.
 use Rattle.std.proofs.Common.{[], ◌∷◌, refl}
 use Rattle.std.specs.Prelude.{Result, Ok, Err, IfOk}
-use Rattle.snoop_model.proofs.Common.{Step, Reply, Refused, Situation, FirstMove}
-use Rattle.snoop_model.specs.Runs.Once.{OnceMore}
-use Rattle.snoop_model.specs.Invariant.Invariant.{Invariant}
+use Rattle.snoop_model.proofs.Common.{FirstMove, Invariant, OnceMore, Refused, Reply, Situation, Step}
 use Rattle.snoop_model.proofs.Once.Runs.{run_once}
 
 pub step_once : (old new : Situation) (step : Step) (result : Result Reply Refused) → Invariant old → IfOk result (λ reply. FirstMove old step reply new) → IfOk result (λ reply. OnceMore old (step ∷ []) (Ok reply ∷ []) new)

@@ -7,13 +7,9 @@ use Rattle.std.proofs.lemmas.List.Sorted.{Contains-permutation, IsPermutation-sy
 use Rattle.std.proofs.lemmas.List.Elements.{Contains-append_left, Contains-append_right, Contains-append_cases}
 use Rattle.std.proofs.lemmas.List.{append_cancel_left, map-append}
 use Rattle.std.proofs.lemmas.Bool.{cases_Bool, eqb-true}
-use Rattle.std.proofs.lemmas.Option.{same_Some}
-use Rattle.snoop_model.proofs.Common.{Step, Ask, Order, Respond, Did, Item, Access, Reply, held_by, Situation, picture_of, FirstMove, came_of}
+use Rattle.snoop_model.proofs.Common.{Access, answers_of, Ask, asked_access, came_of, Did, did_access, FirstMove, held_by, IsLast, IsOwed, Item, OnceMore, Order, Owes, picture_of, Reply, Respond, same_Some, Situation, Step, waiting_at}
 use Rattle.snoop_history.specs.declared.items.Item.TheVariants as item
-use Rattle.snoop_history.specs.History.{answers_of}
 use Rattle.snoop_history.proofs.Pushed.{answers_of-push, last_or-append, of_core}
-use Rattle.snoop_model.specs.Runs.Once.{asked_access, did_access, waiting_at, OnceMore}
-use Rattle.snoop_model.specs.Runs.Owed.{IsLast, IsOwed, Owes}
 use Rattle.snoop_model.proofs.OneBlock.Operation.{did_in}
 
 -- a core's operations with one item more

@@ -3,20 +3,14 @@ use Rattle.std.proofs.Common.{◌≡◌, ℕ, Bool, true, false, ◌<◌, ◌&&�
 use Rattle.std.specs.Prelude.{◌==◌, ⊤, option_to_list, map, filter, filter_map, slice_set, Result, Ok, Err}
 use Rattle.std.specs.List.Sorted.{IsPermutation}
 use Rattle.std.proofs.lemmas.List.Sorted.{IsPermutation-refl, IsPermutation-trans, IsPermutation-append_comm, IsPermutation-append_left, IsPermutation-append_right}
-use Rattle.std.proofs.lemmas.Bool.{cases_lt, eq-eqb, ne_eqb}
-use Rattle.std.proofs.lemmas.List.{get_or_past, map-append}
 use Rattle.std.proofs.lemmas.List.Elements.{filter-append, filter_map-append}
 use Rattle.snoop_model.proofs.Lists.Writes.{each_set}
 use Rattle.snoop_model.proofs.Lists.Facts.{either_way}
-use Rattle.snoop_model.proofs.Common.{Extent, Protocol, Op, Step, Ask, Order, Respond, CacheState, CacheAction, Cell, asked, Request, Did, Item, Open, after_order, Access, Reply, Refused, Line, Picture, held_at, held_by, nothing_held, with_line, Situation, picture_of, reset, IsProper, Takes, FillsRequestor, Orders, Performs, MoveOn, came_of, kept_waiting, next_did, queues_after}
+use Rattle.snoop_model.proofs.Common.{Access, accesses_in, after_order, answers_of, Ask, asked, asked_access, CacheAction, CacheState, came_of, cases_lt, Cell, Did, did_access, eq-eqb, Extent, FillsRequestor, get_or_past, Goes, held_at, held_by, Invariant, IsProper, Item, kept_waiting, Line, map-append, MoveOn, ne_eqb, next_did, nothing_held, Once, OnceMore, Op, Open, operation_of, operations, Order, Orders, Performs, Picture, picture_of, Protocol, queues_after, Refused, Reply, Request, reset, Respond, RunBy, Situation, Step, taken, Takes, waiting_at, with_line}
 use Rattle.snoop_trace.specs.declared.step.Op.TheVariants as op
 use Rattle.snoop_rules.specs.declared.names.CacheAction.TheVariants as action
 use Rattle.snoop_history.specs.declared.items.Item.TheVariants as item
-use Rattle.snoop_history.specs.History.{answers_of, operations, operation_of}
 use Rattle.snoop_history.proofs.Pushed.{of_core}
-use Rattle.snoop_model.specs.Runs.Run.{RunBy, Goes}
-use Rattle.snoop_model.specs.Runs.Once.{asked_access, did_access, accesses_in, waiting_at, taken, OnceMore, Once}
-use Rattle.snoop_model.specs.Invariant.Invariant.{Invariant}
 use Rattle.snoop_model.proofs.Tables.Rows.{issue-missed, drop_evicts}
 use Rattle.snoop_model.proofs.OneBlock.Operation.{did_in}
 use Rattle.snoop_model.proofs.OneBlock.OfBlocks.{changed, each_picture, in_pictures}

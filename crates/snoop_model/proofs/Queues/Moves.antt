@@ -1,13 +1,9 @@
 -- A machine is well kept at reset, and stays so where one block and the queues change as they should: at each kind of move.
 use Rattle.std.proofs.Common.{◌≡◌, ◌≢◌, ℕ, ◌<◌, ◌++◌, List, [], length, Option, Some, None, refl, ap, sym, ◌∙◌, arith, inl, inr}
 use Rattle.std.specs.Prelude.{◌==◌, if◌then◌else◌, option_to_list, is_some, IsSome}
-use Rattle.std.proofs.lemmas.Bool.{cases_lt, eq-eqb, ne_eqb}
-use Rattle.std.proofs.lemmas.Option.{none-some, same_Some}
 use Rattle.std.proofs.lemmas.List.{length-set, get_or_past, get_or-set_same}
-use Rattle.snoop_model.proofs.Common.{Protocol, Op, Step, Ask, Order, Respond, CacheState, CacheAction, Request, Cell, asked, waiting_request, Did, Item, Open, after_issue, after_order, queue_of, Access, Reply, Line, Picture, held_at, held_by, nothing_held, with_line, Situation, picture_of, state_of, reset, missed_request, awaited_request, ArrivesFor, FillsRequestor, Responds, Takes, TakesRows, IsWithin, MoveOn, queues_after}
+use Rattle.snoop_model.proofs.Common.{Access, after_issue, after_order, ArrivesFor, Ask, asked, awaited_request, CacheAction, CacheState, cases_lt, Cell, Did, eq-eqb, FillsRequestor, held_at, held_by, IsWellKept, IsWithin, Item, KeepsWell, Line, missed_request, MoveOn, ne_eqb, none-some, nothing_held, Op, Open, Order, Picture, picture_of, Protocol, queue_of, queues_after, Reply, Request, reset, Respond, Responds, same_Some, Situation, StartsWell, state_of, Step, Takes, TakesRows, waiting_request, with_line}
 use Rattle.snoop_rules.specs.declared.names.CacheAction.TheVariants as action
-use Rattle.snoop_model.specs.Invariant.WellKept.{IsWellKept}
-use Rattle.snoop_model.specs.Turns.TurnLaws.{StartsWell, KeepsWell}
 use Rattle.snoop_model.proofs.Lists.Facts.{one_if, replicated}
 use Rattle.snoop_model.proofs.Lists.Writes.{each_set}
 use Rattle.snoop_model.proofs.Lists.QueueCounts.{times, issued_own, issued_others, issued_elsewhere, ordered_own, ordered_others, ordered_elsewhere}

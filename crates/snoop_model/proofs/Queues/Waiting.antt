@@ -1,11 +1,7 @@
 -- A core waits on the blocks in its queue, and on no others.
 use Rattle.std.proofs.Common.{◌≡◌, ℕ, List, [], ◌∷◌, Some, None, arith, inl, inr}
-use Rattle.std.specs.Prelude.{Contains, is_some, slice_get}
-use Rattle.std.proofs.lemmas.Bool.{cases_Bool}
-use Rattle.std.proofs.lemmas.Option.{same_Some}
-use Rattle.snoop_model.proofs.Common.{Request, waiting_request, queue_of, Situation, state_of, Waits, StandsFirst}
+use Rattle.snoop_model.proofs.Common.{cases_Bool, Contains, is_some, queue_of, Request, same_Some, Situation, slice_get, StandsFirst, state_of, waiting_request, Waits, WaitsOnNone}
 use Rattle.snoop_model.specs.Pictures.InQueue.{IsInQueue}
-use Rattle.snoop_model.specs.Moves.Refuses.{WaitsOnNone}
 use Rattle.snoop_model.proofs.Tables.Every.{some_of}
 use Rattle.snoop_model.proofs.Lists.QueueCounts.{times, counted_in, in_counted}
 

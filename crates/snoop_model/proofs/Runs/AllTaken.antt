@@ -1,11 +1,7 @@
 -- Runs whose steps were all taken.
 use Rattle.std.proofs.Common.{◌≡◌, List, [], ◌∷◌, ◌++◌, map, refl, ap}
-use Rattle.std.specs.Prelude.{Result, Ok, Err}
-use Rattle.snoop_model.proofs.Common.{Step, Reply, Refused, Situation, reset}
+use Rattle.snoop_model.proofs.Common.{Err, FirstRunFrom, Goes, GoesFirst, map-append, Ok, Refused, Reply, reset, Result, RunBy, Situation, Step, taken, TakenGoesOn}
 use Rattle.snoop_model.specs.declared.replies.Refused.TheVariants.{NoMemory}
-use Rattle.std.proofs.lemmas.List.{map-append}
-use Rattle.snoop_model.specs.Runs.Once.{taken}
-use Rattle.snoop_model.specs.Runs.Run.{Goes, GoesFirst, FirstRunFrom, RunBy, TakenGoesOn}
 use Rattle.snoop_model.specs.Runs.TakenOnce.{TakenOnce}
 use Rattle.snoop_model.proofs.Once.Runs.{run_asked_once}
 use Rattle.snoop_model.proofs.Runs.Along.{run_more, seen_along}

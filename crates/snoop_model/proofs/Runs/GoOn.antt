@@ -1,12 +1,6 @@
 -- From every situation of a run each step leads on, in one way: it is a move, or refused for a cause.
 use Rattle.std.proofs.Common.{◌≡◌, None, List, [], ◌∷◌, refl, ap, sym, ◌∙◌, rules}
-use Rattle.std.specs.Prelude.{Result, Ok, Err}
-use Rattle.snoop_model.proofs.Common.{Extent, Protocol, Step, Reply, Refused, Situation, reset, FirstMove}
-use Rattle.snoop_model.specs.Runs.Run.{GoesFirst, FirstRunFrom}
-use Rattle.snoop_model.specs.Moves.Refuses.{Refuses}
-use Rattle.snoop_model.specs.Invariant.WellKept.{IsWellKept}
-use Rattle.snoop_model.specs.Turns.TurnLaws.{KeepsWell}
-use Rattle.snoop_model.specs.Invariant.Invariant.{Invariant}
+use Rattle.snoop_model.proofs.Common.{Err, Extent, FirstMove, FirstRunFrom, GoesFirst, Invariant, IsWellKept, KeepsWell, Ok, Protocol, Refused, Refuses, Reply, reset, Result, Situation, Step}
 use Rattle.snoop_model.proofs.Invariant.Runs.{reset_invariant}
 use Rattle.snoop_model.proofs.Invariant.Moves.{move_keeps}
 use Rattle.snoop_model.proofs.Queues.Moves.{keeps_well, starts_well}

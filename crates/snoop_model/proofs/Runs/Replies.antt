@@ -1,15 +1,12 @@
 -- What the outcome of a step tells of the history.
 use Rattle.std.proofs.Common.{◌≡◌, ℕ, ◌++◌, List, [], ◌∷◌, Option, refl, ap, sym, subst, inl, inr}
 use Rattle.std.proofs.lemmas.List.{append-nil}
-use Rattle.std.specs.Prelude.{option_to_list, Result, Ok, Err}
-use Rattle.snoop_model.proofs.Common.{Protocol, Op, Step, Ask, Order, Respond, CacheState, CacheAction, Cell, asked, Item, Reply, Refused, Line, held_by, Situation, picture_of, FirstMove, Takes}
+use Rattle.snoop_model.proofs.Common.{Ask, asked, CacheAction, CacheState, Cell, Err, FirstMove, Goes, held_by, Invariant, Item, Line, Ok, Op, option_to_list, Order, picture_of, Protocol, Refused, Reply, Respond, Result, RunBy, Situation, Step, Takes}
 use Rattle.snoop_trace.specs.declared.step.Op.TheVariants as op
 use Rattle.snoop_rules.specs.declared.names.CacheAction.TheVariants as action
 use Rattle.snoop_model.specs.Moves.Replies.{Tells}
-use Rattle.snoop_model.specs.Runs.Run.{Goes, RunBy}
 use Rattle.snoop_model.proofs.Lines.Answered.{by_request}
 use Rattle.snoop_model.proofs.Tables.Rows.{issue_serves, drop_evicts}
-use Rattle.snoop_model.specs.Invariant.Invariant.{Invariant}
 use Rattle.snoop_model.proofs.Invariant.Runs.{refusal_same, goes_keeps}
 
 -- what an Ask's row adds is what its reply tells

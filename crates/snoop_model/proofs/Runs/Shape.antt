@@ -1,8 +1,6 @@
 -- Steps leave the protocol and the shape.
 use Rattle.std.proofs.Common.{◌≡◌, ℕ, List, refl, ◌∙◌, inl, inr}
-use Rattle.std.specs.Prelude.{Result, Ok, Err}
-use Rattle.snoop_model.proofs.Common.{Step, Ask, Order, Respond, Reply, Refused, Situation, MoveOn, FirstMove}
-use Rattle.snoop_model.specs.Runs.Run.{Goes, RunBy}
+use Rattle.snoop_model.proofs.Common.{Ask, Err, FirstMove, Goes, MoveOn, Ok, Order, Refused, Reply, Respond, Result, RunBy, Situation, Step}
 use Rattle.snoop_model.proofs.Invariant.Runs.{refusal_same}
 use Rattle.snoop_model.proofs.Runs.Along.{kept_along}
 

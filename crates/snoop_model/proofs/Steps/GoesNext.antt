@@ -6,29 +6,21 @@ use Rattle.std.proofs.Math.Dec.{ltb}
 use Rattle.std.proofs.lemmas.Bool.{and_from, and_left, and_right, cases_eq, false_from_ne_true, le-ltb, lt-ltb, and_cases, and_parts, both_ways, cases_Bool, cases_lt, ltb-false, ltb-true}
 use Rattle.std.proofs.lemmas.Bool.Decides.{Decides-and, Decides-ltb}
 use Rattle.std.proofs.lemmas.List.FromFn.{fill_by_all, get_or-map-range_with_len, length-map-range_with_len}
-use Rattle.snoop_model.proofs.Common.{Extent, Protocol, Op, Step, Ask, Order, Respond, CacheState, CacheAction, MemState, MemEvent, MemAction, Request, Payload, arrival_at_memory, takes_payload, Did, Item, Open, queue_of, Reply, Refused, Line, Picture, held_at, held_by, nothing_held, Situation, picture_of, Takes, FillsRequestor, ArrivesFor, Orders, Responds, FirstMove, Performs, written, CacheEvent, CacheCell, MemCell, Cell, asked, seen_by, arrival, Access, state_of, CanOrder, StandsFirst, request_for, missed_request, IsProper, Hits, is_load, IsWithin}
-use Rattle.snoop_trace.specs.Words.{HasWord, word_places, zero_words}
+use Rattle.snoop_model.proofs.Common.{Access, arrival, arrival_at_memory, ArrivesFor, Ask, asked, CacheAction, CacheCell, CacheEvent, CacheState, CanOrder, Cell, Did, Extent, FillsRequestor, FirstMove, flat_words, GoesFirst, HasWord, held_at, held_by, Hits, Invariant, is_load, is_put_m, IsOnlySender, IsProper, IsWithin, Item, Line, MemAction, MemCell, MemEvent, MemState, missed_request, nothing_held, Op, Open, option_map_or, Order, Orders, Payload, Performs, Picture, picture_of, Protocol, queue_of, Refused, Refuses, Reply, Request, request_for, Respond, Responds, seen_by, Situation, StandsFirst, state_of, Step, Takes, takes_payload, WaitsOnNone, word_places, written, zero_words}
 use Rattle.snoop_trace.specs.declared.step.Op.TheVariants as op
 use Rattle.snoop_rules.specs.declared.names.CacheAction.TheVariants as action
 use Rattle.snoop_rules.specs.declared.names.Request.TheVariants as request
 use Rattle.snoop_model.specs.declared.replies.Refused.TheVariants.{NoCore, NoBlock, Stalled, NothingWaiting, BusTaken, NoTransaction}
-use Rattle.snoop_model.specs.Pictures.Sends.{IsOnlySender}
-use Rattle.snoop_model.specs.Moves.Refuses.{Refuses, WaitsOnNone}
-use Rattle.snoop_model.specs.Runs.Run.{GoesFirst}
 use Rattle.snoop_model.proofs.Lines.TheSender.{IsBelow, sends_below}
 use Rattle.snoop_model.proofs.Tables.SentBy.{payload_from, sends_is, sends_row}
 use Rattle.snoop_model.proofs.Tables.RespondTests.{SettlesIf, memory_row_for, row_for}
 use Rattle.snoop_model.proofs.OneBlock.OfBlocks.{same_picture, same_memory}
 use Rattle.snoop_model.proofs.Steps.Next.{Next, value_of, words_after, has_word, after_ask, by_row, next_asked, sender_below, line_after, next_picture, next_ordered, settled, filled, brought, next_closed, next_of, next_first}
 use Rattle.snoop_model.proofs.Queues.Waiting.{AreQueued, first_waits, none_waits}
-use Rattle.std.specs.Option.{option_map_or}
 use Rattle.snoop_rules.specs.declared.names.CacheEvent.TheVariants as event
 use Rattle.snoop_rules.specs.declared.names.Payload.TheVariants as payload
 use Rattle.snoop_rules.proofs.Every.{all_protocols, all_states, all_events}
 use Rattle.snoop_rules.proofs.Rows.{each_row, each_row-at}
-use Rattle.snoop_history.specs.History.{flat_words}
-use Rattle.snoop_history.specs.Totals.{is_put_m}
-use Rattle.snoop_model.specs.Invariant.Invariant.{Invariant}
 use Rattle.snoop_model.proofs.Tables.Rows.{is_evict, asked_answers, hit_keeps}
 use Rattle.snoop_model.proofs.Tables.AskTests.{is_idle_evict}
 use Rattle.snoop_model.proofs.Invariant.Coherence.{orders_follow_sender_table, finds_rows, idle_evict, waits_within}

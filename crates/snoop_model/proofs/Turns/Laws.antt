@@ -4,16 +4,11 @@ use Rattle.std.specs.Prelude.{◌==◌, All, Contains, slice_index_or, slice_set
 use Rattle.std.proofs.lemmas.Bool.{cases_eq, eq-eqb, ne_eqb}
 use Rattle.std.proofs.lemmas.Option.{cond_some, none-some, same_Some}
 use Rattle.std.proofs.lemmas.List.Elements.{All-contains, All-weaker, Contains-get_or}
-use Rattle.snoop_model.proofs.Common.{Op, Step, Ask, Order, Respond, CacheAction, CacheState, Request, Item, asked, waiting_request, Open, queue_of, Access, Reply, Refused, Line, held_by, Picture, with_line, Situation, picture_of, state_of, Waits, nothing_there, FirstMove, Takes, queues_after}
+use Rattle.snoop_model.proofs.Common.{Access, Ask, asked, CacheAction, CacheState, ClosedIsLast, ComesToRest, Ends, EndsAtOnce, FirstMove, has_transaction, held_by, IsServing, IsWellKept, Item, Line, NeverRefused, nothing_there, Op, Open, Order, Pays, Picture, picture_of, queue_of, queues_after, Refused, Refuses, Reply, Request, Respond, ServesOn, Situation, state_of, Step, Takes, TurnLaws, waiting_request, Waits, with_line}
 use Rattle.snoop_rules.specs.declared.names.CacheAction.TheVariants as action
 use Rattle.snoop_model.specs.declared.replies.Reply.TheVariants.{Issued}
 use Rattle.snoop_model.specs.declared.replies.Refused.TheVariants.{NoCore, NoBlock, Stalled, NothingWaiting, BusTaken, NoTransaction}
-use Rattle.snoop_model.specs.Moves.Refuses.{Refuses}
 use Rattle.snoop_model.specs.Turns.Turn.{step_under_way, turn_of}
-use Rattle.snoop_model.specs.Turns.Serving.{IsServing, has_transaction}
-use Rattle.snoop_model.specs.Turns.TurnLaws.{NeverRefused, ServesOn, Ends, ComesToRest, Pays, TurnLaws}
-use Rattle.snoop_model.specs.Invariant.WellKept.{IsWellKept}
-use Rattle.snoop_model.specs.Runs.Owed.{ClosedIsLast, EndsAtOnce}
 use Rattle.snoop_model.proofs.Lists.Facts.{one_if}
 use Rattle.snoop_model.proofs.Lists.Writes.{set_cases, all_first, all_issued, all_ordered, sum_issued, sum_ordered, one_small, count_set}
 use Rattle.snoop_model.proofs.OneBlock.OfBlocks.{same_everywhere}

@@ -1,14 +1,11 @@
 -- A core that waits has its work under way.
 use Rattle.std.proofs.Common.{◌≡◌, ℕ, Bool, true, not, ◌||◌, Option, Some, None, refl, inl, inr, ◌⊎◌}
-use Rattle.std.specs.Prelude.{is_some}
 use Rattle.std.proofs.lemmas.List.Elements.{All-contains}
-use Rattle.snoop_model.proofs.Common.{Protocol, CacheState, CacheEvent, CacheCell, Request, Cell, waiting_request, queue_of, Situation, state_of, awaited_request}
+use Rattle.snoop_model.proofs.Common.{awaited_request, CacheCell, CacheEvent, CacheState, Cell, is_some, IsServing, IsWellKept, Protocol, queue_of, Request, Situation, state_of, waiting_request}
 use Rattle.snoop_rules.specs.declared.names.CacheState.TheVariants.{I}
 use Rattle.snoop_rules.specs.declared.names.CacheAction.TheVariants as action
 use Rattle.snoop_rules.proofs.Every.{all_protocols, all_states, all_events}
 use Rattle.snoop_rules.proofs.Rows.{each_row, each_row-at}
-use Rattle.snoop_model.specs.Turns.Serving.{IsServing}
-use Rattle.snoop_model.specs.Invariant.WellKept.{IsWellKept}
 use Rattle.snoop_model.proofs.Tables.AskTests.{is_stall}
 use Rattle.snoop_model.proofs.Tables.WaitingRows.{has_missed}
 use Rattle.snoop_model.proofs.Queues.Waiting.{waits_queued}
