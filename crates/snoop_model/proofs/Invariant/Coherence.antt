@@ -4,7 +4,7 @@ use Rattle.std.specs.Prelude.{◌<◌, ◌↔◌, IfSome, IsSome, IsSomeAnd, ◌
 use Rattle.std.specs.Option.{ForSome}
 use Rattle.std.proofs.lemmas.Bool.{and_parts, both_ways, cases_Bool, cases_lt, eq-eqb, false_from_ne_true}
 use Rattle.snoop_model.proofs.Lists.Facts.{if_some}
-use Rattle.snoop_model.proofs.Common.{arrival, arrival_at_memory, Ask, asked, awaited_request, BlockInvariant, CacheEvent, CacheState, CanOrder, carries_value, data_under_way, flat_words, get_or_past, HasOpen, held_by, Invariant, is_put_m, IsWellKept, IsWithin, keeps, Line, MemEvent, none-some, nothing_held, nothing_there, Op, Open, Order, OrdersFollowSenderTable, own_open, owns, Picture, picture_of, Protocol, Request, Respond, seen_by, Situation, state_of, Step, talk_of, waiting_request, Waits}
+use Rattle.snoop_model.proofs.Common.{is_some, arrival, arrival_at_memory, Ask, asked, awaited_request, BlockInvariant, CacheEvent, CacheState, CanOrder, carries_value, data_under_way, flat_words, get_or_past, HasOpen, held_by, Invariant, is_put_m, IsWellKept, IsWithin, keeps, Line, MemEvent, none-some, nothing_held, nothing_there, Op, Open, Order, OrdersFollowSenderTable, own_open, owns, Picture, picture_of, Protocol, Request, Respond, seen_by, Situation, state_of, Step, talk_of, waiting_request, Waits}
 use Rattle.snoop_trace.specs.declared.step.Op.TheVariants as op
 use Rattle.snoop_trace.specs.declared.protocol.Protocol.TheVariants.{Mesi}
 use Rattle.snoop_rules.specs.declared.names.CacheState.TheVariants as state
@@ -16,6 +16,7 @@ use Rattle.snoop_rules.specs.Takers.{other as another}
 use Rattle.snoop_model.specs.Moves.LookUps.{HasRow, HasMemRow, ConsultsCache, ConsultsMemory, FindsRows}
 use Rattle.snoop_model.specs.Pictures.OneWriter.{OneWriter}
 use Rattle.snoop_model.specs.Invariant.Fits.{in_protocol, is_clean, is_owner, wait_fits, fits}
+use Rattle.snoop_model.proofs.Tables.Every.{some_of}
 use Rattle.snoop_model.proofs.Tables.AskTests
 use Rattle.snoop_model.proofs.Tables.AskTests.{ask_rule, is_idle_evict}
 use Rattle.snoop_model.proofs.Tables.Rows.{hit_keeps}
@@ -49,14 +50,13 @@ keeper_loads Mesi state.EiA known kept = (_, refl)
 keeper_loads _ _ known kept = cc
 
 -- where no core may write the block, none owns it
-nobody_owns : (p : Protocol) (n : ℕ) (value : List ℕ) (picture : Picture) (g : BlockInvariant p n value picture) → ((core : ℕ) → ¬ MayStore p (held_by picture core).state) → (owner : Option ℕ) → g.owner ≡ owner → g.claims.owned ≡ false
+nobody_owns : {p : Protocol} {n : ℕ} {value : List ℕ} {picture : Picture} (g : BlockInvariant p n value picture) → ((core : ℕ) → ¬ MayStore p (held_by picture core).state) → g.claims.owned ≡ false
 unfolding fits
-nobody_owns p n value picture g idle None is = sym g.is_owned ∙ rw is refl
-nobody_owns p n value picture g idle (Some o) is =
-    let s = (held_by picture o).state in
+nobody_owns {p} {n} {value} {picture} g idle = sym g.is_owned ∙ false_from_ne_true (is_some g.owner) (λ e.
+    let (o, is) = some_of g.owner e in
     let fit = g.states o (g.owner_in o is) in
-    let owning : owns g.owner o ≡ true = rw is (eq-eqb o o refl) in
-    absurd (idle o (owner_stores p s (and_parts _ _ fit).0 (fits_is_owner p g.claims.shared (owns g.owner o) (own_open picture.transaction o) s fit ∙ owning)))
+    let owning : (x : ℕ) → g.owner ≡ Some x → owns g.owner x ≡ true = λ x its. rw (its, eq-eqb x x refl) refl in
+    idle o (owner_stores p _ (and_parts _ _ fit).0 (fits_is_owner p g.claims.shared (owns g.owner o) (own_open picture.transaction o) _ fit ∙ owning o is)))
 
 no_data : (found : Option Open) → data_under_way found ≡ None → brings_data (talk_of found) ≡ false
 no_data None none = refl
@@ -157,7 +157,7 @@ module _ (s : Situation) (g : Invariant s) where
       let picture : Picture = picture_of s block in
       let it = g.blocks block within in
       it.fresh (resting_rule s.protocol picture.memory.state (talk_of picture.transaction) it.claims it.is_claims
-      (nobody_owns s.protocol s.shape.cores (flat_words s.log block) picture it idle it.owner refl) (no_data picture.transaction none))
+      (nobody_owns it idle) (no_data picture.transaction none))
 
   -- an open transaction is of a block within the shape
   opened_within : (block : ℕ) (o : Open) → (picture_of s block).transaction ≡ Some o → block < s.shape.blocks

@@ -10,6 +10,7 @@ use Rattle.snoop_model.proofs.Common.{Access, after_order, ArrivesFor, Ask, Bloc
 use Rattle.snoop_trace.specs.declared.step.Op.TheVariants as op
 use Rattle.snoop_rules.specs.declared.names.CacheAction.TheVariants as action
 use Rattle.snoop_history.specs.declared.items.Item.TheVariants as item
+use Rattle.snoop_history.proofs.Pushed.{operations-push}
 use Rattle.snoop_history.proofs.Legal.{flat-grows, legal-grows}
 use Rattle.snoop_model.proofs.Lists.Writes.{each_set}
 use Rattle.snoop_model.proofs.OneBlock.Facts.{each_held}
@@ -85,14 +86,11 @@ IsLogged s did = IsWithin s did.core did.block × IsWord s.shape did.word
 -- so are those of a log, with those of the move's item
 all_logged : (P : Did → Type 0) (log : List Item) (entry : Option Item) → All P (operations log) → IfSome (did_in entry) P → All P (operations (log ++ option_to_list entry))
 all_logged P log None was now = rw append-nil was
-all_logged P log (Some entry) was now =
-    subst (All P) (sym (filter_map-append operation_of log (entry ∷ []))) (All-append P (operations log) (operations (entry ∷ [])) was (one_logged entry now))
+all_logged P log (Some entry) was now = rw operations-push (All-append P (operations log) (option_to_list (operation_of entry)) was (one (operation_of entry) now))
   where
-    one_logged : (e : Item) → IfSome (operation_of e) P → All P (operations (e ∷ []))
-    one_logged (item.Did did) here = All-cons P did [] here (All-nil P)
-    one_logged (item.Sent sent) here = All-nil P
-    one_logged (item.Came came (Some did)) here = All-cons P did [] here (All-nil P)
-    one_logged (item.Came came None) here = All-nil P
+    one : (did : Option Did) → IfSome did P → All P (option_to_list did)
+    one None here = All-nil P
+    one (Some did) here = All-cons P did [] here (All-nil P)
 
 -- the item of a move on a block may come next; its operation, if any, is on the block, of a core and a word that there are
 record IsNextOn (old : Situation) (block : ℕ) (entry : Option Item) : Type 0 where

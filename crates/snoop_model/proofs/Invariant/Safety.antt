@@ -14,7 +14,7 @@ use Rattle.snoop_model.specs.Invariant.MachineKeeps.{AreOnSenderLines, MachineKe
 use Rattle.snoop_model.proofs.Lists.Facts.{if_some}
 use Rattle.snoop_model.proofs.Tables.Rows.{IsProper-drop}
 use Rattle.snoop_model.proofs.Tables.SentBy.{sends_is}
-use Rattle.snoop_model.proofs.OneBlock.AfterMoves.{respond_here}
+use Rattle.snoop_model.proofs.OneBlock.AfterMoves.{ask_line, respond_here}
 use Rattle.snoop_model.proofs.OneBlock.OfBlocks.{in_pictures, each_picture, picture_here}
 use Rattle.snoop_model.proofs.Invariant.Coherence.{has_one_writer, kept_read, readers_current, data_current, memory_current, names_its_block, data_awaited, each_line, held_within, finds_rows, orders_follow_sender_table}
 use Rattle.snoop_model.proofs.Invariant.Moves.{word_flat, move_keeps}
@@ -74,9 +74,7 @@ module _ (s : Situation) (g : Invariant s) where
   pub gone_leaves : (core block word : ℕ) (new : Situation) → MoveOn block s (Ask core block word op.Evict) Gone new → held_by (picture_of new block) core ≡ nothing_held
   gone_leaves core block word new m = elim m.moves [
     | inl absent ↦ (let clash = absent.2 in cc)
-    | inr a ↦ rw (a.after, picture_here s block (with_line (picture_of s block) core a.held) (queues_after a.row.action s.queues core block) (s.log ++ option_to_list a.entry) (in_pictures s block g.shaped m.within.1))
-        (get_or-set_same (picture_of s block).caches core a.held nothing_held (rw (g.shaped.row block m.within.1) m.within.0)
-        ∙ left a.row.action a.row.next a.is_row a.held a.entry a.taken)
+    | inr a ↦ ask_line s core block word op.Evict Gone new g m.within a ∙ left a.row.action a.row.next a.is_row a.held a.entry a.taken
   ]
     where
       left : (act : CacheAction) (next : CacheState) → Cell s.protocol (state_of s core block) (asked op.Evict) act next → (held : Line) (entry : Option Item)

@@ -20,9 +20,6 @@ goes_on_any old step (Ok answer) new goes = (goes.0, goes.1.1)
 goes_on_any old step (Err NoMemory) new goes = goes.1
 goes_on_any old step (Err cause) new goes = goes
 
-as_run : (steps : List Step) (outcomes : List (Result Reply Refused)) (old new : Situation) → FirstRunFrom old steps outcomes new → RunBy Goes old steps outcomes new
-as_run = seen_along GoesFirst Goes (λ s. s) goes_on_any
-
 -- none of them was refused
 none_refused : (old new : Situation) (steps : List Step) (replies : List Reply) → FirstRunFrom old steps (all_ok replies) new → taken steps (all_ok replies) ≡ steps
 none_refused old new [] [] run = refl
@@ -32,4 +29,4 @@ none_refused old new _ _ run = absurd run
 pub taken_once : TakenOnce
 taken_once protocol shape steps s all core block =
     rw (none_refused (reset protocol shape) s steps all.0 all.1) at
-    (run_asked_once protocol shape steps (all_ok all.0) s (as_run steps (all_ok all.0) (reset protocol shape) s all.1) core block)
+    (run_asked_once protocol shape steps (all_ok all.0) s (seen_along GoesFirst Goes (λ s. s) goes_on_any steps (all_ok all.0) (reset protocol shape) s all.1) core block)

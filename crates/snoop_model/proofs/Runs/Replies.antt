@@ -16,9 +16,7 @@ module _ (p : Protocol) (next : CacheState) (log : List Item) (core block word :
   taken_tells op.Load action.Hit row t = rw (t.1.1, t.1.2) refl
   taken_tells (op.Store v) action.Hit row t = rw (t.1.1, t.1.2, t.1.0.performed.0) refl
   taken_tells op.Evict action.Hit row t = absurd t.1.0.performed
-  taken_tells op.Load (action.Issue q) row t = rw (t.1, t.2) (issue_serves p old.state op.Load q next row, append-nil log)
-  taken_tells (op.Store v) (action.Issue q) row t = rw (t.1, t.2) (issue_serves p old.state (op.Store v) q next row, append-nil log)
-  taken_tells op.Evict (action.Issue q) row t = rw (t.1, t.2) (issue_serves p old.state op.Evict q next row, append-nil log)
+  taken_tells asking (action.Issue q) row t = rw (t.1, t.2) (issue_serves p old.state asking q next row, append-nil log)
   taken_tells op.Evict action.Drop row t = rw (t.1, t.2) (append-nil log)
   taken_tells asking action.Drop row t = let evicts = drop_evicts p old.state asking next row in cc
   taken_tells asking _ row t = absurd t

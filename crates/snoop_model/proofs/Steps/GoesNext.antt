@@ -200,23 +200,6 @@ abbrev pub GoesNext : Situation → Step → Type 0
 GoesNext s step = GoesFirst s step (next_of s step).0 (next_of s step).1
 
 module _ (s : Situation) (g : Invariant s) where
-  ask_goes : (core block word : ℕ) (asking : Op) → GoesNext s (Ask core block word asking)
-  ask_goes core block word asking = elim (cases_lt core s.shape.cores) [
-    | inr past ↦ rw (le-ltb core s.shape.cores past) (past, refl)
-    | inl in_cores ↦ elim (cases_Bool (ltb block s.shape.blocks && has_word s.shape word asking)) [
-      | inl there ↦
-          let parts = and_parts _ _ there in
-          rw (lt-ltb core s.shape.cores in_cores, there) (goes_within s core block word asking (in_cores, ltb-true block s.shape.blocks parts.0)
-          ((word_decides s.shape word asking).0 parts.1) g)
-      | inr none ↦
-          let nowhere : (s.shape.blocks ≤ block) ⊎ (¬ HasWord s.shape word asking) = elim (and_cases _ _ none) [
-            | inl past ↦ inl (ltb-false block s.shape.blocks past)
-            | inr wordless ↦ inr (λ has. both_ways _ wordless ((word_decides s.shape word asking).1 has))
-          ] in
-          rw (lt-ltb core s.shape.cores in_cores, none) ((in_cores, nowhere), refl)
-    ]
-  ]
-
   -- an Order of a request that can be ordered: each controller has its row
   pub order_made : (core block : ℕ) (q : Request) → CanOrder s core block q → Orders s core block q (next_ordered s core block q).1
   order_made core block q ready =
@@ -245,25 +228,6 @@ module _ (s : Situation) (g : Invariant s) where
         opened = rw (from, sends_is p before core q line.from line.payload line.sent.sends) refl;
         after = refl;
       }
-
-  order_goes : AreQueued s → (core : ℕ) → GoesNext s (Order core)
-  order_goes queued core = elim (cases_lt core s.shape.cores) [
-    | inr past ↦ rw (le-ltb core s.shape.cores past) (past, refl)
-    | inl in_cores ↦ rw (lt-ltb core s.shape.cores in_cores) (first in_cores (slice_get (queue_of s.queues core) 0) refl)
-  ]
-    where
-      free_or_not : (block : ℕ) → StandsFirst s core block → core < s.shape.cores → (found : Option Open) → (picture_of s block).transaction ≡ found
-          → (let n = next_first s core (Some block) in GoesFirst s (Order core) n.0 n.1)
-      free_or_not block is in_cores (Some o) busy = rw busy ((in_cores, is, rw busy refl), refl)
-      free_or_not block is in_cores None free =
-          let waits = first_waits s queued core block is in
-          let within = waits_within s g core block waits.0 waits.1 in
-          rw (free, waits.1) (block, (is, record { request = waits.0; within = within; answered = refl; orders = order_made core block waits.0 (waits.1, free) }))
-
-      first : core < s.shape.cores → (found : Option ℕ) → slice_get (queue_of s.queues core) 0 ≡ found
-          → (let n = next_first s core found in GoesFirst s (Order core) n.0 n.1)
-      first in_cores None none = ((in_cores, none_waits s queued core none), refl)
-      first in_cores (Some block) is = free_or_not block is in_cores (picture_of s block).transaction refl
 
 -- the event is the arrival of data at its requestor
 abbrev is_data : CacheEvent → Bool
@@ -341,34 +305,61 @@ remembers false p found m row = (refl, refl)
 remembers true p None m row = let none = (row refl).1 in cc
 remembers true p (Some e) m row = rw (row refl).1 refl
 
+-- each step goes as it is computed
 module _ (s : Situation) (g : Invariant s) where
-  closes : (block : ℕ) → block < s.shape.blocks → (found : Option Open) → (picture_of s block).transaction ≡ found
-      → (let n = option_map_or (next_closed s block) found (Err NoTransaction, s) in GoesFirst s (Respond block) n.0 n.1)
-  closes block within None none = ((within, none), refl)
-  closes block within (Some o) opened =
-      let before : Picture = picture_of s block in
-      let good = g.blocks block within in
-      let rows = respond_possible s.protocol s.shape.cores (flat_words s.log block) before o good opened in
-      let requestor = brings s.protocol s.log before.caches o o.request rows.requestor (good.proper o.core (good.requestor_in o opened)) in
-      let settles = remembers (takes_payload o.request before.memory.state) s.protocol (arrival_at_memory o.payload) before.memory.state rows.memory in
-      let responds : Responds s block o _ (next_closed s block o).1 = record {
-        opened = opened;
-        next = _;
-        requestor = requestor;
-        memory = record { act = _; settled = settles; value = refl };
-        closed = refl;
-        after = refl;
-      } in
-      (block, (tt, record { closing = o; did = _; on_block = refl; within = within; answered = refl; responds = responds }))
-
-  respond_goes : (block : ℕ) → GoesNext s (Respond block)
-  respond_goes block = elim (cases_lt block s.shape.blocks) [
-    | inr past ↦ rw (le-ltb block s.shape.blocks past) (past, refl)
-    | inl within ↦ rw (lt-ltb block s.shape.blocks within) (closes block within (picture_of s block).transaction refl)
-  ]
-
-  -- each step goes as it is computed
   pub goes_next : AreQueued s → (step : Step) → GoesNext s step
-  goes_next queued (Ask core block word asking) = ask_goes s g core block word asking
-  goes_next queued (Order core) = order_goes s g queued core
-  goes_next queued (Respond block) = respond_goes block
+  goes_next queued (Ask core block word asking) = elim (cases_lt core s.shape.cores) [
+    | inr past ↦ rw (le-ltb core s.shape.cores past) (past, refl)
+    | inl in_cores ↦ elim (cases_Bool (ltb block s.shape.blocks && has_word s.shape word asking)) [
+      | inl there ↦
+          let parts = and_parts _ _ there in
+          rw (lt-ltb core s.shape.cores in_cores, there) (goes_within s core block word asking (in_cores, ltb-true block s.shape.blocks parts.0)
+          ((word_decides s.shape word asking).0 parts.1) g)
+      | inr none ↦
+          let nowhere : (s.shape.blocks ≤ block) ⊎ (¬ HasWord s.shape word asking) = elim (and_cases _ _ none) [
+            | inl past ↦ inl (ltb-false block s.shape.blocks past)
+            | inr wordless ↦ inr (λ has. both_ways _ wordless ((word_decides s.shape word asking).1 has))
+          ] in
+          rw (lt-ltb core s.shape.cores in_cores, none) ((in_cores, nowhere), refl)
+    ]
+  ]
+  goes_next queued (Order core) = elim (cases_lt core s.shape.cores) [
+    | inr past ↦ rw (le-ltb core s.shape.cores past) (past, refl)
+    | inl in_cores ↦ rw (lt-ltb core s.shape.cores in_cores) (first in_cores (slice_get (queue_of s.queues core) 0) refl)
+  ]
+    where
+      free_or_not : (block : ℕ) → StandsFirst s core block → core < s.shape.cores → (found : Option Open) → (picture_of s block).transaction ≡ found
+          → (let n = next_first s core (Some block) in GoesFirst s (Order core) n.0 n.1)
+      free_or_not block is in_cores (Some o) busy = rw busy ((in_cores, is, rw busy refl), refl)
+      free_or_not block is in_cores None free =
+          let waits = first_waits s queued core block is in
+          let within = waits_within s g core block waits.0 waits.1 in
+          rw (free, waits.1) (block, (is, record { request = waits.0; within = within; answered = refl; orders = order_made s g core block waits.0 (waits.1, free) }))
+
+      first : core < s.shape.cores → (found : Option ℕ) → slice_get (queue_of s.queues core) 0 ≡ found
+          → (let n = next_first s core found in GoesFirst s (Order core) n.0 n.1)
+      first in_cores None none = ((in_cores, none_waits s queued core none), refl)
+      first in_cores (Some block) is = free_or_not block is in_cores (picture_of s block).transaction refl
+  goes_next queued (Respond block) = elim (cases_lt block s.shape.blocks) [
+    | inr past ↦ rw (le-ltb block s.shape.blocks past) (past, refl)
+    | inl within ↦ rw (lt-ltb block s.shape.blocks within) (closes within (picture_of s block).transaction refl)
+  ]
+    where
+      closes : block < s.shape.blocks → (found : Option Open) → (picture_of s block).transaction ≡ found
+          → (let n = option_map_or (next_closed s block) found (Err NoTransaction, s) in GoesFirst s (Respond block) n.0 n.1)
+      closes within None none = ((within, none), refl)
+      closes within (Some o) opened =
+          let before : Picture = picture_of s block in
+          let good = g.blocks block within in
+          let rows = respond_possible s.protocol s.shape.cores (flat_words s.log block) before o good opened in
+          let requestor = brings s.protocol s.log before.caches o o.request rows.requestor (good.proper o.core (good.requestor_in o opened)) in
+          let settles = remembers (takes_payload o.request before.memory.state) s.protocol (arrival_at_memory o.payload) before.memory.state rows.memory in
+          let responds : Responds s block o _ (next_closed s block o).1 = record {
+            opened = opened;
+            next = _;
+            requestor = requestor;
+            memory = record { act = _; settled = settles; value = refl };
+            closed = refl;
+            after = refl;
+          } in
+          (block, (tt, record { closing = o; did = _; on_block = refl; within = within; answered = refl; responds = responds }))

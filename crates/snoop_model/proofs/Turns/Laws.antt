@@ -30,13 +30,7 @@ none_left : (w : Option Request) (t : Option Open) (core block : ℕ) → step_u
 none_left (Some q) None core block h = cc
 none_left (Some q) (Some o) core block h = cc
 none_left None None core block h = (refl, λ o e own. cc)
-none_left None (Some o) core block h = (
-  refl,
-  λ p e own.
-      let its : o.core ≡ core = rw (same_Some _ _ e) own in
-      let clash = rw (eq-eqb o.core core its) at h in
-      cc,
-)
+none_left None (Some o) core block h = (refl, λ p e own. (let clash = rw (eq-eqb o.core core (rw (same_Some _ _ e) own)) at h in cc))
 
 never_refused : NeverRefused
 never_refused s under_way core block word asking false step serving kept has_core has_block has_word idle is cause refused = ask_goes cause (rw (← (same_Some _ _ is)) at refused)
@@ -67,46 +61,50 @@ never_refused s under_way core block word asking true step serving kept has_core
     respond_goes o open_here NoTransaction h = none-some o (sym h.1 ∙ open_here)
     respond_goes o open_here _ h = absurd h
 
-module _ {s : Situation} {before after : ℕ → Option ℕ} (serving : IsServing before s) (extends : (core block : ℕ) → before core ≡ Some block → after core ≡ Some block) where
-  still_waits : (k : ℕ) → All (λ block. after k ≡ Some block) (queue_of s.queues k)
-  still_waits k = All-weaker (λ block. before k ≡ Some block) (λ block. after k ≡ Some block) (extends k) (queue_of s.queues k) (serving.waits k)
-
-  still_opened : (block : ℕ) (o : Open) → (picture_of s block).transaction ≡ Some o → after o.core ≡ Some block
-  still_opened block o is = extends o.core block (serving.opened block o is)
-
-  asked_waits : (act : CacheAction) (core block : ℕ) → after core ≡ Some block → (k : ℕ) → All (λ b. after k ≡ Some b) (queue_of (queues_after act s.queues core block) k)
-  asked_waits (action.Issue request) core block its k = all_issued (λ c b. after c ≡ Some b) s.queues core block still_waits its k
-  asked_waits _ core block its k = still_waits k
+module _ {s : Situation} {under_way : ℕ → Option ℕ} (serving : IsServing under_way s) where
+  asked_waits : (act : CacheAction) (core block : ℕ) → under_way core ≡ Some block → (k : ℕ) → All (λ b. under_way k ≡ Some b) (queue_of (queues_after act s.queues core block) k)
+  asked_waits (action.Issue request) core block its = all_issued (λ c b. under_way c ≡ Some b) s.queues core block serving.waits its
+  asked_waits _ core block its = serving.waits
 
   -- an open transaction where one block's picture was written
-  set_opened : (place : ℕ) (next : Picture) → ((o : Open) → next.transaction ≡ Some o → after o.core ≡ Some place)
-      → (block : ℕ) (o : Open) → (slice_index_or (slice_set s.pictures place next) block nothing_there).transaction ≡ Some o → after o.core ≡ Some block
+  set_opened : (place : ℕ) (next : Picture) → ((o : Open) → next.transaction ≡ Some o → under_way o.core ≡ Some place)
+      → (block : ℕ) (o : Open) → (slice_index_or (slice_set s.pictures place next) block nothing_there).transaction ≡ Some o → under_way o.core ≡ Some block
   set_opened place next its block o is = elim (set_cases s.pictures place block next nothing_there) [
     | inl p ↦ rw p.0 (its o (ap (λ (x : Picture). x.transaction) (sym p.1) ∙ is))
-    | inr e ↦ still_opened block o (ap (λ (x : Picture). x.transaction) (sym e) ∙ is)
+    | inr e ↦ serving.opened block o (ap (λ (x : Picture). x.transaction) (sym e) ∙ is)
   ]
+
+-- more works may be under way
+more_served : {s : Situation} {before after : ℕ → Option ℕ} → IsServing before s → ((core block : ℕ) → before core ≡ Some block → after core ≡ Some block) → IsServing after s
+more_served {s} serving extends = record {
+  waits = λ k. All-weaker _ _ (extends k) (queue_of s.queues k) (serving.waits k);
+  opened = λ block o is. extends o.core block (serving.opened block o is);
+}
 
 serves_on : ServesOn
 serves_on s t before after (Ask core on word asking) answer serving move extends its = elim move.1.1.moves [
-  | inl absent ↦ rw absent.3 (record { waits = still_waits serving extends; opened = still_opened serving extends })
-  | inr asks ↦ rw asks.after (record {
-    waits = asked_waits serving extends asks.row.action core move.0 (rw (← move.1.1.on_block) its);
-    opened = set_opened serving extends move.0 (with_line (picture_of s move.0) core asks.held) (still_opened serving extends move.0);
-  })
+  | inl absent ↦ rw absent.3 (more_served serving extends)
+  | inr asks ↦
+      let now = more_served serving extends in
+      rw asks.after (record {
+        waits = asked_waits now asks.row.action core move.0 (rw (← move.1.1.on_block) its);
+        opened = set_opened now move.0 (with_line (picture_of s move.0) core asks.held) (now.opened move.0);
+      })
 ]
 serves_on s t before after (Order core) answer serving move extends its =
+    let now = more_served serving extends in
     let orders = move.1.1.orders in
-    let here : after core ≡ Some move.0 = extends core move.0 (all_first (λ b. before core ≡ Some b) (queue_of s.queues core) move.0 (serving.waits core) move.1.0) in
     rw orders.after (record {
-      waits = all_ordered (λ c b. after c ≡ Some b) s.queues core move.0 (still_waits serving extends);
-      opened = set_opened serving extends move.0 orders.next
-          (λ o is. rw (ap (λ (x : Open). x.core) (same_Some _ _ (sym is ∙ orders.opened))) here);
+      waits = all_ordered (λ c b. after c ≡ Some b) s.queues core move.0 now.waits;
+      opened = set_opened now move.0 orders.next (λ o is. rw (ap (λ (x : Open). x.core) (same_Some _ _ (sym is ∙ orders.opened)))
+          (all_first (λ b. after core ≡ Some b) (queue_of s.queues core) move.0 (now.waits core) move.1.0));
     })
 serves_on s t before after (Respond on) answer serving move extends its =
+    let now = more_served serving extends in
     let responds = move.1.1.responds in
     rw responds.after (record {
-      waits = still_waits serving extends;
-      opened = set_opened serving extends move.0 responds.next (λ o is. absurd (none-some o (sym responds.closed ∙ is)));
+      waits = now.waits;
+      opened = set_opened now move.0 responds.next (λ o is. absurd (none-some o (sym responds.closed ∙ is)));
     })
 
 ends : Ends
@@ -116,8 +114,7 @@ ends s before after core block word asking serving kept works none others =
       waits = λ k. elim (cases_eq k core) [
         | inl e ↦ λ i d lt.
             (let x : ℕ = slice_index_or (queue_of s.queues k) i d in
-            let own : before core ≡ Some x = rw (← e) (serving.waits k i d lt) in
-            let same : x ≡ block = same_Some _ _ (sym own ∙ works) in
+            let same : x ≡ block = cc (serving.waits k i d lt, works, e) in
             let w = queued_waits s kept.queued k x (Contains-get_or (queue_of s.queues k) i d lt) in
             let here : waiting_request (state_of s core block) ≡ Some w.0 = rw (← same, ← e) w.1 in
             absurd (none-some w.0 (sym left.0 ∙ here)))
@@ -125,8 +122,7 @@ ends s before after core block word asking serving kept works none others =
       ];
       opened = λ b o is. elim (cases_eq o.core core) [
         | inl e ↦
-            (let own : before core ≡ Some b = rw (← e) (serving.opened b o is) in
-            let same : b ≡ block = same_Some _ _ (sym own ∙ works) in
+            (let same : b ≡ block = cc (serving.opened b o is, works, e) in
             absurd (left.1 o (rw same at is) e))
         | inr ne ↦ others o.core ne ∙ serving.opened b o is
       ];

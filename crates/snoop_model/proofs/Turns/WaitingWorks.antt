@@ -6,6 +6,8 @@ use Rattle.snoop_rules.specs.declared.names.CacheState.TheVariants.{I}
 use Rattle.snoop_rules.specs.declared.names.CacheAction.TheVariants as action
 use Rattle.snoop_rules.proofs.Every.{all_protocols, all_states, all_events}
 use Rattle.snoop_rules.proofs.Rows.{each_row, each_row-at}
+use Rattle.std.proofs.lemmas.Bool.{or_cases}
+use Rattle.snoop_model.proofs.Tables.Every.{some_of}
 use Rattle.snoop_model.proofs.Tables.AskTests.{is_stall}
 use Rattle.snoop_model.proofs.Tables.WaitingRows.{has_missed}
 use Rattle.snoop_model.proofs.Queues.Waiting.{waits_queued}
@@ -25,14 +27,9 @@ stall_test_holds = refl
 pub stall_busy : (p : Protocol) (s : CacheState) (e : CacheEvent) (n : CacheState) → Cell p s e action.Stall n → is_busy s ≡ true
 stall_busy p s e n h = each_row-at stall_test stall_test_holds p s e action.Stall n h
 
--- one of two is there
-either_some : (a b : Option Request) → (is_some a || is_some b) ≡ true → ((request : Request) × (a ≡ Some request)) ⊎ ((request : Request) × (b ≡ Some request))
-either_some (Some request) b h = inl (request, refl)
-either_some None (Some request) h = inr (request, refl)
-either_some None None h = cc
-
+-- for one of the two
 pub busy_cases : (s : CacheState) → is_busy s ≡ true → ((request : Request) × (waiting_request s ≡ Some request)) ⊎ ((request : Request) × (awaited_request s ≡ Some request))
-busy_cases s busy = either_some (waiting_request s) (awaited_request s) busy
+busy_cases s busy = elim (or_cases _ _ busy) [ inl waits ↦ inl (some_of _ waits) | inr awaits ↦ inr (some_of _ awaits) ]
 
 pub busy_under_way : (s : Situation) (under_way : ℕ → Option ℕ) → IsServing under_way s → IsWellKept s → (core block : ℕ) → is_busy (state_of s core block) ≡ true → under_way core ≡ Some block
 busy_under_way s under_way serving kept core block busy = elim (busy_cases (state_of s core block) busy) [
