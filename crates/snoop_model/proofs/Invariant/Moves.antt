@@ -5,6 +5,7 @@ use Rattle.std.proofs.Math.Bool.{and-false}
 use Rattle.std.proofs.lemmas.List.{append-nil, length-set, get_or-set_same, get_or-set_other}
 use Rattle.std.proofs.lemmas.List.Elements.{All-nil, All-cons, All-append, filter_map-append}
 use Rattle.std.proofs.lemmas.List.FromFn.{length-map-range_with_len, get_or-map-range_with_len, fill_by_all}
+use Rattle.std.proofs.lemmas.Option.{IfSome_then}
 use Rattle.std.proofs.lemmas.Bool.Decides.{eqb_tells}
 use Rattle.snoop_model.proofs.Common.{Access, after_order, ArrivesFor, Ask, BlockInvariant, CacheAction, CacheState, came_of, cases_Bool, Did, eq-eqb, Extent, flat, flat_words, HasWord, held_at, held_by, Invariant, is_store_to, IsNext, IsWithin, IsWord, Item, kept_waiting, Legal, Line, MoveOn, ne_eqb, next_did, none-some, nothing_held, Op, Open, operation_of, operations, option_map_or, Order, Performs, Picture, picture_of, queues_after, Reply, Request, Respond, same_Some, Situation, Step, stores, Takes, with_line, word_at}
 use Rattle.snoop_trace.specs.declared.step.Op.TheVariants as op
@@ -30,23 +31,18 @@ words_are : (log : List Item) (entry : Item) (b : ℕ) (ws : List ℕ) → lengt
     → flat_words (log ++ entry ∷ []) b ≡ ws
 words_are log entry b ws long each = sym (fill_by_all (flat (log ++ entry ∷ []) b) ws 64 0 long (λ k h. each k h ∙ sym (flat-grows log entry b k)))
 
--- the operation is on this block, if there is one
-abbrev IsOn : ℕ → Option Did → Type 0
-IsOn block None = ⊤
-IsOn block (Some did) = did.block ≡ block
-
 -- a move on a block leaves the words of each other
-flat_elsewhere : (log : List Item) (entry : Option Item) (block b : ℕ) → IsOn block (did_in entry) → b ≢ block → flat_words (log ++ option_to_list entry) b ≡ flat_words log b
+flat_elsewhere : (log : List Item) (entry : Option Item) (block b : ℕ) → IfSome (did_in entry) (λ did. did.block ≡ block) → b ≢ block → flat_words (log ++ option_to_list entry) b ≡ flat_words log b
 flat_elsewhere log None block b on apart = rw append-nil refl
 flat_elsewhere log (Some entry) block b on apart = words_are log entry b (flat_words log b) (length-map-range_with_len (flat log b) 0 64)
     (λ k h. word_flat log b k h ∙ left (operation_of entry) on k)
   where
-    left : (did : Option Did) → IsOn block did → (k : ℕ) → flat log b k ≡ option_map_or (λ d. if is_store_to b k d then d.value else flat log b k) did (flat log b k)
+    left : (did : Option Did) → IfSome did (λ d. d.block ≡ block) → (k : ℕ) → flat log b k ≡ option_map_or (λ d. if is_store_to b k d then d.value else flat log b k) did (flat log b k)
     left None on k = refl
     left (Some did) on k = rw (on, ne_eqb block b (λ e. apart (sym e)), and-false (not did.load)) refl
 
 -- and on its own block it does as its operation says
-flat_here : (log : List Item) (entry : Option Item) (block : ℕ) → IsOn block (did_in entry)
+flat_here : (log : List Item) (entry : Option Item) (block : ℕ) → IfSome (did_in entry) (λ did. did.block ≡ block)
     → flat_words (log ++ option_to_list entry) block ≡ flat_after (flat_words log block) (did_in entry)
 flat_here log None block on = rw append-nil refl
 flat_here log (Some entry) block on = let so = after (operation_of entry) on in words_are log entry block _ so.0 so.1
@@ -57,7 +53,7 @@ flat_here log (Some entry) block on = let so = after (operation_of entry) on in 
       | inr t ↦ rw t.0 (get_or-set_other (flat_words log block) did.word k did.value 0 (λ e. t.1 (sym e)) ∙ word_flat log block k h)
     ]
 
-    after : (did : Option Did) → IsOn block did → (length (flat_after (flat_words log block) did) ≡ 64)
+    after : (did : Option Did) → IfSome did (λ d. d.block ≡ block) → (length (flat_after (flat_words log block) did) ≡ 64)
         × ((k : ℕ) → k < 64 → word_at (flat_after (flat_words log block) did) k ≡ option_map_or (λ d. if is_store_to block k d then d.value else flat log block k) did (flat log block k))
     after None on = (length-map-range_with_len (flat log block) 0 64, word_flat log block)
     after (Some did) on = elim (cases_Bool did.load) [
@@ -65,12 +61,8 @@ flat_here log (Some entry) block on = let so = after (operation_of entry) on in 
       | inr e ↦ rw (e, eq-eqb did.block block on) (length-set (flat_words log block) did.word did.value ∙ length-map-range_with_len (flat log block) 0 64, λ k h. stored did k h)
     ]
 
--- the move's item may come next, if there is one
-abbrev FollowsIn : List Item → Option Item → Type 0
-FollowsIn log None = ⊤
-FollowsIn log (Some entry) = IfSome (operation_of entry) (IsNext log)
-
-legal_logged : (log : List Item) (entry : Option Item) → Legal log → FollowsIn log entry → Legal (log ++ option_to_list entry)
+-- a log stays legal where the item's operation, if it has one, may come next
+legal_logged : (log : List Item) (entry : Option Item) → Legal log → IfSome (did_in entry) (IsNext log) → Legal (log ++ option_to_list entry)
 legal_logged log None legal follows = rw append-nil legal
 legal_logged log (Some entry) legal follows = legal-grows log entry legal follows
 
@@ -92,11 +84,9 @@ all_logged P log (Some entry) was now = rw operations-push (All-append P (operat
     one None here = All-nil P
     one (Some did) here = All-cons P did [] here (All-nil P)
 
--- the item of a move on a block may come next; its operation, if any, is on the block, of a core and a word that there are
-record IsNextOn (old : Situation) (block : ℕ) (entry : Option Item) : Type 0 where
-  on : IsOn block (did_in entry)
-  follows : FollowsIn old.log entry
-  logged : IfSome (did_in entry) (IsLogged old)
+-- the item of a move on a block: its operation, if it has one, is on the block, may come next, and is of a core and a word that there are
+abbrev IsNextOn : Situation → ℕ → Option Item → Type 0
+IsNextOn s block entry = IfSome (did_in entry) (λ did. (did.block ≡ block) × IsNext s.log did × IsLogged s did)
 
 -- what is to be shown of a move
 record Keeps (old : Situation) (block : ℕ) (next : Picture) (queues : List (List ℕ)) (entry : Option Item) : Type 0 where
@@ -112,15 +102,16 @@ kept : (old : Situation) (block : ℕ) (next : Picture) (queues : List (List ℕ
 kept old block next queues entry g k =
     let log = old.log ++ option_to_list entry in
     let within = in_pictures old block g.shaped k.within in
+    let on = IfSome_then (did_in entry) k.item (λ did h. h.0) in
     let Good : List ℕ → Picture → Type 0 = BlockInvariant old.protocol old.shape.cores in
     record {
       shaped = shaped_after old block next queues log g.shaped k.as_wide k.as_many_queues;
       opened = each_picture old block next queues log (λ b x. (o : Open) → x.transaction ≡ Some o → o.block ≡ b) within (λ b apart. g.opened b) k.opened;
       blocks = each_picture old block next queues log (λ b x. b < old.shape.blocks → Good (flat_words log b) x) within
-          (λ b apart b_in. rw (flat_elsewhere old.log entry block b k.item.on apart) (g.blocks b b_in))
-          (λ b_in. rw (flat_here old.log entry block k.item.on) k.block_after);
-      legal = legal_logged old.log entry g.legal k.item.follows;
-      logged = all_logged (IsLogged old) old.log entry g.logged k.item.logged;
+          (λ b apart b_in. rw (flat_elsewhere old.log entry block b on apart) (g.blocks b b_in))
+          (λ b_in. rw (flat_here old.log entry block on) k.block_after);
+      legal = legal_logged old.log entry g.legal (IfSome_then (did_in entry) k.item (λ did h. h.1));
+      logged = all_logged (IsLogged old) old.log entry g.logged (IfSome_then (did_in entry) k.item (λ did h. h.2));
       accesses = λ core. each_picture old block next queues log (λ b x. (access : Access) → (held_by x core).waiting ≡ Some access
           → IsWord old.shape access.word) within (λ b apart. g.accesses core b) (k.accesses core);
     }
@@ -153,9 +144,9 @@ module _ (s : Situation) (core block word : ℕ) (asking : Op) (next : CacheStat
   takes_item : (a : CacheAction) → Takes a next s.log core block word asking old new answer entry → IsWithin s core block → IsLawful (flat_words s.log block) (did_in entry) → IsNextOn s block entry
   takes_item action.Hit t within lawful =
       let has = hit_word s.shape word asking t.1.0.before t.0 t.1.0.after there t.1.0.performed in
-      rw t.1.2 (record { on = refl; follows = next_lawful s.log core block word asking t.0 true has.1 (rw t.1.2 at lawful); logged = (within, has) })
-  takes_item (action.Issue r) t within lawful = rw t.2 (record { on = tt; follows = tt; logged = tt })
-  takes_item action.Drop t within lawful = rw t.2 (record { on = tt; follows = tt; logged = tt })
+      rw t.1.2 (refl, next_lawful s.log core block word asking t.0 true has.1 (rw t.1.2 at lawful), (within, has))
+  takes_item (action.Issue r) t within lawful = rw t.2 tt
+  takes_item action.Drop t within lawful = rw t.2 tt
   takes_item _ t within lawful = absurd t
 
 -- the item of a Respond
@@ -163,15 +154,11 @@ arrives_item : (s : Situation) (q : Request) (block : ℕ) (closing : Open) (old
     → ArrivesFor q closing s.protocol s.log old new did → closing.block ≡ block → IsWithin s closing.core closing.block
     → AccessWithin s.shape (held_at old closing.core) → IsLawful (flat_words s.log block) did → IsNextOn s block (Some (item.Came (came_of closing) did))
 arrives_item s q block closing old new did arrives placed within waits lawful = elim (by_request q arrives) [
-  | inl put ↦ rw put.2 (record { on = tt; follows = tt; logged = tt })
+  | inl put ↦ rw put.2 tt
   | inr f ↦
       let has = waits f.asking f.fills.waited in
       let lawful_fill = rw (f.logged, ← placed) at lawful in
-      rw f.logged (record {
-        on = placed;
-        follows = next_lawful s.log closing.core closing.block f.asking.word f.asking.op f.value false has.1 lawful_fill;
-        logged = (within, has);
-      })
+      rw f.logged (placed, next_lawful s.log closing.core closing.block f.asking.word f.asking.op f.value false has.1 lawful_fill, (within, has))
 ]
 
 -- a move keeps the invariant
@@ -206,7 +193,7 @@ move_keeps block old (Order core) answer new g m =
       as_many_queues = length-set old.queues core _;
       opened = λ t is_open. ap (λ (x : Open). x.block) (same_Some _ _ (sym is_open ∙ o.opened));
       block_after = rw (← cores) (order_keeps old core block m.request new (flat_words old.log block) (rw cores (g.blocks block within.1)) (rw cores within.0) o);
-      item = record { on = tt; follows = tt; logged = tt };
+      item = tt;
       accesses = λ c. each_held o.next.caches c (AccessWithin old.shape)
           (λ below. rw (o.taken.rows c (rw (← o.taken.same_length) below)).2 (g.accesses c block)) (λ access waits. cc);
     }))

@@ -2,7 +2,7 @@
 use Rattle.std.proofs.Common.{Option, Some, ◌≡◌, ℕ, ◌<◌, [], replicate, Bool, true, false, None, refl, inl, inr, arith}
 use Rattle.std.proofs.lemmas.List.{length-replicate, get_or-replicate, get_or_past}
 use Rattle.std.proofs.lemmas.List.Elements.{All-nil}
-use Rattle.snoop_model.proofs.Common.{Access, BlockInvariant, cases_lt, Err, Extent, first_memory, flat_words, Goes, held_by, Invariant, IsProper, IsShaped, IsWithin, IsWord, none-some, nothing_held, nothing_there, Ok, option_map, Picture, picture_of, Protocol, Refused, Reply, request_for, reset, Result, Situation, Step, untouched, zero_words}
+use Rattle.snoop_model.proofs.Common.{MoveOn, Access, BlockInvariant, cases_lt, Err, Extent, first_memory, flat_words, Goes, held_by, Invariant, IsProper, IsShaped, IsWithin, IsWord, none-some, nothing_held, nothing_there, Ok, option_map, Picture, picture_of, Protocol, Refused, Reply, request_for, reset, Result, Situation, Step, untouched, zero_words}
 use Rattle.snoop_trace.specs.declared.protocol.Protocol.TheVariants as protocol
 use Rattle.snoop_rules.specs.declared.names.CacheState.TheVariants.{I}
 use Rattle.snoop_model.specs.declared.replies.Refused.TheVariants.{NoMemory}
@@ -90,6 +90,11 @@ pub refusal_same : (old : Situation) (step : Step) (cause : Refused) (new : Situ
 refusal_same old step NoMemory new r = r
 refusal_same old step cause new r = r.1
 
+-- what each move keeps, each step keeps
+pub goes_kept : (Q : Situation → Type 0) → ((block : ℕ) (s : Situation) (step : Step) (answer : Reply) (t : Situation) → Q s → MoveOn block s step answer t → Q t)
+    → (old : Situation) (step : Step) (outcome : Result Reply Refused) (new : Situation) → Q old → Goes old step outcome new → Q new
+goes_kept Q keeps old step (Ok answer) new holds m = keeps m.0 old step answer new holds m.1
+goes_kept Q keeps old step (Err cause) new holds r = rw (refusal_same old step cause new r) holds
+
 pub goes_keeps : (old : Situation) (step : Step) (outcome : Result Reply Refused) (new : Situation) → Invariant old → Goes old step outcome new → Invariant new
-goes_keeps old step (Ok answer) new g m = move_keeps m.0 old step answer new g m.1
-goes_keeps old step (Err cause) new g r = rw (refusal_same old step cause new r) g
+goes_keeps = goes_kept Invariant move_keeps

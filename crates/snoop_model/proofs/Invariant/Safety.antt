@@ -18,7 +18,7 @@ use Rattle.snoop_model.proofs.OneBlock.AfterMoves.{ask_line, respond_here}
 use Rattle.snoop_model.proofs.OneBlock.OfBlocks.{in_pictures, each_picture, picture_here}
 use Rattle.snoop_model.proofs.Invariant.Coherence.{has_one_writer, kept_read, readers_current, data_current, memory_current, names_its_block, data_awaited, each_line, held_within, finds_rows, orders_follow_sender_table}
 use Rattle.snoop_model.proofs.Invariant.Moves.{word_flat, move_keeps}
-use Rattle.snoop_model.proofs.Invariant.Runs.{reset_invariant, reset_open, nothing_proper, nothing_waits, refusal_same}
+use Rattle.snoop_model.proofs.Invariant.Runs.{reset_invariant, reset_open, nothing_proper, nothing_waits, goes_kept}
 use Rattle.snoop_model.proofs.Queues.Moves.{on_kept, starts_well}
 use Rattle.snoop_model.proofs.Runs.Along.{kept_along}
 use Rattle.snoop_model.proofs.Runs.GoOn.{moves_on}
@@ -190,11 +190,7 @@ move_keeps_all block old new step answer keeps move = record {
   well_kept = on_kept block old new step answer keeps.well_kept move;
 }
 
-goes_keeps_all : (old new : Situation) (step : Step) (outcome : Result Reply Refused) → MachineKeeps old → Goes old step outcome new → MachineKeeps new
-goes_keeps_all old new step (Ok answer) keeps move = move_keeps_all move.0 old new step answer keeps move.1
-goes_keeps_all old new step (Err cause) keeps refused = rw (refusal_same old step cause new refused) keeps
-
 -- so does a run
 pub run_keeps_all : (steps : List Step) (outcomes : List (Result Reply Refused)) (old new : Situation) → MachineKeeps old → RunBy Goes old steps outcomes new
     → MachineKeeps new
-run_keeps_all = kept_along Goes MachineKeeps (λ s step outcome t keeps goes. goes_keeps_all s t step outcome keeps goes)
+run_keeps_all = kept_along Goes MachineKeeps (goes_kept MachineKeeps (λ block s step answer t. move_keeps_all block s t step answer))

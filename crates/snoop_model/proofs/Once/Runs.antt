@@ -6,7 +6,7 @@ use Rattle.std.proofs.lemmas.List.Sorted.{IsPermutation-refl, IsPermutation-tran
 use Rattle.std.proofs.lemmas.List.Elements.{filter-append, filter_map-append}
 use Rattle.snoop_model.proofs.Lists.Writes.{each_set}
 use Rattle.snoop_model.proofs.Lists.Facts.{either_way}
-use Rattle.snoop_model.proofs.Common.{Access, accesses_in, after_order, answers_of, Ask, asked, asked_access, CacheAction, CacheState, came_of, cases_lt, Cell, Did, did_access, eq-eqb, Extent, FillsRequestor, get_or_past, Goes, held_at, held_by, Invariant, IsProper, Item, kept_waiting, Line, map-append, MoveOn, ne_eqb, next_did, nothing_held, Once, OnceMore, Op, Open, operation_of, operations, Order, Orders, Performs, Picture, picture_of, Protocol, queues_after, Refused, Reply, Request, reset, Respond, RunBy, Situation, Step, taken, Takes, waiting_at, with_line}
+use Rattle.snoop_model.proofs.Common.{IfSome, Access, accesses_in, after_order, answers_of, Ask, asked, asked_access, CacheAction, CacheState, came_of, cases_lt, Cell, Did, did_access, eq-eqb, Extent, FillsRequestor, get_or_past, Goes, held_at, held_by, Invariant, IsProper, Item, kept_waiting, Line, map-append, MoveOn, ne_eqb, next_did, nothing_held, Once, OnceMore, Op, Open, operation_of, operations, Order, Orders, Performs, Picture, picture_of, Protocol, queues_after, Refused, Reply, Request, reset, Respond, RunBy, Situation, Step, taken, Takes, waiting_at, with_line}
 use Rattle.snoop_trace.specs.declared.step.Op.TheVariants as op
 use Rattle.snoop_rules.specs.declared.names.CacheAction.TheVariants as action
 use Rattle.snoop_history.specs.declared.items.Item.TheVariants as item
@@ -24,8 +24,7 @@ done did = map did_access (option_to_list did)
 
 -- the operation is this core's on this block, if there is one
 abbrev IsBy : ℕ → ℕ → Option Did → Type 0
-IsBy core block None = ⊤
-IsBy core block (Some did) = (did.core ≡ core) × (did.block ≡ block)
+IsBy core block did = IfSome did (λ d. (d.core ≡ core) × (d.block ≡ block))
 
 -- what an item has of a core and block: its operation, if it is by this core on this block
 accesses_one : (core block c b : ℕ) (entry : Option Item) → IsBy c b (did_in entry) → accesses_in (option_to_list entry) core block ≡ cond (eqb b block && eqb c core) (done (did_in entry)) []

@@ -34,11 +34,8 @@ pub run_steady : (steps : List Step) (outcomes : List (Result Reply Refused)) (o
     → IsSteady new
 run_steady = kept_along GoesFirst IsSteady (steady_on keeps_well)
 
--- some run of these steps
-abbrev pub SomeRun : Situation → List Step → Type 0
-SomeRun s steps = (outcomes : List (Result Reply Refused)) × ((final : Situation) × FirstRunFrom s steps outcomes final)
-
-pub runs_on : (steps : List Step) (s : Situation) → IsSteady s → SomeRun s steps
+-- from where it holds any steps have a run
+pub runs_on : (steps : List Step) (s : Situation) → IsSteady s → (outcomes : List (Result Reply Refused)) × ((final : Situation) × FirstRunFrom s steps outcomes final)
 runs_on [] s steady = ([], (s, refl))
 runs_on (step ∷ steps) s steady =
     let next = next_of s step in

@@ -1,7 +1,7 @@
 -- Steps leave the protocol and the shape.
 use Rattle.std.proofs.Common.{◌≡◌, ℕ, List, refl, ◌∙◌, inl, inr}
 use Rattle.snoop_model.proofs.Common.{Ask, Err, FirstMove, Goes, MoveOn, Ok, Order, Refused, Reply, Respond, Result, RunBy, Situation, Step}
-use Rattle.snoop_model.proofs.Invariant.Runs.{refusal_same}
+use Rattle.snoop_model.proofs.Invariant.Runs.{goes_kept}
 use Rattle.snoop_model.proofs.Runs.Along.{kept_along}
 
 -- the protocol and the shape are as they were
@@ -26,9 +26,5 @@ move_stays old new step answer m = on_stays m.0 old new step answer m.1.1
 pub alike_on : (old middle new : Situation) → IsAlike old middle → IsAlike middle new → IsAlike old new
 alike_on old middle new first rest = (rest.0 ∙ first.0, rest.1 ∙ first.1)
 
-goes_stays : (old new : Situation) (step : Step) (outcome : Result Reply Refused) → Goes old step outcome new → IsAlike old new
-goes_stays old new step (Ok answer) m = on_stays m.0 old new step answer m.1
-goes_stays old new step (Err cause) r = same_alike old new (refusal_same old step cause new r)
-
 pub run_stays : (steps : List Step) (outcomes : List (Result Reply Refused)) (old new : Situation) → RunBy Goes old steps outcomes new → IsAlike old new
-run_stays steps outcomes old new = kept_along Goes (IsAlike old) (λ s step outcome t far goes. alike_on old s t far (goes_stays s t step outcome goes)) steps outcomes old new (refl, refl)
+run_stays steps outcomes old new = kept_along Goes (IsAlike old) (goes_kept (IsAlike old) (λ block s step answer t far m. alike_on old s t far (on_stays block s t step answer m))) steps outcomes old new (refl, refl)
