@@ -8,7 +8,7 @@ use Rattle.std.proofs.lemmas.List.Elements.{Contains-append_left, Contains-appen
 use Rattle.std.proofs.lemmas.List.{append_cancel_left, map-append}
 use Rattle.std.proofs.lemmas.Bool.{cases_Bool, eqb-true}
 use Rattle.snoop_model.proofs.Common.{Access, answers_of, Ask, asked_access, came_of, Did, did_access, FirstMove, held_by, IsLast, IsOwed, Item, OnceMore, Order, Owes, picture_of, Reply, Respond, same_Some, Situation, Step, waiting_at}
-use Rattle.snoop_history.specs.declared.items.Item.TheVariants as item
+use Rattle.snoop_model.proofs.Runs.Shape.{on_stays}
 use Rattle.snoop_history.proofs.Pushed.{answers_of-push, last_or-append, of_core}
 use Rattle.snoop_model.proofs.OneBlock.Operation.{did_in}
 
@@ -40,23 +40,16 @@ either_side xs ys zs ws wanted same now = Contains-append_cases zs ws wanted (Co
   | inr r ↦ Contains-append_right xs ys wanted r
 ]))
 
--- a move adds at most one item to the log
-pub move-log : (old new : Situation) (step : Step) (answer : Reply) → FirstMove old step answer new → (entry : Option Item) × (new.log ≡ old.log ++ option_to_list entry)
-move-log old new (Ask core block word asking) answer m = elim m.1.1.moves [
-  | inl absent ↦ (None, rw absent.3 (sym (append-nil old.log)))
-  | inr asks ↦ (asks.entry, rw asks.after refl)
-]
-move-log old new (Order core) answer m = (Some (item.Sent (record { core = core; request = m.1.1.request; block = m.0 })), rw m.1.1.orders.after refl)
-move-log old new (Respond block) answer m = (Some (item.Came (came_of m.1.1.closing) m.1.1.did), rw m.1.1.responds.after refl)
-
 -- the operation that a move performs, if any
 abbrev pub performed_by : (s t : Situation) (step : Step) (answer : Reply) → FirstMove s step answer t → Option Did
-performed_by s t step answer move = did_in (move-log s t step answer move).0
+performed_by s t step answer move = did_in (on_stays move.0 s t step answer move.1.1).1.0
 
 module _ (s t : Situation) (step : Step) (answer : Reply) (move : FirstMove s step answer t) (once : OnceMore s (step ∷ []) (Ok answer ∷ []) t) (core block : ℕ) (wanted : Access) where
   -- the core's operations after it
   pub answers_after : answers_of t.log core ≡ answers_of s.log core ++ of_core core (performed_by s t step answer move)
-  answers_after = ap (λ (l : List Item). answers_of l core) (move-log s t step answer move).1 ∙ answers_are s.log (move-log s t step answer move).0 core
+  answers_after =
+      let logged = (on_stays move.0 s t step answer move.1.1).1 in
+      ap (λ (l : List Item). answers_of l core) logged.1 ∙ answers_are s.log logged.0 core
 
   -- those of them on the block
   abbrev done_here : List Access
@@ -64,7 +57,7 @@ module _ (s t : Situation) (step : Step) (answer : Reply) (move : FirstMove s st
 
   balance : IsPermutation (waiting_at s core block ++ option_to_list (asked_access core block step)) (done_here ++ waiting_at t core block)
   balance =
-      let logged = move-log s t step answer move in
+      let logged = (on_stays move.0 s t step answer move.1.1).1 in
       let since = append_cancel_left s.log once.since (option_to_list logged.0) (sym once.log ∙ logged.1) in
       rw (since, answers_are [] logged.0 core, cons_one (asked_access core block step)) at (once.once core block)
 
