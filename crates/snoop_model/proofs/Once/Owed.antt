@@ -29,7 +29,7 @@ in_one None wanted h = absurd (omega (arith, h.1))
 in_one (Some x) wanted (zero, inside, is) = ap Some is
 in_one (Some x) wanted (suc k, inside, is) = absurd (omega (arith, inside))
 
-cons_one : (o : Option Access) → cons_option o [] ≡ option_to_list o
+pub cons_one : (o : Option Access) → cons_option o [] ≡ option_to_list o
 cons_one None = refl
 cons_one (Some x) = refl
 

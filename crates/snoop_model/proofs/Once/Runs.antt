@@ -6,7 +6,7 @@ use Rattle.std.proofs.lemmas.List.Sorted.{IsPermutation-refl, IsPermutation-tran
 use Rattle.std.proofs.lemmas.List.Elements.{filter-append, filter_map-append}
 use Rattle.snoop_model.proofs.Lists.Writes.{each_set}
 use Rattle.snoop_model.proofs.Lists.Facts.{either_way}
-use Rattle.snoop_model.proofs.Common.{IfSome, Access, accesses_in, after_order, answers_of, Ask, asked, asked_access, CacheAction, CacheState, came_of, cases_lt, Cell, Did, did_access, eq-eqb, Extent, FillsRequestor, get_or_past, Goes, held_at, held_by, Invariant, IsProper, Item, kept_waiting, Line, map-append, MoveOn, ne_eqb, next_did, nothing_held, Once, OnceMore, Op, Open, operation_of, operations, Order, Orders, Performs, Picture, picture_of, Protocol, queues_after, Refused, Reply, Request, reset, Respond, RunBy, Situation, Step, taken, Takes, waiting_at, with_line}
+use Rattle.snoop_model.proofs.Common.{option_map, IfSome, Access, accesses_in, after_order, answers_of, Ask, asked, asked_access, CacheAction, CacheState, came_of, cases_lt, Cell, Did, did_access, eq-eqb, Extent, FillsRequestor, get_or_past, Goes, held_at, held_by, Invariant, IsProper, Item, kept_waiting, Line, map-append, MoveOn, ne_eqb, next_did, nothing_held, Once, OnceMore, Op, Open, operation_of, operations, Order, Orders, Performs, Picture, picture_of, Protocol, queues_after, Refused, Reply, Request, reset, Respond, RunBy, Situation, Step, taken, Takes, waiting_at, with_line}
 use Rattle.snoop_trace.specs.declared.step.Op.TheVariants as op
 use Rattle.snoop_rules.specs.declared.names.CacheAction.TheVariants as action
 use Rattle.snoop_history.specs.declared.items.Item.TheVariants as item
@@ -15,39 +15,30 @@ use Rattle.snoop_model.proofs.Tables.Rows.{issue-missed, drop_evicts}
 use Rattle.snoop_model.proofs.OneBlock.Operation.{did_in}
 use Rattle.snoop_model.proofs.OneBlock.OfBlocks.{changed, each_picture, in_pictures}
 use Rattle.snoop_model.proofs.Lines.Answered.{by_request}
-use Rattle.snoop_model.proofs.Once.Owed.{answers_are}
+use Rattle.snoop_model.proofs.Once.Owed.{answers_are, cons_one}
 use Rattle.snoop_model.proofs.Invariant.Runs.{nothing_waits, goes_keeps, refusal_same, reset_invariant, reset_line}
 
 -- the operation that was done, if any
-abbrev done : Option Did → List Access
-done did = map did_access (option_to_list did)
+abbrev done : Option Did → Option Access
+done did = option_map did_access did
 
 -- the operation is this core's on this block, if there is one
 abbrev IsBy : ℕ → ℕ → Option Did → Type 0
 IsBy core block did = IfSome did (λ d. (d.core ≡ core) × (d.block ≡ block))
 
 -- what an item has of a core and block: its operation, if it is by this core on this block
-accesses_one : (core block c b : ℕ) (entry : Option Item) → IsBy c b (did_in entry) → accesses_in (option_to_list entry) core block ≡ cond (eqb b block && eqb c core) (done (did_in entry)) []
+accesses_one : (core block c b : ℕ) (entry : Option Item) → IsBy c b (did_in entry) → accesses_in (option_to_list entry) core block ≡ option_to_list (cond (eqb b block && eqb c core) (done (did_in entry)) None)
 accesses_one core block c b entry by = rw (answers_are [] entry core) (of_one (did_in entry) by)
   where
-    of_did : (did : Did) (x y : Bool) → (did.block == block) ≡ x → map did_access (filter (λ d. d.block == block) (cond y (did ∷ []) [])) ≡ cond (x && y) (did_access did ∷ []) []
+    of_did : (did : Did) (x y : Bool) → (did.block == block) ≡ x → map did_access (filter (λ d. d.block == block) (cond y (did ∷ []) [])) ≡ option_to_list (cond (x && y) (Some (did_access did)) None)
     of_did did true true e = rw e refl
     of_did did false true e = rw e refl
     of_did did true false e = refl
     of_did did false false e = refl
 
-    of_one : (did : Option Did) → IsBy c b did → map did_access (filter (λ d. d.block == block) (of_core core did)) ≡ cond (eqb b block && eqb c core) (done did) []
-    of_one None by = either_way (eqb b block && eqb c core) []
+    of_one : (did : Option Did) → IsBy c b did → map did_access (filter (λ d. d.block == block) (of_core core did)) ≡ option_to_list (cond (eqb b block && eqb c core) (done did) None)
+    of_one None by = ap option_to_list (either_way (eqb b block && eqb c core) None)
     of_one (Some did) by = rw (← by.0, ← by.1) (of_did did (did.block == block) (did.core == core) refl)
-
--- what an Ask asks of a core and block
-asked_one : (core block c b word : ℕ) (asking : Op) → filter_map (asked_access core block) (Ask c b word asking ∷ []) ≡ cond (eqb b block && eqb c core) (option_to_list (kept_waiting word asking)) []
-asked_one core block c b word asking = go (eqb b block && eqb c core) (kept_waiting word asking)
-  where
-    go : (x : Bool) (o : Option Access) → filter_map (λ (step : Step). cond x o None) (Ask c b word asking ∷ []) ≡ cond x (option_to_list o) []
-    go true None = refl
-    go true (Some access) = refl
-    go false o = refl
 
 -- where nothing is done, asked or changed, what waited waits
 unchanged : (waits : List Access) → IsPermutation (waits ++ []) waits
@@ -61,54 +52,54 @@ performed_so word (op.Store stored) before value after log core block hit h = rw
 performed_so word op.Evict before value after log core block hit h = absurd h
 
 -- an Ask of one line
-line_once : (p : Protocol) (a : CacheAction) (next : CacheState) (log : List Item) (core block word : ℕ) (asking : Op) (old new : Line) (answer : Reply) (entry : Option Item) → IsProper old → Cell p old.state (asked asking) a next → Takes a next log core block word asking old new answer entry
-    → IsBy core block (did_in entry) × IsPermutation (option_to_list old.waiting ++ option_to_list (kept_waiting word asking)) (done (did_in entry) ++ option_to_list new.waiting)
-line_once p action.Hit next log core block word asking old new answer entry proper row t =
-    let so = performed_so word asking t.1.0.before t.0 t.1.0.after log core block true t.1.0.performed in
-    rw (t.1.0.held, t.1.2, so.0, so.1) ((refl, refl), IsPermutation-append_comm (option_to_list old.waiting) (record { word = word; op = asking } ∷ []))
-line_once p (action.Issue q) next log core block word asking old new answer entry proper row t =
-    let none = nothing_waits old.waiting (proper.waiting ∙ (issue-missed p old.state (asked asking) q next row).0) in
-    rw (t.0, t.2, none) (tt, IsPermutation-refl (option_to_list (kept_waiting word asking)))
-line_once p action.Drop next log core block word asking old new answer entry proper row t =
-    rw (t.0, t.2, drop_evicts p old.state asking next row) (tt, unchanged (option_to_list old.waiting))
-line_once p _ next log core block word asking old new answer entry proper row t = absurd t
+module _ (p : Protocol) (next : CacheState) (log : List Item) (core block word : ℕ) (asking : Op) (old new : Line) (answer : Reply) (entry : Option Item) (proper : IsProper old) where
+  line_once : (act : CacheAction) → Cell p old.state (asked asking) act next → Takes act next log core block word asking old new answer entry
+      → IsBy core block (did_in entry) × IsPermutation (option_to_list old.waiting ++ option_to_list (kept_waiting word asking)) (option_to_list (done (did_in entry)) ++ option_to_list new.waiting)
+  line_once action.Hit row t =
+      let so = performed_so word asking t.1.0.before t.0 t.1.0.after log core block true t.1.0.performed in
+      rw (t.1.0.held, t.1.2, so.0, so.1) ((refl, refl), IsPermutation-append_comm (option_to_list old.waiting) (record { word = word; op = asking } ∷ []))
+  line_once (action.Issue q) row t =
+      let none = nothing_waits old.waiting (proper.waiting ∙ (issue-missed p old.state (asked asking) q next row).0) in
+      rw (t.0, t.2, none) (tt, IsPermutation-refl (option_to_list (kept_waiting word asking)))
+  line_once action.Drop row t = rw (t.0, t.2, drop_evicts p old.state asking next row) (tt, unchanged (option_to_list old.waiting))
+  line_once _ row t = absurd t
 
 -- a response performs what waited on the requestor's line
 fills_once : {closing : Open} {p : Protocol} {log : List Item} {old new : List Line} {did : Option Did} (f : FillsRequestor closing p log old new did)
-    → IsPermutation (option_to_list (held_at old closing.core).waiting ++ []) (done did ++ option_to_list f.line.waiting)
+    → IsPermutation (option_to_list (held_at old closing.core).waiting ++ []) (option_to_list (done did) ++ option_to_list f.line.waiting)
 fills_once {closing} {p} {log} f =
     let so = performed_so f.asking.word f.asking.op closing.value f.value f.fills.after log closing.core closing.block false f.fills.performed in
     rw (f.fills.held, f.fills.waited, f.logged, so.0) (IsPermutation-refl (f.asking ∷ []))
 
 module _ (old : Situation) (b c : ℕ) where
   -- the core's operation on the block is done, and in each of its lines what waited and what is asked is what is done and what waits
-  abbrev Balances : List Access → Option Did → List Line → Type 0
-  Balances asked did lines = IsBy c b did × ((k : ℕ) → IsPermutation (waiting_at old k b ++ cond (eqb c k) asked []) (cond (eqb c k) (done did) [] ++ option_to_list (held_at lines k).waiting))
+  abbrev Balances : Option Access → Option Did → List Line → Type 0
+  Balances asked did lines = IsBy c b did × ((k : ℕ) → IsPermutation (waiting_at old k b ++ option_to_list (cond (eqb c k) asked None)) (option_to_list (cond (eqb c k) (done did) None) ++ option_to_list (held_at lines k).waiting))
 
   -- so it is where the one line that changes balances
-  balances : (held : Line) (asked : List Access) (did : Option Did) → c < length (picture_of old b).caches → IsBy c b did
-      → IsPermutation (option_to_list (held_by (picture_of old b) c).waiting ++ asked) (done did ++ option_to_list held.waiting)
+  balances : (held : Line) (asked : Option Access) (did : Option Did) → c < length (picture_of old b).caches → IsBy c b did
+      → IsPermutation (option_to_list (held_by (picture_of old b) c).waiting ++ option_to_list asked) (option_to_list (done did) ++ option_to_list held.waiting)
       → Balances asked did (slice_set (picture_of old b).caches c held)
   balances held asked did inside by here =
       let lines = each_set (picture_of old b).caches c held nothing_held
-      (λ k x. IsPermutation (waiting_at old k b ++ cond (eqb c k) asked []) (cond (eqb c k) (done did) [] ++ option_to_list x.waiting)) inside
+      (λ k x. IsPermutation (waiting_at old k b ++ option_to_list (cond (eqb c k) asked None)) (option_to_list (cond (eqb c k) (done did) None) ++ option_to_list x.waiting)) inside
       (rw (eq-eqb c c refl) here) (λ k apart. rw (ne_eqb c k (λ e. apart (sym e))) (unchanged (waiting_at old k b))) in
       (by, lines)
 
   -- where nothing is asked or done, and each line's operation waits as before
-  rests : (lines : List Line) → ((k : ℕ) → (held_at lines k).waiting ≡ (held_by (picture_of old b) k).waiting) → Balances [] None lines
-  rests lines same = (tt, λ k. rw (same k, ← either_way {A = List Access} (eqb c k) []) (unchanged (waiting_at old k b)))
+  rests : (lines : List Line) → ((k : ℕ) → (held_at lines k).waiting ≡ (held_by (picture_of old b) k).waiting) → Balances None None lines
+  rests lines same = (tt, λ k. rw (same k, ← either_way {A = Option Access} (eqb c k) None) (unchanged (waiting_at old k b)))
 
   -- a move that asks this, and whose lines balance, does each load and store once
-  grown : (next : Picture) (queues : List (List ℕ)) (entry : Option Item) (asked : List Access) (step : Step) (answer : Reply) → b < length old.pictures
-      → ((core block : ℕ) → filter_map (asked_access core block) (step ∷ []) ≡ cond (eqb b block && eqb c core) asked []) → Balances asked (did_in entry) next.caches
+  grown : (next : Picture) (queues : List (List ℕ)) (entry : Option Item) (asked : Option Access) (step : Step) (answer : Reply) → b < length old.pictures
+      → ((core block : ℕ) → asked_access core block step ≡ cond (eqb b block && eqb c core) asked None) → Balances asked (did_in entry) next.caches
       → OnceMore old (step ∷ []) (Ok answer ∷ []) (changed old b next queues (old.log ++ option_to_list entry))
   grown next queues entry asked step answer within asks balance = record {
     since = option_to_list entry;
     log = refl;
-    once = λ core block. rw (asks core block, accesses_one core block c b entry balance.0)
+    once = λ core block. rw (cons_one (asked_access core block step), asks core block, accesses_one core block c b entry balance.0)
         (each_picture old b next queues (old.log ++ option_to_list entry)
-        (λ x picture. IsPermutation (waiting_at old core x ++ cond (eqb b x && eqb c core) asked []) (cond (eqb b x && eqb c core) (done (did_in entry)) [] ++ option_to_list (held_by picture core).waiting))
+        (λ x picture. IsPermutation (waiting_at old core x ++ option_to_list (cond (eqb b x && eqb c core) asked None)) (option_to_list (cond (eqb b x && eqb c core) (done (did_in entry)) None) ++ option_to_list (held_by picture core).waiting))
         within (λ x apart. rw (ne_eqb b x (λ e. apart (sym e))) (unchanged (waiting_at old core x))) (rw (eq-eqb b b refl) (balance.1 core)) block);
   }
 
@@ -127,29 +118,29 @@ move_once b old (Ask c on word asking) answer new g m = elim m.moves [
   | inl idle ↦ rw idle.3 (record {
     since = [];
     log = sym (append-nil old.log);
-    once = λ core block. rw (asked_one core block c on word asking, idle.0, ← either_way {A = List Access} (eqb on block && eqb c core) []) (unchanged (waiting_at old core block));
+    once = λ core block. rw (idle.0, ← either_way {A = Option Access} (eqb on block && eqb c core) None) (unchanged (waiting_at old core block));
   })
   | inr a ↦
       (let before : Picture = picture_of old b in
-      let once = line_once old.protocol a.row.action a.row.next old.log c b word asking (held_by before c) a.held answer a.entry ((g.blocks b m.within.1).proper c m.within.0) a.is_row a.taken in
-      rw (m.on_block, a.after) (grown old b c (with_line before c a.held) (queues_after a.row.action old.queues c b) a.entry (option_to_list (kept_waiting word asking)) (Ask c b word asking) answer
-      (in_pictures old b g.shaped m.within.1) (λ core block. asked_one core block c b word asking)
+      let once = line_once old.protocol a.row.next old.log c b word asking (held_by before c) a.held answer a.entry ((g.blocks b m.within.1).proper c m.within.0) a.row.action a.is_row a.taken in
+      rw (m.on_block, a.after) (grown old b c (with_line before c a.held) (queues_after a.row.action old.queues c b) a.entry (kept_waiting word asking) (Ask c b word asking) answer
+      (in_pictures old b g.shaped m.within.1) (λ core block. refl)
       (balances old b c a.held _ (did_in a.entry) (rw (g.shaped.row b m.within.1) m.within.0) once.0 once.1)))
 ]
 move_once b old (Order c) answer new g m =
     let o = m.orders in
-    rw o.after (grown old b c o.next (after_order old.queues c b) (Some (item.Sent (record { core = c; request = m.request; block = b }))) [] (Order c) answer
-    (in_pictures old b g.shaped m.within.1) (λ core block. either_way (eqb b block && eqb c core) []) (rests old b c o.next.caches (order_waiting old c b m.request new o)))
+    rw o.after (grown old b c o.next (after_order old.queues c b) (Some (item.Sent (record { core = c; request = m.request; block = b }))) None (Order c) answer
+    (in_pictures old b g.shaped m.within.1) (λ core block. either_way (eqb b block && eqb c core) None) (rests old b c o.next.caches (order_waiting old c b m.request new o)))
 move_once b old (Respond on) answer new g m =
     let r = m.responds in
     let c = m.closing.core in
     let in_row : c < length (picture_of old b).caches = rw (g.shaped.row b m.within) ((g.blocks b m.within).requestor_in m.closing r.opened) in
-    let balanced : Balances old b c [] m.did r.next.caches = elim (by_request m.closing.request r.requestor) [
+    let balanced : Balances old b c None m.did r.next.caches = elim (by_request m.closing.request r.requestor) [
       | inl put ↦ rw (put.2, put.1) (rests old b c (picture_of old b).caches (λ k. refl))
-      | inr f ↦ rw f.held (balances old b c f.line [] m.did in_row (rw f.logged (refl, g.opened b m.closing r.opened)) (fills_once f))
+      | inr f ↦ rw f.held (balances old b c f.line None m.did in_row (rw f.logged (refl, g.opened b m.closing r.opened)) (fills_once f))
     ] in
-    rw r.after (grown old b c r.next old.queues (Some (item.Came (came_of m.closing) m.did)) [] (Respond on) answer
-    (in_pictures old b g.shaped m.within) (λ core block. either_way (eqb b block && eqb c core) []) balanced)
+    rw r.after (grown old b c r.next old.queues (Some (item.Came (came_of m.closing) m.did)) None (Respond on) answer
+    (in_pictures old b g.shaped m.within) (λ core block. either_way (eqb b block && eqb c core) None) balanced)
 
 accesses_in-append : (xs ys : List Item) (core block : ℕ) → accesses_in (xs ++ ys) core block ≡ accesses_in xs core block ++ accesses_in ys core block
 accesses_in-append xs ys core block =

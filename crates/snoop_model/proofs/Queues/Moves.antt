@@ -23,9 +23,8 @@ record IsAwaited (now : Option Open) (core : ℕ) (line : Line) : Type 0 where
   awaits : (q : Request) → awaited_request line.state ≡ Some q → (o : Open) × ((now ≡ Some o) × (o.core ≡ core) × (o.request ≡ q))
   operations : (access : Access) → line.waiting ≡ Some access → IsSome (missed_request line.state)
 
-module _ (s : Situation) (kept : IsWellKept s) (block : ℕ) where
-  awaited_in : (core : ℕ) → IsAwaited (picture_of s block).transaction core (held_by (picture_of s block) core)
-  awaited_in core = record { awaits = kept.awaits core block; operations = kept.operations core block }
+awaited_in : (s : Situation) → IsWellKept s → (block core : ℕ) → IsAwaited (picture_of s block).transaction core (held_by (picture_of s block) core)
+awaited_in s kept block core = record { awaits = kept.awaits core block; operations = kept.operations core block }
 
 -- what is to be shown of a move
 record KeepsOn (s : Situation) (block : ℕ) (next : Picture) (queues : List (List ℕ)) : Type 0 where
