@@ -41,4 +41,19 @@ pub use Rattle.snoop_model.specs.Pictures.Sends.{IsOnlySender, Sends, value_sent
 pub use Rattle.snoop_model.specs.Invariant.Fits.{Claims, Talk}
 unfoldable pub use Rattle.snoop_model.specs.Invariant.Fits.{claims_of, fits, in_protocol, is_clean, is_owner, is_sharer, same, wait_fits}
 pub use Rattle.snoop_model.specs.Invariant.Block.{BlockInvariant, own_open, owns, talk_of}
-pub use Rattle.snoop_model.specs.Invariant.WellKept.{IsShaped}
+pub use Rattle.snoop_model.specs.Invariant.WellKept.{IsShaped, IsWellKept}
+pub use Rattle.snoop_history.specs.History.{IsNext, Legal, answers_of, flat, flat_words, is_store_to, operation_of, operations, stores}
+pub use Rattle.snoop_history.specs.Totals.{is_put_m}
+pub use Rattle.snoop_model.specs.Invariant.Invariant.{Invariant}
+pub use Rattle.snoop_model.specs.Moves.Refuses.{Refuses, WaitsOnNone}
+pub use Rattle.snoop_model.specs.Moves.SenderTable.{IsOpenByTable, IsSenderLine, OrdersFollowSenderTable}
+pub use Rattle.snoop_model.specs.Runs.Once.{Once, OnceMore, accesses_in, asked_access, did_access, taken, waiting_at}
+pub use Rattle.snoop_model.specs.Runs.Owed.{ClosedIsLast, EndsAtOnce, IsLast, IsOwed, Owes}
+pub use Rattle.snoop_model.specs.Runs.Run.{FirstRunFrom, Goes, GoesFirst, RunBy, TakenGoesOn}
+pub use Rattle.snoop_model.specs.Turns.Serving.{IsServing, has_transaction}
+pub use Rattle.snoop_model.specs.Turns.TurnLaws.{ComesToRest, Ends, KeepsWell, NeverRefused, Pays, ServesOn, StartsWell, TurnLaws}
+pub use Rattle.snoop_trace.specs.Words.{Data, HasWord, IsWord, word_at, word_places, zero_words}
+pub use Rattle.std.proofs.lemmas.Bool.{cases_Bool, cases_lt, eq-eqb, ne_eqb}
+pub use Rattle.std.proofs.lemmas.List.{get_or-set_same, get_or_past, map-append}
+pub use Rattle.std.specs.Option.{option_map_or}
+pub use Rattle.std.specs.Prelude.{Contains, Err, IfSome, Ok, Result, is_some, option_map, option_to_list, slice_get}

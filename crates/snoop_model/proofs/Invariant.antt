@@ -1,9 +1,6 @@
 -- The invariant of the machine, and what follows from it.
-pub mod FlatMemory
 pub mod Moves
 pub mod Runs
 pub mod Coherence
-pub mod Served
 pub mod Safety
 pub mod Steps
-pub mod TableLines

@@ -1,4 +1,3 @@
 -- Each load and store once.
-pub mod Asks
 pub mod Runs
 pub mod Owed

@@ -4,4 +4,3 @@ pub mod GoOn
 pub mod AllTaken
 pub mod Shape
 pub mod Replies
-pub mod Logged

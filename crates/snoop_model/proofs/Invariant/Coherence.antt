@@ -1,12 +1,10 @@
 -- What the invariant says of a situation: one writer, current copies and memory, all rows, one sender.
-use Rattle.std.proofs.Common.{◌≡◌, ◌≢◌, ℕ, true, false, not, List, [], Option, Some, None, refl, inl, inr, sym, ◌∙◌, arith}
+use Rattle.std.proofs.Common.{◌≡◌, ◌≢◌, ℕ, true, false, List, [], Option, Some, None, refl, inl, inr, sym, ◌∙◌, arith, rules}
 use Rattle.std.specs.Prelude.{◌<◌, ◌↔◌, IfSome, IsSome, IsSomeAnd, ◌≤◌}
 use Rattle.std.specs.Option.{ForSome}
 use Rattle.std.proofs.lemmas.Bool.{and_parts, both_ways, cases_Bool, cases_lt, eq-eqb, false_from_ne_true}
-use Rattle.std.proofs.lemmas.List.{get_or_past}
-use Rattle.std.proofs.lemmas.Option.{none-some}
 use Rattle.snoop_model.proofs.Lists.Facts.{if_some}
-use Rattle.snoop_model.proofs.Common.{Protocol, Op, Step, Ask, Order, Respond, CacheState, CacheEvent, MemState, MemEvent, Request, Cell, asked, seen_by, arrival, arrival_at_memory, carries_value, waiting_request, Open, Line, Picture, held_by, nothing_held, data_under_way, Situation, picture_of, state_of, Waits, CanOrder, HasOpen, nothing_there, keeps, awaited_request, IsWithin}
+use Rattle.snoop_model.proofs.Common.{is_some, arrival, arrival_at_memory, Ask, asked, awaited_request, BlockInvariant, CacheEvent, CacheState, CanOrder, carries_value, data_under_way, flat_words, get_or_past, HasOpen, held_by, Invariant, is_put_m, IsWellKept, IsWithin, keeps, Line, MemEvent, none-some, nothing_held, nothing_there, Op, Open, Order, OrdersFollowSenderTable, own_open, owns, Picture, picture_of, Protocol, Request, Respond, seen_by, Situation, state_of, Step, talk_of, waiting_request, Waits}
 use Rattle.snoop_trace.specs.declared.step.Op.TheVariants as op
 use Rattle.snoop_trace.specs.declared.protocol.Protocol.TheVariants.{Mesi}
 use Rattle.snoop_rules.specs.declared.names.CacheState.TheVariants as state
@@ -15,15 +13,10 @@ use Rattle.snoop_rules.specs.declared.names.CacheAction.TheVariants as action
 use Rattle.snoop_rules.specs.declared.names.Request.TheVariants as request
 use Rattle.snoop_rules.specs.Possible.{MayLoad, MayStore}
 use Rattle.snoop_rules.specs.Takers.{other as another}
-use Rattle.snoop_history.specs.History.{flat_words}
-use Rattle.snoop_history.specs.Totals.{is_put_m}
 use Rattle.snoop_model.specs.Moves.LookUps.{HasRow, HasMemRow, ConsultsCache, ConsultsMemory, FindsRows}
 use Rattle.snoop_model.specs.Pictures.OneWriter.{OneWriter}
-use Rattle.snoop_model.specs.Moves.SenderTable.{OrdersFollowSenderTable}
 use Rattle.snoop_model.specs.Invariant.Fits.{in_protocol, is_clean, is_owner, wait_fits, fits}
-use Rattle.snoop_model.specs.Invariant.Block.{BlockInvariant, own_open, owns, talk_of}
-use Rattle.snoop_model.specs.Invariant.Invariant.{Invariant}
-use Rattle.snoop_model.specs.Invariant.WellKept.{IsWellKept}
+use Rattle.snoop_model.proofs.Tables.Every.{some_of}
 use Rattle.snoop_model.proofs.Tables.AskTests
 use Rattle.snoop_model.proofs.Tables.AskTests.{ask_rule, is_idle_evict}
 use Rattle.snoop_model.proofs.Tables.Rows.{hit_keeps}
@@ -35,40 +28,35 @@ use Rattle.snoop_model.proofs.Tables.SenderLines.{led_line}
 use Rattle.snoop_model.proofs.Tables.WaitingRows.{awaited-get}
 use Rattle.snoop_model.proofs.Tables.StateTests.{brings_data, resting_rule}
 
--- a core that holds nothing may neither read nor write
-never_hits : (p : Protocol) (e : CacheEvent) (n : CacheState) → Cell p state.I e action.Hit n → ⊥
-never_hits p e n row = let kept = (hit_keeps p state.I e n row).0 in cc
-
 -- an owner may write
 owner_stores : (p : Protocol) (s : CacheState) → in_protocol p s ≡ true → is_owner s ≡ true → MayStore p s
 unfolding in_protocol is_clean is_owner
-owner_stores _ state.M known owns = (state.M, refl)
-owner_stores _ state.MiA known owns = (state.MiA, refl)
-owner_stores Mesi state.E known owns = (state.M, refl)
-owner_stores Mesi state.EiA known owns = (state.MiA, refl)
+owner_stores _ state.M known owns = (_, refl)
+owner_stores _ state.MiA known owns = (_, refl)
+owner_stores Mesi state.E known owns = (_, refl)
+owner_stores Mesi state.EiA known owns = (_, refl)
 owner_stores _ _ known owns = cc
 
 -- a core that keeps words may load
 keeper_loads : (p : Protocol) (s : CacheState) → in_protocol p s ≡ true → keeps s ≡ true → MayLoad p s
 unfolding in_protocol is_clean
-keeper_loads _ state.S known kept = (state.S, refl)
-keeper_loads _ state.SmAd known kept = (state.SmAd, refl)
-keeper_loads _ state.SmD known kept = (state.SmD, refl)
-keeper_loads _ state.M known kept = (state.M, refl)
-keeper_loads _ state.MiA known kept = (state.MiA, refl)
-keeper_loads Mesi state.E known kept = (state.E, refl)
-keeper_loads Mesi state.EiA known kept = (state.EiA, refl)
+keeper_loads _ state.S known kept = (_, refl)
+keeper_loads _ state.SmAd known kept = (_, refl)
+keeper_loads _ state.SmD known kept = (_, refl)
+keeper_loads _ state.M known kept = (_, refl)
+keeper_loads _ state.MiA known kept = (_, refl)
+keeper_loads Mesi state.E known kept = (_, refl)
+keeper_loads Mesi state.EiA known kept = (_, refl)
 keeper_loads _ _ known kept = cc
 
 -- where no core may write the block, none owns it
-nobody_owns : (p : Protocol) (n : ℕ) (value : List ℕ) (picture : Picture) (g : BlockInvariant p n value picture) → ((core : ℕ) → ¬ MayStore p (held_by picture core).state) → (owner : Option ℕ) → g.owner ≡ owner → g.claims.owned ≡ false
+nobody_owns : {p : Protocol} {n : ℕ} {value : List ℕ} {picture : Picture} (g : BlockInvariant p n value picture) → ((core : ℕ) → ¬ MayStore p (held_by picture core).state) → g.claims.owned ≡ false
 unfolding fits
-nobody_owns p n value picture g idle None is = sym g.is_owned ∙ rw is refl
-nobody_owns p n value picture g idle (Some o) is =
-    let s = (held_by picture o).state in
+nobody_owns {p} {n} {value} {picture} g idle = sym g.is_owned ∙ false_from_ne_true (is_some g.owner) (λ e.
+    let (o, is) = some_of g.owner e in
     let fit = g.states o (g.owner_in o is) in
-    let owning : owns g.owner o ≡ true = rw is (eq-eqb o o refl) in
-    absurd (idle o (owner_stores p s (and_parts _ _ fit).0 (fits_is_owner p g.claims.shared (owns g.owner o) (own_open picture.transaction o) s fit ∙ owning)))
+    let owning : (x : ℕ) → g.owner ≡ Some x → owns g.owner x ≡ true = λ x its. rw (its, eq-eqb x x refl) refl in
+    idle o (owner_stores p _ (and_parts _ _ fit).0 (fits_is_owner p g.claims.shared (owns g.owner o) (own_open picture.transaction o) _ fit ∙ owning o is)))
 
 no_data : (found : Option Open) → data_under_way found ≡ None → brings_data (talk_of found) ≡ false
 no_data None none = refl
@@ -85,31 +73,24 @@ data_is (Some o) value carried = elim (cases_Bool (carries_value o.payload)) [
 open_awaits : (q : Request) (s : CacheState) → q ≢ request.PutM → wait_fits (Some q) s ≡ true → awaited_request s ≡ Some q
 unfolding wait_fits
 open_awaits request.GetS state.IsD get fit = refl
-open_awaits request.GetM state.ImD get fit = refl
-open_awaits request.GetM state.SmD get fit = refl
-open_awaits request.PutM _ get fit = absurd (get refl)
-open_awaits _ _ get fit = cc
+open_awaits _ _ get fit = search rules
 
 pub idle_evict : (s : CacheState) (o : Op) → is_idle_evict s (asked o) ≡ true → (o ≡ op.Evict) × (s ≡ state.I)
 idle_evict state.I op.Evict h = (refl, refl)
 idle_evict _ _ h = cc
 
 nothing_asked : (p : Protocol) (o : Op) → (¬ ((o ≡ op.Evict) × (state.I ≡ state.I))) → HasRow p state.I (asked o)
-nothing_asked p op.Load busy = (record { action = action.Issue request.GetS; next = state.IsAd }, refl)
-nothing_asked p (op.Store v) busy = (record { action = action.Issue request.GetM; next = state.ImAd }, refl)
 nothing_asked p op.Evict busy = absurd (busy (refl, refl))
+nothing_asked p _ busy = (_, refl)
 
 nothing_seen : (p : Protocol) (q : Request) → HasRow p state.I (another q)
 nothing_seen p request.GetS = (_, refl)
 nothing_seen p _ = (_, refl)
 
-has_row : (p : Protocol) (s : CacheState) (found : Option CacheEvent) → (r : _) × (row_for p s found ≡ Some r) → IsSomeAnd found (HasRow p s)
-has_row p s None row = let h = row.1 in cc
-has_row p s (Some e) row = row
-
-has_mem_row : (p : Protocol) (m : MemState) (found : Option MemEvent) → (r : _) × (memory_row_for p m found ≡ Some r) → IsSomeAnd found (HasMemRow p m)
-has_mem_row p m None row = let h = row.1 in cc
-has_mem_row p m (Some e) row = row
+-- where there is a row, there is an event that has it
+has_row : {E R : Type 0} (rows : Option E → Option R) → rows None ≡ None → (found : Option E) → (r : R) × (rows found ≡ Some r) → IsSomeAnd found (λ e. (r : R) × (rows (Some e) ≡ Some r))
+has_row rows none None row = let h = row.1 in cc
+has_row rows none (Some e) row = row
 
 not_put : (q : Request) → q ≢ request.PutM → is_put_m q ≡ false
 not_put request.PutM get = absurd (get refl)
@@ -127,37 +108,44 @@ module _ (s : Situation) (g : Invariant s) where
     | inr past ↦ rw (outside block past, get_or_past [] core nothing_held (omega arith)) nothing
   ]
 
+  -- a core whose line is none that holds nothing is there, and so is the block
+  pub held_within : (core block : ℕ) (P : Line → Type 0) → ¬ P nothing_held → P (held_by (picture_of s block) core) → IsWithin s core block
+  held_within core block P none = each_line core block (λ x. P x → IsWithin s core block) (λ within h. within) (λ h. absurd (none h))
+
+  keeper_within : (core block : ℕ) → keeps (state_of s core block) ≡ true → IsWithin s core block
+  keeper_within core block = held_within core block (λ x. keeps x.state ≡ true) (λ h. cc)
+
   -- beside a writer no other core is a reader or a writer
   pub has_one_writer : (block : ℕ) → OneWriter s.protocol (picture_of s block)
-  has_one_writer block core other writes apart =
-      let p = s.protocol in
-      let picture : Picture = picture_of s block in
-      let Idle : Line → Type 0 = λ x. (¬ MayLoad p x.state) × (¬ MayStore p x.state) in
-      each_line core block (λ x. MayStore p x.state → Idle (held_by picture other))
-      (λ within stores. each_line other block Idle
-      (λ within_too.
-      let good = g.blocks block within.1 in
-      let owning = (and_parts (owns good.owner core) (not (is_clean stores.0)) (ask_rule AskTests.ask_store_owns p good.claims.shared (owns good.owner core) (own_open picture.transaction core)
-      (held_by picture core).state (op.Store 0) (record { action = action.Hit; next = stores.0 }) (good.states core within.0) stores.1)).0 in
-      let blind = one_writer good core owning other within_too.0 apart in
-      let held = (held_by picture other).state in
-      (λ h. both_ways _ blind (hit_keeps p held event.Load h.0 h.1).0, λ h. both_ways _ blind (hit_keeps p held event.Store h.0 h.1).0))
-      (λ h. never_hits p event.Load h.0 h.1, λ h. never_hits p event.Store h.0 h.1))
-      (λ stores. absurd (never_hits p event.Store stores.0 stores.1)) writes
+  has_one_writer block core other writes apart = (
+    λ h. blind (hit_keeps s.protocol (state_of s other block) event.Load h.0 h.1).0,
+    λ h. blind (hit_keeps s.protocol (state_of s other block) event.Store h.0 h.1).0,
+  )
+    where
+      blind : keeps (state_of s other block) ≡ true → ⊥
+      blind keeping =
+          let held = state_of s core block in
+          let within = keeper_within core block (hit_keeps s.protocol held event.Store writes.0 writes.1).0 in
+          let good = g.blocks block within.1 in
+          let ow = owns good.owner core in
+          let owning = (and_parts ow _ (ask_rule AskTests.ask_store_owns s.protocol good.claims.shared ow (own_open (picture_of s block).transaction core)
+          held (op.Store 0) (record { action = action.Hit; next = writes.0 }) (good.states core within.0) writes.1)).0 in
+          both_ways _ (one_writer good core owning other (keeper_within other block keeping).0 apart) keeping
 
   -- each reader keeps flat memory's value
   pub readers_current : (core block : ℕ) → MayLoad s.protocol (state_of s core block) → (held_by (picture_of s block) core).kept ≡ Some (flat_words s.log block)
-  readers_current core block = each_line core block (λ x. MayLoad s.protocol x.state → x.kept ≡ Some (flat_words s.log block))
-      (λ within reads. (g.blocks block within.1).kept core within.0 (hit_keeps s.protocol (state_of s core block) event.Load reads.0 reads.1).0)
-      (λ reads. absurd (never_hits s.protocol event.Load reads.0 reads.1))
+  readers_current core block reads =
+      let keeping = (hit_keeps s.protocol (state_of s core block) event.Load reads.0 reads.1).0 in
+      let within = keeper_within core block keeping in
+      (g.blocks block within.1).kept core within.0 keeping
 
   -- no core keeps words that it may not read
   pub kept_read : (core block : ℕ) → IsSome (held_by (picture_of s block) core).kept → MayLoad s.protocol (state_of s core block)
   unfolding fits
-  kept_read core block = each_line core block (λ x. IsSome x.kept → MayLoad s.protocol x.state)
-      (λ within is. let good = g.blocks block within.1 in
-      keeper_loads s.protocol (state_of s core block) (and_parts _ _ (good.states core within.0)).0 (sym (good.proper core within.0).kept ∙ is))
-      (λ is. cc)
+  kept_read core block is =
+      let within = held_within core block (λ x. IsSome x.kept) (λ h. cc) is in
+      let good = g.blocks block within.1 in
+      keeper_loads s.protocol (state_of s core block) (and_parts _ _ (good.states core within.0)).0 (sym (good.proper core within.0).kept ∙ is)
 
   -- data under way has flat memory's value
   pub data_current : (block : ℕ) → block < s.shape.blocks → IfSome (data_under_way (picture_of s block).transaction) (λ words. words ≡ flat_words s.log block)
@@ -169,7 +157,7 @@ module _ (s : Situation) (g : Invariant s) where
       let picture : Picture = picture_of s block in
       let it = g.blocks block within in
       it.fresh (resting_rule s.protocol picture.memory.state (talk_of picture.transaction) it.claims it.is_claims
-      (nobody_owns s.protocol s.shape.cores (flat_words s.log block) picture it idle it.owner refl) (no_data picture.transaction none))
+      (nobody_owns it idle) (no_data picture.transaction none))
 
   -- an open transaction is of a block within the shape
   opened_within : (block : ℕ) (o : Open) → (picture_of s block).transaction ≡ Some o → block < s.shape.blocks
@@ -203,7 +191,7 @@ module _ (s : Situation) (g : Invariant s) where
 
   -- a core that waits is within the shape, and so is its block
   pub waits_within : (core block : ℕ) (q : Request) → Waits s core block q → IsWithin s core block
-  waits_within core block q = each_line core block (λ x. waiting_request x.state ≡ Some q → IsWithin s core block) (λ within waits. within) (λ waits. cc)
+  waits_within core block q = held_within core block (λ x. waiting_request x.state ≡ Some q) (λ h. cc)
 
   possible_order : (core block : ℕ) (q : Request) → CanOrder s core block q → Possible s.protocol (picture_of s block) core q
   possible_order core block q ready =
@@ -247,7 +235,7 @@ module _ (s : Situation) (g : Invariant s) where
   finds_cache (Ask asker on word asking) core block event looks = rw looks.3 (asked_row core block asking looks.2)
   finds_cache (Order requestor) core block event looks = rw looks.1.1 (seen_row requestor block looks.0 looks.1.0 core)
   finds_cache (Respond on) core block event (closing, looks) =
-      rw (looks.4, looks.2) (has_row s.protocol (state_of s closing.core block) (arrival closing.payload)
+      rw (looks.4, looks.2) (has_row (row_for s.protocol (state_of s closing.core block)) refl (arrival closing.payload)
       ((response_possible block closing looks.1).requestor (not_put closing.request looks.3)))
 
   finds_memory : (step : Step) (block : ℕ) (event : Option MemEvent) → ConsultsMemory s step block event → IsSomeAnd event (HasMemRow s.protocol (picture_of s block).memory.state)
@@ -256,7 +244,7 @@ module _ (s : Situation) (g : Invariant s) where
       let x = possible_order requestor block looks.0 looks.1.0 in
       rw looks.1.1 (x.cell_of_memory, x.memory_row)
   finds_memory (Respond on) block event (closing, looks) =
-      rw looks.3 (has_mem_row s.protocol (picture_of s block).memory.state (arrival_at_memory closing.payload) ((response_possible block closing looks.1).memory looks.2))
+      rw looks.3 (has_row (memory_row_for s.protocol (picture_of s block).memory.state) refl (arrival_at_memory closing.payload) ((response_possible block closing looks.1).memory looks.2))
 
   -- no step meets an impossible cell
   pub finds_rows : (step : Step) → FindsRows s step

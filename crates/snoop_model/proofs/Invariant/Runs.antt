@@ -1,27 +1,22 @@
 -- The invariant holds at reset, and after each step of a run.
-use Rattle.std.proofs.Common.{Some, ◌≡◌, ℕ, zero, suc, map, ◌+◌, ◌<◌, List, [], ◌∷◌, replicate, Bool, true, false, None, refl, inl, inr, ap, sym, arith}
-use Rattle.std.specs.Prelude.{Result, Ok, Err}
-use Rattle.std.proofs.lemmas.Bool.{cases_lt}
+use Rattle.std.proofs.Common.{Option, Some, ◌≡◌, ℕ, ◌<◌, [], replicate, Bool, true, false, None, refl, inl, inr, arith}
 use Rattle.std.proofs.lemmas.List.{length-replicate, get_or-replicate, get_or_past}
 use Rattle.std.proofs.lemmas.List.Elements.{All-nil}
-use Rattle.std.proofs.lemmas.Option.{none-some}
-use Rattle.std.specs.List.{range_with_len}
-use Rattle.snoop_model.proofs.Common.{Extent, Protocol, Step, Reply, Refused, Picture, first_memory, held_by, nothing_held, Situation, picture_of, reset, untouched, nothing_there, IsProper, IsWithin}
-use Rattle.snoop_trace.specs.Words.{IsWord, zero_words}
-use Rattle.snoop_history.specs.History.{flat, flat_words}
+use Rattle.snoop_model.proofs.Common.{MoveOn, Access, BlockInvariant, cases_lt, Err, Extent, first_memory, flat_words, Goes, held_by, Invariant, IsProper, IsShaped, IsWithin, IsWord, none-some, nothing_held, nothing_there, Ok, option_map, Picture, picture_of, Protocol, Refused, Reply, request_for, reset, Result, Situation, Step, untouched, zero_words}
 use Rattle.snoop_trace.specs.declared.protocol.Protocol.TheVariants as protocol
 use Rattle.snoop_rules.specs.declared.names.CacheState.TheVariants.{I}
 use Rattle.snoop_model.specs.declared.replies.Refused.TheVariants.{NoMemory}
-use Rattle.snoop_model.specs.Runs.Run.{Goes}
 use Rattle.snoop_model.specs.Invariant.Fits.{claims_of, is_owner, is_sharer, is_clean, wait_fits, in_protocol, same, fits}
-use Rattle.snoop_model.specs.Invariant.Block.{BlockInvariant}
-use Rattle.snoop_model.specs.Invariant.Invariant.{Invariant}
-use Rattle.snoop_model.specs.Invariant.WellKept.{IsShaped}
 use Rattle.snoop_model.proofs.Lists.Facts.{replicated}
 use Rattle.snoop_model.proofs.Invariant.Moves.{move_keeps}
 
 pub nothing_proper : IsProper nothing_held
 nothing_proper = record { kept = refl; waiting = refl }
+
+-- in a line whose state has missed nothing no operation waits
+pub nothing_waits : (waiting : Option Access) → option_map (λ access. request_for access.op) waiting ≡ None → waiting ≡ None
+nothing_waits None h = refl
+nothing_waits (Some access) h = cc
 
 -- where the block's value is at reset: with memory, and with each sharer under MSI
 first_claims : (p : Protocol) → (shared : Bool) × (claims_of p (first_memory p) None ≡ Some (record { owned = false; shared = shared; fresh = true }))
@@ -79,11 +74,7 @@ reset_shaped p shape = record {
 
 -- flat memory at reset
 flat_reset : (block : ℕ) → flat_words [] block ≡ zero_words
-flat_reset block = sym (replicate-map 64 0)
-  where
-    replicate-map : (n a : ℕ) → replicate n 0 ≡ map (flat [] block) (range_with_len a n)
-    replicate-map zero a = refl
-    replicate-map (suc n) a = ap (λ (l : List ℕ). 0 ∷ l) (replicate-map n (a + 1))
+flat_reset block = refl
 
 pub reset_invariant : (p : Protocol) (shape : Extent) → Invariant (reset p shape)
 reset_invariant p shape = record {
@@ -99,6 +90,11 @@ pub refusal_same : (old : Situation) (step : Step) (cause : Refused) (new : Situ
 refusal_same old step NoMemory new r = r
 refusal_same old step cause new r = r.1
 
+-- what each move keeps, each step keeps
+pub goes_kept : (Q : Situation → Type 0) → ((block : ℕ) (s : Situation) (step : Step) (answer : Reply) (t : Situation) → Q s → MoveOn block s step answer t → Q t)
+    → (old : Situation) (step : Step) (outcome : Result Reply Refused) (new : Situation) → Q old → Goes old step outcome new → Q new
+goes_kept Q keeps old step (Ok answer) new holds m = keeps m.0 old step answer new holds m.1
+goes_kept Q keeps old step (Err cause) new holds r = rw (refusal_same old step cause new r) holds
+
 pub goes_keeps : (old : Situation) (step : Step) (outcome : Result Reply Refused) (new : Situation) → Invariant old → Goes old step outcome new → Invariant new
-goes_keeps old step (Ok answer) new g m = move_keeps m.0 old step answer new g m.1
-goes_keeps old step (Err cause) new g r = rw (refusal_same old step cause new r) g
+goes_keeps = goes_kept Invariant move_keeps

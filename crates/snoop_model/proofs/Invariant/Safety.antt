@@ -1,39 +1,139 @@
 -- What every machine keeps makes it safe, and its steps keep it.
-use Rattle.std.proofs.Common.{ℕ, List, ◌<◌, ◌≤◌, arith, ap, Option, sym, ◌∙◌, refl, Some, None}
-use Rattle.std.specs.Prelude.{◌≡◌, option_map, Result, Ok, Err, IfSome, is_some}
-use Rattle.std.proofs.lemmas.Option.{same_Some}
-use Rattle.snoop_model.proofs.Common.{Extent, Protocol, Step, Reply, Refused, held_by, Situation, picture_of, state_of, reset, IsProper, keeps, MoveOn}
-use Rattle.snoop_history.specs.History.{flat}
+use Rattle.std.proofs.Common.{◌≡◌, ℕ, List, ◌<◌, ◌≤◌, ◌++◌, Option, Some, None, refl, ap, sym, ◌∙◌, arith, inl, inr, ◌⊎◌, true}
+use Rattle.snoop_model.proofs.Common.{arrival_at_memory, Ask, asked, CacheAction, CacheCell, CacheState, Cell, cell_of, Err, Extent, flat, flat_words, get_or-set_same, Goes, HasOpen, held_by, IfSome, Invariant, is_some, IsOpenByTable, IsProper, IsSenderLine, IsWellKept, Item, keeps, Line, MoveOn, nothing_held, Ok, Op, option_map, option_to_list, Order, Orders, Picture, picture_of, Protocol, queues_after, Refused, Refuses, Reply, Request, reset, Respond, Result, RunBy, same_Some, Situation, state_of, Step, Takes, takes_payload, Waits, with_line, with_picture, word_at}
+use Rattle.snoop_trace.specs.declared.step.Op.TheVariants as op
+use Rattle.snoop_trace.specs.declared.protocol.Protocol.TheVariants.{Msi, Mesi}
+use Rattle.snoop_rules.specs.declared.names.CacheState.TheVariants as state
+use Rattle.snoop_rules.specs.declared.names.CacheAction.TheVariants as action
+use Rattle.snoop_model.specs.declared.replies.Reply.TheVariants.{Gone}
+use Rattle.snoop_model.specs.declared.replies.Refused.TheVariants.{Stalled}
 use Rattle.snoop_model.specs.Coherent.{IsCoherent}
-use Rattle.snoop_model.specs.Runs.Run.{Goes, RunBy}
-use Rattle.snoop_model.specs.Invariant.Invariant.{Invariant}
-use Rattle.snoop_model.specs.Invariant.WellKept.{IsWellKept}
-use Rattle.snoop_model.specs.Invariant.MachineKeeps.{AreOnSenderLines, MachineKeeps}
 use Rattle.snoop_model.specs.Runs.Safe.{IsSafe}
-use Rattle.snoop_model.proofs.Invariant.TableLines.{order_is_line, open_is_by_table, reset_on_lines, move_on_lines}
-use Rattle.snoop_model.proofs.Invariant.Coherence.{has_one_writer, kept_read, readers_current, data_current, memory_current, names_its_block, data_awaited, each_line, finds_rows}
-use Rattle.snoop_model.proofs.Invariant.Served.{clean_in_memory, stall_waits, gone_leaves}
-use Rattle.snoop_model.proofs.Invariant.Runs.{reset_invariant, nothing_proper, refusal_same}
-use Rattle.snoop_model.proofs.Runs.GoOn.{moves_on}
-use Rattle.snoop_model.proofs.Steps.GoesNext.{order_made}
+use Rattle.snoop_model.specs.Invariant.Fits.{is_clean}
+use Rattle.snoop_model.specs.Invariant.MachineKeeps.{AreOnSenderLines, MachineKeeps}
+use Rattle.snoop_model.proofs.Lists.Facts.{if_some}
+use Rattle.snoop_model.proofs.Tables.Rows.{IsProper-drop}
+use Rattle.snoop_model.proofs.Tables.SentBy.{sends_is}
+use Rattle.snoop_model.proofs.OneBlock.AfterMoves.{ask_line, respond_here}
+use Rattle.snoop_model.proofs.OneBlock.OfBlocks.{in_pictures, each_picture, picture_here}
+use Rattle.snoop_model.proofs.Invariant.Coherence.{has_one_writer, kept_read, readers_current, data_current, memory_current, names_its_block, data_awaited, each_line, held_within, finds_rows, orders_follow_sender_table}
+use Rattle.snoop_model.proofs.Invariant.Moves.{word_flat, move_keeps}
+use Rattle.snoop_model.proofs.Invariant.Runs.{reset_invariant, reset_open, nothing_proper, nothing_waits, goes_kept}
 use Rattle.snoop_model.proofs.Queues.Moves.{on_kept, starts_well}
-use Rattle.snoop_model.proofs.Invariant.Moves.{move_keeps}
-use Rattle.snoop_model.proofs.Invariant.FlatMemory.{word_flat}
-use Rattle.snoop_trace.specs.Words.{word_at}
 use Rattle.snoop_model.proofs.Runs.Along.{kept_along}
+use Rattle.snoop_model.proofs.Runs.GoOn.{moves_on}
+use Rattle.snoop_model.proofs.Steps.GoesNext.{order_made, settled_is}
+use Rattle.snoop_model.proofs.Turns.WaitingWorks.{stall_busy, busy_cases}
 
--- each line keeps and awaits what its state says
-pub all_proper : (s : Situation) → Invariant s → (core block : ℕ) → IsProper (held_by (picture_of s block) core)
-all_proper s g core block = each_line s g core block IsProper (λ within. (g.blocks block within.1).proper core within.0) nothing_proper
+-- a drop at an Evict leaves the block in I
+drop_leaves : (p : Protocol) (s : CacheState) (n : CacheState) → Cell p s (asked op.Evict) action.Drop n → n ≡ state.I
+drop_leaves p s n row = left p s (ap (option_map (λ (c : CacheCell). c.action)) row) (ap (option_map (λ (c : CacheCell). c.next)) row)
+  where
+    left : (p : Protocol) (s : CacheState) → option_map (λ c. c.action) (cell_of p s (asked op.Evict)) ≡ Some action.Drop
+        → option_map (λ c. c.next) (cell_of p s (asked op.Evict)) ≡ Some n → n ≡ state.I
+    left Msi state.S act next = cc
+    left Mesi state.S act next = cc
+    left _ _ act next = cc
 
--- a word that a core keeps has its value in flat memory
-pub kept_is_flat : (s : Situation) → Invariant s → s.shape.words ≤ 64 → (core block word : ℕ) → (found : Option ℕ) → IfSome found (λ _. (core < s.shape.cores) × (block < s.shape.blocks) × (word < s.shape.words))
-    → (core < s.shape.cores → block < s.shape.blocks → word < s.shape.words → found ≡ option_map (λ ws. word_at ws word) (held_by (picture_of s block) core).kept)
-    → (core < s.shape.cores → block < s.shape.blocks → word < s.shape.words → is_some found ≡ keeps (state_of s core block)) → IfSome found (λ value. value ≡ flat s.log block word)
-kept_is_flat s g few core block word None within inside readable = tt
-kept_is_flat s g few core block word (Some value) within inside readable =
-    let kept = (g.blocks block within.1).kept core within.0 (sym (readable within.0 within.1 within.2)) in
-    same_Some _ _ (inside within.0 within.1 within.2 ∙ ap (λ o. option_map (λ (ws : List ℕ). word_at ws word) o) kept) ∙ word_flat s.log block word (omega (arith, few, within.2))
+-- each open transaction is on a line
+abbrev OnLine : Protocol → Picture → Type 0
+OnLine p picture = IfSome picture.transaction (λ o. (before : Picture) × IsSenderLine p before o.core o.request o.from o.payload picture.memory.state)
+
+module _ (s : Situation) (g : Invariant s) where
+  -- each line keeps and awaits what its state says
+  pub all_proper : (core block : ℕ) → IsProper (held_by (picture_of s block) core)
+  all_proper core block = each_line s g core block IsProper (λ within. (g.blocks block within.1).proper core within.0) nothing_proper
+
+  -- a word that a core keeps has its value in flat memory
+  pub kept_is_flat : s.shape.words ≤ 64 → (core block word : ℕ) → (found : Option ℕ) → IfSome found (λ _. (core < s.shape.cores) × (block < s.shape.blocks) × (word < s.shape.words))
+      → (core < s.shape.cores → block < s.shape.blocks → word < s.shape.words → found ≡ option_map (λ ws. word_at ws word) (held_by (picture_of s block) core).kept)
+      → (core < s.shape.cores → block < s.shape.blocks → word < s.shape.words → is_some found ≡ keeps (state_of s core block)) → IfSome found (λ value. value ≡ flat s.log block word)
+  kept_is_flat few core block word None within inside readable = tt
+  kept_is_flat few core block word (Some value) within inside readable =
+      let kept = (g.blocks block within.1).kept core within.0 (sym (readable within.0 within.1 within.2)) in
+      same_Some _ _ (inside within.0 within.1 within.2 ∙ ap (λ o. option_map (λ (ws : List ℕ). word_at ws word) o) kept) ∙ word_flat s.log block word (omega (arith, few, within.2))
+
+  -- of a clean copy memory has the words
+  pub clean_in_memory : (core block : ℕ) → (state_of s core block ≡ state.E) ⊎ (state_of s core block ≡ state.EiA) → (picture_of s block).memory.value ≡ flat_words s.log block
+  unfolding is_clean
+  clean_in_memory core block clean =
+      let is : is_clean (state_of s core block) ≡ true = elim clean [ inl e ↦ rw e refl | inr e ↦ rw e refl ] in
+      let within = held_within s g core block (λ x. is_clean x.state ≡ true) (λ h. cc) is in
+      (g.blocks block within.1).clean core within.0 is
+
+  -- an operation is stalled only where the core's request for the block waits or is open
+  pub stall_waits : IsWellKept s → (core block word : ℕ) (asking : Op) (state : CacheState) → Refuses s (Ask core block word asking) (Stalled state)
+      → (request : Request) × (Waits s core block request ⊎ HasOpen s core block request)
+  stall_waits kept core block word asking state stalled =
+      elim (busy_cases (state_of s core block) (stall_busy s.protocol (state_of s core block) (asked asking) stalled.2.0 stalled.2.1)) [
+        | inl waits ↦ (waits.0, inl waits.1)
+        | inr awaits ↦ (awaits.0, inr (kept.awaits core block awaits.0 awaits.1))
+      ]
+
+  -- an eviction that is answered Gone leaves nothing
+  pub gone_leaves : (core block word : ℕ) (new : Situation) → MoveOn block s (Ask core block word op.Evict) Gone new → held_by (picture_of new block) core ≡ nothing_held
+  gone_leaves core block word new m = elim m.moves [
+    | inl absent ↦ (let clash = absent.2 in cc)
+    | inr a ↦ ask_line s core block word op.Evict Gone new g m.within a ∙ left a.row.action a.row.next a.is_row a.held a.entry a.taken
+  ]
+    where
+      left : (act : CacheAction) (next : CacheState) → Cell s.protocol (state_of s core block) (asked op.Evict) act next → (held : Line) (entry : Option Item)
+          → Takes act next s.log core block word op.Evict (held_by (picture_of s block) core) held Gone entry → held ≡ nothing_held
+      left action.Hit next row held entry t = (let clash = t.1.1 in cc)
+      left (action.Issue request) next row held entry t = (let clash = t.1 in cc)
+      left action.Drop next row held entry t =
+          let old = held_by (picture_of s block) core in
+          let gone = drop_leaves s.protocol old.state next row in
+          let proper = rw gone at (IsProper-drop s.protocol old (asked op.Evict) next (all_proper core block) row) in
+          rw (t.0, gone, nothing_waits old.waiting proper.waiting) refl
+      left _ next row held entry t = absurd t
+
+  -- an Order is a line of the table
+  pub order_is_line : (core block : ℕ) (q : Request) (new : Situation) (made : Orders s core block q new) → IsSenderLine s.protocol (picture_of s block) core q made.from made.payload made.next.memory.state
+  order_is_line core block q new o =
+      let p = s.protocol in
+      let before : Picture = picture_of s block in
+      let f = orders_follow_sender_table s g core block q o.ready in
+      let from : f.from ≡ o.from = o.sent.alone f.from f.payload f.sent.sends in
+      let sends = sends_is p before core q f.from f.payload f.sent.sends in
+      let same : f.payload ≡ o.payload = cc (sends, sends_is p before core q o.from o.payload o.sent.sends) in
+      let memory : f.next ≡ o.next.memory.state = cc (f.ordered.1, f.ordered.2, o.memory.1, o.memory.2) in
+      rw (← from, ← same, ← memory) f.is_line
+
+  -- a Respond taken next closes the transaction and leaves memory in the last state of its line
+  pub open_is_by_table : AreOnSenderLines s → (block : ℕ) → IfSome (picture_of s block).transaction (IsOpenByTable s block)
+  open_is_by_table lines block = if_some (picture_of s block).transaction (IsOpenByTable s block) (λ o is.
+      let memory = (picture_of s block).memory.state in
+      let line = rw is at (lines block) in
+      record {
+        before = line.0;
+        on_line = line.1;
+        settled = λ answer new m.
+            let r = m.responds in
+            let there : picture_of new block ≡ r.next = respond_here s block m.closing m.did new g m.within r in
+            let same : m.closing ≡ o = same_Some _ _ (sym r.opened ∙ is) in
+            let settles = rw same at r.memory.settled in
+            let settled = settled_is (takes_payload o.request memory) s.protocol (arrival_at_memory o.payload) memory in
+            let done = settled r.memory.act r.next.memory.state settles ∙ sym (settled line.1.act line.1.done line.1.settled) in
+            rw there (r.closed, ap (λ x. x.1) done);
+      })
+
+  on_lines : AreOnSenderLines s → (block : ℕ) → block < s.shape.blocks → (next : Picture) → OnLine s.protocol next → AreOnSenderLines (with_picture s block next)
+  on_lines lines block within next here =
+      each_picture s block next s.queues s.log (λ b. OnLine s.protocol) (in_pictures s block g.shaped within) (λ b apart. lines b) here
+
+-- a move keeps the lines: an Ask changes neither memory nor a transaction
+pub move_on_lines : (block : ℕ) (old : Situation) (step : Step) (answer : Reply) (new : Situation) → Invariant old → AreOnSenderLines old → MoveOn block old step answer new → AreOnSenderLines new
+move_on_lines block old (Ask core on word asking) answer new g lines m = elim m.moves [
+  | inl absent ↦ rw absent.3 lines
+  | inr a ↦ rw a.after (on_lines old g lines block m.within.1 (with_line (picture_of old block) core a.held) (lines block))
+]
+move_on_lines block old (Order core) answer new g lines m =
+    let o = m.orders in
+    rw o.after (on_lines old g lines block m.within.1 o.next
+    (rw o.opened (picture_of old block, order_is_line old g core block m.request new o)))
+move_on_lines block old (Respond on) answer new g lines m =
+    rw m.responds.after (on_lines old g lines block m.within m.responds.next (rw m.responds.closed tt))
 
 -- the invariant, open transactions on lines of the table, and queues and transactions as the states say make a situation coherent
 pub is_coherent : (s : Situation) → Invariant s → AreOnSenderLines s → IsWellKept s → IsCoherent s
@@ -78,7 +178,7 @@ well_kept_in s safe = record {
 pub reset_keeps : (protocol : Protocol) (shape : Extent) → MachineKeeps (reset protocol shape)
 reset_keeps protocol shape = record {
   inductive = reset_invariant protocol shape;
-  on_lines = reset_on_lines protocol shape;
+  on_lines = λ block. rw (reset_open protocol shape block) tt;
   well_kept = (starts_well protocol shape (λ core. None)).0;
 }
 
@@ -90,11 +190,7 @@ move_keeps_all block old new step answer keeps move = record {
   well_kept = on_kept block old new step answer keeps.well_kept move;
 }
 
-goes_keeps_all : (old new : Situation) (step : Step) (outcome : Result Reply Refused) → MachineKeeps old → Goes old step outcome new → MachineKeeps new
-goes_keeps_all old new step (Ok answer) keeps move = move_keeps_all move.0 old new step answer keeps move.1
-goes_keeps_all old new step (Err cause) keeps refused = rw (refusal_same old step cause new refused) keeps
-
 -- so does a run
 pub run_keeps_all : (steps : List Step) (outcomes : List (Result Reply Refused)) (old new : Situation) → MachineKeeps old → RunBy Goes old steps outcomes new
     → MachineKeeps new
-run_keeps_all = kept_along Goes MachineKeeps (λ s step outcome t keeps goes. goes_keeps_all s t step outcome keeps goes)
+run_keeps_all = kept_along Goes MachineKeeps (goes_kept MachineKeeps (λ block s step answer t. move_keeps_all block s t step answer))

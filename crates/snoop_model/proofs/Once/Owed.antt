@@ -5,16 +5,12 @@ use Rattle.std.specs.List.Sorted.{IsPermutation}
 use Rattle.std.specs.List.{cons_option}
 use Rattle.std.proofs.lemmas.List.Sorted.{Contains-permutation, IsPermutation-sym}
 use Rattle.std.proofs.lemmas.List.Elements.{Contains-append_left, Contains-append_right, Contains-append_cases}
-use Rattle.std.proofs.lemmas.List.{append_cancel_left}
+use Rattle.std.proofs.lemmas.List.{append_cancel_left, map-append}
 use Rattle.std.proofs.lemmas.Bool.{cases_Bool, eqb-true}
-use Rattle.std.proofs.lemmas.Option.{same_Some}
-use Rattle.snoop_model.proofs.Common.{Step, Did, Item, Access, Reply, held_by, Situation, picture_of, FirstMove}
-use Rattle.snoop_history.specs.History.{answers_of, last_or}
-use Rattle.snoop_history.proofs.Pushed.{answers_of-push, of_core}
-use Rattle.snoop_model.specs.Runs.Once.{asked_access, did_access, waiting_at, OnceMore}
-use Rattle.snoop_model.specs.Runs.Owed.{IsLast, IsOwed, Owes}
+use Rattle.snoop_model.proofs.Common.{Access, answers_of, Ask, asked_access, came_of, Did, did_access, FirstMove, held_by, IsLast, IsOwed, Item, OnceMore, Order, Owes, picture_of, Reply, Respond, same_Some, Situation, Step, waiting_at}
+use Rattle.snoop_model.proofs.Runs.Shape.{on_stays}
+use Rattle.snoop_history.proofs.Pushed.{answers_of-push, last_or-append, of_core}
 use Rattle.snoop_model.proofs.OneBlock.Operation.{did_in}
-use Rattle.snoop_model.proofs.Runs.Logged.{move-log}
 
 -- a core's operations with one item more
 pub answers_are : (log : List Item) (entry : Option Item) (core : ℕ) → answers_of (log ++ option_to_list entry) core ≡ answers_of log core ++ of_core core (did_in entry)
@@ -25,10 +21,6 @@ pub one_or_none : (core : ℕ) (o : Option Did) → (of_core core o ≡ []) ⊎ 
 one_or_none core None = inl refl
 one_or_none core (Some d) = elim (cases_Bool (d.core == core)) [ inl e ↦ inr (d, rw e refl) | inr e ↦ inl (rw e refl) ]
 
-last_push : (o : Option Did) (xs : List Did) (d : Did) → last_or o (map (λ x. Some x) (xs ++ d ∷ [])) ≡ Some d
-last_push o [] d = refl
-last_push o (x ∷ xs) d = last_push (Some x) xs d
-
 one_in : (o : Option Access) (wanted : Access) → o ≡ Some wanted → Contains (option_to_list o) wanted
 one_in o wanted is = rw is (zero, omega arith, refl)
 
@@ -37,18 +29,27 @@ in_one None wanted h = absurd (omega (arith, h.1))
 in_one (Some x) wanted (zero, inside, is) = ap Some is
 in_one (Some x) wanted (suc k, inside, is) = absurd (omega (arith, inside))
 
-cons_one : (o : Option Access) → cons_option o [] ≡ option_to_list o
+pub cons_one : (o : Option Access) → cons_option o [] ≡ option_to_list o
 cons_one None = refl
 cons_one (Some x) = refl
 
+-- what a permutation of two lists has in one of them it has in one of the two others
+either_side : (xs ys zs ws : List Access) (wanted : Access) → IsPermutation (xs ++ ys) (zs ++ ws) → Contains xs wanted ⊎ Contains ys wanted → Contains zs wanted ⊎ Contains ws wanted
+either_side xs ys zs ws wanted same now = Contains-append_cases zs ws wanted (Contains-permutation _ _ wanted same (elim now [
+  | inl l ↦ Contains-append_left xs ys wanted l
+  | inr r ↦ Contains-append_right xs ys wanted r
+]))
+
 -- the operation that a move performs, if any
 abbrev pub performed_by : (s t : Situation) (step : Step) (answer : Reply) → FirstMove s step answer t → Option Did
-performed_by s t step answer move = did_in (move-log s t step answer move).0
+performed_by s t step answer move = did_in (on_stays move.0 s t step answer move.1.1).1.0
 
 module _ (s t : Situation) (step : Step) (answer : Reply) (move : FirstMove s step answer t) (once : OnceMore s (step ∷ []) (Ok answer ∷ []) t) (core block : ℕ) (wanted : Access) where
   -- the core's operations after it
   pub answers_after : answers_of t.log core ≡ answers_of s.log core ++ of_core core (performed_by s t step answer move)
-  answers_after = ap (λ (l : List Item). answers_of l core) (move-log s t step answer move).1 ∙ answers_are s.log (move-log s t step answer move).0 core
+  answers_after =
+      let logged = (on_stays move.0 s t step answer move.1.1).1 in
+      ap (λ (l : List Item). answers_of l core) logged.1 ∙ answers_are s.log logged.0 core
 
   -- those of them on the block
   abbrev done_here : List Access
@@ -56,50 +57,34 @@ module _ (s t : Situation) (step : Step) (answer : Reply) (move : FirstMove s st
 
   balance : IsPermutation (waiting_at s core block ++ option_to_list (asked_access core block step)) (done_here ++ waiting_at t core block)
   balance =
-      let logged = move-log s t step answer move in
+      let logged = (on_stays move.0 s t step answer move.1.1).1 in
       let since = append_cancel_left s.log once.since (option_to_list logged.0) (sym once.log ∙ logged.1) in
       rw (since, answers_are [] logged.0 core, cons_one (asked_access core block step)) at (once.once core block)
 
   -- an operation that the move performs, or that waits after it, waited before it or is asked by it
   pub waited_or_asked : Contains done_here wanted ⊎ ((held_by (picture_of t block) core).waiting ≡ Some wanted)
       → ((held_by (picture_of s block) core).waiting ≡ Some wanted) ⊎ (asked_access core block step ≡ Some wanted)
-  waited_or_asked now =
-      let there : Contains (done_here ++ waiting_at t core block) wanted = elim now [
-        | inl did ↦ Contains-append_left done_here (waiting_at t core block) wanted did
-        | inr waits ↦ Contains-append_right done_here (waiting_at t core block) wanted (one_in _ wanted waits)
-      ] in
-      let was = Contains-permutation _ _ wanted (IsPermutation-sym _ _ balance) there in
-      elim (Contains-append_cases (waiting_at s core block) (option_to_list (asked_access core block step)) wanted was) [
-        | inl waited ↦ inl (in_one _ wanted waited)
-        | inr asked ↦ inr (in_one _ wanted asked)
-      ]
-
-  -- what waited before it, or is asked by it, is performed by it or waits
-  done_or_waits : ((held_by (picture_of s block) core).waiting ≡ Some wanted) ⊎ (asked_access core block step ≡ Some wanted)
-      → Contains done_here wanted ⊎ ((held_by (picture_of t block) core).waiting ≡ Some wanted)
-  done_or_waits was =
-      let asked = option_to_list (asked_access core block step) in
-      let there : Contains (waiting_at s core block ++ asked) wanted = elim was [
-        | inl waited ↦ Contains-append_left (waiting_at s core block) asked wanted (one_in _ wanted waited)
-        | inr is ↦ Contains-append_right (waiting_at s core block) asked wanted (one_in _ wanted is)
-      ] in
-      elim (Contains-append_cases done_here (waiting_at t core block) wanted (Contains-permutation _ _ wanted balance there)) [
-        | inl did ↦ inl did
-        | inr waits ↦ inr (in_one _ wanted waits)
-      ]
+  waited_or_asked now = elim (either_side _ _ _ _ wanted (IsPermutation-sym _ _ balance) (elim now [ inl did ↦ inl did | inr waits ↦ inr (one_in _ wanted waits) ])) [
+    | inl waited ↦ inl (in_one _ wanted waited)
+    | inr asked ↦ inr (in_one _ wanted asked)
+  ]
 
   -- what the move performs is then the core's last operation
   is_last : Contains done_here wanted → IsLast t core block wanted
   is_last here = elim (one_or_none core (performed_by s t step answer move)) [
     | inl none ↦ absurd (omega (arith, (rw none at here).1))
     | inr (d, is) ↦ elim (cases_Bool (d.block == block)) [
-      | inl on ↦ (d, rw (answers_after, is) (last_push None (answers_of s.log core) d), eqb-true d.block block on, same_Some _ _ (in_one (Some (did_access d)) wanted (rw (is, on) at here)))
+      | inl on ↦ (d, rw (answers_after, is, map-append Some (answers_of s.log core) (d ∷ []), last_or-append None (map Some (answers_of s.log core)) (Some d ∷ [])) refl, eqb-true d.block block on, same_Some _ _ (in_one (Some (did_access d)) wanted (rw (is, on) at here)))
       | inr off ↦ absurd (omega (arith, (rw (is, off) at here).1))
     ]
   ]
 
+  -- and what waited before it, or is asked by it, is performed by it or waits
   pub owed_after : ((held_by (picture_of s block) core).waiting ≡ Some wanted) ⊎ (asked_access core block step ≡ Some wanted) → IsOwed t core block wanted
-  owed_after was = elim (done_or_waits was) [ inl here ↦ inr (is_last here) | inr waits ↦ inl waits ]
+  owed_after was = elim (either_side _ _ _ _ wanted balance (elim was [ inl waited ↦ inl (one_in _ wanted waited) | inr asked ↦ inr (one_in _ wanted asked) ])) [
+    | inl here ↦ inr (is_last here)
+    | inr waits ↦ inl (in_one _ wanted waits)
+  ]
 
 pub owes : Owes
 owes s t step answer move once core block wanted was = owed_after s t step answer move once core block wanted was

@@ -1,160 +1,176 @@
 -- Each load and store that a run asks is done once, or waits.
-use Rattle.std.proofs.Common.{◌≡◌, ℕ, ◌<◌, false, ◌&&◌, cond, eqb, List, [], ◌∷◌, ◌++◌, length, Option, Some, refl, inl, inr, ap, sym, ◌∙◌, arith, append-nil, append_assoc}
-use Rattle.std.specs.Prelude.{◌==◌, option_to_list, slice_set, filter, filter_map, Result, Ok, Err}
+use Rattle.std.proofs.Common.{◌≡◌, ℕ, Bool, true, false, ◌<◌, ◌&&◌, cond, eqb, List, [], ◌∷◌, ◌++◌, length, Option, Some, None, refl, inl, inr, ap, sym, ◌∙◌, arith, append-nil, append_assoc}
+use Rattle.std.specs.Prelude.{◌==◌, ⊤, option_to_list, map, filter, filter_map, slice_set, Result, Ok, Err}
 use Rattle.std.specs.List.Sorted.{IsPermutation}
-use Rattle.std.proofs.lemmas.List.Sorted.{IsPermutation-refl, IsPermutation-trans, IsPermutation-append_left, IsPermutation-append_right}
-use Rattle.std.proofs.lemmas.Bool.{cases_lt, eq-eqb, ne_eqb}
-use Rattle.std.proofs.lemmas.List.{get_or_past, map-append}
+use Rattle.std.proofs.lemmas.List.Sorted.{IsPermutation-refl, IsPermutation-trans, IsPermutation-append_comm, IsPermutation-append_left, IsPermutation-append_right}
 use Rattle.std.proofs.lemmas.List.Elements.{filter-append, filter_map-append}
 use Rattle.snoop_model.proofs.Lists.Writes.{each_set}
 use Rattle.snoop_model.proofs.Lists.Facts.{either_way}
-use Rattle.snoop_model.proofs.Common.{Extent, Protocol, Op, Step, Ask, Order, Respond, CacheState, CacheAction, Request, Did, Item, Open, after_order, Access, Reply, Refused, Line, Picture, held_at, held_by, nothing_held, with_line, Situation, picture_of, reset, Takes, FillsRequestor, Asks, Orders, Responds, IsWithin, MoveOn, came_of, kept_waiting, queues_after}
+use Rattle.snoop_model.proofs.Common.{option_map, IfSome, Access, accesses_in, after_order, answers_of, Ask, asked, asked_access, CacheAction, CacheState, came_of, cases_lt, Cell, Did, did_access, eq-eqb, Extent, FillsRequestor, get_or_past, Goes, held_at, held_by, Invariant, IsProper, Item, kept_waiting, Line, map-append, MoveOn, ne_eqb, next_did, nothing_held, Once, OnceMore, Op, Open, operation_of, operations, Order, Orders, Performs, Picture, picture_of, Protocol, queues_after, Refused, Reply, Request, reset, Respond, RunBy, Situation, Step, taken, Takes, waiting_at, with_line}
 use Rattle.snoop_trace.specs.declared.step.Op.TheVariants as op
 use Rattle.snoop_rules.specs.declared.names.CacheAction.TheVariants as action
 use Rattle.snoop_history.specs.declared.items.Item.TheVariants as item
-use Rattle.snoop_history.specs.History.{answers_of, operations, operation_of}
-use Rattle.snoop_model.specs.Runs.Run.{RunBy, Goes}
-use Rattle.snoop_model.specs.Runs.Once.{asked_access, did_access, accesses_in, waiting_at, taken, OnceMore, Once}
-use Rattle.snoop_model.specs.Invariant.Invariant.{Invariant}
+use Rattle.snoop_history.proofs.Pushed.{of_core}
+use Rattle.snoop_model.proofs.Tables.Rows.{issue-missed, drop_evicts}
 use Rattle.snoop_model.proofs.OneBlock.Operation.{did_in}
 use Rattle.snoop_model.proofs.OneBlock.OfBlocks.{changed, each_picture, in_pictures}
 use Rattle.snoop_model.proofs.Lines.Answered.{by_request}
-use Rattle.snoop_model.proofs.Once.Asks.{line_once, performed_so, IsBy, done, accesses_one, asked_one, unchanged}
-use Rattle.snoop_model.proofs.Invariant.Runs.{goes_keeps, refusal_same, reset_invariant, reset_line}
+use Rattle.snoop_model.proofs.Once.Owed.{answers_are, cons_one}
+use Rattle.snoop_model.proofs.Invariant.Runs.{nothing_waits, goes_keeps, refusal_same, reset_invariant, reset_line}
 
--- the log has these items more, and of each core and block what waited and what is asked is what they have and what waits
-record Grows (old : Situation) (since : List Item) (asked : ℕ → ℕ → List Access) (new : Situation) : Type 0 where
-  pub log : new.log ≡ old.log ++ since
-  pub once : (core block : ℕ) → IsPermutation (waiting_at old core block ++ asked core block) (accesses_in since core block ++ waiting_at new core block)
+-- the operation that was done, if any
+abbrev done : Option Did → Option Access
+done did = option_map did_access did
+
+-- the operation is this core's on this block, if there is one
+abbrev IsBy : ℕ → ℕ → Option Did → Type 0
+IsBy core block did = IfSome did (λ d. (d.core ≡ core) × (d.block ≡ block))
+
+-- what an item has of a core and block: its operation, if it is by this core on this block
+accesses_one : (core block c b : ℕ) (entry : Option Item) → IsBy c b (did_in entry) → accesses_in (option_to_list entry) core block ≡ option_to_list (cond (eqb b block && eqb c core) (done (did_in entry)) None)
+accesses_one core block c b entry by = rw (answers_are [] entry core) (of_one (did_in entry) by)
+  where
+    of_did : (did : Did) (x y : Bool) → (did.block == block) ≡ x → map did_access (filter (λ d. d.block == block) (cond y (did ∷ []) [])) ≡ option_to_list (cond (x && y) (Some (did_access did)) None)
+    of_did did true true e = rw e refl
+    of_did did false true e = rw e refl
+    of_did did true false e = refl
+    of_did did false false e = refl
+
+    of_one : (did : Option Did) → IsBy c b did → map did_access (filter (λ d. d.block == block) (of_core core did)) ≡ option_to_list (cond (eqb b block && eqb c core) (done did) None)
+    of_one None by = ap option_to_list (either_way (eqb b block && eqb c core) None)
+    of_one (Some did) by = rw (← by.0, ← by.1) (of_did did (did.block == block) (did.core == core) refl)
+
+-- where nothing is done, asked or changed, what waited waits
+unchanged : (waits : List Access) → IsPermutation (waits ++ []) waits
+unchanged waits = rw (append-nil waits) (IsPermutation-refl waits)
+
+-- the operation that was done is the one that was asked, and no eviction
+performed_so : (word : ℕ) (asking : Op) (before : List ℕ) (value : ℕ) (after : List ℕ) (log : List Item) (core block : ℕ) (hit : Bool) → Performs word asking before value after
+    → (did_access (next_did log core block word asking value hit) ≡ record { word = word; op = asking }) × (kept_waiting word asking ≡ Some (record { word = word; op = asking }))
+performed_so word op.Load before value after log core block hit h = (refl, refl)
+performed_so word (op.Store stored) before value after log core block hit h = rw h.0 (refl, refl)
+performed_so word op.Evict before value after log core block hit h = absurd h
+
+-- an Ask of one line
+module _ (p : Protocol) (next : CacheState) (log : List Item) (core block word : ℕ) (asking : Op) (old new : Line) (answer : Reply) (entry : Option Item) (proper : IsProper old) where
+  line_once : (act : CacheAction) → Cell p old.state (asked asking) act next → Takes act next log core block word asking old new answer entry
+      → IsBy core block (did_in entry) × IsPermutation (option_to_list old.waiting ++ option_to_list (kept_waiting word asking)) (option_to_list (done (did_in entry)) ++ option_to_list new.waiting)
+  line_once action.Hit row t =
+      let so = performed_so word asking t.1.0.before t.0 t.1.0.after log core block true t.1.0.performed in
+      rw (t.1.0.held, t.1.2, so.0, so.1) ((refl, refl), IsPermutation-append_comm (option_to_list old.waiting) (record { word = word; op = asking } ∷ []))
+  line_once (action.Issue q) row t =
+      let none = nothing_waits old.waiting (proper.waiting ∙ (issue-missed p old.state (asked asking) q next row).0) in
+      rw (t.0, t.2, none) (tt, IsPermutation-refl (option_to_list (kept_waiting word asking)))
+  line_once action.Drop row t = rw (t.0, t.2, drop_evicts p old.state asking next row) (tt, unchanged (option_to_list old.waiting))
+  line_once _ row t = absurd t
+
+-- a response performs what waited on the requestor's line
+fills_once : {closing : Open} {p : Protocol} {log : List Item} {old new : List Line} {did : Option Did} (f : FillsRequestor closing p log old new did)
+    → IsPermutation (option_to_list (held_at old closing.core).waiting ++ []) (option_to_list (done did) ++ option_to_list f.line.waiting)
+fills_once {closing} {p} {log} f =
+    let so = performed_so f.asking.word f.asking.op closing.value f.value f.fills.after log closing.core closing.block false f.fills.performed in
+    rw (f.fills.held, f.fills.waited, f.logged, so.0) (IsPermutation-refl (f.asking ∷ []))
+
+module _ (old : Situation) (b c : ℕ) where
+  -- the core's operation on the block is done, and in each of its lines what waited and what is asked is what is done and what waits
+  abbrev Balances : Option Access → Option Did → List Line → Type 0
+  Balances asked did lines = IsBy c b did × ((k : ℕ) → IsPermutation (waiting_at old k b ++ option_to_list (cond (eqb c k) asked None)) (option_to_list (cond (eqb c k) (done did) None) ++ option_to_list (held_at lines k).waiting))
+
+  -- so it is where the one line that changes balances
+  balances : (held : Line) (asked : Option Access) (did : Option Did) → c < length (picture_of old b).caches → IsBy c b did
+      → IsPermutation (option_to_list (held_by (picture_of old b) c).waiting ++ option_to_list asked) (option_to_list (done did) ++ option_to_list held.waiting)
+      → Balances asked did (slice_set (picture_of old b).caches c held)
+  balances held asked did inside by here =
+      let lines = each_set (picture_of old b).caches c held nothing_held
+      (λ k x. IsPermutation (waiting_at old k b ++ option_to_list (cond (eqb c k) asked None)) (option_to_list (cond (eqb c k) (done did) None) ++ option_to_list x.waiting)) inside
+      (rw (eq-eqb c c refl) here) (λ k apart. rw (ne_eqb c k (λ e. apart (sym e))) (unchanged (waiting_at old k b))) in
+      (by, lines)
+
+  -- where nothing is asked or done, and each line's operation waits as before
+  rests : (lines : List Line) → ((k : ℕ) → (held_at lines k).waiting ≡ (held_by (picture_of old b) k).waiting) → Balances None None lines
+  rests lines same = (tt, λ k. rw (same k, ← either_way {A = Option Access} (eqb c k) None) (unchanged (waiting_at old k b)))
+
+  -- a move that asks this, and whose lines balance, does each load and store once
+  grown : (next : Picture) (queues : List (List ℕ)) (entry : Option Item) (asked : Option Access) (step : Step) (answer : Reply) → b < length old.pictures
+      → ((core block : ℕ) → asked_access core block step ≡ cond (eqb b block && eqb c core) asked None) → Balances asked (did_in entry) next.caches
+      → OnceMore old (step ∷ []) (Ok answer ∷ []) (changed old b next queues (old.log ++ option_to_list entry))
+  grown next queues entry asked step answer within asks balance = record {
+    since = option_to_list entry;
+    log = refl;
+    once = λ core block. rw (cons_one (asked_access core block step), asks core block, accesses_one core block c b entry balance.0)
+        (each_picture old b next queues (old.log ++ option_to_list entry)
+        (λ x picture. IsPermutation (waiting_at old core x ++ option_to_list (cond (eqb b x && eqb c core) asked None)) (option_to_list (cond (eqb b x && eqb c core) (done (did_in entry)) None) ++ option_to_list (held_by picture core).waiting))
+        within (λ x apart. rw (ne_eqb b x (λ e. apart (sym e))) (unchanged (waiting_at old core x))) (rw (eq-eqb b b refl) (balance.1 core)) block);
+  }
+
+-- an Order leaves each operation waiting
+order_waiting : (old : Situation) (core block : ℕ) (q : Request) (new : Situation) (o : Orders old core block q new) (k : ℕ) → (held_by o.next k).waiting ≡ (held_by (picture_of old block) k).waiting
+order_waiting old core block q new o k = elim (cases_lt k (length (picture_of old block).caches)) [
+  | inl inside ↦ rw (o.taken.rows k inside).2 refl
+  | inr past ↦
+      (let long = o.taken.same_length in
+      rw (get_or_past o.next.caches k nothing_held (omega arith), get_or_past (picture_of old block).caches k nothing_held past) refl)
+]
+
+-- a move does each load and store once
+move_once : (b : ℕ) (old : Situation) (step : Step) (answer : Reply) (new : Situation) → Invariant old → MoveOn b old step answer new → OnceMore old (step ∷ []) (Ok answer ∷ []) new
+move_once b old (Ask c on word asking) answer new g m = elim m.moves [
+  | inl idle ↦ rw idle.3 (record {
+    since = [];
+    log = sym (append-nil old.log);
+    once = λ core block. rw (idle.0, ← either_way {A = Option Access} (eqb on block && eqb c core) None) (unchanged (waiting_at old core block));
+  })
+  | inr a ↦
+      (let before : Picture = picture_of old b in
+      let once = line_once old.protocol a.row.next old.log c b word asking (held_by before c) a.held answer a.entry ((g.blocks b m.within.1).proper c m.within.0) a.row.action a.is_row a.taken in
+      rw (m.on_block, a.after) (grown old b c (with_line before c a.held) (queues_after a.row.action old.queues c b) a.entry (kept_waiting word asking) (Ask c b word asking) answer
+      (in_pictures old b g.shaped m.within.1) (λ core block. refl)
+      (balances old b c a.held _ (did_in a.entry) (rw (g.shaped.row b m.within.1) m.within.0) once.0 once.1)))
+]
+move_once b old (Order c) answer new g m =
+    let o = m.orders in
+    rw o.after (grown old b c o.next (after_order old.queues c b) (Some (item.Sent (record { core = c; request = m.request; block = b }))) None (Order c) answer
+    (in_pictures old b g.shaped m.within.1) (λ core block. either_way (eqb b block && eqb c core) None) (rests old b c o.next.caches (order_waiting old c b m.request new o)))
+move_once b old (Respond on) answer new g m =
+    let r = m.responds in
+    let c = m.closing.core in
+    let in_row : c < length (picture_of old b).caches = rw (g.shaped.row b m.within) ((g.blocks b m.within).requestor_in m.closing r.opened) in
+    let balanced : Balances old b c None m.did r.next.caches = elim (by_request m.closing.request r.requestor) [
+      | inl put ↦ rw (put.2, put.1) (rests old b c (picture_of old b).caches (λ k. refl))
+      | inr f ↦ rw f.held (balances old b c f.line None m.did in_row (rw f.logged (refl, g.opened b m.closing r.opened)) (fills_once f))
+    ] in
+    rw r.after (grown old b c r.next old.queues (Some (item.Came (came_of m.closing) m.did)) None (Respond on) answer
+    (in_pictures old b g.shaped m.within) (λ core block. either_way (eqb b block && eqb c core) None) balanced)
 
 accesses_in-append : (xs ys : List Item) (core block : ℕ) → accesses_in (xs ++ ys) core block ≡ accesses_in xs core block ++ accesses_in ys core block
 accesses_in-append xs ys core block =
     rw (filter_map-append operation_of xs ys, filter-append (λ (d : Did). d.core == core) (operations xs) (operations ys), filter-append (λ (d : Did). d.block == block) (answers_of xs core) (answers_of ys core))
     (map-append did_access (filter (λ (d : Did). d.block == block) (answers_of xs core)) (filter (λ (d : Did). d.block == block) (answers_of ys core)))
 
--- one growth after another
-grows_on : {old middle new : Situation} {first rest : List Item} {asked more : ℕ → ℕ → List Access} → Grows old first asked middle → Grows middle rest more new
-    → Grows old (first ++ rest) (λ core block. asked core block ++ more core block) new
-grows_on {old} {middle} {new} {first} {rest} {asked} {more} a b = record {
-  log = b.log ∙ ap (λ (l : List Item). l ++ rest) a.log ∙ append_assoc old.log first rest;
-  once = λ core block.
-      let w = waiting_at old core block in
-      let m = waiting_at middle core block in
-      let before = IsPermutation-append_left (more core block) _ _ (a.once core block) in
-      let after = IsPermutation-append_right (accesses_in first core block) _ _ (b.once core block) in
-      rw (
-        accesses_in-append first rest core block,
-        append_assoc (accesses_in first core block) (accesses_in rest core block) (waiting_at new core block),
-        ← append_assoc w (asked core block) (more core block),
-      )
-      (IsPermutation-trans _ _ _ (rw (append_assoc (accesses_in first core block) m (more core block)) at before) after);
-}
-
--- where the one line that changes balances, so does each line of its block
-balances : (old : Situation) (b c : ℕ) (held : Line) (asked did : List Access) → c < length (picture_of old b).caches
-    → IsPermutation (option_to_list (held_by (picture_of old b) c).waiting ++ asked) (did ++ option_to_list held.waiting)
-    → (k : ℕ) → IsPermutation (waiting_at old k b ++ cond (eqb c k) asked []) (cond (eqb c k) did [] ++ option_to_list (held_at (slice_set (picture_of old b).caches c held) k).waiting)
-balances old b c held asked did inside here = each_set (picture_of old b).caches c held nothing_held
-    (λ k x. IsPermutation (waiting_at old k b ++ cond (eqb c k) asked []) (cond (eqb c k) did [] ++ option_to_list x.waiting)) inside
-    (rw (eq-eqb c c refl) here) (λ k apart. rw (ne_eqb c k (λ e. apart (sym e))) (unchanged (waiting_at old k b)))
-
--- where each line of the block balances, so does all
-grown : (old : Situation) (b : ℕ) → b < length old.pictures
-    → (next : Picture) (queues : List (List ℕ)) (entry : Option Item) (c : ℕ) (asked : List Access) → IsBy c b (did_in entry)
-    → ((k : ℕ) → IsPermutation (waiting_at old k b ++ cond (eqb c k) asked []) (cond (eqb c k) (done (did_in entry)) [] ++ option_to_list (held_by next k).waiting))
-    → Grows old (option_to_list entry) (λ core block. cond (eqb b block && eqb c core) asked []) (changed old b next queues (old.log ++ option_to_list entry))
-grown old b within next queues entry c asked by balance = record {
-  log = refl;
-  once = λ core block. rw (accesses_one core block c b entry by)
-      (each_picture old b next queues (old.log ++ option_to_list entry)
-      (λ x picture. IsPermutation (waiting_at old core x ++ cond (eqb b x && eqb c core) asked []) (cond (eqb b x && eqb c core) (done (did_in entry)) [] ++ option_to_list (held_by picture core).waiting))
-      within (λ x apart. rw (ne_eqb b x (λ e. apart (sym e))) (unchanged (waiting_at old core x))) (rw (eq-eqb b b refl) (balance core)) block);
-}
-
-takes_by : (a : CacheAction) (next : CacheState) (log : List Item) (core block word : ℕ) (asking : Op) (old new : Line) (answer : Reply) (entry : Option Item) → Takes a next log core block word asking old new answer entry → IsBy core block (did_in entry)
-takes_by action.Hit next log core block word asking old new answer entry t = rw t.1.2 (refl, refl)
-takes_by (action.Issue r) next log core block word asking old new answer entry t = rw t.2 tt
-takes_by action.Drop next log core block word asking old new answer entry t = rw t.2 tt
-takes_by _ next log core block word asking old new answer entry t = absurd t
-
--- what a step asks of a core and block
-abbrev asked_by : Step → ℕ → ℕ → List Access
-asked_by step core block = filter_map (asked_access core block) (step ∷ [])
-
-ask_grows : (old : Situation) (c b word : ℕ) (asking : Op) (answer : Reply) (new : Situation) → Invariant old → IsWithin old c b → (a : Asks old c b word asking answer new) → Grows old (option_to_list a.entry) (asked_by (Ask c b word asking)) new
-ask_grows old c b word asking answer new g within a =
-    let line = held_by (picture_of old b) c in
-    let asked = option_to_list (kept_waiting word asking) in
-    let once = line_once old.protocol a.row.action a.row.next old.log c b word asking line a.held answer a.entry ((g.blocks b within.1).proper c within.0) a.is_row a.taken in
-    let balance = balances old b c a.held asked (done (did_in a.entry)) (rw (g.shaped.row b within.1) within.0) once in
-    let by = takes_by a.row.action a.row.next old.log c b word asking line a.held answer a.entry a.taken in
-    let all = grown old b (in_pictures old b g.shaped within.1) (with_line (picture_of old b) c a.held) (queues_after a.row.action old.queues c b) a.entry c asked by balance in
-    rw a.after (record { log = all.log; once = λ core block. rw (asked_one core block c b word asking) (all.once core block) })
-
--- what asks nothing
-asks_nothing : {old new : Situation} {since : List Item} (b c : ℕ) → Grows old since (λ core block. cond (eqb b block && eqb c core) [] []) new → Grows old since (λ core block. []) new
-asks_nothing b c all = record { log = all.log; once = λ core block. rw (← either_way {A = List Access} (eqb b block && eqb c core) []) at (all.once core block) }
-
--- an Order leaves each operation waiting
-order_waiting : (old : Situation) (core block : ℕ) (q : Request) (new : Situation) (o : Orders old core block q new) (k : ℕ) → (held_by o.next k).waiting ≡ (held_by (picture_of old block) k).waiting
-order_waiting old core block q new o k = elim (cases_lt k (length (picture_of old block).caches)) [
-  | inl inside ↦ ap (λ (x : Line). x.waiting) (o.taken.rows k inside).2
-  | inr past ↦
-      let long = o.taken.same_length in
-      let e : held_by o.next k ≡ nothing_held = get_or_past o.next.caches k nothing_held (omega arith) in
-      let f : held_by (picture_of old block) k ≡ nothing_held = get_or_past (picture_of old block).caches k nothing_held past in
-      ap (λ (x : Line). x.waiting) (e ∙ sym f)
-]
-
-order_grows : (old : Situation) (c b : ℕ) (q : Request) (new : Situation) → Invariant old → IsWithin old c b → Orders old c b q new
-    → Grows old (item.Sent (record { core = c; request = q; block = b }) ∷ []) (λ core block. []) new
-order_grows old c b q new g within o =
-    let entry : Option Item = Some (item.Sent (record { core = c; request = q; block = b })) in
-    rw o.after (asks_nothing b c (grown old b (in_pictures old b g.shaped within.1) o.next (after_order old.queues c b) entry c [] tt
-    (λ k. rw (order_waiting old c b q new o k, ← either_way {A = List Access} (eqb c k) []) (unchanged (waiting_at old k b)))))
-
--- a response performs what waited on the requestor's line
-fills_once : {closing : Open} {p : Protocol} {log : List Item} {old new : List Line} {did : Option Did} (f : FillsRequestor closing p log old new did)
-    → IsPermutation (option_to_list (held_at old closing.core).waiting ++ []) (done did ++ option_to_list f.line.waiting)
-fills_once {closing} {p} {log} f =
-    let so = performed_so f.asking.word f.asking.op closing.value f.value f.fills.after log closing.core closing.block false f.fills.performed in
-    rw (f.fills.held, f.fills.waited, f.logged, so.0) (IsPermutation-refl (f.asking ∷ []))
-
-respond_grows : (old : Situation) (b : ℕ) (closing : Open) (did : Option Did) (new : Situation) → Invariant old → b < old.shape.blocks → Responds old b closing did new
-    → Grows old (item.Came (came_of closing) did ∷ []) (λ core block. []) new
-respond_grows old b closing did new g within r =
-    let in_row : closing.core < length (picture_of old b).caches = rw (g.shaped.row b within) ((g.blocks b within).requestor_in closing r.opened) in
-    let balanced : IsBy closing.core b did × ((k : ℕ) → IsPermutation (waiting_at old k b ++ cond (eqb closing.core k) [] []) (cond (eqb closing.core k) (done did) [] ++ option_to_list (held_by r.next k).waiting)) = elim (by_request closing.request r.requestor) [
-      | inl put ↦ rw (put.2, put.1) (tt, λ k. rw (← either_way {A = List Access} (eqb closing.core k) []) (unchanged (waiting_at old k b)))
-      | inr f ↦ (rw f.logged (refl, g.opened b closing r.opened), rw f.held (balances old b closing.core f.line [] (done did) in_row (fills_once f)))
-    ] in
-    rw r.after (asks_nothing b closing.core (grown old b (in_pictures old b g.shaped within) r.next old.queues (Some (item.Came (came_of closing) did)) closing.core [] balanced.0 balanced.1))
-
--- an Ask that is answered Absent
-absent_grows : (old : Situation) (c b word : ℕ) (asking : Op) → asking ≡ op.Evict → Grows old [] (asked_by (Ask c b word asking)) old
-absent_grows old c b word asking is = record {
-  log = sym (append-nil old.log);
-  once = λ core block. rw (asked_one core block c b word asking, is, ← either_way {A = List Access} (eqb b block && eqb c core) []) (unchanged (waiting_at old core block));
-}
-
--- a move
-move_grows : (block : ℕ) (old : Situation) (step : Step) (answer : Reply) (new : Situation) → Invariant old → MoveOn block old step answer new → (since : List Item) × Grows old since (asked_by step) new
-move_grows block old (Ask c on word asking) answer new g m = elim m.moves [
-  | inl idle ↦ rw idle.3 ([], absent_grows old c on word asking idle.0)
-  | inr a ↦ rw m.on_block (option_to_list a.entry, ask_grows old c block word asking answer new g m.within a)
-]
-move_grows block old (Order c) answer new g m = (item.Sent (record { core = c; request = m.request; block = block }) ∷ [], order_grows old c block m.request new g m.within m.orders)
-move_grows block old (Respond on) answer new g m = (item.Came (came_of m.closing) m.did ∷ [], respond_grows old block m.closing m.did new g m.within m.responds)
-
 -- a run, from any situation that keeps the invariant
 pub run_once : (steps : List Step) (outcomes : List (Result Reply Refused)) (old new : Situation) → Invariant old → RunBy Goes old steps outcomes new → OnceMore old steps outcomes new
 run_once [] [] old new g r = rw r (record { since = []; log = sym (append-nil old.log); once = λ core block. unchanged (waiting_at old core block) })
 run_once (step ∷ steps) (Ok answer ∷ outcomes) old new g r =
     let middle = r.0 in
-    let first = move_grows r.1.0.0 old step answer middle g r.1.0.1 in
-    let rest = run_once steps outcomes middle new (goes_keeps old step (Ok answer) middle g r.1.0) r.1.1 in
-    let all = grows_on {new = new} first.1 (record { log = rest.log; once = rest.once }) in
-    record { since = first.0 ++ rest.since; log = all.log; once = λ core block. rw (filter_map-append (asked_access core block) (step ∷ []) (taken steps outcomes)) (all.once core block) }
+    let a = move_once r.1.0.0 old step answer middle g r.1.0.1 in
+    let b = run_once steps outcomes middle new (goes_keeps old step (Ok answer) middle g r.1.0) r.1.1 in
+    record {
+      since = a.since ++ b.since;
+      log = b.log ∙ ap (λ (l : List Item). l ++ b.since) a.log ∙ append_assoc old.log a.since b.since;
+      once = λ core block.
+          let asks = asked_access core block in
+          let now = filter_map asks (step ∷ []) in
+          let more = filter_map asks (taken steps outcomes) in
+          let did = accesses_in a.since core block in
+          rw (
+            filter_map-append asks (step ∷ []) (taken steps outcomes),
+            accesses_in-append a.since b.since core block,
+            append_assoc did (accesses_in b.since core block) (waiting_at new core block),
+            ← append_assoc (waiting_at old core block) now more,
+          )
+          (IsPermutation-trans _ _ _ (rw (append_assoc did (waiting_at middle core block) more) at (IsPermutation-append_left more _ _ (a.once core block)))
+          (IsPermutation-append_right did _ _ (b.once core block)));
+    }
 run_once (step ∷ steps) (Err cause ∷ outcomes) old new g r =
     let rest = run_once steps outcomes r.0 new (goes_keeps old step (Err cause) r.0 g r.1.0) r.1.1 in
     rw (← refusal_same old step cause r.0 r.1.0) (record { since = rest.since; log = rest.log; once = rest.once })

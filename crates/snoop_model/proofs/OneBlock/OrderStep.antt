@@ -53,7 +53,7 @@ module _ {p : Protocol} {flat : List ℕ} {before : Picture} {good : BlockInvari
       let ow = owns good.owner d in
       let apart_owned = and_from _ _ (owns_apart good.owner c d apart) (owns_owned good.owner d _ good.is_owned) in
       some_each (cell_of p s (other q)) (other_tests p before.memory.state q l.memory sent l.next s ow)
-          (when_at _ _ apart_owned (all_fitting-at p good.claims.shared None _ l.ends.1.1.1.1.1.1.0 s ow (rw l.calm at (good.states d d_in))))
+      (when_at _ _ apart_owned (all_fitting-at p good.claims.shared None _ l.ends.1.1.1.1.1.1.0 s ow (rw l.calm at (good.states d d_in))))
 
   -- a core has its row, with which its state fits after it, and its words carry over
   abbrev pub HasRow : ℕ → Type 0

@@ -1,47 +1,215 @@
--- A machine is well kept at reset, and stays so.
-use Rattle.std.proofs.Common.{◌≡◌, ℕ, [], Option, sym, ◌∙◌, ap, arith, inl, inr}
-use Rattle.std.proofs.lemmas.Option.{none-some}
-use Rattle.snoop_model.proofs.Common.{Extent, Protocol, Step, Ask, Order, Respond, queue_of, Reply, Line, Situation, reset, awaited_request, MoveOn}
-use Rattle.snoop_model.proofs.Lists.QueueCounts.{times}
-use Rattle.snoop_model.proofs.Queues.Changed.{waits}
-use Rattle.snoop_model.specs.Turns.Serving.{IsServing}
-use Rattle.snoop_model.specs.Invariant.WellKept.{IsWellKept}
-use Rattle.snoop_model.specs.Turns.TurnLaws.{StartsWell, KeepsWell}
-use Rattle.snoop_model.proofs.Lists.Facts.{replicated}
+-- A machine is well kept at reset, and stays so where one block and the queues change as they should: at each kind of move.
+use Rattle.std.proofs.Common.{◌≡◌, ◌≢◌, ℕ, ◌<◌, ◌++◌, List, [], length, Option, Some, None, refl, ap, sym, ◌∙◌, arith, inl, inr}
+use Rattle.std.specs.Prelude.{◌==◌, if◌then◌else◌, option_to_list, is_some, IsSome}
+use Rattle.std.proofs.lemmas.List.{length-set, get_or_past, get_or-set_same}
+use Rattle.snoop_model.proofs.Common.{Access, after_issue, after_order, ArrivesFor, Ask, asked, awaited_request, CacheAction, CacheState, cases_lt, Cell, Did, eq-eqb, FillsRequestor, held_at, held_by, IsWellKept, IsWithin, Item, KeepsWell, Line, missed_request, MoveOn, ne_eqb, none-some, nothing_held, Op, Open, Order, Picture, picture_of, Protocol, queue_of, queues_after, Reply, Request, reset, Respond, Responds, same_Some, Situation, StartsWell, state_of, Step, Takes, TakesRows, waiting_request, with_line}
+use Rattle.snoop_rules.specs.declared.names.CacheAction.TheVariants as action
+use Rattle.snoop_model.proofs.Lists.Facts.{one_if, replicated}
+use Rattle.snoop_model.proofs.Lists.Writes.{each_set}
+use Rattle.snoop_model.proofs.Lists.QueueCounts.{times, issued_own, issued_others, issued_elsewhere, ordered_own, ordered_others, ordered_elsewhere}
+use Rattle.snoop_model.proofs.Tables.Rows.{issue-waits, issue-missed, asked_missed, hit_facts, drop_facts, order_facts, fill-waits}
+use Rattle.snoop_model.proofs.Tables.WaitingRows.{awaited-asked, awaited-ordered, awaited-filled, awaited-get}
+use Rattle.snoop_model.proofs.OneBlock.Facts.{by_core, each_held}
+use Rattle.snoop_model.proofs.OneBlock.OfBlocks.{changed, in_pictures, each_picture, shaped_after}
+use Rattle.snoop_model.proofs.Lines.Answered.{by_request, filled_or_same, arrives_length, still_waiting}
 use Rattle.snoop_model.proofs.Invariant.Runs.{reset_line, reset_open, reset_shaped}
-use Rattle.snoop_model.proofs.Queues.Asks.{kept_asks}
-use Rattle.snoop_model.proofs.Queues.Orders.{kept_orders}
-use Rattle.snoop_model.proofs.Queues.Responds.{kept_responds}
 
-pub on_kept : (block : ℕ) (s t : Situation) (step : Step) (answer : Reply) → IsWellKept s → MoveOn block s step answer t
-    → IsWellKept t
-on_kept block s t (Ask core on word asking) answer kept move = elim move.moves [
-  | inl absent ↦ rw absent.3 kept
-  | inr asks ↦ kept_asks s t core block word asking answer kept move.within asks
+-- how often a core that holds the block in this state has it in its queue
+abbrev waits : CacheState → ℕ
+waits s = one_if (is_some (waiting_request s))
+
+-- a core's line is as the block's open transaction says: data that it awaits are of its own, and an operation waits only where one has missed
+record IsAwaited (now : Option Open) (core : ℕ) (line : Line) : Type 0 where
+  awaits : (q : Request) → awaited_request line.state ≡ Some q → (o : Open) × ((now ≡ Some o) × (o.core ≡ core) × (o.request ≡ q))
+  operations : (access : Access) → line.waiting ≡ Some access → IsSome (missed_request line.state)
+
+awaited_in : (s : Situation) → IsWellKept s → (block core : ℕ) → IsAwaited (picture_of s block).transaction core (held_by (picture_of s block) core)
+awaited_in s kept block core = record { awaits = kept.awaits core block; operations = kept.operations core block }
+
+-- what is to be shown of a move
+record KeepsOn (s : Situation) (block : ℕ) (next : Picture) (queues : List (List ℕ)) : Type 0 where
+  within : block < s.shape.blocks
+  as_wide : length next.caches ≡ length (picture_of s block).caches
+  as_many : length queues ≡ length s.queues
+  here : (core : ℕ) → times block (queue_of queues core) ≡ waits (held_by next core).state
+  elsewhere : (core b : ℕ) → b ≢ block → times b (queue_of queues core) ≡ times b (queue_of s.queues core)
+  awaited : (core : ℕ) → IsAwaited next.transaction core (held_by next core)
+
+well_after : (s : Situation) → IsWellKept s → (block : ℕ) (next : Picture) (queues : List (List ℕ)) (log : List Item) → KeepsOn s block next queues
+    → IsWellKept (changed s block next queues log)
+well_after s kept block next queues log k =
+    let within = in_pictures s block kept.shaped k.within in
+    let awaited = λ (core : ℕ). each_picture s block next queues log (λ b x. IsAwaited x.transaction core (held_by x core)) within (λ b apart. awaited_in s kept b core) (k.awaited core) in
+    record {
+      shaped = shaped_after s block next queues log kept.shaped k.as_wide k.as_many;
+      queued = λ core. each_picture s block next queues log (λ b x. times b (queue_of queues core) ≡ waits (held_by x core).state) within
+          (λ b apart. k.elsewhere core b apart ∙ kept.queued core b) (k.here core);
+      awaits = λ core b. (awaited core b).awaits;
+      operations = λ core b. (awaited core b).operations;
+    }
+
+-- the line that an Ask leaves, by its row
+module _ (s : Situation) (kept : IsWellKept s) (core block word : ℕ) (asking : Op) (within : IsWithin s core block) (held : Line) (next : CacheState)
+    (answer : Reply) (entry : Option Item) where
+  abbrev line : Line
+  line = held_by (picture_of s block) core
+
+  -- one line and its core's queue change, and what that line awaits it awaited before
+  one_line : (act : CacheAction) (queues : List (List ℕ)) → Cell s.protocol line.state (asked asking) act next → held.state ≡ next → length queues ≡ length s.queues
+      → times block (queue_of queues core) ≡ waits next → ((k : ℕ) → k ≢ core → queue_of queues k ≡ queue_of s.queues k)
+      → ((k b : ℕ) → b ≢ block → times b (queue_of queues k) ≡ times b (queue_of s.queues k)) → ((access : Access) → held.waiting ≡ Some access → IsSome (missed_request next))
+      → KeepsOn s block (with_line (picture_of s block) core held) queues
+  one_line act queues row is as_many own others elsewhere missed =
+      let each = λ (P : ℕ → Line → Type 0). each_set (picture_of s block).caches core held nothing_held P (rw (kept.shaped.row block within.1) within.0) in
+      record {
+        within = within.1;
+        as_wide = length-set (picture_of s block).caches core held;
+        as_many = as_many;
+        here = each (λ k x. times block (queue_of queues k) ≡ waits x.state) (rw is own) (λ k apart. rw (others k apart) (kept.queued k block));
+        elsewhere = elsewhere;
+        awaited = each (IsAwaited (picture_of s block).transaction)
+            (record { awaits = rw is (λ q h. kept.awaits core block q (awaited-asked s.protocol line.state asking act next q row h)); operations = rw is missed })
+            (λ k apart. awaited_in s kept block k);
+      }
+
+  -- what waits and what has missed are as before
+  still : (act : CacheAction) → Cell s.protocol line.state (asked asking) act next → held.state ≡ next → held.waiting ≡ line.waiting
+      → missed_request line.state ≡ missed_request next → waiting_request next ≡ waiting_request line.state → KeepsOn s block (with_line (picture_of s block) core held) s.queues
+  still act row is same missed waiting = one_line act s.queues row is refl (rw waiting (kept.queued core block)) (λ k apart. refl) (λ k b apart. refl)
+      (λ access h. rw (← missed) (kept.operations core block access (sym same ∙ h)))
+
+  kept_taken : (act : CacheAction) → Cell s.protocol line.state (asked asking) act next → Takes act next s.log core block word asking line held answer entry
+      → KeepsOn s block (with_line (picture_of s block) core held) (queues_after act s.queues core block)
+  kept_taken action.Hit row taken =
+      let facts = hit_facts s.protocol line.state (asked asking) next row in
+      still action.Hit row (rw taken.1.0.held refl) (rw taken.1.0.held refl) facts.1 facts.2
+  kept_taken action.Drop row taken =
+      let facts = drop_facts s.protocol line.state (asked asking) next row in
+      still action.Drop row (rw taken.0 refl) (rw taken.0 refl) facts.1 facts.2
+  kept_taken (action.Issue request) row taken =
+      let (was, is) = issue-waits s.protocol line.state (asked asking) request next row in
+      let missed = (issue-missed s.protocol line.state (asked asking) request next row).1 in
+      let in_queues : core < length s.queues = rw kept.shaped.queues within.0 in
+      one_line (action.Issue request) (after_issue s.queues core block) row (rw taken.0 refl) (length-set s.queues core _)
+      (rw (is, issued_own s.queues core block in_queues, kept.queued core block, was) refl) (issued_others s.queues core block) (issued_elsewhere s.queues core block)
+      (rw taken.0 (λ access h. rw (missed, ← asked_missed word asking, h) refl))
+  kept_taken _ row taken = absurd taken
+
+-- who waits once each core has taken its row: the requestor no longer, each other core as before
+module _ (p : Protocol) (core : ℕ) (request : Request) (old new : List Line) (taken : TakesRows p core request old new) where
+  row_waits : (k : ℕ) → k < length old → waiting_request (held_at new k).state ≡ (if k == core then None else waiting_request (held_at old k).state)
+  row_waits k inside =
+      let row = taken.rows k inside in
+      ap (λ (x : Line). waiting_request x.state) row.2 ∙ (order_facts p (held_at old k).state k core request row.0.action row.0.next row.1).2
+
+  pub own_waits : core < length old → waiting_request (held_at new core).state ≡ None
+  own_waits inside = row_waits core inside ∙ rw (eq-eqb core core refl) refl
+
+  pub others_wait : (k : ℕ) → (k ≡ core → ⊥) → waiting_request (held_at new k).state ≡ waiting_request (held_at old k).state
+  others_wait k apart = elim (cases_lt k (length old)) [
+    | inl inside ↦ row_waits k inside ∙ rw (ne_eqb k core apart) refl
+    | inr past ↦ (let same = taken.same_length in rw (get_or_past new k nothing_held (omega arith), get_or_past old k nothing_held past) refl)
+  ]
+
+module _ {closing : Open} {p : Protocol} {log : List Item} {old new : List Line} {did : Option Did} (f : FillsRequestor closing p log old new did) where
+  fills_waits : (k : ℕ) → waiting_request (held_at new k).state ≡ waiting_request (held_at old k).state
+  fills_waits k = elim (filled_or_same f k) [
+    | inl e ↦ rw (e.1, f.fills.held, e.0) (fill-waits p (held_at old closing.core).state f.fills.event f.fills.row.action f.fills.row.next f.asking.op f.fills.fill f.fills.is_row)
+    | inr e ↦ rw e refl
+  ]
+
+  -- the requestor awaits no more
+  fills_awaits : (q : Request) → awaited_request (held_at new closing.core).state ≡ Some q → ⊥
+  fills_awaits q = each_held new closing.core (λ x. awaited_request x.state ≡ Some q → ⊥)
+      (λ below. let inside : closing.core < length old = rw (f.held, length-set) at below in
+      rw (f.held, get_or-set_same old closing.core f.line nothing_held inside, f.fills.held)
+      (awaited-filled p (held_at old closing.core).state closing.payload f.fills.event f.fills.row.action f.fills.row.next q f.fills.arrives f.fills.is_row))
+      (λ h. cc)
+
+-- a response changes no wait
+pub arrives_waits : (closing : Open) (p : Protocol) (log : List Item) (old new : List Line) (did : Option Did) → ArrivesFor closing.request closing p log old new did
+    → (k : ℕ) → waiting_request (held_at new k).state ≡ waiting_request (held_at old k).state
+arrives_waits closing p log old new did arrives k = elim (by_request closing.request arrives) [ inl put ↦ rw put.1 refl | inr fills ↦ fills_waits fills k ]
+
+-- no core awaits data of the block once a response has come
+none_awaits : (s : Situation) (kept : IsWellKept s) (block : ℕ) (closing : Open) (did : Option Did) (t : Situation) (r : Responds s block closing did t)
+    → (k : ℕ) (q : Request) → awaited_request (held_by r.next k).state ≡ Some q → ⊥
+none_awaits s kept block closing did t r k q h = elim (by_request closing.request r.requestor) [
+  | inl put ↦ let was = rw put.1 at h in awaited-get (state_of s k block) (cc (was, (its was).1, put.0))
+  | inr fills ↦
+      let same : closing.core ≡ k = elim (filled_or_same fills k) [ inl e ↦ sym e.0 | inr e ↦ (its (rw e at h)).0 ] in
+      fills_awaits fills q (rw (← same) at h)
 ]
-on_kept block s t (Order core) answer kept move = kept_orders s t core block move.request kept move.within move.orders
-on_kept block s t (Respond on) answer kept move = kept_responds s t block move.closing move.did kept move.within move.responds
+  where
+    -- what it awaited was of this transaction
+    its : awaited_request (state_of s k block) ≡ Some q → (closing.core ≡ k) × (closing.request ≡ q)
+    its was =
+        let had = kept.awaits k block q was in
+        let same : had.0 ≡ closing = same_Some _ _ (sym had.1.0 ∙ r.opened) in
+        rw (← same) (had.1.1, had.1.2)
+
+pub on_kept : (block : ℕ) (s t : Situation) (step : Step) (answer : Reply) → IsWellKept s → MoveOn block s step answer t → IsWellKept t
+on_kept block s t (Ask core on word asking) answer kept m = elim m.moves [
+  | inl absent ↦ rw absent.3 kept
+  | inr asks ↦ rw asks.after (well_after s kept block (with_line (picture_of s block) core asks.held) (queues_after asks.row.action s.queues core block) (s.log ++ option_to_list asks.entry)
+      (kept_taken s kept core block word asking m.within asks.held asks.row.next answer asks.entry asks.row.action asks.is_row asks.taken))
+]
+on_kept block s t (Order core) answer kept m =
+    let before : Picture = picture_of s block in
+    let next : Picture = m.orders.next in
+    let taken = m.orders.taken in
+    let in_queues : core < length s.queues = rw kept.shaped.queues m.within.0 in
+    let in_row : core < length before.caches = rw (kept.shaped.row block m.within.1) m.within.0 in
+    rw m.orders.after (well_after s kept block next (after_order s.queues core block) _ (record {
+      within = m.within.1;
+      as_wide = taken.same_length;
+      as_many = length-set s.queues core _;
+      here = by_core core (λ k. times block (queue_of (after_order s.queues core block) k) ≡ waits (held_by next k).state)
+          (rw (own_waits s.protocol core m.request before.caches next.caches taken in_row) (ordered_own s.queues core block in_queues))
+          (λ k apart. rw (ordered_others s.queues core block k apart, others_wait s.protocol core m.request before.caches next.caches taken k apart) (kept.queued k block));
+      elsewhere = ordered_elsewhere s.queues core block;
+      awaited = λ k. each_held next.caches k (IsAwaited next.transaction k)
+          (λ below.
+          let (row, is_row, moved) = taken.rows k (rw (← taken.same_length) below) in
+          let s_old = (held_by before k).state in
+          let facts = order_facts s.protocol s_old k core m.request row.action row.next is_row in
+          rw moved (record {
+            awaits = λ q h. (let its = awaited-ordered s.protocol s_old k core m.request row.action row.next q is_row h in (_, (m.orders.opened, its.0, its.1)));
+            operations = λ access h. rw (← facts.1) (kept.operations k block access h);
+          }))
+          (record { awaits = λ q h. cc; operations = λ access h. cc });
+    }))
+on_kept block s t (Respond on) answer kept m =
+    let r = m.responds in
+    let arrived = by_request m.closing.request r.requestor in
+    rw r.after (well_after s kept block r.next s.queues _ (record {
+      within = m.within;
+      as_wide = arrives_length arrived;
+      as_many = refl;
+      here = λ k. rw (arrives_waits m.closing s.protocol s.log (picture_of s block).caches r.next.caches m.did r.requestor k) (kept.queued k block);
+      elsewhere = λ k b apart. refl;
+      awaited = λ k. record {
+        awaits = λ q h. absurd (none_awaits s kept block m.closing m.did t r k q h);
+        operations = λ access h. let same = still_waiting arrived k access h in rw same (kept.operations k block access (rw same at h));
+      };
+    }))
 
 pub keeps_well : KeepsWell
 keeps_well s t step answer kept move = on_kept move.0 s t step answer kept move.1.1
 
-module _ (protocol : Protocol) (shape : Extent) where
-  queue_is : (k : ℕ) → queue_of (reset protocol shape).queues k ≡ []
-  queue_is k = replicated shape.cores k []
-
-  kept_reset : IsWellKept (reset protocol shape)
-  kept_reset = record {
+pub starts_well : StartsWell
+starts_well protocol shape under_way = (
+  record {
     shaped = reset_shaped protocol shape;
-    queued = λ k b. ap (times b) (queue_is k) ∙ sym (ap (λ (x : Line). waits x.state) (reset_line protocol shape k b));
-    awaits = λ k b q h. absurd (none-some q (sym (ap (λ (x : Line). awaited_request x.state) (reset_line protocol shape k b)) ∙ h));
+    queued = λ k b. rw (queue_is k, reset_line protocol shape k b, waiting_request) refl;
+    awaits = λ k b q h. absurd (none-some q (rw (reset_line protocol shape k b, awaited_request) at h));
     operations = λ k b access h. absurd (none-some access (rw (reset_line protocol shape k b) at h));
-  }
-
-  serving_reset : (under_way : ℕ → Option ℕ) → IsServing under_way (reset protocol shape)
-  serving_reset under_way = record {
+  },
+  record {
     waits = λ k. rw (queue_is k) (λ i d lt. absurd (omega arith));
     opened = λ b o h. absurd (none-some o (sym (reset_open protocol shape b) ∙ h));
-  }
-
-pub starts_well : StartsWell
-starts_well protocol shape under_way = (kept_reset protocol shape, serving_reset protocol shape under_way)
+  },
+)
+  where
+    queue_is : (k : ℕ) → queue_of (reset protocol shape).queues k ≡ []
+    queue_is k = replicated shape.cores k []

@@ -1,10 +1,8 @@
 -- A core waits on the blocks in its queue, and on no others.
-use Rattle.std.proofs.Common.{◌≡◌, ℕ, List, [], ◌∷◌, Option, Some, None, refl, arith}
-use Rattle.std.specs.Prelude.{Contains, slice_get}
-use Rattle.std.proofs.lemmas.Option.{same_Some}
-use Rattle.snoop_model.proofs.Common.{Request, waiting_request, queue_of, Situation, state_of, Waits, StandsFirst}
+use Rattle.std.proofs.Common.{◌≡◌, ℕ, List, [], ◌∷◌, Some, None, arith, inl, inr}
+use Rattle.snoop_model.proofs.Common.{cases_Bool, Contains, is_some, queue_of, Request, same_Some, Situation, slice_get, StandsFirst, state_of, waiting_request, Waits, WaitsOnNone}
 use Rattle.snoop_model.specs.Pictures.InQueue.{IsInQueue}
-use Rattle.snoop_model.specs.Moves.Refuses.{WaitsOnNone}
+use Rattle.snoop_model.proofs.Tables.Every.{some_of}
 use Rattle.snoop_model.proofs.Lists.QueueCounts.{times, counted_in, in_counted}
 
 -- each core's queue has the blocks on which it waits
@@ -18,13 +16,12 @@ module _ (s : Situation) (queued : AreQueued s) (core block : ℕ) where
       counted_in block (queue_of s.queues core) (omega arith)
 
   pub queued_waits : Contains (queue_of s.queues core) block → (request : Request) × Waits s core block request
-  queued_waits there = by_state (waiting_request (state_of s core block)) refl
-    where
-      by_state : (waits : Option Request) → waiting_request (state_of s core block) ≡ waits → (request : Request) × Waits s core block request
-      by_state (Some request) waits = (request, waits)
-      by_state None waits =
-          let zero : times block (queue_of s.queues core) ≡ 0 = rw waits at (queued core block) in
-          absurd (omega (arith, in_counted block (queue_of s.queues core) there))
+  queued_waits there = elim (cases_Bool (is_some (waiting_request (state_of s core block)))) [
+    | inl is ↦ some_of _ is
+    | inr none ↦
+        let zero : times block (queue_of s.queues core) ≡ 0 = rw none at (queued core block) in
+        absurd (omega (arith, in_counted block (queue_of s.queues core) there))
+  ]
 
 first_in : (queue : List ℕ) (block : ℕ) → slice_get queue 0 ≡ Some block → Contains queue block
 first_in [] block e = cc

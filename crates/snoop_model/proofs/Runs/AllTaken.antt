@@ -1,11 +1,7 @@
 -- Runs whose steps were all taken.
-use Rattle.std.proofs.Common.{◌≡◌, List, [], ◌∷◌, ◌++◌, map, refl, ap, sym, subst}
-use Rattle.std.specs.Prelude.{Result, Ok, Err}
-use Rattle.snoop_model.proofs.Common.{Step, Reply, Refused, Situation, reset}
+use Rattle.std.proofs.Common.{◌≡◌, List, [], ◌∷◌, ◌++◌, map, refl, ap}
+use Rattle.snoop_model.proofs.Common.{Err, FirstRunFrom, Goes, GoesFirst, map-append, Ok, Refused, Reply, reset, Result, RunBy, Situation, Step, taken, TakenGoesOn}
 use Rattle.snoop_model.specs.declared.replies.Refused.TheVariants.{NoMemory}
-use Rattle.std.proofs.lemmas.List.{map-append}
-use Rattle.snoop_model.specs.Runs.Once.{taken}
-use Rattle.snoop_model.specs.Runs.Run.{Goes, GoesFirst, FirstRunFrom, RunBy, TakenGoesOn}
 use Rattle.snoop_model.specs.Runs.TakenOnce.{TakenOnce}
 use Rattle.snoop_model.proofs.Once.Runs.{run_asked_once}
 use Rattle.snoop_model.proofs.Runs.Along.{run_more, seen_along}
@@ -16,17 +12,13 @@ all_ok replies = map (λ reply. Ok reply) replies
 
 pub taken_goes_on : TakenGoesOn
 taken_goes_on protocol shape steps step answer middle new taken move =
-    let run = run_more GoesFirst steps (all_ok taken.0) (reset protocol shape) middle new step (Ok answer) taken.1 move in
-    (taken.0 ++ answer ∷ [], subst (λ (outcomes : List (Result Reply Refused)). FirstRunFrom (reset protocol shape) (steps ++ step ∷ []) outcomes new) (sym (map-append (λ (reply : Reply). Ok reply) taken.0 (answer ∷ []))) run)
+    (taken.0 ++ answer ∷ [], rw map-append (run_more GoesFirst steps (all_ok taken.0) (reset protocol shape) middle new step (Ok answer) taken.1 move))
 
 -- the same steps as a run on any block
 goes_on_any : (old : Situation) (step : Step) (outcome : Result Reply Refused) (new : Situation) → GoesFirst old step outcome new → Goes old step outcome new
 goes_on_any old step (Ok answer) new goes = (goes.0, goes.1.1)
 goes_on_any old step (Err NoMemory) new goes = goes.1
 goes_on_any old step (Err cause) new goes = goes
-
-as_run : (steps : List Step) (outcomes : List (Result Reply Refused)) (old new : Situation) → FirstRunFrom old steps outcomes new → RunBy Goes old steps outcomes new
-as_run = seen_along GoesFirst Goes (λ s. s) goes_on_any
 
 -- none of them was refused
 none_refused : (old new : Situation) (steps : List Step) (replies : List Reply) → FirstRunFrom old steps (all_ok replies) new → taken steps (all_ok replies) ≡ steps
@@ -37,4 +29,4 @@ none_refused old new _ _ run = absurd run
 pub taken_once : TakenOnce
 taken_once protocol shape steps s all core block =
     rw (none_refused (reset protocol shape) s steps all.0 all.1) at
-    (run_asked_once protocol shape steps (all_ok all.0) s (as_run steps (all_ok all.0) (reset protocol shape) s all.1) core block)
+    (run_asked_once protocol shape steps (all_ok all.0) s (seen_along GoesFirst Goes (λ s. s) goes_on_any steps (all_ok all.0) (reset protocol shape) s all.1) core block)

@@ -1,8 +1,6 @@
 -- What goes along a run, whatever is said of one step.
 use Rattle.std.proofs.Common.{List, [], ◌∷◌, ◌++◌, refl, ap, sym, subst}
-use Rattle.std.specs.Prelude.{Result}
-use Rattle.snoop_model.proofs.Common.{Step, Reply, Refused}
-use Rattle.snoop_model.specs.Runs.Run.{RunBy}
+use Rattle.snoop_model.proofs.Common.{Refused, Reply, Result, RunBy, Step}
 
 module _ {A : Type 0} (One : A → Step → Result Reply Refused → A → Type 0) where
   -- what each step keeps, a run keeps

@@ -1,19 +1,12 @@
 -- From every situation of a run each step leads on, in one way: it is a move, or refused for a cause.
-use Rattle.std.proofs.Common.{◌≡◌, None, List, [], ◌∷◌, refl, ap, sym, ◌∙◌}
-use Rattle.std.specs.Prelude.{Result, Ok, Err}
-use Rattle.snoop_model.proofs.Common.{Extent, Protocol, Step, Reply, Refused, Situation, reset, FirstMove}
-use Rattle.snoop_model.specs.Runs.Run.{GoesFirst, FirstRunFrom}
-use Rattle.snoop_model.specs.Moves.Refuses.{Refuses}
-use Rattle.snoop_model.specs.Invariant.WellKept.{IsWellKept}
-use Rattle.snoop_model.specs.Turns.TurnLaws.{KeepsWell}
-use Rattle.snoop_model.specs.Invariant.Invariant.{Invariant}
+use Rattle.std.proofs.Common.{◌≡◌, None, List, [], ◌∷◌, refl, ap, sym, ◌∙◌, rules}
+use Rattle.snoop_model.proofs.Common.{Err, Extent, FirstMove, FirstRunFrom, GoesFirst, Invariant, IsWellKept, KeepsWell, Ok, Protocol, Refused, Refuses, Reply, reset, Result, Situation, Step}
 use Rattle.snoop_model.proofs.Invariant.Runs.{reset_invariant}
-use Rattle.snoop_model.proofs.Invariant.Steps.{first_keeps}
+use Rattle.snoop_model.proofs.Invariant.Moves.{move_keeps}
 use Rattle.snoop_model.proofs.Queues.Moves.{keeps_well, starts_well}
 use Rattle.snoop_model.proofs.Steps.Next.{next_of}
 use Rattle.snoop_model.proofs.Queues.Waiting.{AreQueued}
-use Rattle.snoop_model.proofs.Steps.GoesNext.{goes_next}
-use Rattle.snoop_model.proofs.Steps.IsNext.{goes_is}
+use Rattle.snoop_model.proofs.Steps.GoesNext.{goes_is, goes_next}
 use Rattle.snoop_model.proofs.Runs.Along.{kept_along}
 
 -- a step that is not refused is a move, an Order's on the first block of its core's queue
@@ -30,7 +23,7 @@ abbrev pub IsSteady : Situation → Type 0
 IsSteady s = Invariant s × IsWellKept s
 
 pub steady_on : KeepsWell → (old : Situation) (step : Step) (outcome : Result Reply Refused) (new : Situation) → IsSteady old → GoesFirst old step outcome new → IsSteady new
-steady_on keeps old step (Ok answer) new steady goes = (first_keeps old step answer new steady.0 goes, keeps old new step answer steady.1 goes)
+steady_on keeps old step (Ok answer) new steady goes = (move_keeps goes.0 old step answer new steady.0 goes.1.1, keeps old new step answer steady.1 goes)
 steady_on keeps old step (Err cause) new steady goes = rw goes.1 steady
 
 -- it holds at reset, and after each step of a run
@@ -41,11 +34,8 @@ pub run_steady : (steps : List Step) (outcomes : List (Result Reply Refused)) (o
     → IsSteady new
 run_steady = kept_along GoesFirst IsSteady (steady_on keeps_well)
 
--- some run of these steps
-abbrev pub SomeRun : Situation → List Step → Type 0
-SomeRun s steps = (outcomes : List (Result Reply Refused)) × ((final : Situation) × FirstRunFrom s steps outcomes final)
-
-pub runs_on : (steps : List Step) (s : Situation) → IsSteady s → SomeRun s steps
+-- from where it holds any steps have a run
+pub runs_on : (steps : List Step) (s : Situation) → IsSteady s → (outcomes : List (Result Reply Refused)) × ((final : Situation) × FirstRunFrom s steps outcomes final)
 runs_on [] s steady = ([], (s, refl))
 runs_on (step ∷ steps) s steady =
     let next = next_of s step in
@@ -63,7 +53,4 @@ run_one (step ∷ steps) (outcome ∷ outcomes) (outcome' ∷ outcomes') old new
     let rest : FirstRunFrom a.0 steps outcomes' new' = rw (ap (λ x. x.1) here) b.1.1 in
     let on = run_one steps outcomes outcomes' a.0 new new' (steady_on keeps_well old step outcome a.0 steady a.1.0) a.1.1 rest in
     (ap (λ x. x.0 ∷ outcomes) here ∙ ap (λ l. outcome' ∷ l) on.0, on.1)
-run_one [] (outcome ∷ outcomes) outcomes' old new new' steady a b = absurd a
-run_one [] [] (outcome ∷ outcomes) old new new' steady a b = absurd b
-run_one (step ∷ steps) [] outcomes' old new new' steady a b = absurd a
-run_one (step ∷ steps) (outcome ∷ outcomes) [] old new new' steady a b = absurd b
+run_one _ _ _ old new new' steady a b = search rules

@@ -1,35 +1,148 @@
--- From every situation of a run each step goes as it is computed.
-use Rattle.std.proofs.Common.{◌⊎◌, ◌≡◌, ℕ, ◌<◌, ◌≤◌, Bool, true, false, not, ◌&&◌, ◌||◌, List, length, Option, Some, None, refl, inl, inr, ◌∙◌, arith}
-use Rattle.std.specs.Prelude.{Ok, Err, is_some, option_map, slice_get, unwrap_or, if◌then◌else◌}
-use Rattle.std.specs.Option.{option_map_or}
+-- Each step that goes comes to what is computed of it, and from every situation of a run each step goes so.
+use Rattle.std.proofs.Common.{◌≡◌, ℕ, zero, suc, ◌<◌, ◌≤◌, ◌&&◌, Bool, true, false, List, length, Option, Some, None, refl, ◌⊎◌, inl, inr, ap, ◌∙◌, arith, not, ◌||◌}
+use Rattle.std.specs.Prelude.{Result, Ok, Err, slice_get, is_some, option_map, unwrap_or, if◌then◌else◌}
+use Rattle.std.specs.Bool.{Decides}
 use Rattle.std.proofs.Math.Dec.{ltb}
-use Rattle.std.proofs.lemmas.Bool.{and_cases, and_parts, both_ways, cases_Bool, cases_lt, le-ltb, lt-ltb, ltb-false, ltb-true}
-use Rattle.std.proofs.lemmas.List.FromFn.{get_or-map-range_with_len, length-map-range_with_len}
-use Rattle.snoop_trace.specs.Words.{HasWord, zero_words}
-use Rattle.snoop_model.proofs.Common.{Protocol, Op, Step, Ask, Order, Respond, CacheState, CacheEvent, CacheAction, CacheCell, MemState, MemEvent, MemCell, Request, Payload, Cell, asked, seen_by, arrival, arrival_at_memory, takes_payload, Item, Open, queue_of, Access, Reply, Line, Picture, held_at, held_by, nothing_held, Situation, picture_of, state_of, CanOrder, StandsFirst, request_for, missed_request, IsProper, Hits, Takes, Orders, Responds, FillsRequestor, ArrivesFor, Performs, is_load, IsWithin}
+use Rattle.std.proofs.lemmas.Bool.{and_from, and_left, and_right, cases_eq, false_from_ne_true, le-ltb, lt-ltb, and_cases, and_parts, both_ways, cases_Bool, cases_lt, ltb-false, ltb-true}
+use Rattle.std.proofs.lemmas.Bool.Decides.{Decides-and, Decides-ltb}
+use Rattle.std.proofs.lemmas.List.FromFn.{fill_by_all, get_or-map-range_with_len, length-map-range_with_len}
+use Rattle.snoop_model.proofs.Common.{Access, arrival, arrival_at_memory, ArrivesFor, Ask, asked, CacheAction, CacheCell, CacheEvent, CacheState, CanOrder, Cell, Did, Extent, FillsRequestor, FirstMove, flat_words, GoesFirst, HasWord, held_at, held_by, Hits, Invariant, is_load, is_put_m, IsOnlySender, IsProper, IsWithin, Item, Line, MemAction, MemCell, MemEvent, MemState, missed_request, nothing_held, Op, Open, option_map_or, Order, Orders, Payload, Performs, Picture, picture_of, Protocol, queue_of, Refused, Refuses, Reply, Request, request_for, Respond, Responds, seen_by, Situation, StandsFirst, state_of, Step, Takes, takes_payload, WaitsOnNone, word_places, written, zero_words}
 use Rattle.snoop_trace.specs.declared.step.Op.TheVariants as op
-use Rattle.snoop_rules.specs.declared.names.CacheEvent.TheVariants as event
 use Rattle.snoop_rules.specs.declared.names.CacheAction.TheVariants as action
 use Rattle.snoop_rules.specs.declared.names.Request.TheVariants as request
+use Rattle.snoop_model.specs.declared.replies.Refused.TheVariants.{NoCore, NoBlock, Stalled, NothingWaiting, BusTaken, NoTransaction}
+use Rattle.snoop_model.proofs.Lines.TheSender.{IsBelow, sends_below}
+use Rattle.snoop_model.proofs.Tables.SentBy.{payload_from, sends_is, sends_row}
+use Rattle.snoop_model.proofs.Tables.RespondTests.{SettlesIf, memory_row_for, row_for}
+use Rattle.snoop_model.proofs.OneBlock.OfBlocks.{same_picture, same_memory}
+use Rattle.snoop_model.proofs.Steps.Next.{Next, value_of, words_after, has_word, after_ask, by_row, next_asked, sender_below, line_after, next_picture, next_ordered, settled, filled, brought, next_closed, next_of, next_first}
+use Rattle.snoop_model.proofs.Queues.Waiting.{AreQueued, first_waits, none_waits}
+use Rattle.snoop_rules.specs.declared.names.CacheEvent.TheVariants as event
 use Rattle.snoop_rules.specs.declared.names.Payload.TheVariants as payload
 use Rattle.snoop_rules.proofs.Every.{all_protocols, all_states, all_events}
 use Rattle.snoop_rules.proofs.Rows.{each_row, each_row-at}
-use Rattle.snoop_history.specs.History.{flat_words}
-use Rattle.snoop_history.specs.Totals.{is_put_m}
-use Rattle.snoop_model.specs.declared.replies.Refused.TheVariants.{NoTransaction}
-use Rattle.snoop_model.specs.Runs.Run.{GoesFirst}
-use Rattle.snoop_model.specs.Invariant.Invariant.{Invariant}
-use Rattle.snoop_model.proofs.Tables.Rows.{same_request, is_evict, asked_answers, hit_keeps}
+use Rattle.snoop_model.proofs.Tables.Rows.{is_evict, asked_answers, hit_keeps}
 use Rattle.snoop_model.proofs.Tables.AskTests.{is_idle_evict}
-use Rattle.snoop_model.proofs.Tables.RespondTests.{SettlesIf, memory_row_for, row_for}
-use Rattle.snoop_model.proofs.Lines.TheSender.{sends_below}
 use Rattle.snoop_model.proofs.Invariant.Coherence.{orders_follow_sender_table, finds_rows, idle_evict, waits_within}
 use Rattle.snoop_model.proofs.OneBlock.Facts.{implied}
 use Rattle.snoop_model.proofs.OneBlock.Possible.{ask_possible, respond_possible}
-use Rattle.snoop_model.proofs.Steps.Next.{value_of, words_after, has_word, after_ask, by_row, next_asked, line_after, next_ordered, settled, filled, brought, next_closed, next_first, next_of}
-use Rattle.snoop_model.proofs.Queues.Waiting.{AreQueued, first_waits, none_waits}
-use Rattle.snoop_model.proofs.Steps.IsNext.{word_decides, sender_is}
-use Rattle.snoop_model.proofs.Tables.SentBy.{sends_is}
+
+-- an operation does one thing
+performs_is : (word : ℕ) (asking : Op) (before : List ℕ) (value : ℕ) (after : List ℕ) → Performs word asking before value after
+    → (value ≡ value_of word asking before) × (after ≡ words_after word asking before)
+performs_is word op.Evict before value after h = absurd h
+performs_is word _ before value after h = h
+
+word_decides : (shape : Extent) (word : ℕ) (asking : Op) → Decides (has_word shape word asking) (HasWord shape word asking)
+word_decides shape word op.Evict = (λ h. tt, λ h. refl)
+word_decides shape word op.Load = Decides-and _ _ (Decides-ltb word shape.words) (Decides-ltb word word_places)
+word_decides shape word (op.Store v) = Decides-and _ _ (Decides-ltb word shape.words) (Decides-ltb word word_places)
+
+-- An Ask.
+module _ (s : Situation) (core block word : ℕ) (asking : Op) where
+  takes_is : (act : CacheAction) (next : CacheState) (held : Line) (answer : Reply) (entry : Option Item)
+      → Takes act next s.log core block word asking (held_by (picture_of s block) core) held answer entry
+      → ◌≡◌ {A = Next} (Ok answer, after_ask s core block word asking act held entry) (by_row s core block word asking act next)
+  takes_is action.Hit next held answer entry t =
+      let does = performs_is word asking t.1.0.before t.0 t.1.0.after t.1.0.performed in
+      rw (t.1.0.held, t.1.1, t.1.2, t.1.0.kept, does.0, does.1) refl
+  takes_is (action.Issue r) next held answer entry t = rw (t.0, t.1, t.2) refl
+  takes_is action.Drop next held answer entry t = rw (t.0, t.1, t.2) refl
+  takes_is _ next held answer entry t = absurd t
+
+  in_place : block < s.shape.blocks → HasWord s.shape word asking → (ltb block s.shape.blocks && has_word s.shape word asking) ≡ true
+  in_place within has = and_from _ _ (lt-ltb block s.shape.blocks within) ((word_decides s.shape word asking).1 has)
+
+  no_place : (s.shape.blocks ≤ block) ⊎ (¬ HasWord s.shape word asking) → (ltb block s.shape.blocks && has_word s.shape word asking) ≡ false
+  no_place (inl past) = and_left _ _ (le-ltb block s.shape.blocks past)
+  no_place (inr none) = and_right _ _ (false_from_ne_true _ (λ e. none ((word_decides s.shape word asking).0 e)))
+
+-- An Order.
+module _ (p : Protocol) (before : Picture) (core : ℕ) (q : Request) where
+  -- the only sender is found
+  sender_is : (n : ℕ) → n ≤ length before.caches → (from : Option ℕ) (payload : Payload) → IsOnlySender p before core q from payload → IsBelow n from
+      → sender_below p before core q n ≡ from
+  sender_is zero few None payload sent below = refl
+  sender_is zero few (Some k) payload sent below = absurd (omega arith)
+  sender_is (suc n) few from payload sent below = found (payload_from p before core q (Some n)) refl (sender_is n (omega arith) from payload sent)
+    where
+      lower : (other : Option ℕ) → IsBelow (suc n) other → (other ≡ Some n → ⊥) → IsBelow n other
+      lower None below apart = tt
+      lower (Some k) below apart = elim (cases_eq k n) [ inl e ↦ absurd (apart (ap Some e)) | inr ne ↦ omega arith ]
+
+      found : (sends : Option Payload) → payload_from p before core q (Some n) ≡ sends → (IsBelow n from → sender_below p before core q n ≡ from)
+          → sender_below p before core q (suc n) ≡ from
+      found (Some x) is rest = rw is (sent.alone (Some n) x (omega arith, sends_row _ x is))
+      found None is rest =
+          let silent : from ≡ Some n → ⊥ = λ e. (let sends = rw e at (sends_is p before core q from payload sent.sends) in cc) in
+          rw is (rest (lower from below silent))
+
+-- A Respond.
+pub settled_is : (takes : Bool) (p : Protocol) (found : Option MemEvent) (m : MemState) (act : MemAction) (next : MemState)
+    → SettlesIf takes p found m act next → (act, next) ≡ settled takes p found m
+settled_is true p None m act next h = absurd h
+settled_is true p (Some e) m act next h = rw h refl
+settled_is false p found m act next h = rw (h.0, h.1) refl
+
+module _ (closing : Open) (p : Protocol) (log : List Item) (old new : List Line) (did : Option Did) where
+  arrives_is : (q : Request) → ArrivesFor q closing p log old new did → (new, did) ≡ brought closing p log old q
+  arrives_is request.PutM a = rw (a.0, a.1) refl
+  arrives_is _ f =
+      let does = performs_is f.asking.word f.asking.op closing.value f.value f.fills.after f.fills.performed in
+      rw (f.held, f.logged, f.fills.held, f.fills.waited, f.fills.arrives, f.fills.is_row, does.0, does.1) refl
+
+-- a move comes to what is computed
+move_is : (s : Situation) (step : Step) (answer : Reply) (new : Situation) → FirstMove s step answer new
+    → ◌≡◌ {A = Next} (Ok answer, new) (next_of s step)
+move_is s (Ask core on word asking) answer new (block, (first, m)) =
+    rw (m.on_block, lt-ltb core s.shape.cores m.within.0, in_place s core block word asking m.within.1 m.has_word) (elim m.moves [
+      | inl a ↦ rw (a.2, a.3, a.1, a.0) refl
+      | inr a ↦ rw (a.after, a.is_row) (takes_is s core block word asking a.row.action a.row.next a.held answer a.entry a.taken)
+    ])
+move_is s (Order core) answer new (block, (first, m)) =
+    let p = s.protocol in
+    let q = m.request in
+    let o = m.orders in
+    let before : Picture = picture_of s block in
+    let sends = sends_is p before core q o.from o.payload o.sent.sends in
+    let from = sender_is p before core q (length before.caches) (omega arith) o.from o.payload o.sent (sends_below p before core q o.from o.payload o.sent.sends) in
+    let caches = fill_by_all (line_after p before core q) o.next.caches (length before.caches) nothing_held o.taken.same_length
+    (λ k below. (let row = o.taken.rows k below in row.2 ∙ rw row.1 refl)) in
+    let next : o.next ≡ next_picture p before core q block =
+    same_picture caches (same_memory (o.memory.2 ∙ rw o.memory.1 refl) o.value) (o.opened ∙ rw (from, sends) refl) in
+    rw (m.answered, lt-ltb core s.shape.cores m.within.0, first, o.ready.1, o.ready.0, o.after, next) refl
+move_is s (Respond on) answer new (block, (first, m)) =
+    let r = m.responds in
+    let o = m.closing in
+    let before : Picture = picture_of s block in
+    let caches = arrives_is o s.protocol s.log before.caches r.next.caches m.did o.request r.requestor in
+    let memory = settled_is (takes_payload o.request before.memory.state) s.protocol
+    (arrival_at_memory o.payload) before.memory.state r.memory.act r.next.memory.state r.memory.settled in
+    let next = same_picture (ap (λ x. x.0) caches) (same_memory (ap (λ x. x.1) memory)
+    (r.memory.value ∙ ap (λ x. written x.0 o.value before.memory.value) memory)) r.closed in
+    rw (m.on_block, m.answered, lt-ltb block s.shape.blocks m.within, r.opened, r.after, next, ap (λ x. x.1) caches) refl
+
+-- and so does a refusal
+module _ (s : Situation) (queued : AreQueued s) where
+  none_first : (core : ℕ) → WaitsOnNone s core → (found : Option ℕ) → slice_get (queue_of s.queues core) 0 ≡ found → found ≡ None
+  none_first core none None is = refl
+  none_first core none (Some block) is = let waits = first_waits s queued core block is in absurd (none block waits.0 waits.1)
+
+  refused_is : (step : Step) (cause : Refused) → Refuses s step cause → ◌≡◌ {A = Next} (Err cause, s) (next_of s step)
+  refused_is (Ask core block word asking) NoCore h = rw (le-ltb core s.shape.cores h) refl
+  refused_is (Ask core block word asking) NoBlock h = rw (lt-ltb core s.shape.cores h.0, no_place s core block word asking h.1) refl
+  refused_is (Ask core block word asking) (Stalled held) h =
+      rw (lt-ltb core s.shape.cores h.0.0, in_place s core block word asking h.0.1 h.3, h.1, h.2.1) refl
+  refused_is (Order core) NoCore h = rw (le-ltb core s.shape.cores h) refl
+  refused_is (Order core) NothingWaiting h = rw (lt-ltb core s.shape.cores h.0, none_first core h.1 (slice_get (queue_of s.queues core) 0) refl) refl
+  refused_is (Order core) (BusTaken block) h = rw (lt-ltb core s.shape.cores h.0, h.1, h.2) refl
+  refused_is (Respond block) NoBlock h = rw (le-ltb block s.shape.blocks h) refl
+  refused_is (Respond block) NoTransaction h = rw (lt-ltb block s.shape.blocks h.0, h.1) refl
+  refused_is _ _ h = absurd h
+
+  pub goes_is : (step : Step) (outcome : Result Reply Refused) (new : Situation) → GoesFirst s step outcome new → (outcome, new) ≡ next_of s step
+  goes_is step (Ok answer) new goes = move_is s step answer new goes
+  goes_is step (Err cause) new goes = rw goes.1 (refused_is step cause goes.0)
 
 some_kept : (kept : Option (List ℕ)) → is_some kept ≡ true → kept ≡ Some (unwrap_or kept zero_words)
 some_kept None h = cc
@@ -82,27 +195,11 @@ module _ (s : Situation) (core block word : ℕ) (asking : Op) (within : IsWithi
             rw row.1 (goes_by row.0.action row.0.next row.1 (good.proper core within.0))
       ]
 
--- the step goes as it is computed
+-- a step goes as it is computed
 abbrev pub GoesNext : Situation → Step → Type 0
 GoesNext s step = GoesFirst s step (next_of s step).0 (next_of s step).1
 
 module _ (s : Situation) (g : Invariant s) where
-  ask_goes : (core block word : ℕ) (asking : Op) → GoesNext s (Ask core block word asking)
-  ask_goes core block word asking = elim (cases_lt core s.shape.cores) [
-    | inr past ↦ rw (le-ltb core s.shape.cores past) (past, refl)
-    | inl in_cores ↦ elim (cases_Bool (ltb block s.shape.blocks && has_word s.shape word asking)) [
-      | inl there ↦
-          let parts = and_parts _ _ there in
-          rw (lt-ltb core s.shape.cores in_cores, there) (goes_within s core block word asking (in_cores, ltb-true block s.shape.blocks parts.0)
-          ((word_decides s.shape word asking).0 parts.1) g)
-      | inr none ↦ rw (lt-ltb core s.shape.cores in_cores, none) ((in_cores, nowhere (and_cases _ _ none)), refl)
-    ]
-  ]
-    where
-      nowhere : (ltb block s.shape.blocks ≡ false) ⊎ (has_word s.shape word asking ≡ false) → (s.shape.blocks ≤ block) ⊎ (¬ HasWord s.shape word asking)
-      nowhere (inl past) = inl (ltb-false block s.shape.blocks past)
-      nowhere (inr none) = inr (λ has. both_ways _ none ((word_decides s.shape word asking).1 has))
-
   -- an Order of a request that can be ordered: each controller has its row
   pub order_made : (core block : ℕ) (q : Request) → CanOrder s core block q → Orders s core block q (next_ordered s core block q).1
   order_made core block q ready =
@@ -132,8 +229,101 @@ module _ (s : Situation) (g : Invariant s) where
         after = refl;
       }
 
-  order_goes : AreQueued s → (core : ℕ) → GoesNext s (Order core)
-  order_goes queued core = elim (cases_lt core s.shape.cores) [
+-- the event is the arrival of data at its requestor
+abbrev is_data : CacheEvent → Bool
+is_data event.Data = true
+is_data event.DataE = true
+is_data _ = false
+
+-- data performs the operation that has missed
+abbrev fills : Option Request → CacheAction → Bool
+fills (Some request.GetS) action.FillLoad = true
+fills (Some request.GetM) action.FillStore = true
+fills _ _ = false
+
+abbrev data_test : Protocol → CacheState → CacheEvent → CacheCell → Bool
+data_test p s e r = not (is_data e) || fills (missed_request s) r.action
+
+data_test_holds : each_row data_test ≡ true
+unfolding each_row all_protocols all_states all_events
+data_test_holds = refl
+
+arrives_as_data : (payload : Payload) (e : CacheEvent) → arrival payload ≡ Some e → is_data e ≡ true
+arrives_as_data payload.NoData e is = cc
+arrives_as_data _ e is = cc
+
+-- an action that fills for the operation's request is the fill for the operation, which is no eviction
+fill_is : (asking : Op) (act : CacheAction) → fills (Some (request_for asking)) act ≡ true
+    → (act ≡ (if is_load asking then action.FillLoad else action.FillStore)) × (not (is_evict (asked asking)) ≡ true)
+fill_is op.Load action.FillLoad h = (refl, refl)
+fill_is (op.Store v) action.FillStore h = (refl, refl)
+fill_is _ _ h = cc
+
+-- what the response brings to the caches
+module _ (p : Protocol) (log : List Item) (old : List Line) (o : Open) where
+  fills_as : (found : Option CacheEvent) → arrival o.payload ≡ found → (row : CacheCell) → row_for p (held_at old o.core).state found ≡ Some row
+      → (waiting : Option Access) → (held_at old o.core).waiting ≡ waiting → option_map (λ access. request_for access.op) waiting ≡ missed_request (held_at old o.core).state
+      → (let n = filled o p log old waiting in FillsRequestor o p log old n.0 n.1)
+  fills_as None arrives row is waiting waits proper = cc
+  fills_as (Some e) arrives row is waiting waits proper =
+      let s = (held_at old o.core).state in
+      by_waiting waiting waits (rw proper (implied (is_data e) _ (each_row-at data_test data_test_holds p s e row.action row.next is) (arrives_as_data o.payload e arrives)))
+    where
+      by_waiting : (waiting : Option Access) → (held_at old o.core).waiting ≡ waiting → fills (option_map (λ access. request_for access.op) waiting) row.action ≡ true
+          → (let n = filled o p log old waiting in FillsRequestor o p log old n.0 n.1)
+      by_waiting None waits fit = cc
+      by_waiting (Some access) waits fit =
+          let so = fill_is access.op row.action fit in
+          rw (arrives, is) (record {
+            line = _;
+            asking = access;
+            value = _;
+            fills = record {
+              event = e;
+              row = row;
+              after = _;
+              arrives = arrives;
+              is_row = is;
+              waited = waits;
+              fill = so.0;
+              performed = performs access.op so.1 access.word o.value;
+              held = refl;
+            };
+            held = refl;
+            logged = refl;
+          })
+
+  brings : (q : Request) → (is_put_m q ≡ false → (r : CacheCell) × (row_for p (held_at old o.core).state (arrival o.payload) ≡ Some r))
+      → IsProper (held_at old o.core) → (let n = brought o p log old q in ArrivesFor q o p log old n.0 n.1)
+  brings request.PutM row proper = (refl, refl)
+  brings _ row proper = fills_as (arrival o.payload) refl (row refl).0 (row refl).1 (held_at old o.core).waiting refl proper.waiting
+
+-- what the response brings to memory
+remembers : (takes : Bool) (p : Protocol) (found : Option MemEvent) (m : MemState) → (takes ≡ true → (r : MemCell) × (memory_row_for p m found ≡ Some r))
+    → SettlesIf takes p found m (settled takes p found m).0 (settled takes p found m).1
+remembers false p found m row = (refl, refl)
+remembers true p None m row = let none = (row refl).1 in cc
+remembers true p (Some e) m row = rw (row refl).1 refl
+
+-- each step goes as it is computed
+module _ (s : Situation) (g : Invariant s) where
+  pub goes_next : AreQueued s → (step : Step) → GoesNext s step
+  goes_next queued (Ask core block word asking) = elim (cases_lt core s.shape.cores) [
+    | inr past ↦ rw (le-ltb core s.shape.cores past) (past, refl)
+    | inl in_cores ↦ elim (cases_Bool (ltb block s.shape.blocks && has_word s.shape word asking)) [
+      | inl there ↦
+          let parts = and_parts _ _ there in
+          rw (lt-ltb core s.shape.cores in_cores, there) (goes_within s core block word asking (in_cores, ltb-true block s.shape.blocks parts.0)
+          ((word_decides s.shape word asking).0 parts.1) g)
+      | inr none ↦
+          let nowhere : (s.shape.blocks ≤ block) ⊎ (¬ HasWord s.shape word asking) = elim (and_cases _ _ none) [
+            | inl past ↦ inl (ltb-false block s.shape.blocks past)
+            | inr wordless ↦ inr (λ has. both_ways _ wordless ((word_decides s.shape word asking).1 has))
+          ] in
+          rw (lt-ltb core s.shape.cores in_cores, none) ((in_cores, nowhere), refl)
+    ]
+  ]
+  goes_next queued (Order core) = elim (cases_lt core s.shape.cores) [
     | inr past ↦ rw (le-ltb core s.shape.cores past) (past, refl)
     | inl in_cores ↦ rw (lt-ltb core s.shape.cores in_cores) (first in_cores (slice_get (queue_of s.queues core) 0) refl)
   ]
@@ -144,122 +334,32 @@ module _ (s : Situation) (g : Invariant s) where
       free_or_not block is in_cores None free =
           let waits = first_waits s queued core block is in
           let within = waits_within s g core block waits.0 waits.1 in
-          rw (free, waits.1) (block, (is, record { request = waits.0; within = within; answered = refl; orders = order_made core block waits.0 (waits.1, free) }))
+          rw (free, waits.1) (block, (is, record { request = waits.0; within = within; answered = refl; orders = order_made s g core block waits.0 (waits.1, free) }))
 
       first : core < s.shape.cores → (found : Option ℕ) → slice_get (queue_of s.queues core) 0 ≡ found
           → (let n = next_first s core found in GoesFirst s (Order core) n.0 n.1)
       first in_cores None none = ((in_cores, none_waits s queued core none), refl)
       first in_cores (Some block) is = free_or_not block is in_cores (picture_of s block).transaction refl
-
--- the event is the arrival of data at its requestor
-abbrev is_data : CacheEvent → Bool
-is_data event.Data = true
-is_data event.DataE = true
-is_data _ = false
-
--- data performs the operation that has missed
-abbrev fills : CacheAction → Option Request → Bool
-fills action.FillLoad missed = same_request missed (Some request.GetS)
-fills action.FillStore missed = same_request missed (Some request.GetM)
-fills _ missed = false
-
-abbrev data_test : Protocol → CacheState → CacheEvent → CacheCell → Bool
-data_test p s e r = not (is_data e) || fills r.action (missed_request s)
-
-data_test_holds : each_row data_test ≡ true
-unfolding each_row all_protocols all_states all_events
-data_test_holds = refl
-
-arrives_as_data : (payload : Payload) (e : CacheEvent) → arrival payload ≡ Some e → is_data e ≡ true
-arrives_as_data payload.NoData e is = cc
-arrives_as_data _ e is = cc
-
--- the operation that waits, for which the fill is, and which it performs
-record IsFill (act : CacheAction) (waiting : Option Access) : Type 0 where
-  access : Access
-  waited : waiting ≡ Some access
-  fill : act ≡ (if is_load access.op then action.FillLoad else action.FillStore)
-  performed : (ws : List ℕ) → Performs access.word access.op ws (value_of access.word access.op ws) (words_after access.word access.op ws)
-
-fill_is : (act : CacheAction) (waiting : Option Access) → fills act (option_map (λ access. request_for access.op) waiting) ≡ true → IsFill act waiting
-fill_is action.FillLoad None h = cc
-fill_is _ None h = cc
-fill_is act (Some access) h = by_op act access.op refl h
-  where
-    by_op : (act : CacheAction) (o : Op) → access.op ≡ o → fills act (Some (request_for o)) ≡ true → IsFill act (Some access)
-    by_op action.FillLoad op.Load is h = record { access = access; waited = refl; fill = rw is refl; performed = λ ws. rw is (refl, refl) }
-    by_op action.FillStore (op.Store v) is h = record { access = access; waited = refl; fill = rw is refl; performed = λ ws. rw is (refl, refl) }
-    by_op _ _ is h = cc
-
--- what the response brings to the caches
-module _ (p : Protocol) (log : List Item) (old : List Line) (o : Open) where
-  fills_as : (found : Option CacheEvent) → arrival o.payload ≡ found → (row : CacheCell) → row_for p (held_at old o.core).state found ≡ Some row
-      → IsProper (held_at old o.core)
-      → (let n = filled o p log old (held_at old o.core).waiting in FillsRequestor o p log old n.0 n.1)
-  fills_as None arrives row is proper = cc
-  fills_as (Some e) arrives row is proper =
-      let line = held_at old o.core in
-      let fits = implied (is_data e) _ (each_row-at data_test data_test_holds p line.state e row.action row.next is) (arrives_as_data o.payload e arrives) in
-      let f = fill_is row.action line.waiting (rw proper.waiting fits) in
-      rw (f.waited, arrives, is) (record {
-        line = _;
-        asking = f.access;
-        value = _;
-        fills = record {
-          event = e;
-          row = row;
-          after = _;
-          arrives = arrives;
-          is_row = is;
-          waited = f.waited;
-          fill = f.fill;
-          performed = f.performed o.value;
-          held = refl;
-        };
-        held = refl;
-        logged = refl;
-      })
-
-  brings : (q : Request) → (is_put_m q ≡ false → (r : CacheCell) × (row_for p (held_at old o.core).state (arrival o.payload) ≡ Some r))
-      → IsProper (held_at old o.core) → (let n = brought o p log old q in ArrivesFor q o p log old n.0 n.1)
-  brings request.PutM row proper = (refl, refl)
-  brings _ row proper = fills_as (arrival o.payload) refl (row refl).0 (row refl).1 proper
-
--- what the response brings to memory
-remembers : (takes : Bool) (p : Protocol) (found : Option MemEvent) (m : MemState) → (takes ≡ true → (r : MemCell) × (memory_row_for p m found ≡ Some r))
-    → SettlesIf takes p found m (settled takes p found m).0 (settled takes p found m).1
-remembers false p found m row = (refl, refl)
-remembers true p None m row = let none = (row refl).1 in cc
-remembers true p (Some e) m row = rw (row refl).1 refl
-
-module _ (s : Situation) (g : Invariant s) where
-  closes : (block : ℕ) → block < s.shape.blocks → (found : Option Open) → (picture_of s block).transaction ≡ found
-      → (let n = option_map_or (next_closed s block) found (Err NoTransaction, s) in GoesFirst s (Respond block) n.0 n.1)
-  closes block within None none = ((within, none), refl)
-  closes block within (Some o) opened =
-      let before : Picture = picture_of s block in
-      let good = g.blocks block within in
-      let rows = respond_possible s.protocol s.shape.cores (flat_words s.log block) before o good opened in
-      let requestor = brings s.protocol s.log before.caches o o.request rows.requestor (good.proper o.core (good.requestor_in o opened)) in
-      let settles = remembers (takes_payload o.request before.memory.state) s.protocol (arrival_at_memory o.payload) before.memory.state rows.memory in
-      let responds : Responds s block o _ (next_closed s block o).1 = record {
-        opened = opened;
-        next = _;
-        requestor = requestor;
-        memory = record { act = _; settled = settles; value = refl };
-        closed = refl;
-        after = refl;
-      } in
-      (block, (tt, record { closing = o; did = _; on_block = refl; within = within; answered = refl; responds = responds }))
-
-  respond_goes : (block : ℕ) → GoesNext s (Respond block)
-  respond_goes block = elim (cases_lt block s.shape.blocks) [
+  goes_next queued (Respond block) = elim (cases_lt block s.shape.blocks) [
     | inr past ↦ rw (le-ltb block s.shape.blocks past) (past, refl)
-    | inl within ↦ rw (lt-ltb block s.shape.blocks within) (closes block within (picture_of s block).transaction refl)
+    | inl within ↦ rw (lt-ltb block s.shape.blocks within) (closes within (picture_of s block).transaction refl)
   ]
-
-  -- each step goes as it is computed
-  pub goes_next : AreQueued s → (step : Step) → GoesNext s step
-  goes_next queued (Ask core block word asking) = ask_goes s g core block word asking
-  goes_next queued (Order core) = order_goes s g queued core
-  goes_next queued (Respond block) = respond_goes block
+    where
+      closes : block < s.shape.blocks → (found : Option Open) → (picture_of s block).transaction ≡ found
+          → (let n = option_map_or (next_closed s block) found (Err NoTransaction, s) in GoesFirst s (Respond block) n.0 n.1)
+      closes within None none = ((within, none), refl)
+      closes within (Some o) opened =
+          let before : Picture = picture_of s block in
+          let good = g.blocks block within in
+          let rows = respond_possible s.protocol s.shape.cores (flat_words s.log block) before o good opened in
+          let requestor = brings s.protocol s.log before.caches o o.request rows.requestor (good.proper o.core (good.requestor_in o opened)) in
+          let settles = remembers (takes_payload o.request before.memory.state) s.protocol (arrival_at_memory o.payload) before.memory.state rows.memory in
+          let responds : Responds s block o _ (next_closed s block o).1 = record {
+            opened = opened;
+            next = _;
+            requestor = requestor;
+            memory = record { act = _; settled = settles; value = refl };
+            closed = refl;
+            after = refl;
+          } in
+          (block, (tt, record { closing = o; did = _; on_block = refl; within = within; answered = refl; responds = responds }))

@@ -1,11 +1,9 @@
 -- What a step comes to, computed: what it is answered, and where it leads. Where a table has no row, which no run meets, the state stays.
 use Rattle.std.proofs.Common.{ℕ, zero, suc, Bool, true, false, ◌&&◌, List, [], ◌∷◌, ◌++◌, length, map, Option, Some, None}
 use Rattle.std.specs.Prelude.{Result, Ok, Err, is_some, option_to_list, unwrap_or, slice_get, slice_set, if◌then◌else◌}
-use Rattle.std.specs.Option.{option_map_or}
 use Rattle.std.specs.List.{range_with_len}
 use Rattle.std.proofs.Math.Dec.{ltb}
-use Rattle.snoop_model.proofs.Common.{Extent, Protocol, Op, Step, Ask, Order, Respond, CacheState, CacheAction, MemState, MemEvent, MemAction, Request, cell_of, memory_cell_of, asked, seen_by, at_memory, arrival, arrival_at_memory, takes_payload, waiting_request, Did, Item, Open, queue_of, after_order, Access, Reply, Refused, Line, Picture, held_at, held_by, with_line, Situation, picture_of, with_picture, state_of, is_load, kept_waiting, next_did, moves_to, written, came_of, queues_after}
-use Rattle.snoop_trace.specs.Words.{Data, word_at, word_places, zero_words}
+use Rattle.snoop_model.proofs.Common.{Access, after_order, arrival, arrival_at_memory, Ask, asked, at_memory, CacheAction, CacheState, came_of, cell_of, Data, Did, Extent, held_at, held_by, is_load, Item, kept_waiting, Line, MemAction, MemEvent, memory_cell_of, MemState, moves_to, next_did, Op, Open, option_map_or, Order, Picture, picture_of, Protocol, queue_of, queues_after, Refused, Reply, Request, Respond, seen_by, Situation, state_of, Step, takes_payload, value_sent, waiting_request, with_line, with_picture, word_at, word_places, written, zero_words}
 use Rattle.snoop_trace.specs.declared.step.Op.TheVariants as op
 use Rattle.snoop_rules.specs.declared.names.CacheAction.TheVariants as action
 use Rattle.snoop_rules.specs.declared.names.MemAction.TheVariants as mem_action
@@ -14,7 +12,6 @@ use Rattle.snoop_rules.specs.declared.names.Payload.TheVariants as payload
 use Rattle.snoop_history.specs.declared.items.Item.TheVariants as item
 use Rattle.snoop_model.specs.declared.replies.Reply.TheVariants as reply
 use Rattle.snoop_model.specs.declared.replies.Refused.TheVariants.{NoCore, NoBlock, Stalled, NothingWaiting, BusTaken, NoTransaction}
-use Rattle.snoop_model.specs.Pictures.Sends.{value_sent}
 use Rattle.snoop_model.proofs.Tables.RespondTests.{row_for, memory_row_for}
 use Rattle.snoop_model.proofs.Tables.SentBy.{payload_from}
 

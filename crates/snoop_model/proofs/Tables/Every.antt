@@ -3,7 +3,7 @@ use Rattle.std.proofs.Common.{◌≡◌, ◌&&◌, Bool, true, false, Option, So
 use Rattle.snoop_model.proofs.Common.{Protocol, CacheState, Request, and_parts, fits, same}
 use denote.Enum.Bare.{Bare, same_true, sameb}
 use denote.Enum.Declared.{Declared}
-use Rattle.std.specs.Prelude.{⊤}
+use Rattle.std.specs.Prelude.{⊤, is_some}
 use Rattle.std.specs.List.{list_all}
 use Rattle.snoop_rules.proofs.Every.{all_states, all_states-at}
 
@@ -56,6 +56,10 @@ each_holds (test ∷ tests) h = let (first, rest) = and_parts test (each tests) 
 
 pub some_each : {A : Type 0} (o : Option A) (tests : A → List Bool) → is_some_and o (λ a. each (tests a)) ≡ true → (a : A) × (o ≡ Some a) × EachHolds (tests a)
 some_each o tests h = let (a, is_a, holds) = some_and o (λ a. each (tests a)) h in (a, is_a, each_holds (tests a) holds)
+
+pub some_of : {A : Type 0} (o : Option A) → is_some o ≡ true → (a : A) × (o ≡ Some a)
+some_of None h = cc
+some_of (Some a) h = (a, refl)
 
 pub same_is : (a b : Bool) → same a b ≡ true → a ≡ b
 unfolding same

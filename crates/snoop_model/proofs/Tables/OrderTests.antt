@@ -42,7 +42,7 @@ end_tests p m st s owns q memory row after =
     ∷ sends_so (sent_by_memory (Some memory)) (cond (is_put_m q) false (not st.owned)) (payload_of row memory) (follows_sender_table p q m Memory (payload_of row memory) memory.next) st.fresh
     ∷ sends_so (sent_by (Some row)) (cond (is_put_m q) true owns) (payload_of row memory) (follows_sender_table p q m (Requestor s) (payload_of row memory) memory.next) (keeps s)
     ∷ all_fitting p st.shared None (λ s other_owns. when (not (other_owns && owns) && (not other_owns || st.owned))
-        (λ _. is_some_and (cell_of p s (other q)) (λ row_seen. each (other_tests p m q memory (payload_of row memory) after s other_owns row_seen))))
+    (λ _. is_some_and (cell_of p s (other q)) (λ row_seen. each (other_tests p m q memory (payload_of row memory) after s other_owns row_seen))))
     ∷ []
 
 abbrev pub order_test : Protocol → MemState → Claims → CacheState → Bool → Request → Bool

@@ -1,22 +1,221 @@
--- All laws of turns that follow the turn rule.
-use Rattle.snoop_model.specs.Turns.TurnLaws.{TurnLaws}
+-- All laws of turns that follow the turn rule: what they keep, that they are never refused, what they cost, and when a work is over.
+use Rattle.std.proofs.Common.{◌≡◌, ◌≢◌, ℕ, ◌+◌, ◌≤◌, true, false, List, length, Option, Some, None, refl, sym, ◌∙◌, ap, subst, arith, inl, inr, ◌⊎◌}
+use Rattle.std.specs.Prelude.{◌==◌, All, Contains, slice_index_or, slice_set, sum_by}
+use Rattle.std.proofs.lemmas.Bool.{cases_eq, eq-eqb, ne_eqb}
+use Rattle.std.proofs.lemmas.Option.{cond_some, none-some, same_Some}
+use Rattle.std.proofs.lemmas.List.Elements.{All-contains, All-weaker, Contains-get_or}
+use Rattle.snoop_model.proofs.Common.{Access, Ask, asked, CacheAction, CacheState, ClosedIsLast, ComesToRest, Ends, EndsAtOnce, FirstMove, has_transaction, held_by, IsServing, IsWellKept, Item, Line, NeverRefused, nothing_there, Op, Open, Order, Pays, Picture, picture_of, queue_of, queues_after, Refused, Refuses, Reply, Request, Respond, ServesOn, Situation, state_of, Step, Takes, TurnLaws, waiting_request, Waits, with_line}
+use Rattle.snoop_rules.specs.declared.names.CacheAction.TheVariants as action
+use Rattle.snoop_model.specs.declared.replies.Reply.TheVariants.{Issued}
+use Rattle.snoop_model.specs.declared.replies.Refused.TheVariants.{NoCore, NoBlock, Stalled, NothingWaiting, BusTaken, NoTransaction}
+use Rattle.snoop_model.specs.Turns.Turn.{step_under_way, turn_of}
+use Rattle.snoop_model.proofs.Lists.Facts.{one_if}
+use Rattle.snoop_model.proofs.Lists.Writes.{set_cases, all_first, all_issued, all_ordered, sum_issued, sum_ordered, one_small, count_set}
+use Rattle.snoop_model.proofs.OneBlock.OfBlocks.{same_everywhere}
+use Rattle.snoop_model.proofs.Queues.Waiting.{queued_waits, waits_queued}
 use Rattle.snoop_model.proofs.Queues.Moves.{starts_well, keeps_well}
-use Rattle.snoop_model.proofs.Turns.Costs.{pays}
-use Rattle.snoop_model.proofs.Turns.Rule.{never_refused, serves_on, ends, comes_to_rest}
 use Rattle.snoop_model.proofs.Once.Owed.{owes}
-use Rattle.snoop_model.proofs.Turns.ClosedWorks.{closed_is_last, asked_once}
+use Rattle.snoop_model.proofs.Turns.WaitingWorks.{stall_busy, busy_cases, busy_under_way, missed_busy}
+
+-- which steps a work under way takes, and when it takes none
+under_way_step : (w : Option Request) (t : Option Open) (core block : ℕ) (step : Step) → step_under_way w t core block ≡ Some step
+    → ((step ≡ Order core) × (t ≡ None) × ((q : Request) × (w ≡ Some q))) ⊎ ((step ≡ Respond block) × ((o : Open) × (t ≡ Some o)))
+under_way_step (Some q) None core block step h = inl (sym (same_Some _ _ h), refl, (q, refl))
+under_way_step (Some q) (Some o) core block step h = inr (sym (same_Some _ _ h), (o, refl))
+under_way_step None None core block step h = cc
+under_way_step None (Some o) core block step h = inr (sym (cond_some (o.core == core) (Respond block) step h).1, (o, refl))
+
+none_left : (w : Option Request) (t : Option Open) (core block : ℕ) → step_under_way w t core block ≡ None
+    → (w ≡ None) × ((o : Open) → t ≡ Some o → o.core ≡ core → ⊥)
+none_left (Some q) None core block h = cc
+none_left (Some q) (Some o) core block h = cc
+none_left None None core block h = (refl, λ o e own. cc)
+none_left None (Some o) core block h = (refl, λ p e own. (let clash = rw (eq-eqb o.core core (rw (same_Some _ _ e) own)) at h in cc))
+
+never_refused : NeverRefused
+never_refused s under_way core block word asking false step serving kept has_core has_block has_word idle is cause refused = ask_goes cause (rw (← (same_Some _ _ is)) at refused)
+  where
+    ask_goes : (cause : Refused) → Refuses s (Ask core block word asking) cause → ⊥
+    ask_goes NoCore h = absurd (omega arith)
+    ask_goes NoBlock h = elim h.1 [ inl l ↦ absurd (omega arith) | inr none ↦ absurd (none has_word) ]
+    ask_goes (Stalled state) h =
+        none-some block (sym idle ∙ busy_under_way s under_way serving kept core block (stall_busy s.protocol (state_of s core block) (asked asking) h.2.0 h.2.1))
+    ask_goes _ h = absurd h
+never_refused s under_way core block word asking true step serving kept has_core has_block has_word its is cause refused =
+    elim (under_way_step (waiting_request (state_of s core block)) (picture_of s block).transaction core block step is) [
+      | inl p ↦ order_goes p.1 p.2.0 p.2.1 cause (rw p.0 at refused)
+      | inr p ↦ respond_goes p.1.0 p.1.1 cause (rw p.0 at refused)
+    ]
+  where
+    order_goes : (picture_of s block).transaction ≡ None → (q : Request) → Waits s core block q → (cause : Refused) → Refuses s (Order core) cause → ⊥
+    order_goes free q waits NoCore h = absurd (omega arith)
+    order_goes free q waits NothingWaiting h = h.1 block q waits
+    order_goes free q waits (BusTaken b) h =
+        let same : block ≡ b = same_Some _ _ (sym its ∙ all_first (λ x. under_way core ≡ Some x) (queue_of s.queues core) b (serving.waits core) h.1) in
+        let clash : false ≡ true = rw (← same, free) at h.2 in
+        cc
+    order_goes free q waits _ h = absurd h
+
+    respond_goes : (o : Open) → (picture_of s block).transaction ≡ Some o → (cause : Refused) → Refuses s (Respond block) cause → ⊥
+    respond_goes o open_here NoBlock h = absurd (omega arith)
+    respond_goes o open_here NoTransaction h = none-some o (sym h.1 ∙ open_here)
+    respond_goes o open_here _ h = absurd h
+
+module _ {s : Situation} {under_way : ℕ → Option ℕ} (serving : IsServing under_way s) where
+  asked_waits : (act : CacheAction) (core block : ℕ) → under_way core ≡ Some block → (k : ℕ) → All (λ b. under_way k ≡ Some b) (queue_of (queues_after act s.queues core block) k)
+  asked_waits (action.Issue request) core block its = all_issued (λ c b. under_way c ≡ Some b) s.queues core block serving.waits its
+  asked_waits _ core block its = serving.waits
+
+  -- an open transaction where one block's picture was written
+  set_opened : (place : ℕ) (next : Picture) → ((o : Open) → next.transaction ≡ Some o → under_way o.core ≡ Some place)
+      → (block : ℕ) (o : Open) → (slice_index_or (slice_set s.pictures place next) block nothing_there).transaction ≡ Some o → under_way o.core ≡ Some block
+  set_opened place next its block o is = elim (set_cases s.pictures place block next nothing_there) [
+    | inl p ↦ rw p.0 (its o (ap (λ (x : Picture). x.transaction) (sym p.1) ∙ is))
+    | inr e ↦ serving.opened block o (ap (λ (x : Picture). x.transaction) (sym e) ∙ is)
+  ]
+
+-- more works may be under way
+more_served : {s : Situation} {before after : ℕ → Option ℕ} → IsServing before s → ((core block : ℕ) → before core ≡ Some block → after core ≡ Some block) → IsServing after s
+more_served {s} serving extends = record {
+  waits = λ k. All-weaker _ _ (extends k) (queue_of s.queues k) (serving.waits k);
+  opened = λ block o is. extends o.core block (serving.opened block o is);
+}
+
+serves_on : ServesOn
+serves_on s t before after (Ask core on word asking) answer serving move extends its = elim move.1.1.moves [
+  | inl absent ↦ rw absent.3 (more_served serving extends)
+  | inr asks ↦
+      let now = more_served serving extends in
+      rw asks.after (record {
+        waits = asked_waits now asks.row.action core move.0 (rw (← move.1.1.on_block) its);
+        opened = set_opened now move.0 (with_line (picture_of s move.0) core asks.held) (now.opened move.0);
+      })
+]
+serves_on s t before after (Order core) answer serving move extends its =
+    let now = more_served serving extends in
+    let orders = move.1.1.orders in
+    rw orders.after (record {
+      waits = all_ordered (λ c b. after c ≡ Some b) s.queues core move.0 now.waits;
+      opened = set_opened now move.0 orders.next (λ o is. rw (ap (λ (x : Open). x.core) (same_Some _ _ (sym is ∙ orders.opened)))
+          (all_first (λ b. after core ≡ Some b) (queue_of s.queues core) move.0 (now.waits core) move.1.0));
+    })
+serves_on s t before after (Respond on) answer serving move extends its =
+    let now = more_served serving extends in
+    let responds = move.1.1.responds in
+    rw responds.after (record {
+      waits = now.waits;
+      opened = set_opened now move.0 responds.next (λ o is. absurd (none-some o (sym responds.closed ∙ is)));
+    })
+
+ends : Ends
+ends s before after core block word asking serving kept works none others =
+    let left = none_left (waiting_request (state_of s core block)) (picture_of s block).transaction core block none in
+    record {
+      waits = λ k. elim (cases_eq k core) [
+        | inl e ↦ λ i d lt.
+            (let x : ℕ = slice_index_or (queue_of s.queues k) i d in
+            let same : x ≡ block = cc (serving.waits k i d lt, works, e) in
+            let w = queued_waits s kept.queued k x (Contains-get_or (queue_of s.queues k) i d lt) in
+            let here : waiting_request (state_of s core block) ≡ Some w.0 = rw (← same, ← e) w.1 in
+            absurd (none-some w.0 (sym left.0 ∙ here)))
+        | inr ne ↦ rw (others k ne) (serving.waits k)
+      ];
+      opened = λ b o is. elim (cases_eq o.core core) [
+        | inl e ↦
+            (let same : b ≡ block = cc (serving.opened b o is, works, e) in
+            absurd (left.1 o (rw same at is) e))
+        | inr ne ↦ others o.core ne ∙ serving.opened b o is
+      ];
+    }
+
+none_there : {A : Type 0} (found : Option A) → ((a : A) → found ≡ Some a → ⊥) → found ≡ None
+none_there None h = refl
+none_there (Some a) h = absurd (h a refl)
+
+comes_to_rest : ComesToRest
+comes_to_rest s serving kept = record {
+  ordered = λ core block request waits. none-some block (All-contains (λ b. ◌≡◌ {A = Option ℕ} None (Some b)) (queue_of s.queues core) block
+      (serving.waits core) (waits_queued s kept.queued core block request waits));
+  closed = λ block. none_there (picture_of s block).transaction (λ o is. none-some block (serving.opened block o is));
+  performed = λ core block. none_there (held_by (picture_of s block) core).waiting
+      (λ o is. none-some block (busy_under_way s (λ _. None) serving kept core block (missed_busy _ (kept.operations core block o is))));
+}
+
+-- what is paid for
+sum_asked : (act : CacheAction) (lines : List (List ℕ)) (core block : ℕ) → sum_by length (queues_after act lines core block) ≤ sum_by length lines + 1
+sum_asked (action.Issue request) lines core block = sum_issued lines core block
+sum_asked _ lines core block = omega arith
+
+pays : Pays
+pays s t (Ask core on word asking) answer move = elim move.1.1.moves [
+  | inl absent ↦ rw absent.3 (omega arith)
+  | inr asks ↦
+      let next : Picture = with_line (picture_of s move.0) core asks.held in
+      rw asks.after (omega (arith, sum_asked asks.row.action s.queues core move.0, count_set has_transaction s.pictures move.0 next nothing_there refl))
+]
+pays s t (Order core) answer move =
+    let orders = move.1.1.orders in
+    rw orders.after (omega (arith, sum_ordered s.queues core move.0 move.1.0, count_set has_transaction s.pictures move.0 orders.next nothing_there refl, one_small (has_transaction orders.next)))
+pays s t (Respond on) answer move =
+    let responds = move.1.1.responds in
+    let was : one_if (has_transaction (picture_of s move.0)) ≡ 1 = rw responds.opened refl in
+    let is : one_if (has_transaction responds.next) ≡ 0 = rw responds.closed refl in
+    rw responds.after (omega (arith, count_set has_transaction s.pictures move.0 responds.next nothing_there refl, was, is))
+
+-- a work whose operation waits has a step left
+pub has_step : (s : Situation) (core block word : ℕ) (asking : Op) (wanted : Access) → IsWellKept s → (held_by (picture_of s block) core).waiting ≡ Some wanted → turn_of s core block word asking true ≡ None → ⊥
+has_step s core block word asking wanted kept waits none =
+    let left = none_left (waiting_request (state_of s core block)) (picture_of s block).transaction core block none in
+    elim (busy_cases (state_of s core block) (missed_busy (state_of s core block) (kept.operations core block wanted waits))) [
+      | inl w ↦ none-some w.0 (sym left.0 ∙ w.1)
+      | inr a ↦ let its = kept.awaits core block a.0 a.1 in left.1 its.0 its.1.0 its.1.1
+    ]
+
+-- where no step is left, the operation is the core's last one
+closed_is_last : ClosedIsLast
+closed_is_last s core block word asking wanted kept (inl waits) none = absurd (has_step s core block word asking wanted kept waits none)
+closed_is_last s core block word asking wanted kept (inr last) none = last
+
+-- nothing of the core waits or is open
+idle_turn : (core block : ℕ) (w : Option Request) (o : Option Open) → ((r : Request) → w ≢ Some r) → ((t : Open) → o ≡ Some t → t.core ≢ core) → step_under_way w o core block ≡ None
+idle_turn core block (Some r) o none_waits none_open = absurd (none_waits r refl)
+idle_turn core block None None none_waits none_open = refl
+idle_turn core block None (Some t) none_waits none_open = rw (ne_eqb t.core core (none_open t refl)) refl
+
+no_issue : (act : CacheAction) (next : CacheState) (log : List Item) (queues : List (List ℕ)) (core block word : ℕ) (asking : Op) (old new : Line)
+    (answer : Reply) (entry : Option Item) → Takes act next log core block word asking old new answer entry → ((request : Request) → answer ≢ Issued request)
+    → queues_after act queues core block ≡ queues
+no_issue (action.Issue request) next log queues core block word asking old new answer entry taken other = absurd (other request taken.1)
+no_issue _ next log queues core block word asking old new answer entry taken other = refl
+
+-- the queues and the transactions are as before
+same_queues : (s t : Situation) (core block word : ℕ) (asking : Op) (answer : Reply) → FirstMove s (Ask core block word asking) answer t → ((request : Request) → answer ≢ Issued request) → (t.queues ≡ s.queues) × ((b : ℕ) → (picture_of t b).transaction ≡ (picture_of s b).transaction)
+same_queues s t core block word asking answer m other = elim m.1.1.moves [
+  | inl absent ↦ rw absent.3 (refl, λ b. refl)
+  | inr a ↦ rw a.after (
+    no_issue a.row.action a.row.next s.log s.queues core m.0 word asking (held_by (picture_of s m.0) core) a.held answer a.entry a.taken other,
+    same_everywhere s m.0 (with_line (picture_of s m.0) core a.held) s.queues s.log (λ (x : Picture). x.transaction) refl,
+  )
+]
+
+asked_once : EndsAtOnce
+asked_once s t under_way core block word asking answer serving idle kept m other =
+    let same = same_queues s t core block word asking answer m other in
+    idle_turn core block (waiting_request (state_of t core block)) (picture_of t block).transaction
+    (λ r w. none-some block (sym idle ∙ All-contains (λ b. under_way core ≡ Some b) (queue_of s.queues core) block (serving.waits core)
+    (subst (λ q. Contains (queue_of q core) block) same.0 (waits_queued t kept.queued core block r w))))
+    (λ o is c. none-some block (sym (ap under_way c ∙ idle) ∙ serving.opened block o (sym (same.1 block) ∙ is)))
 
 pub turn_rule : TurnLaws
-turn_rule =
-    record {
-      starts_well = starts_well;
-      keeps_well = keeps_well;
-      never_refused = never_refused;
-      serves_on = serves_on;
-      ends = ends;
-      comes_to_rest = comes_to_rest;
-      pays = pays;
-      owes = owes;
-      closed_is_last = closed_is_last;
-      ends_at_once = asked_once;
-    }
+turn_rule = record {
+  starts_well = starts_well;
+  keeps_well = keeps_well;
+  never_refused = never_refused;
+  serves_on = serves_on;
+  ends = ends;
+  comes_to_rest = comes_to_rest;
+  pays = pays;
+  owes = owes;
+  closed_is_last = closed_is_last;
+  ends_at_once = asked_once;
+}

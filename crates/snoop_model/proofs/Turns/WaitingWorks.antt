@@ -1,14 +1,14 @@
 -- A core that waits has its work under way.
-use Rattle.std.proofs.Common.{◌≡◌, ℕ, Bool, true, false, not, ◌||◌, Option, Some, None, refl, inl, inr, ◌⊎◌}
-use Rattle.std.specs.Prelude.{is_some}
+use Rattle.std.proofs.Common.{◌≡◌, ℕ, Bool, true, not, ◌||◌, Option, Some, None, refl, inl, inr, ◌⊎◌}
 use Rattle.std.proofs.lemmas.List.Elements.{All-contains}
-use Rattle.snoop_model.proofs.Common.{Protocol, CacheState, CacheEvent, CacheAction, CacheCell, Request, Cell, waiting_request, queue_of, Situation, state_of, awaited_request}
+use Rattle.snoop_model.proofs.Common.{awaited_request, CacheCell, CacheEvent, CacheState, Cell, is_some, IsServing, IsWellKept, Protocol, queue_of, Request, Situation, state_of, waiting_request}
 use Rattle.snoop_rules.specs.declared.names.CacheState.TheVariants.{I}
 use Rattle.snoop_rules.specs.declared.names.CacheAction.TheVariants as action
 use Rattle.snoop_rules.proofs.Every.{all_protocols, all_states, all_events}
 use Rattle.snoop_rules.proofs.Rows.{each_row, each_row-at}
-use Rattle.snoop_model.specs.Turns.Serving.{IsServing}
-use Rattle.snoop_model.specs.Invariant.WellKept.{IsWellKept}
+use Rattle.std.proofs.lemmas.Bool.{or_cases}
+use Rattle.snoop_model.proofs.Tables.Every.{some_of}
+use Rattle.snoop_model.proofs.Tables.AskTests.{is_stall}
 use Rattle.snoop_model.proofs.Tables.WaitingRows.{has_missed}
 use Rattle.snoop_model.proofs.Queues.Waiting.{waits_queued}
 
@@ -16,12 +16,8 @@ use Rattle.snoop_model.proofs.Queues.Waiting.{waits_queued}
 abbrev pub is_busy : CacheState → Bool
 is_busy state = is_some (waiting_request state) || is_some (awaited_request state)
 
-abbrev pub stalls : CacheAction → Bool
-stalls action.Stall = true
-stalls _ = false
-
-abbrev pub stall_test : Protocol → CacheState → CacheEvent → CacheCell → Bool
-stall_test p s e row = not (stalls row.action) || is_busy s
+abbrev stall_test : Protocol → CacheState → CacheEvent → CacheCell → Bool
+stall_test p s e row = not (is_stall row.action) || is_busy s
 
 stall_test_holds : each_row stall_test ≡ true
 unfolding each_row all_protocols all_states all_events
@@ -31,14 +27,9 @@ stall_test_holds = refl
 pub stall_busy : (p : Protocol) (s : CacheState) (e : CacheEvent) (n : CacheState) → Cell p s e action.Stall n → is_busy s ≡ true
 stall_busy p s e n h = each_row-at stall_test stall_test_holds p s e action.Stall n h
 
--- one of two is there
-either_some : (a b : Option Request) → (is_some a || is_some b) ≡ true → ((request : Request) × (a ≡ Some request)) ⊎ ((request : Request) × (b ≡ Some request))
-either_some (Some request) b h = inl (request, refl)
-either_some None (Some request) h = inr (request, refl)
-either_some None None h = cc
-
+-- for one of the two
 pub busy_cases : (s : CacheState) → is_busy s ≡ true → ((request : Request) × (waiting_request s ≡ Some request)) ⊎ ((request : Request) × (awaited_request s ≡ Some request))
-busy_cases s busy = either_some (waiting_request s) (awaited_request s) busy
+busy_cases s busy = elim (or_cases _ _ busy) [ inl waits ↦ inl (some_of _ waits) | inr awaits ↦ inr (some_of _ awaits) ]
 
 pub busy_under_way : (s : Situation) (under_way : ℕ → Option ℕ) → IsServing under_way s → IsWellKept s → (core block : ℕ) → is_busy (state_of s core block) ≡ true → under_way core ≡ Some block
 busy_under_way s under_way serving kept core block busy = elim (busy_cases (state_of s core block) busy) [
