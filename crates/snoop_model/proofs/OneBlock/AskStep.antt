@@ -6,7 +6,7 @@ use Rattle.snoop_rules.specs.declared.names.CacheEvent.TheVariants as event
 use Rattle.snoop_rules.specs.declared.names.CacheAction.TheVariants as action
 use Rattle.snoop_model.proofs.OneBlock.Operation.{did_in, flat_after, IsLawful}
 use Rattle.snoop_model.proofs.Lists.Writes.{each_set}
-use Rattle.snoop_model.proofs.OneBlock.Facts.{LineFits, calm_carries, carried_line, line_of, one_writer, owned_alone}
+use Rattle.snoop_model.proofs.OneBlock.Facts.{LineFits, carried_line, line_of, one_writer, owned_alone}
 use Rattle.snoop_model.proofs.Tables.Rows.{hit_keeps, IsProper-issue, IsProper-hit, IsProper-drop}
 use Rattle.snoop_model.proofs.Tables.AskTests.{AskQuestion, ask_rule, ask_test, ask_fits, ask_carries, ask_store_owns}
 use Rattle.snoop_model.proofs.Tables.StateTests.{clean_reads, kept_reader}
@@ -22,12 +22,12 @@ module _ {p : Protocol} {n : ℕ} {flat : List ℕ} {picture : Picture} (g : Blo
   ]
 
   still_fresh : g.claims.fresh ≡ true → picture.memory.value ≡ words
-  still_fresh h = elim changed [ inl same ↦ g.fresh h ∙ sym same | inr owning ↦ absurd (both_ways _ (owned_alone g c owning).1 h) ]
+  still_fresh h = elim changed [ inl same ↦ g.fresh h ∙ sym same | inr owning ↦ absurd (both_ways _ (owned_alone g c owning).0 h) ]
 
   still_carried : (o : Open) → picture.transaction ≡ Some o → carries_value o.payload ≡ true → o.value ≡ words
   still_carried o is_o carrying = elim changed [
     | inl same ↦ g.carried o is_o carrying ∙ sym same
-    | inr owning ↦ absurd (calm_carries picture.transaction o (owned_alone g c owning).2 is_o carrying)
+    | inr owning ↦ absurd (both_ways _ (rw is_o at (owned_alone g c owning).1) carrying)
   ]
 
 module _ (s : Situation) (core block word : ℕ) (asking : Op) (answer : Reply) (new : Situation) (asks : Asks s core block word asking answer new)

@@ -1,11 +1,11 @@
 -- What follows from the invariant of one block.
 use Rattle.std.proofs.Common.{◌≡◌, ◌≢◌, ◌<◌, ◌&&◌, ◌||◌, ◌∙◌, ℕ, List, Bool, true, false, not, eqb, Option, Some, None, refl, inl, inr, sym, subst, length, is_some, eq-eqb, eqb-true, ne_eqb}
-use Rattle.snoop_model.proofs.Common.{and_parts, both_ways, cases_Bool, cases_eq, not-true, cases_lt, get_or_past, same_Some, Protocol, CacheState, Request, carries_value, Open, Line, Picture, held_by, held_at, nothing_held, keeps, IsProper, is_put_m, is_owner, is_sharer, is_clean, in_protocol, same, wait_fits, fits, BlockInvariant, talk_of, own_open, owns}
+use Rattle.snoop_model.proofs.Common.{and_parts, cases_Bool, cases_eq, not-true, cases_lt, get_or_past, same_Some, Protocol, CacheState, Request, Line, Picture, held_by, held_at, nothing_held, keeps, IsProper, is_owner, is_sharer, is_clean, in_protocol, same, wait_fits, fits, BlockInvariant, talk_of, own_open, owns}
 use Rattle.std.proofs.lemmas.Bool.{or_right}
 use Rattle.std.proofs.Math.Bool.{and-false}
 use Rattle.snoop_model.proofs.Lines.TheSender.{IsBelow}
-use Rattle.snoop_model.proofs.Tables.Every.{same_is}
-use Rattle.snoop_model.proofs.Tables.StateTests.{alone_rule, calm_talk, carries, fits_calm, is_calm, owned_rule}
+use Rattle.snoop_model.proofs.Tables.Every.{all_open-at, same_is}
+use Rattle.snoop_model.proofs.Tables.StateTests.{brings_data, carries, owned_rule}
 
 -- what holds of one core and of each other holds of each
 pub by_core : (c : ℕ) (P : ℕ → Type 0) → P c → ((d : ℕ) → d ≢ c → P d) → (d : ℕ) → P d
@@ -46,13 +46,6 @@ carried_line old new was kept fit carry proper =
     let (read, clean) = and_parts (not (keeps new.state) || keeps old.state) _ carry in
     record { fit = fit; kept = λ h. kept h ∙ was.kept (rw h at read); clean = λ h. was.clean (rw h at clean); proper = proper }
 
-pub put_calm : (o : Open) (d : ℕ) → is_put_m o.request ≡ true → is_calm (own_open (Some o) d) ≡ true
-put_calm o d h = elim (cases_Bool (eqb d o.core)) [ inl e ↦ rw e h | inr e ↦ rw e refl ]
-
-pub calm_wait : (t : Option Open) (d : ℕ) → calm_talk (talk_of t) ≡ true → is_calm (own_open t d) ≡ true
-calm_wait None d h = refl
-calm_wait (Some o) d h = put_calm o d (and_parts (is_put_m o.request) (not (carries_value o.payload)) h).0
-
 pub owner_is : (owner : Option ℕ) (d : ℕ) → owns owner d ≡ true → owner ≡ Some d
 owner_is None d h = cc
 owner_is (Some o) d h = rw (eqb-true d o h) refl
@@ -71,23 +64,18 @@ module _ {p : Protocol} {n : ℕ} {flat : List ℕ} {picture : Picture} (g : Blo
   pub line_of : (d : ℕ) → d < n → LineFits p g.claims.shared (owns g.owner d) (own_open picture.transaction d) flat picture.memory.value (held_by picture d)
   line_of d d_in = record { fit = g.states d d_in; kept = g.kept d d_in; clean = g.clean d d_in; proper = g.proper d d_in }
 
-  -- while a core owns the block, memory's value and data under way are claimed of nobody
-  pub owned_alone : (c : ℕ) → owns g.owner c ≡ true → (g.claims.shared ≡ false) × (g.claims.fresh ≡ false) × (calm_talk (talk_of picture.transaction) ≡ true)
+  -- while a core owns the block, memory's value and data under way are claimed of nobody, and no other core may read
+  pub owned_alone : (c : ℕ) → owns g.owner c ≡ true → (g.claims.fresh ≡ false) × (brings_data (talk_of picture.transaction) ≡ false) × ((d : ℕ) → d < n → d ≢ c → keeps (held_by picture d).state ≡ false)
   owned_alone c owning =
       let is_owned : g.claims.owned ≡ true = sym g.is_owned ∙ rw (owner_is g.owner c owning) refl in
-      let (unshared, h) = and_parts _ _ (owned_rule p picture.memory.state (talk_of picture.transaction) g.claims g.is_claims is_owned) in
-      let (unfresh, calm) = and_parts _ _ h in
-      (not-true _ unshared, not-true _ unfresh, calm)
+      let (unfresh, rest) = and_parts _ _ (owned_rule p picture.memory.state (talk_of picture.transaction) g.claims g.is_claims is_owned) in
+      let (no_data, blind) = and_parts _ _ rest in
+      (not-true _ unfresh, not-true _ no_data, λ d d_in apart.
+          not-true _ (rw (owns_one g.owner c d owning apart) at (all_open-at p g.claims.shared picture.transaction _ blind d (held_by picture d).state (owns g.owner d) (g.states d d_in))))
 
   -- one writer alone, or only readers
   pub one_writer : (c : ℕ) → owns g.owner c ≡ true → (d : ℕ) → d < n → d ≢ c → keeps (held_by picture d).state ≡ false
-  one_writer c owning d d_in apart =
-      let (unshared, unfresh, calm) = owned_alone c owning in
-      let fit = rw (unshared, owns_one g.owner c d owning apart) at (g.states d d_in) in
-      alone_rule p (held_by picture d).state (fits_calm p false false (own_open picture.transaction d) (held_by picture d).state (calm_wait picture.transaction d calm) fit)
-
-pub calm_carries : (t : Option Open) (o : Open) → calm_talk (talk_of t) ≡ true → t ≡ Some o → carries_value o.payload ≡ true → ⊥
-calm_carries t o h e carrying = both_ways _ (not-true _ (and_parts (is_put_m o.request) (not (carries_value o.payload)) (rw e at h)).1) carrying
+  one_writer c owning = (owned_alone c owning).2
 
 -- whether a sender, memory or a core, is this one
 abbrev pub is_it : Option ℕ → Option ℕ → Bool

@@ -1,6 +1,6 @@
 -- A Respond finds its rows and keeps the invariant, and a load that it performs gives the flat value.
 use Rattle.std.proofs.Common.{◌≡◌, ◌<◌, ◌&&◌, ◌||◌, ◌∙◌, ℕ, length, List, Bool, true, false, not, cond, Option, Some, None, refl, inl, inr, ap, sym, is_some, if◌then◌else◌, eq-eqb, ne_eqb}
-use Rattle.snoop_model.proofs.Common.{and_parts, both_ways, cases_Bool, not-true, none-some, same_Some, Protocol, Op, CacheAction, CacheCell, MemAction, MemCell, Request, arrival, arrival_at_memory, takes_payload, Did, Item, Open, Picture, held_at, held_by, nothing_held, Situation, picture_of, keeps, Performs, is_load, FillsRequestor, ArrivesFor, Responds, next_did, written, is_put_m, is_get_m, Claims, claims_of, BlockInvariant, own_open, owns}
+use Rattle.snoop_model.proofs.Common.{and_parts, both_ways, cases_Bool, not-true, none-some, same_Some, Protocol, Op, CacheAction, CacheCell, MemAction, MemCell, Request, arrival, arrival_at_memory, takes_payload, Did, Item, Open, Picture, held_at, held_by, nothing_held, Situation, picture_of, keeps, Performs, is_load, FillsRequestor, ArrivesFor, Responds, next_did, written, is_put_m, is_get_m, Claims, claims_of, BlockInvariant, owns}
 use Rattle.snoop_trace.specs.Words.{word_at}
 use Rattle.snoop_trace.specs.declared.step.Op.TheVariants as op
 use Rattle.snoop_rules.specs.declared.names.CacheAction.TheVariants as action
@@ -9,11 +9,11 @@ use Rattle.snoop_rules.specs.declared.names.Request.TheVariants as request
 use Rattle.snoop_model.proofs.Lists.Facts.{of_choice}
 use Rattle.std.proofs.lemmas.Bool.{cond_both}
 use Rattle.snoop_model.proofs.Lists.Writes.{each_set}
-use Rattle.snoop_model.proofs.Tables.Every.{all_fitting-at, when_at, EachHolds, same_is, some_and, some_each}
-use Rattle.snoop_model.proofs.Tables.RespondTests.{answer_tests, fills_store, gains, respond_rule, respond_tests, row_for, settled_row, settled_so, writes}
+use Rattle.snoop_model.proofs.Tables.Every.{all_open-at, all_fitting-at, when_at, EachHolds, same_is, some_and, some_each}
+use Rattle.snoop_model.proofs.Tables.RespondTests.{answer_tests, fills_store, gains, respond_rule, respond_tests, row_for, settled_row, settled_so, stays_so, writes}
 use Rattle.snoop_model.proofs.Tables.Rows.{IsProper-fill}
-use Rattle.snoop_model.proofs.Tables.StateTests.{clean_reads, fits_calm, is_calm}
-use Rattle.snoop_model.proofs.OneBlock.Facts.{LineFits, OwnerIn, core_in, owns_owned, put_calm}
+use Rattle.snoop_model.proofs.Tables.StateTests.{clean_reads}
+use Rattle.snoop_model.proofs.OneBlock.Facts.{LineFits, OwnerIn, core_in, owns_owned}
 use Rattle.snoop_model.proofs.OneBlock.Operation.{flat_after, IsLawful}
 
 -- all that a Respond looks up of a picture that keeps its invariant
@@ -91,12 +91,12 @@ module _ (s : Situation) (block : ℕ) (o : Open) (did : Option Did) (new : Situ
       (not-true _ get_s, memory_flat (λ w. g.fresh (rw (memory_is, w) at from)))
 
   -- a core that is not answered keeps its line, which fits then, if the block's words change only at a GetM
-  stays : (words : List ℕ) → (is_get_m o.request ≡ false → words ≡ flat) → (d : ℕ) → d < n → is_calm (own_open before.transaction d) ≡ true
+  stays : (words : List ℕ) → (is_get_m o.request ≡ false → words ≡ flat) → (d : ℕ) → d < n
+      → ((not (owns g.owner d) || g.claims.owned) ≡ true → stays_so p o.request g.claims a.next (held_by before d).state (owns g.owner d) ≡ true)
       → LineFits p a.next.shared (cond gained false (owns g.owner d)) None words r.next.memory.value (held_by before d)
-  stays words same d d_in calm =
+  stays words same d d_in so =
       let s = (held_by before d).state in
-      let fit = fits_calm p g.claims.shared (owns g.owner d) (own_open before.transaction d) s calm (g.states d d_in) in
-      let (fit_after, blind) = and_parts _ _ (when_at _ _ (owns_owned g.owner d g.claims.owned g.is_owned) (all_fitting-at p g.claims.shared None _ a.tests.1.1.1.1.1.1.0 s (owns g.owner d) fit)) in
+      let (fit_after, blind) = and_parts _ _ (so (owns_owned g.owner d g.claims.owned g.is_owned)) in
       let reads : keeps s ≡ true → words ≡ flat = λ h. elim (cases_Bool (is_get_m o.request)) [
         | inl m ↦ absurd (both_ways _ (not-true _ (rw m at blind)) h)
         | inr m ↦ same m
@@ -145,7 +145,8 @@ module _ (s : Situation) (block : ℕ) (o : Open) (did : Option Did) (new : Situ
       }) in (
         closed (flat_after flat did) same (simp f.held (each_set before.caches c f.line nothing_held
             (λ d x. d < n → LineFits p a.next.shared (owns (cond gained (Some c) g.owner) d) None (flat_after flat did) r.next.memory.value x) in_row (λ c_in. filled)
-            (λ d apart d_in. rw (of_choice (λ x. owns x d) gained (Some c) g.owner, ne_eqb d c apart) (stays (flat_after flat did) same d d_in (rw (r.opened, ne_eqb d c apart) refl))))),
+            (λ d apart d_in. rw (of_choice (λ x. owns x d) gained (Some c) g.owner, ne_eqb d c apart) (stays (flat_after flat did) same d d_in (λ owned. when_at _ _ owned
+            (all_fitting-at p g.claims.shared None _ (rw get at a.tests.1.1.1.1.1.1.0) (held_by before d).state (owns g.owner d) (rw (r.opened, ne_eqb d c apart) at (g.states d d_in)))))))),
         words.1,
       )
 
@@ -153,7 +154,8 @@ module _ (s : Situation) (block : ℕ) (o : Open) (did : Option Did) (new : Situ
   respond_put : is_put_m o.request ≡ true → r.next.caches ≡ before.caches → BlockInvariant p n flat r.next
   respond_put put same =
       let no_gain : gained ≡ false = not-true _ (rw put at a.tests.1.1.0) in
-      closed flat (λ h. refl) (λ d d_in. simp same (rw no_gain (rw no_gain at (stays flat (λ h. refl) d d_in (rw r.opened (put_calm o d put))))))
+      closed flat (λ h. refl) (λ d d_in. simp same (rw no_gain (rw no_gain at (stays flat (λ h. refl) d d_in (λ owned. when_at _ _ owned
+      (all_open-at p g.claims.shared (Some o) _ (rw put at a.tests.1.1.1.1.1.1.0) d (held_by before d).state (owns g.owner d) (rw r.opened at (g.states d d_in))))))))
 
   by_request : (q : Request) → o.request ≡ q → ArrivesFor q o p s.log before.caches r.next.caches did → BlockInvariant p n (flat_after flat did) r.next × IsLawful flat did
   by_request request.PutM is arrives = rw arrives.1 (respond_put (ap is_put_m is) arrives.0, tt)

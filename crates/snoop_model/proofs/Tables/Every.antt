@@ -1,6 +1,6 @@
 -- A test that holds of each value of a type holds of any one, tests under a premise, and tests that compare.
-use Rattle.std.proofs.Common.{◌≡◌, ◌&&◌, Bool, true, false, Option, Some, None, List, [], ◌∷◌, refl, ap}
-use Rattle.snoop_model.proofs.Common.{Protocol, CacheState, Request, and_parts, fits, same}
+use Rattle.std.proofs.Common.{ℕ, eqb, inl, inr, ◌≡◌, ◌&&◌, Bool, true, false, Option, Some, None, List, [], ◌∷◌, refl, ap}
+use Rattle.snoop_model.proofs.Common.{Protocol, CacheState, Request, Open, Talk, and_parts, cases_Bool, fits, own_open, same, talk_of}
 use denote.Enum.Bare.{Bare, same_true, sameb}
 use denote.Enum.Declared.{Declared}
 use Rattle.std.specs.Prelude.{⊤}
@@ -90,3 +90,18 @@ all_fitting p shared wait test = all_states (λ s. either (λ owns. when (fits p
 pub all_fitting-at : (p : Protocol) (shared : Bool) (wait : Option Request) (test : CacheState → Bool → Bool) → all_fitting p shared wait test ≡ true → (s : CacheState) (owns : Bool) → fits p shared owns wait s ≡ true → test s owns ≡ true
 unfolding all_fitting
 all_fitting-at p shared wait test h s owns fit = when_at _ _ fit (either-at _ (all_states-at _ h s) owns)
+
+-- the same, where a core may await the answer of what is open
+abbrev pub all_open : Protocol → Bool → Option Talk → (CacheState → Bool → Bool) → Bool
+all_open p shared None test = all_fitting p shared None test
+all_open p shared (Some talk) test = all_fitting p shared None test && all_fitting p shared (Some talk.0) test
+
+pub all_open-at : (p : Protocol) (shared : Bool) (t : Option Open) (test : CacheState → Bool → Bool) → all_open p shared (talk_of t) test ≡ true
+    → (d : ℕ) (s : CacheState) (owns : Bool) → fits p shared owns (own_open t d) s ≡ true → test s owns ≡ true
+all_open-at p shared None test h d s owns fit = all_fitting-at p shared None test h s owns fit
+all_open-at p shared (Some o) test h d s owns fit =
+    let (resting, awaiting) = and_parts _ _ h in
+    elim (cases_Bool (eqb d o.core)) [
+      | inl is ↦ all_fitting-at p shared (Some o.request) test awaiting s owns (rw is at fit)
+      | inr is ↦ all_fitting-at p shared None test resting s owns (rw is at fit)
+    ]

@@ -4,7 +4,7 @@ use Rattle.snoop_model.proofs.Common.{same_Some, Protocol, CacheState, CacheEven
 use Rattle.snoop_rules.specs.declared.names.CacheAction.TheVariants as action
 use Rattle.snoop_rules.specs.declared.names.MemAction.TheVariants as mem_action
 use Rattle.snoop_rules.proofs.Every.{all_protocols, all_protocols-at, all_states, all_memories, all_memories-at, all_requests, all_requests-at, all_payloads, all_payloads-at}
-use Rattle.snoop_model.proofs.Tables.Every.{all_fitting, each, either, given, given_at, is_some_and, when}
+use Rattle.snoop_model.proofs.Tables.Every.{all_fitting, all_open, each, either, given, given_at, is_some_and, when}
 
 -- the row for an event, if there are both
 abbrev pub row_for : Protocol → CacheState → Option CacheEvent → Option CacheCell
@@ -63,7 +63,7 @@ respond_tests p q pl st row after =
     ∷ (not (writes row.action) || carries_value pl)
     ∷ (not after.fresh || (not (is_get_m q) && (writes row.action || st.fresh)))
     ∷ (is_put_m q || all_fitting p st.shared (Some q) (λ s owns. is_some_and (row_for p s (arrival pl)) (λ answer. each (answer_tests p q st after owns answer))))
-    ∷ all_fitting p st.shared None (λ s owns. when (not owns || st.owned) (λ _. stays_so p q st after s owns))
+    ∷ all_open p st.shared (cond (is_put_m q) (Some (q, pl)) None) (λ s owns. when (not owns || st.owned) (λ _. stays_so p q st after s owns))
     ∷ []
 
 abbrev pub respond_test : Protocol → MemState → Request → Payload → Claims → Bool
