@@ -44,14 +44,17 @@ module _ (P : ℕ → ℕ → Type 0) (lines : List (List ℕ)) (core block : �
   pub all_ordered : (k : ℕ) → All (P k) (queue_of (after_order lines core block) k)
   all_ordered = each_still lines core _ [] (λ k line. All (P k) line) all (All-filter (λ b. not (b == block)) (P core) (queue_of lines core) (all core))
 
+-- a sum before and after a write, which past the end of the list does nothing
+sum_set : {A : Type 0} (f : A → ℕ) (xs : List A) (i : ℕ) (a d : A) → f d ≡ 0 → sum_by f (slice_set xs i a) + f (slice_index_or xs i d) ≤ sum_by f xs + f a
+sum_set f xs i a d none = elim (cases_lt i (length xs)) [
+  | inl lt ↦ omega (arith, sum_by-set f xs i a d lt)
+  | inr ge ↦ rw (set_past xs i a ge, get_or_past xs i d ge, none) (omega arith)
+]
+
 -- an issue adds one to the requests that wait, and an Order takes one away
 pub sum_issued : (lines : List (List ℕ)) (core block : ℕ) → sum_by length (after_issue lines core block) ≤ sum_by length lines + 1
 sum_issued lines core block =
-    let line : List ℕ = queue_of lines core ++ block ∷ [] in
-    elim (cases_lt core (length lines)) [
-      | inl lt ↦ omega (arith, sum_by-set (λ (l : List ℕ). length l) lines core line [] lt, length_push (queue_of lines core) block)
-      | inr ge ↦ rw (set_past lines core line ge) (omega arith)
-    ]
+    omega (arith, sum_set (λ (line : List ℕ). length line) lines core (queue_of lines core ++ block ∷ []) [] refl, length_push (queue_of lines core) block)
 
 left_shorter : (line : List ℕ) (block : ℕ) → slice_get line 0 ≡ Some block → length (filter (λ b. not (b == block)) line) + 1 ≤ length line
 left_shorter [] block h = cc
@@ -68,10 +71,7 @@ pub one_small : (t : Bool) → one_if t ≤ 1
 one_small true = omega arith
 one_small false = omega arith
 
--- how many pass a test before and after a write, which past the end of the list does nothing
+-- how many pass a test before and after a write
 pub count_set : {A : Type 0} (test : A → Bool) (xs : List A) (i : ℕ) (a d : A) → test d ≡ false
     → count_by test (slice_set xs i a) + one_if (test (slice_index_or xs i d)) ≤ count_by test xs + one_if (test a)
-count_set test xs i a d none = elim (cases_lt i (length xs)) [
-  | inl lt ↦ omega (arith, sum_by-set (λ x. one_if (test x)) xs i a d lt)
-  | inr ge ↦ rw (set_past xs i a ge, get_or_past xs i d ge, none) (omega arith)
-]
+count_set test xs i a d none = sum_set (λ x. one_if (test x)) xs i a d (rw none refl)

@@ -4,8 +4,7 @@ use Rattle.snoop_model.proofs.Common.{and_parts, cases_Bool, cases_eq, not-true,
 use Rattle.std.proofs.lemmas.Bool.{or_right}
 use Rattle.std.proofs.Math.Bool.{and-false}
 use Rattle.snoop_model.proofs.Lines.TheSender.{IsBelow}
-use Rattle.snoop_model.proofs.Tables.Every.{all_open-at, same_is}
-use Rattle.snoop_model.proofs.Tables.StateTests.{brings_data, carries, owned_rule}
+use Rattle.snoop_model.proofs.Tables.StateTests.{all_open-at, same_is, brings_data, carries, owned_rule}
 
 -- what holds of one core and of each other holds of each
 pub by_core : (c : ℕ) (P : ℕ → Type 0) → P c → ((d : ℕ) → d ≢ c → P d) → (d : ℕ) → P d
@@ -69,9 +68,12 @@ module _ {p : Protocol} {n : ℕ} {flat : List ℕ} {picture : Picture} (g : Blo
   owned_alone c owning =
       let is_owned : g.claims.owned ≡ true = sym g.is_owned ∙ rw (owner_is g.owner c owning) refl in
       let (unfresh, rest) = and_parts _ _ (owned_rule p picture.memory.state (talk_of picture.transaction) g.claims g.is_claims is_owned) in
-      let (no_data, blind) = and_parts _ _ rest in
-      (not-true _ unfresh, not-true _ no_data, λ d d_in apart.
-          not-true _ (rw (owns_one g.owner c d owning apart) at (all_open-at p g.claims.shared picture.transaction _ blind d (held_by picture d).state (owns g.owner d) (g.states d d_in))))
+      let (no_data, blind) = and_parts _ _ rest in (
+        not-true _ unfresh,
+        not-true _ no_data,
+        λ d d_in apart.
+            not-true _ (rw (owns_one g.owner c d owning apart) at (all_open-at p g.claims.shared picture.transaction _ blind d (held_by picture d).state (owns g.owner d) (g.states d d_in))),
+      )
 
   -- one writer alone, or only readers
   pub one_writer : (c : ℕ) → owns g.owner c ≡ true → (d : ℕ) → d < n → d ≢ c → keeps (held_by picture d).state ≡ false

@@ -5,12 +5,11 @@ use Rattle.std.proofs.lemmas.Bool.{cond_both}
 use Rattle.std.proofs.lemmas.Option.{cond_some}
 use Rattle.snoop_model.proofs.Lists.Facts.{of_choice}
 use Rattle.snoop_model.proofs.Lines.TheSender.{IsBelow, sends_below}
-use Rattle.snoop_model.proofs.Tables.Every.{all_fitting-at, when_at, EachHolds, some_and, some_each}
+use Rattle.snoop_model.proofs.Tables.StateTests.{all_fitting-at, when_at, EachHolds, some_and, some_each, carries, kept_reader}
 use Rattle.snoop_model.proofs.Tables.OrderTests.{SendsSo, end_tests, order_rule, other_tests, payload_of, sends_so-true}
 use Rattle.snoop_model.proofs.Tables.Rows.{IsProper-order}
 use Rattle.snoop_model.proofs.Tables.SenderLines.{follows_sender_table}
 use Rattle.snoop_model.proofs.Tables.SentBy.{payload_from, sends_is, sends_row, memory_sends_row}
-use Rattle.snoop_model.proofs.Tables.StateTests.{carries, kept_reader}
 use Rattle.snoop_model.proofs.OneBlock.Facts.{LineFits, by_core, carried_line, is_it, it_is, line_of, OwnerIn, core_in, owns_owned, owns_apart}
 
 -- all that an Order looks up of a picture that keeps its invariant
@@ -53,7 +52,7 @@ module _ {p : Protocol} {flat : List ℕ} {before : Picture} {good : BlockInvari
       let ow = owns good.owner d in
       let apart_owned = and_from _ _ (owns_apart good.owner c d apart) (owns_owned good.owner d _ good.is_owned) in
       some_each (cell_of p s (other q)) (other_tests p before.memory.state q l.memory sent l.next s ow)
-          (when_at _ _ apart_owned (all_fitting-at p good.claims.shared None _ l.ends.1.1.1.1.1.1.0 s ow (rw l.calm at (good.states d d_in))))
+      (when_at _ _ apart_owned (all_fitting-at p good.claims.shared None _ l.ends.1.1.1.1.1.1.0 s ow (rw l.calm at (good.states d d_in))))
 
   -- a core has its row, with which its state fits after it, and its words carry over
   abbrev pub HasRow : ℕ → Type 0

@@ -1,7 +1,7 @@
 -- Each step finds its rows, and an Order exactly one sender.
 use Rattle.std.proofs.Common.{◌≡◌, ◌<◌, ℕ, length, List, true, false, Option, Some, None}
 use Rattle.snoop_model.proofs.Common.{owns, own_open, Protocol, Op, CacheCell, MemCell, Request, Payload, cell_of, memory_cell_of, asked, seen_by, at_memory, arrival, arrival_at_memory, takes_payload, waiting_request, Open, Picture, held_by, sender_of, is_put_m, IsOnlySender, BlockInvariant}
-use Rattle.snoop_model.proofs.Tables.Every.{some_and}
+use Rattle.snoop_model.proofs.Tables.StateTests.{some_and}
 use Rattle.snoop_model.proofs.Tables.SenderLines.{follows_sender_table}
 use Rattle.snoop_model.proofs.OneBlock.Facts.{below_owner, is_itself}
 use Rattle.snoop_model.proofs.OneBlock.OrderStep.{each_row, look, meant, meant_in, sender_told, sends, sends_if_meant, sent}

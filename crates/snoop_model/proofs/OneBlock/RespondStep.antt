@@ -9,10 +9,9 @@ use Rattle.snoop_rules.specs.declared.names.Request.TheVariants as request
 use Rattle.snoop_model.proofs.Lists.Facts.{of_choice}
 use Rattle.std.proofs.lemmas.Bool.{cond_both}
 use Rattle.snoop_model.proofs.Lists.Writes.{each_set}
-use Rattle.snoop_model.proofs.Tables.Every.{all_open-at, all_fitting-at, when_at, EachHolds, same_is, some_and, some_each}
+use Rattle.snoop_model.proofs.Tables.StateTests.{all_open-at, all_fitting-at, when_at, EachHolds, same_is, some_and, some_each, clean_reads}
 use Rattle.snoop_model.proofs.Tables.RespondTests.{answer_tests, fills_store, gains, respond_rule, respond_tests, row_for, settled_row, settled_so, stays_so, writes}
 use Rattle.snoop_model.proofs.Tables.Rows.{IsProper-fill}
-use Rattle.snoop_model.proofs.Tables.StateTests.{clean_reads}
 use Rattle.snoop_model.proofs.OneBlock.Facts.{LineFits, OwnerIn, core_in, owns_owned}
 use Rattle.snoop_model.proofs.OneBlock.Operation.{flat_after, IsLawful}
 

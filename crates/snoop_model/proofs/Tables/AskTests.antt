@@ -5,9 +5,8 @@ use Rattle.snoop_rules.specs.declared.names.CacheState.TheVariants as state
 use Rattle.snoop_rules.specs.declared.names.CacheEvent.TheVariants as event
 use Rattle.snoop_rules.specs.declared.names.CacheAction.TheVariants as action
 use Rattle.snoop_rules.proofs.Every.{all_events, all_events-at, all_protocols, all_protocols-at, all_requests, all_requests-at, all_states}
-use Rattle.snoop_model.proofs.Tables.Every.{all_fitting, all_fitting-at, all_options, all_options-at, either, either-at, given, given_at, is_some_and, when, when_at}
+use Rattle.snoop_model.proofs.Tables.StateTests.{all_fitting, all_fitting-at, all_options, all_options-at, either, either-at, given, given_at, is_some_and, when, when_at, is_hit, carries}
 use Rattle.snoop_model.proofs.Tables.Rows.{serving, serving-asked}
-use Rattle.snoop_model.proofs.Tables.StateTests.{is_hit, carries}
 
 abbrev pub is_stall : CacheAction → Bool
 is_stall action.Stall = true

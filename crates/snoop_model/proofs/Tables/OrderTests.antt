@@ -5,10 +5,9 @@ use Rattle.std.specs.Option.{option_or}
 use Rattle.snoop_rules.specs.declared.names.Payload.TheVariants as payload
 use Rattle.snoop_rules.specs.contracts.names.Payload.{the_type as payloads}
 use Rattle.snoop_rules.proofs.Every.{all_protocols, all_protocols-at, all_states, all_memories, all_memories-at}
-use Rattle.snoop_model.proofs.Tables.Every.{all_fitting, all_fitting-at, each, either, given, given_at, is_some_and, same_option, same_option-true, when, when_at}
+use Rattle.snoop_model.proofs.Tables.StateTests.{all_fitting, all_fitting-at, each, either, given, given_at, is_some_and, same_option, same_option-true, when, when_at, carries}
 use Rattle.snoop_model.proofs.Tables.SenderLines.{follows_sender_table}
 use Rattle.snoop_model.proofs.Tables.SentBy.{sent_by, sent_by_memory}
-use Rattle.snoop_model.proofs.Tables.StateTests.{carries}
 
 -- what a controller sends is this payload if it is meant to send, else nothing; one that sends is on a line of the table, and has the words that the payload carries
 abbrev pub sends_so : Option Payload → Bool → Payload → Bool → Bool → Bool
@@ -42,7 +41,7 @@ end_tests p m st s owns q memory row after =
     ∷ sends_so (sent_by_memory (Some memory)) (cond (is_put_m q) false (not st.owned)) (payload_of row memory) (follows_sender_table p q m Memory (payload_of row memory) memory.next) st.fresh
     ∷ sends_so (sent_by (Some row)) (cond (is_put_m q) true owns) (payload_of row memory) (follows_sender_table p q m (Requestor s) (payload_of row memory) memory.next) (keeps s)
     ∷ all_fitting p st.shared None (λ s other_owns. when (not (other_owns && owns) && (not other_owns || st.owned))
-        (λ _. is_some_and (cell_of p s (other q)) (λ row_seen. each (other_tests p m q memory (payload_of row memory) after s other_owns row_seen))))
+    (λ _. is_some_and (cell_of p s (other q)) (λ row_seen. each (other_tests p m q memory (payload_of row memory) after s other_owns row_seen))))
     ∷ []
 
 abbrev pub order_test : Protocol → MemState → Claims → CacheState → Bool → Request → Bool

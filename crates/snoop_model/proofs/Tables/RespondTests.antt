@@ -4,7 +4,7 @@ use Rattle.snoop_model.proofs.Common.{same_Some, Protocol, CacheState, CacheEven
 use Rattle.snoop_rules.specs.declared.names.CacheAction.TheVariants as action
 use Rattle.snoop_rules.specs.declared.names.MemAction.TheVariants as mem_action
 use Rattle.snoop_rules.proofs.Every.{all_protocols, all_protocols-at, all_states, all_memories, all_memories-at, all_requests, all_requests-at, all_payloads, all_payloads-at}
-use Rattle.snoop_model.proofs.Tables.Every.{all_fitting, all_open, each, either, given, given_at, is_some_and, when}
+use Rattle.snoop_model.proofs.Tables.StateTests.{all_fitting, all_open, each, either, given, given_at, is_some_and, when}
 
 -- the row for an event, if there are both
 abbrev pub row_for : Protocol → CacheState → Option CacheEvent → Option CacheCell

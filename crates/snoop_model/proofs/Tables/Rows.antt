@@ -10,7 +10,7 @@ use Rattle.snoop_rules.specs.declared.names.Request.TheVariants.{GetS, GetM, Put
 use Rattle.snoop_rules.specs.contracts.names.Request.{the_type as requests}
 use Rattle.snoop_rules.proofs.Every.{all_protocols, all_states, all_events}
 use Rattle.snoop_rules.proofs.Rows.{each_row, each_row-at}
-use Rattle.snoop_model.proofs.Tables.Every.{EachHolds, each, each_holds, same_is, same_option, same_option-true}
+use Rattle.snoop_model.proofs.Tables.StateTests.{EachHolds, each, each_holds, same_is, same_option, same_option-true}
 
 -- the same requests, or none
 abbrev pub same_request : Option Request → Option Request → Bool

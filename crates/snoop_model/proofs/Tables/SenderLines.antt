@@ -8,7 +8,7 @@ use Rattle.snoop_rules.specs.contracts.names.CacheState.{the_type as states}
 use Rattle.snoop_rules.specs.contracts.names.MemState.{the_type as memories}
 use Rattle.snoop_rules.specs.contracts.names.Payload.{the_type as payloads}
 use Rattle.snoop_model.specs.Moves.SenderTable.{IsSenderLine}
-use Rattle.snoop_model.proofs.Tables.Every.{is_some_and, some_and}
+use Rattle.snoop_model.proofs.Tables.StateTests.{is_some_and, some_and}
 use Rattle.snoop_model.proofs.Tables.RespondTests.{settled_row, settled_so}
 
 abbrev same_sender : Sender → Sender → Bool

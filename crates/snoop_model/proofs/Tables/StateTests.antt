@@ -1,10 +1,112 @@
--- Tests of the states and of the table of claims, computed over all of them.
-use Rattle.std.proofs.Common.{List, ◌≡◌, ◌&&◌, ◌||◌, ℕ, Bool, true, false, not, cond, Option, Some, None, refl}
-use Rattle.snoop_model.proofs.Common.{Protocol, CacheState, CacheAction, MemState, carries_value, kept_on, keeps, Claims, Talk, claims_of, is_owner, is_sharer, is_clean, wait_fits, in_protocol, same, fits}
+-- Tests of each value of a type, tests that compare, and those of the states and of the table of claims, computed over all of them.
+use Rattle.std.proofs.Common.{ℕ, eqb, inl, inr, ◌≡◌, ◌&&◌, Bool, true, false, Option, Some, None, List, [], ◌∷◌, refl, ap, ◌||◌, not, cond}
+use Rattle.snoop_model.proofs.Common.{Protocol, CacheState, Request, Open, Talk, and_parts, cases_Bool, fits, own_open, same, talk_of, CacheAction, MemState, carries_value, kept_on, keeps, Claims, claims_of, is_owner, is_sharer, is_clean, wait_fits, in_protocol}
+use denote.Enum.Bare.{Bare, same_true, sameb}
+use denote.Enum.Declared.{Declared}
+use Rattle.std.specs.Prelude.{⊤}
+use Rattle.std.specs.List.{list_all}
+use Rattle.snoop_rules.proofs.Every.{all_states, all_states-at, all_protocols, all_protocols-at, all_memories, all_memories-at, all_requests, all_requests-at, all_payloads, all_payloads-at}
 use Rattle.snoop_rules.specs.declared.names.CacheState.TheVariants as state
 use Rattle.snoop_rules.specs.declared.names.CacheAction.TheVariants as action
-use Rattle.snoop_rules.proofs.Every.{all_states, all_protocols, all_protocols-at, all_memories, all_memories-at, all_requests, all_requests-at, all_payloads, all_payloads-at}
-use Rattle.snoop_model.proofs.Tables.Every.{given, given_at, either, when, all_fitting, all_open, all_options, all_options-at}
+
+unfoldable pub either : (Bool → Bool) → Bool
+either f = f true && f false
+
+pub either-at : (f : Bool → Bool) → either f ≡ true → (x : Bool) → f x ≡ true
+unfolding either
+either-at f h true = (and_parts _ _ h).0
+either-at f h false = (and_parts _ _ h).1
+
+-- a test under a premise
+unfoldable pub when : Bool → (Bool → Bool) → Bool
+when true f = f true
+when false f = true
+
+pub when_at : (b : Bool) (f : Bool → Bool) → b ≡ true → when b f ≡ true → f true ≡ true
+unfolding when
+when_at b f e h = rw e at h
+
+-- a test of the value, if there is one
+unfoldable pub given : {A : Type 0} → Option A → (A → Bool) → Bool
+given None f = true
+given (Some a) f = f a
+
+pub given_at : {A : Type 0} (o : Option A) (f : A → Bool) (a : A) → o ≡ Some a → given o f ≡ true → f a ≡ true
+unfolding given
+given_at o f a e h = rw e at h
+
+-- there is a value, and it passes the test
+abbrev pub is_some_and : {A : Type 0} → Option A → (A → Bool) → Bool
+is_some_and None f = false
+is_some_and (Some a) f = f a
+
+pub some_and : {A : Type 0} (o : Option A) (f : A → Bool) → is_some_and o f ≡ true → (a : A) × (o ≡ Some a) × (f a ≡ true)
+some_and None f h = cc
+some_and (Some a) f h = (a, refl, h)
+
+-- each of these tests holds
+abbrev pub each : List Bool → Bool
+each = list_all (λ b. b)
+
+abbrev pub EachHolds : List Bool → Type 0
+EachHolds [] = ⊤
+EachHolds (test ∷ tests) = (test ≡ true) × EachHolds tests
+
+pub each_holds : (tests : List Bool) → each tests ≡ true → EachHolds tests
+each_holds [] h = tt
+each_holds (test ∷ tests) h = let (first, rest) = and_parts test (each tests) h in (first, each_holds tests rest)
+
+pub some_each : {A : Type 0} (o : Option A) (tests : A → List Bool) → is_some_and o (λ a. each (tests a)) ≡ true → (a : A) × (o ≡ Some a) × EachHolds (tests a)
+some_each o tests h = let (a, is_a, holds) = some_and o (λ a. each (tests a)) h in (a, is_a, each_holds (tests a) holds)
+
+pub same_is : (a b : Bool) → same a b ≡ true → a ≡ b
+unfolding same
+same_is true true h = refl
+same_is false false h = refl
+same_is _ _ h = cc
+
+-- the same value of an enum without fields, or none in both
+abbrev pub same_option : (D : Declared) → Option D.D → Option D.D → Bool
+same_option D None None = true
+same_option D (Some a) (Some b) = sameb D a b
+same_option D _ _ = false
+
+pub same_option-true : (D : Declared) → Bare D.parts → (a b : Option D.D) → same_option D a b ≡ true → a ≡ b
+same_option-true D bare None None h = refl
+same_option-true D bare (Some a) (Some b) h = ap (λ (x : D.D). Some x) (same_true D bare a b h)
+same_option-true D bare _ _ h = cc
+
+-- a test of each value, and of none
+unfoldable pub all_options : {A : Type 0} → ((A → Bool) → Bool) → (Option A → Bool) → Bool
+all_options all test = test None && all (λ a. test (Some a))
+
+pub all_options-at : {A : Type 0} (all : (A → Bool) → Bool) → ((f : A → Bool) → all f ≡ true → (a : A) → f a ≡ true) → (test : Option A → Bool) → all_options all test ≡ true → (o : Option A) → test o ≡ true
+unfolding all_options
+all_options-at all at test h None = (and_parts _ _ h).0
+all_options-at all at test h (Some a) = at _ (and_parts (test None) _ h).1 a
+
+-- a test of each state that fits, of a core that owns the block or not
+unfoldable pub all_fitting : Protocol → Bool → Option Request → (CacheState → Bool → Bool) → Bool
+all_fitting p shared wait test = all_states (λ s. either (λ owns. when (fits p shared owns wait s) (λ _. test s owns)))
+
+pub all_fitting-at : (p : Protocol) (shared : Bool) (wait : Option Request) (test : CacheState → Bool → Bool) → all_fitting p shared wait test ≡ true → (s : CacheState) (owns : Bool) → fits p shared owns wait s ≡ true → test s owns ≡ true
+unfolding all_fitting
+all_fitting-at p shared wait test h s owns fit = when_at _ _ fit (either-at _ (all_states-at _ h s) owns)
+
+-- the same, where a core may await the answer of what is open
+abbrev pub all_open : Protocol → Bool → Option Talk → (CacheState → Bool → Bool) → Bool
+all_open p shared None test = all_fitting p shared None test
+all_open p shared (Some talk) test = all_fitting p shared None test && all_fitting p shared (Some talk.0) test
+
+pub all_open-at : (p : Protocol) (shared : Bool) (t : Option Open) (test : CacheState → Bool → Bool) → all_open p shared (talk_of t) test ≡ true
+    → (d : ℕ) (s : CacheState) (owns : Bool) → fits p shared owns (own_open t d) s ≡ true → test s owns ≡ true
+all_open-at p shared None test h d s owns fit = all_fitting-at p shared None test h s owns fit
+all_open-at p shared (Some o) test h d s owns fit =
+    let (resting, awaiting) = and_parts _ _ h in
+    elim (cases_Bool (eqb d o.core)) [
+      | inl is ↦ all_fitting-at p shared (Some o.request) test awaiting s owns (rw is at fit)
+      | inr is ↦ all_fitting-at p shared None test resting s owns (rw is at fit)
+    ]
 
 -- no row makes a reader, or a clean owner, of a core that was none
 abbrev pub carries : CacheState → CacheState → Bool
