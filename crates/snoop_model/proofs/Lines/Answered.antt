@@ -1,7 +1,6 @@
 -- The lines after a response: the requestor's is filled, or none is changed.
 use Rattle.std.proofs.Common.{◌≡◌, ℕ, List, length, Option, Some, None, refl, ◌∙◌, ap, inl, inr, ◌⊎◌, length-set}
-use Rattle.snoop_model.proofs.Common.{Protocol, Request, Did, Item, Open, Access, Line, held_at, nothing_held, FillsRequestor, ArrivesFor}
-use Rattle.snoop_rules.specs.declared.names.Request.TheVariants.{PutM}
+use Rattle.snoop_model.proofs.Common.{Protocol, Request, Did, Item, Open, Access, Line, held_at, nothing_held, FillsRequestor, ArrivesFor, PutM}
 use Rattle.snoop_model.proofs.Lists.Writes.{set_cases}
 
 module _ {closing : Open} {p : Protocol} {log : List Item} {old new : List Line} {did : Option Did} where

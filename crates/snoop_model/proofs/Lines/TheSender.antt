@@ -1,7 +1,6 @@
 -- The loop that looks for the one sender.
 use Rattle.std.proofs.Common.{◌≡◌, ℕ, ◌+◌, ◌<◌, ◌≤◌, length, Option, Some, None, arith, inl, inr, ◌≢◌}
-use Rattle.snoop_model.proofs.Common.{cases_eq, cases_lt, Protocol, CacheState, CacheAction, MemState, MemAction, Request, Payload, Target, Cell, MemoryCell, seen_by, at_memory, Picture, held_by, Sends}
-use Rattle.std.specs.Prelude.{⊤}
+use Rattle.snoop_model.proofs.Common.{cases_eq, cases_lt, Protocol, CacheState, CacheAction, MemState, MemAction, Request, Payload, Target, Cell, MemoryCell, seen_by, at_memory, Picture, held_by, Sends, ⊤}
 use Rattle.snoop_rules.specs.declared.names.CacheAction.TheVariants as action
 use Rattle.snoop_rules.specs.declared.names.MemAction.TheVariants as mem_action
 use Rattle.snoop_model.specs.Moves.SenderTable.{FollowsSenderTable}

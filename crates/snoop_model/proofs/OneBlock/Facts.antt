@@ -1,7 +1,6 @@
 -- What follows from the invariant of one block.
 use Rattle.std.proofs.Common.{◌≡◌, ◌≢◌, ◌<◌, ◌&&◌, ◌||◌, ◌∙◌, ℕ, List, Bool, true, false, not, eqb, Option, Some, None, refl, inl, inr, sym, subst, length, is_some, eq-eqb, eqb-true, ne_eqb}
-use Rattle.snoop_model.proofs.Common.{and_parts, cases_Bool, cases_eq, not-true, cases_lt, get_or_past, same_Some, Protocol, CacheState, Request, Line, Picture, held_by, held_at, nothing_held, keeps, IsProper, is_owner, is_sharer, is_clean, in_protocol, same, wait_fits, fits, BlockInvariant, talk_of, own_open, owns}
-use Rattle.std.proofs.lemmas.Bool.{or_right}
+use Rattle.snoop_model.proofs.Common.{and_parts, cases_Bool, cases_eq, not-true, cases_lt, get_or_past, same_Some, Protocol, CacheState, Request, Line, Picture, held_by, held_at, nothing_held, keeps, IsProper, is_owner, is_sharer, is_clean, in_protocol, same, wait_fits, fits, BlockInvariant, talk_of, own_open, owns, or_right}
 use Rattle.std.proofs.Math.Bool.{and-false}
 use Rattle.snoop_model.proofs.Lines.TheSender.{IsBelow}
 use Rattle.snoop_model.proofs.Tables.StateTests.{all_open-at, same_is, brings_data, carries, owned_rule}

@@ -25,7 +25,7 @@ order_possible p flat before c q good c_in waits calm =
     let below = below_owner (length before.caches) (meant l) (meant_in l) in
     let itself = is_itself (meant l) in
     record {
-      rows = λ d d_in. let (row, is_row, _, _) = each_row l d d_in in (row, is_row);
+      rows = λ d d_in. let (row, is_row, _, _, _) = each_row l d d_in in (row, is_row);
       cell_of_memory = l.memory;
       memory_row = l.is_memory;
       from = meant l;

@@ -1,13 +1,11 @@
 -- A Respond finds its rows and keeps the invariant, and a load that it performs gives the flat value.
 use Rattle.std.proofs.Common.{◌≡◌, ◌<◌, ◌&&◌, ◌||◌, ◌∙◌, ℕ, length, List, Bool, true, false, not, cond, Option, Some, None, refl, inl, inr, ap, sym, is_some, if◌then◌else◌, eq-eqb, ne_eqb}
-use Rattle.snoop_model.proofs.Common.{and_parts, both_ways, cases_Bool, not-true, none-some, same_Some, Protocol, Op, CacheAction, CacheCell, MemAction, MemCell, Request, arrival, arrival_at_memory, takes_payload, Did, Item, Open, Picture, held_at, held_by, nothing_held, Situation, picture_of, keeps, Performs, is_load, FillsRequestor, ArrivesFor, Responds, next_did, written, is_put_m, is_get_m, Claims, claims_of, BlockInvariant, owns}
+use Rattle.snoop_model.proofs.Common.{and_parts, both_ways, cases_Bool, not-true, none-some, same_Some, Protocol, Op, CacheAction, CacheCell, MemAction, MemCell, Request, arrival, arrival_at_memory, takes_payload, Did, Item, Open, Picture, held_at, held_by, nothing_held, Situation, picture_of, keeps, Performs, is_load, FillsRequestor, ArrivesFor, Responds, next_did, written, is_put_m, is_get_m, Claims, claims_of, BlockInvariant, owns, PutM, cond_both}
 use Rattle.snoop_trace.specs.Words.{word_at}
 use Rattle.snoop_trace.specs.declared.step.Op.TheVariants as op
 use Rattle.snoop_rules.specs.declared.names.CacheAction.TheVariants as action
 use Rattle.snoop_rules.specs.declared.names.MemAction.TheVariants as mem_action
-use Rattle.snoop_rules.specs.declared.names.Request.TheVariants as request
 use Rattle.snoop_model.proofs.Lists.Facts.{of_choice}
-use Rattle.std.proofs.lemmas.Bool.{cond_both}
 use Rattle.snoop_model.proofs.Lists.Writes.{each_set}
 use Rattle.snoop_model.proofs.Tables.StateTests.{all_open-at, all_fitting-at, when_at, EachHolds, same_is, some_and, some_each, clean_reads}
 use Rattle.snoop_model.proofs.Tables.RespondTests.{answer_tests, fills_store, gains, respond_rule, respond_tests, row_for, settled_row, settled_so, stays_so, writes}
@@ -157,7 +155,7 @@ module _ (s : Situation) (block : ℕ) (o : Open) (did : Option Did) (new : Situ
       (all_open-at p g.claims.shared (Some o) _ (rw put at a.tests.1.1.1.1.1.1.0) d (held_by before d).state (owns g.owner d) (rw r.opened at (g.states d d_in))))))))
 
   by_request : (q : Request) → o.request ≡ q → ArrivesFor q o p s.log before.caches r.next.caches did → BlockInvariant p n (flat_after flat did) r.next × IsLawful flat did
-  by_request request.PutM is arrives = rw arrives.1 (respond_put (ap is_put_m is) arrives.0, tt)
+  by_request PutM is arrives = rw arrives.1 (respond_put (ap is_put_m is) arrives.0, tt)
   by_request _ is arrives = respond_get (ap is_put_m is) arrives
 
   -- a Respond keeps the invariant of a picture, and a load that it performs gives the flat value

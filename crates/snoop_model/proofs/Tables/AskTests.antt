@@ -1,16 +1,11 @@
 -- Tests of the rows of an Ask, computed over the whole tables.
 use Rattle.std.proofs.Common.{◌≡◌, ◌&&◌, ◌||◌, Bool, true, false, not, Option, Some, refl}
-use Rattle.snoop_model.proofs.Common.{and_parts, is_some, Protocol, Op, CacheState, CacheEvent, CacheAction, CacheCell, Request, cell_of, asked, is_owner, is_sharer, is_clean, wait_fits, in_protocol, same, fits}
+use Rattle.snoop_model.proofs.Common.{and_parts, is_some, Protocol, Op, CacheState, CacheEvent, CacheCell, Request, cell_of, asked, is_owner, is_sharer, is_clean, wait_fits, in_protocol, same, fits}
 use Rattle.snoop_rules.specs.declared.names.CacheState.TheVariants as state
 use Rattle.snoop_rules.specs.declared.names.CacheEvent.TheVariants as event
-use Rattle.snoop_rules.specs.declared.names.CacheAction.TheVariants as action
 use Rattle.snoop_rules.proofs.Every.{all_events, all_events-at, all_protocols, all_protocols-at, all_requests, all_requests-at, all_states}
 use Rattle.snoop_model.proofs.Tables.StateTests.{all_fitting, all_fitting-at, all_options, all_options-at, either, either-at, given, given_at, is_some_and, when, when_at, is_hit, carries}
 use Rattle.snoop_model.proofs.Tables.Rows.{serving, serving-asked}
-
-abbrev pub is_stall : CacheAction → Bool
-is_stall action.Stall = true
-is_stall _ = false
 
 abbrev pub is_store : CacheEvent → Bool
 is_store event.Store = true
@@ -38,8 +33,8 @@ pub data AskQuestion : Type 0 where
   ask_store_owns : AskQuestion
 
 abbrev pub ask_test : AskQuestion → AskTest
-ask_test ask_fits p shared ow w s e r = is_stall r.action || fits p shared ow w r.next
-ask_test ask_carries p shared ow w s e r = is_stall r.action || ((is_hit r.action && is_store e) || carries s r.next)
+ask_test ask_fits p shared ow w s e r = fits p shared ow w r.next
+ask_test ask_carries p shared ow w s e r = (is_hit r.action && is_store e) || carries s r.next
 ask_test ask_store_owns p shared ow w s e r = not (is_hit r.action && is_store e) || (ow && not (is_clean r.next))
 
 ask_holds : (k : AskQuestion) → asks (ask_test k) ≡ true

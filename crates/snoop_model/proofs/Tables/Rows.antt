@@ -1,12 +1,11 @@
 -- What holds of every row, found by trying all.
 use Rattle.std.proofs.Common.{List, ◌≡◌, ℕ, Bool, true, false, not, ◌&&◌, ◌||◌, Option, Some, None, [], ◌∷◌, refl, sym, ◌∙◌, is_some, option_map, ◌==◌, if◌then◌else◌}
-use Rattle.snoop_model.proofs.Common.{same_Some, Protocol, Op, CacheState, CacheEvent, CacheAction, CacheCell, Request, Cell, asked, own, other, seen_by, waiting_request, Line, kept_on, keeps, request_for, missed_request, awaited_request, IsProper, moves_to, kept_waiting, is_load, same}
+use Rattle.snoop_model.proofs.Common.{same_Some, Protocol, Op, CacheState, CacheEvent, CacheAction, CacheCell, Request, Cell, asked, own, other, seen_by, waiting_request, Line, kept_on, keeps, request_for, missed_request, awaited_request, IsProper, moves_to, kept_waiting, is_load, same, GetS, GetM, PutM}
 use Rattle.std.proofs.Math.Bool.{and-true, and-false}
 use Rattle.snoop_trace.specs.declared.step.Op.TheVariants as op
 use Rattle.snoop_rules.specs.declared.names.CacheState.TheVariants.{I, ImAd, IiA}
 use Rattle.snoop_rules.specs.declared.names.CacheEvent.TheVariants as event
 use Rattle.snoop_rules.specs.declared.names.CacheAction.TheVariants as action
-use Rattle.snoop_rules.specs.declared.names.Request.TheVariants.{GetS, GetM, PutM}
 use Rattle.snoop_rules.specs.contracts.names.Request.{the_type as requests}
 use Rattle.snoop_rules.proofs.Every.{all_protocols, all_states, all_events}
 use Rattle.snoop_rules.proofs.Rows.{each_row, each_row-at}
