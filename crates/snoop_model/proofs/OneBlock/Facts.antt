@@ -3,7 +3,7 @@ use Rattle.std.proofs.Common.{◌≡◌, ◌≢◌, ◌<◌, ◌&&◌, ◌||◌,
 use Rattle.snoop_model.proofs.Common.{and_parts, cases_Bool, cases_eq, not-true, cases_lt, get_or_past, same_Some, Protocol, CacheState, Request, Line, Picture, held_by, held_at, nothing_held, keeps, IsProper, is_owner, is_sharer, is_clean, in_protocol, same, wait_fits, fits, BlockInvariant, talk_of, own_open, owns, or_right}
 use Rattle.std.proofs.Math.Bool.{and-false}
 use Rattle.snoop_model.proofs.Lines.TheSender.{IsBelow}
-use Rattle.snoop_model.proofs.Tables.StateTests.{all_open-at, same_is, brings_data, carries, owned_rule}
+use Rattle.snoop_model.proofs.Tables.StateTests.{all_open-at, same_is, brings_data, carries, clean_reads, owned_rule}
 
 -- what holds of one core and of each other holds of each
 pub by_core : (c : ℕ) (P : ℕ → Type 0) → P c → ((d : ℕ) → d ≢ c → P d) → (d : ℕ) → P d
@@ -43,6 +43,12 @@ pub carried_line : {p : Protocol} {shared owning shared' owning' : Bool} {wait w
 carried_line old new was kept fit carry proper =
     let (read, clean) = and_parts (not (keeps new.state) || keeps old.state) _ carry in
     record { fit = fit; kept = λ h. kept h ∙ was.kept (rw h at read); clean = λ h. was.clean (rw h at clean); proper = proper }
+
+-- a line that stays as it is fits the block's new words, which are the old ones if the line may be read
+pub still_fits : {p : Protocol} {shared owning shared' owning' : Bool} {wait wait' : Option Request} {flat words memory memory' : List ℕ} (line : Line) → LineFits p shared owning wait flat memory line
+    → (keeps line.state ≡ true → words ≡ flat) → (memory ≡ flat → memory' ≡ flat) → fits p shared' owning' wait' line.state ≡ true → LineFits p shared' owning' wait' words memory' line
+still_fits line was same stays fit =
+    record { fit = fit; kept = λ h. rw (same h) (was.kept h); clean = λ h. stays (was.clean h) ∙ sym (same (clean_reads line.state h)); proper = was.proper }
 
 pub owner_is : (owner : Option ℕ) (d : ℕ) → owns owner d ≡ true → owner ≡ Some d
 owner_is None d h = cc

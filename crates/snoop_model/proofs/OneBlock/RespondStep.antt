@@ -7,10 +7,10 @@ use Rattle.snoop_rules.specs.declared.names.CacheAction.TheVariants as action
 use Rattle.snoop_rules.specs.declared.names.MemAction.TheVariants as mem_action
 use Rattle.snoop_model.proofs.Lists.Facts.{of_choice}
 use Rattle.snoop_model.proofs.Lists.Writes.{each_set}
-use Rattle.snoop_model.proofs.Tables.StateTests.{all_open-at, all_fitting-at, when_at, EachHolds, same_is, some_and, some_each, clean_reads}
+use Rattle.snoop_model.proofs.Tables.StateTests.{all_open-at, all_fitting-at, when_at, EachHolds, same_is, some_and, some_each}
 use Rattle.snoop_model.proofs.Tables.RespondTests.{answer_tests, fills_store, gains, respond_rule, respond_tests, row_for, settled_row, settled_so, stays_so, writes}
 use Rattle.snoop_model.proofs.Tables.Rows.{IsProper-fill}
-use Rattle.snoop_model.proofs.OneBlock.Facts.{LineFits, OwnerIn, core_in, owns_owned}
+use Rattle.snoop_model.proofs.OneBlock.Facts.{LineFits, line_of, still_fits, OwnerIn, core_in, owns_owned}
 use Rattle.snoop_model.proofs.OneBlock.Operation.{flat_after, IsLawful}
 
 -- all that a Respond looks up of a picture that keeps its invariant
@@ -82,28 +82,17 @@ module _ (s : Situation) (block : ℕ) (o : Open) (did : Option Did) (new : Situ
   memory_flat : (writes r.memory.act ≡ false → before.memory.value ≡ flat) → r.next.memory.value ≡ flat
   memory_flat stays = r.memory.value ∙ written_flat r.memory.act o.value before.memory.value flat (λ w. g.carried o r.opened (rw (memory_is, w) at a.tests.1.1.1.0)) stays
 
-  refreshed : a.next.fresh ≡ true → (is_get_m o.request ≡ false) × (r.next.memory.value ≡ flat)
-  refreshed h =
-      let (get_s, from) = and_parts (not (is_get_m o.request)) _ (rw h at a.tests.1.1.1.1.0) in
-      (not-true _ get_s, memory_flat (λ w. g.fresh (rw (memory_is, w) at from)))
-
   -- a core that is not answered keeps its line, which fits then, if the block's words change only at a GetM
   stays : (words : List ℕ) → (is_get_m o.request ≡ false → words ≡ flat) → (d : ℕ) → d < n
       → ((not (owns g.owner d) || g.claims.owned) ≡ true → stays_so p o.request g.claims a.next (held_by before d).state (owns g.owner d) ≡ true)
       → LineFits p a.next.shared (cond gained false (owns g.owner d)) None words r.next.memory.value (held_by before d)
   stays words same d d_in so =
-      let s = (held_by before d).state in
-      let (fit_after, blind) = and_parts _ _ (so (owns_owned g.owner d g.claims.owned g.is_owned)) in
-      let reads : keeps s ≡ true → words ≡ flat = λ h. elim (cases_Bool (is_get_m o.request)) [
+      let (fit, blind) = and_parts _ _ (so (owns_owned g.owner d g.claims.owned g.is_owned)) in
+      let reads : keeps (held_by before d).state ≡ true → words ≡ flat = λ h. elim (cases_Bool (is_get_m o.request)) [
         | inl m ↦ absurd (both_ways _ (not-true _ (rw m at blind)) h)
         | inr m ↦ same m
       ] in
-      record {
-        fit = fit_after;
-        kept = λ h. rw (reads h) (g.kept d d_in h);
-        clean = λ h. memory_flat (λ w. g.clean d d_in h) ∙ sym (reads (clean_reads s h));
-        proper = g.proper d d_in;
-      }
+      still_fits (held_by before d) (line_of g d d_in) reads (λ is. memory_flat (λ w. is)) fit
 
   closed : (words : List ℕ) → (is_get_m o.request ≡ false → words ≡ flat)
       → ((d : ℕ) → d < n → LineFits p a.next.shared (owns (cond gained (Some o.core) g.owner) d) None words r.next.memory.value (held_at r.next.caches d)) → BlockInvariant p n words r.next
@@ -118,7 +107,9 @@ module _ (s : Situation) (block : ℕ) (o : Open) (did : Option Did) (new : Situ
         states = λ d d_in. simp r.closed (lines d d_in).fit;
         kept = λ d d_in. (lines d d_in).kept;
         clean = λ d d_in. (lines d d_in).clean;
-        fresh = λ h. (refreshed h).1 ∙ sym (same (refreshed h).0);
+        fresh = λ h.
+            let (get_s, from) = and_parts (not (is_get_m o.request)) _ (rw h at a.tests.1.1.1.1.0) in
+            memory_flat (λ w. g.fresh (rw (memory_is, w) at from)) ∙ sym (same (not-true _ get_s));
         carried = λ x is_x. absurd (nothing x is_x);
         requestor_in = λ x is_x. absurd (nothing x is_x);
         sender_in = λ x is_x. absurd (nothing x is_x);
