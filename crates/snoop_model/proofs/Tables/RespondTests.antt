@@ -1,5 +1,5 @@
 -- A test of the rows of a Respond, computed over the whole tables.
-use Rattle.std.proofs.Common.{◌≡◌, ◌&&◌, ◌||◌, Bool, true, false, not, cond, List, [], ◌∷◌, Option, Some, None, refl, ap, sym, MatchBool, IsSomeAnd, ◌↔◌}
+use Rattle.std.proofs.Common.{option_and_then, ◌≡◌, ◌&&◌, ◌||◌, Bool, true, false, not, cond, List, [], ◌∷◌, Option, Some, None, refl, ap, sym, MatchBool, IsSomeAnd, ◌↔◌}
 use Rattle.snoop_model.proofs.Common.{same_Some, Protocol, CacheState, CacheEvent, CacheAction, CacheCell, MemState, MemEvent, MemAction, MemCell, Request, Payload, cell_of, MemoryCell, memory_cell_of, arrival, arrival_at_memory, takes_payload, carries_value, keeps, is_put_m, is_get_m, Claims, claims_of, is_owner, is_sharer, is_clean, wait_fits, in_protocol, same, fits}
 use Rattle.snoop_rules.specs.declared.names.CacheAction.TheVariants as action
 use Rattle.snoop_rules.specs.declared.names.MemAction.TheVariants as mem_action
@@ -8,12 +8,10 @@ use Rattle.snoop_model.proofs.Tables.StateTests.{all_fitting, all_open, each, ei
 
 -- the row for an event, if there are both
 abbrev pub row_for : Protocol → CacheState → Option CacheEvent → Option CacheCell
-row_for p s None = None
-row_for p s (Some e) = cell_of p s e
+row_for p s found = option_and_then (cell_of p s) found
 
 abbrev pub memory_row_for : Protocol → MemState → Option MemEvent → Option MemCell
-memory_row_for p m None = None
-memory_row_for p m (Some e) = memory_cell_of p m e
+memory_row_for p m found = option_and_then (memory_cell_of p m) found
 
 -- memory takes its row for a message, or stays as it is
 abbrev pub SettlesIf : Bool → Protocol → Option MemEvent → MemState → MemAction → MemState → Type 0
