@@ -42,7 +42,8 @@ module _ (s : Situation) (core block word : ℕ) (asking : Op) (answer : Reply) 
   Holds a o k = ask_test k s.protocol g.claims.shared (owns g.owner core) (own_open before.transaction core) old.state (asked o) (record { action = a; next = asks.row.next }) ≡ true
 
   -- what the core holds after an Ask, by its row; whether the block's words change; and that a load gives the flat value
-  asker : (a : CacheAction) (o : Op) → Cell s.protocol old.state (asked o) a asks.row.next → ((k : AskQuestion) → Holds a o k) → Takes a asks.row.next s.log core block word o old asks.held answer asks.entry
+  asker : (a : CacheAction) (o : Op) → Cell s.protocol old.state (asked o) a asks.row.next
+      → ((k : AskQuestion) → Holds a o k) → Takes a asks.row.next s.log core block word o old asks.held answer asks.entry
       → LineFits s.protocol g.claims.shared (owns g.owner core) (own_open before.transaction core) (flat_after flat (did_in asks.entry)) before.memory.value asks.held
       × ((flat_after flat (did_in asks.entry) ≡ flat) ⊎ (owns g.owner core ≡ true)) × IsLawful flat (did_in asks.entry)
   asker action.Hit op.Load row holds (value, (hit, _, entry)) =
@@ -57,15 +58,19 @@ module _ (s : Situation) (core block word : ℕ) (asking : Op) (answer : Reply) 
       let proper = IsProper-hit s.protocol old event.Store asks.row.next hit.after (g.proper core asker_in) row in
       rw (hit.held, entry) (record { fit = holds ask_fits; kept = λ h. cc; clean = λ h. absurd (both_ways _ (not-true _ unclean) h); proper = proper }, inr owning, λ e. cc)
   asker action.Hit op.Evict row holds took = absurd took.1.0.performed
-  asker (action.Issue r) o row holds (held, _, entry) = rw (held, entry) (carried_line old _ (line_of g core asker_in) (kept_reader asks.row.next old.kept) (holds ask_fits) (holds ask_carries) (IsProper-issue s.protocol old word o r asks.row.next (g.proper core asker_in) row), inl refl, tt)
-  asker action.Drop o row holds (held, _, entry) = rw (held, entry) (carried_line old _ (line_of g core asker_in) (kept_reader asks.row.next old.kept) (holds ask_fits) (holds ask_carries) (IsProper-drop s.protocol old (asked o) asks.row.next (g.proper core asker_in) row), inl refl, tt)
+  asker (action.Issue r) o row holds (held, _, entry) =
+      rw (held, entry) (carried_line old _ (line_of g core asker_in) (kept_reader asks.row.next old.kept) (holds ask_fits) (holds ask_carries)
+      (IsProper-issue s.protocol old word o r asks.row.next (g.proper core asker_in) row), inl refl, tt)
+  asker action.Drop o row holds (held, _, entry) =
+      rw (held, entry) (carried_line old _ (line_of g core asker_in) (kept_reader asks.row.next old.kept) (holds ask_fits) (holds ask_carries)
+      (IsProper-drop s.protocol old (asked o) asks.row.next (g.proper core asker_in) row), inl refl, tt)
   asker _ o row holds took = absurd took
 
   -- an Ask keeps the invariant of a picture, and a load that it performs gives the flat value
   pub ask_keeps : BlockInvariant s.protocol n (flat_after flat (did_in asks.entry)) (with_line before core asks.held) × IsLawful flat (did_in asks.entry)
   ask_keeps =
       let words = flat_after flat (did_in asks.entry) in
-      let rule : (k : AskQuestion) → Holds asks.row.action asking k = λ k. ask_rule k s.protocol g.claims.shared (owns g.owner core) (own_open before.transaction core) old.state asking asks.row (g.states core asker_in) asks.is_row in
+      let rule : (k : AskQuestion) → Holds asks.row.action asking k = λ k. ask_rule k _ _ _ _ _ asking asks.row (g.states core asker_in) asks.is_row in
       let (line, changed, lawful) = asker asks.row.action asking asks.is_row rule asks.taken in
       let lines = each_set before.caches core asks.held nothing_held
       (λ d x. d < n → LineFits s.protocol g.claims.shared (owns g.owner d) (own_open before.transaction d) words before.memory.value x)

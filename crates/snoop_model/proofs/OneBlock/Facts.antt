@@ -77,7 +77,7 @@ module _ {p : Protocol} {n : ℕ} {flat : List ℕ} {picture : Picture} (g : Blo
         not-true _ unfresh,
         not-true _ no_data,
         λ d d_in apart.
-            not-true _ (rw (owns_one g.owner c d owning apart) at (all_open-at p g.claims.shared picture.transaction _ blind d (held_by picture d).state (owns g.owner d) (g.states d d_in))),
+            not-true _ (rw (owns_one g.owner c d owning apart) at (all_open-at _ _ picture.transaction _ blind d _ _ (g.states d d_in))),
       )
 
   -- one writer alone, or only readers

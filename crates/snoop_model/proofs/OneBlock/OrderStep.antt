@@ -28,7 +28,7 @@ look {p} {flat} {before} good calm c q c_in waits =
     let m = before.memory.state in
     let s = (held_by before c).state in
     let ow = owns good.owner c in
-    let test = order_rule p m good.claims s ow q (rw calm at good.is_claims) (rw calm at (good.states c c_in)) (owns_owned good.owner c good.claims.owned good.is_owned) waits in
+    let test = order_rule _ _ _ _ _ q (rw calm at good.is_claims) (rw calm at (good.states c c_in)) (owns_owned good.owner c good.claims.owned good.is_owned) waits in
     let (memory, is_memory, test) = some_and (memory_cell_of p m (at_memory q)) _ test in
     let (row, is_row, test) = some_and (cell_of p s (own q)) _ test in
     let (next, is_next, ends) = some_each (claims_of p memory.next (Some (q, payload_of row memory))) (end_tests p m good.claims s ow q memory row) test in
@@ -50,7 +50,7 @@ module _ {p : Protocol} {flat : List ℕ} {before : Picture} {good : BlockInvari
       let ow = owns good.owner d in
       let apart_owned = and_from _ _ (owns_apart good.owner c d apart) (owns_owned good.owner d _ good.is_owned) in
       some_each (cell_of p s (other q)) (other_tests p before.memory.state q l.memory sent l.next s ow)
-      (when_at _ _ apart_owned (all_fitting-at p good.claims.shared None _ l.ends.1.1.1.1.1.1.0 s ow (rw l.calm at (good.states d d_in))))
+      (when_at _ _ apart_owned (all_fitting-at _ _ _ _ l.ends.1.1.1.1.1.1.0 _ _ (rw l.calm at (good.states d d_in))))
 
   -- who is meant to send: the requestor of a PutM, else the owner, else memory
   abbrev pub meant : Option ℕ

@@ -25,7 +25,7 @@ pub record Closing {p : Protocol} {n : ℕ} {flat : List ℕ} {before : Picture}
 pub closing : {p : Protocol} {n : ℕ} {flat : List ℕ} {before : Picture} (good : BlockInvariant p n flat before) (o : Open) → before.transaction ≡ Some o → Closing good o
 closing {p} {n} {flat} {before} good o opened =
     let m = before.memory.state in
-    let (memory, is_memory, test) = some_and (settled_row p o.request m o.payload) _ (respond_rule p m o.request o.payload good.claims (rw opened at good.is_claims)) in
+    let (memory, is_memory, test) = some_and (settled_row p o.request m o.payload) _ (respond_rule _ _ _ _ _ (rw opened at good.is_claims)) in
     let (next, is_next, tests) = some_each (claims_of p memory.next None) (respond_tests p o.request o.payload good.claims memory) test in
     record { opened = opened; memory = memory; is_memory = is_memory; next = next; is_next = is_next; tests = tests }
 
@@ -37,7 +37,7 @@ answered {p} {n} {flat} {before} {good} {o} a get =
     let ow = owns good.owner o.core in
     let fit = rw (a.opened, eq-eqb o.core o.core refl) at (good.states o.core (good.requestor_in o a.opened)) in
     some_each (row_for p s (arrival o.payload)) (answer_tests p o.request good.claims a.next ow)
-    (all_fitting-at p good.claims.shared (Some o.request) _ (rw get at a.tests.1.1.1.1.1.0) s ow fit)
+    (all_fitting-at _ _ _ _ (rw get at a.tests.1.1.1.1.1.0) s ow fit)
 
 written_flat : (a : MemAction) (v old flat : List ℕ) → (writes a ≡ true → v ≡ flat) → (writes a ≡ false → old ≡ flat) → written a v old ≡ flat
 written_flat mem_action.Write v old flat new stays = new refl
@@ -76,7 +76,8 @@ module _ (s : Situation) (block : ℕ) (o : Open) (did : Option Did) (new : Situ
   -- the row that memory takes
   memory_is : a.memory ≡ record { action = r.memory.act; next = r.next.memory.state }
   memory_is =
-      same_Some _ _ (sym a.is_memory ∙ (settled_so (takes_payload o.request before.memory.state) p (arrival_at_memory o.payload) before.memory.state r.memory.act r.next.memory.state).0 r.memory.settled)
+      same_Some _ _ (sym a.is_memory
+      ∙ (settled_so (takes_payload o.request before.memory.state) p (arrival_at_memory o.payload) before.memory.state r.memory.act r.next.memory.state).0 r.memory.settled)
 
   -- memory is written with the block's words, or has them where it had
   memory_flat : (writes r.memory.act ≡ false → before.memory.value ≡ flat) → r.next.memory.value ≡ flat
@@ -134,7 +135,7 @@ module _ (s : Situation) (block : ℕ) (o : Open) (did : Option Did) (new : Situ
         closed (flat_after flat did) same (simp f.held (each_set before.caches c f.line nothing_held
             (λ d x. d < n → LineFits p a.next.shared (owns (cond gained (Some c) g.owner) d) None (flat_after flat did) r.next.memory.value x) in_row (λ c_in. filled)
             (λ d apart d_in. rw (of_choice (λ x. owns x d) gained (Some c) g.owner, ne_eqb d c apart) (stays (flat_after flat did) same d d_in (λ owned. when_at _ _ owned
-            (all_fitting-at p g.claims.shared None _ (rw get at a.tests.1.1.1.1.1.1.0) (held_by before d).state (owns g.owner d) (rw (r.opened, ne_eqb d c apart) at (g.states d d_in)))))))),
+            (all_fitting-at _ _ _ _ (rw get at a.tests.1.1.1.1.1.1.0) _ _ (rw (r.opened, ne_eqb d c apart) at (g.states d d_in)))))))),
         words.1,
       )
 
@@ -143,7 +144,7 @@ module _ (s : Situation) (block : ℕ) (o : Open) (did : Option Did) (new : Situ
   respond_put put same =
       let no_gain : gained ≡ false = not-true _ (rw put at a.tests.1.1.0) in
       closed flat (λ h. refl) (λ d d_in. simp same (rw no_gain (rw no_gain at (stays flat (λ h. refl) d d_in (λ owned. when_at _ _ owned
-      (all_open-at p g.claims.shared (Some o) _ (rw put at a.tests.1.1.1.1.1.1.0) d (held_by before d).state (owns g.owner d) (rw r.opened at (g.states d d_in))))))))
+      (all_open-at _ _ (Some o) _ (rw put at a.tests.1.1.1.1.1.1.0) d _ _ (rw r.opened at (g.states d d_in))))))))
 
   by_request : (q : Request) → o.request ≡ q → ArrivesFor q o p s.log before.caches r.next.caches did → BlockInvariant p n (flat_after flat did) r.next × IsLawful flat did
   by_request PutM is arrives = rw arrives.1 (respond_put (ap is_put_m is) arrives.0, tt)

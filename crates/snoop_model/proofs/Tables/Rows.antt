@@ -202,12 +202,15 @@ IsProper-order p old k core q a n proper row = let (kept, missed, _) = order_fac
 
 -- a fill ends all waiting and keeps a value
 module _ (p : Protocol) (s : CacheState) (e : CacheEvent) (a : CacheAction) (n : CacheState) where
-  fill_facts : (asking : Op) → a ≡ (if is_load asking then action.FillLoad else action.FillStore) → Cell p s e a n → (keeps n ≡ true) × (missed_request n ≡ None) × (waiting_request n ≡ waiting_request s)
+  abbrev IsFill : Op → Type 0
+  IsFill asking = a ≡ (if is_load asking then action.FillLoad else action.FillStore)
+
+  fill_facts : (asking : Op) → IsFill asking → Cell p s e a n → (keeps n ≡ true) × (missed_request n ≡ None) × (waiting_request n ≡ waiting_request s)
   fill_facts op.Load fill row = let (kept, (missed, (waits, _))) = rw fill at (action_rule p s e a n row) in (kept, same_request-true _ _ missed, same_request-true _ _ waits)
   fill_facts _ fill row = let (kept, (missed, (waits, _))) = rw fill at (action_rule p s e a n row) in (kept, same_request-true _ _ missed, same_request-true _ _ waits)
 
-  pub fill-waits : (asking : Op) → a ≡ (if is_load asking then action.FillLoad else action.FillStore) → Cell p s e a n → waiting_request n ≡ waiting_request s
+  pub fill-waits : (asking : Op) → IsFill asking → Cell p s e a n → waiting_request n ≡ waiting_request s
   fill-waits asking fill row = (fill_facts asking fill row).2
 
-  pub IsProper-fill : (asking : Op) (after : List ℕ) → a ≡ (if is_load asking then action.FillLoad else action.FillStore) → Cell p s e a n → IsProper (record { state = n; kept = Some after; waiting = None })
+  pub IsProper-fill : (asking : Op) (after : List ℕ) → IsFill asking → Cell p s e a n → IsProper (record { state = n; kept = Some after; waiting = None })
   IsProper-fill asking after fill row = let f = fill_facts asking fill row in record { kept = sym f.0; waiting = sym f.1 }

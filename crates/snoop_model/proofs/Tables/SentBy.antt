@@ -1,5 +1,5 @@
 -- What a row sends, as a test.
-use Rattle.std.proofs.Common.{option_and_then, ◌≡◌, ℕ, Option, Some, None, ap}
+use Rattle.std.proofs.Common.{◌≡◌, ℕ, Option, Some, None, ap}
 use Rattle.snoop_model.proofs.Common.{same_Some, Protocol, CacheState, CacheAction, CacheCell, MemState, MemAction, MemCell, Request, Payload, Target, cell_of, memory_cell_of, seen_by, at_memory, Picture, held_by, Sends}
 use Rattle.snoop_rules.specs.declared.names.CacheAction.TheVariants as action
 use Rattle.snoop_rules.specs.declared.names.MemAction.TheVariants as mem_action
@@ -16,11 +16,13 @@ memory_payload _ = None
 
 -- the payload that a core's row sends, if there is a row and it sends
 abbrev pub sent_by : Option CacheCell → Option Payload
-sent_by found = option_and_then (λ row. payload_sent row.action) found
+sent_by None = None
+sent_by (Some row) = payload_sent row.action
 
 -- the payload that memory's row sends, if there is a row and it sends
 abbrev pub sent_by_memory : Option MemCell → Option Payload
-sent_by_memory found = option_and_then (λ row. memory_payload row.action) found
+sent_by_memory None = None
+sent_by_memory (Some row) = memory_payload row.action
 
 -- an action that sends
 pub sending : (act : CacheAction) (payload : Payload) → payload_sent act ≡ Some payload → (target : Target) × (act ≡ action.Send payload target)
