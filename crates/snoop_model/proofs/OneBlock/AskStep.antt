@@ -1,6 +1,6 @@
 -- An Ask keeps the invariant, and a load that it performs gives the flat value.
 use Rattle.std.proofs.Common.{◌≡◌, ◌≢◌, ◌<◌, ◌⊎◌, ◌∙◌, ℕ, Bool, false, List, true, not, length, Some, refl, inl, inr, sym}
-use Rattle.snoop_model.proofs.Common.{and_parts, both_ways, not-true, same_Some, Protocol, Op, CacheAction, Cell, asked, carries_value, Open, Reply, Line, Picture, held_by, nothing_held, with_line, Situation, picture_of, Hits, Takes, Asks, is_clean, BlockInvariant, own_open, owns}
+use Rattle.snoop_model.proofs.Common.{and_parts, both_ways, not-true, same_Some, Protocol, Op, CacheAction, Cell, asked, carries_value, Open, Reply, Line, Picture, held_by, nothing_held, with_line, Situation, picture_of, Takes, Asks, is_clean, BlockInvariant, own_open, owns}
 use Rattle.snoop_trace.specs.declared.step.Op.TheVariants as op
 use Rattle.snoop_rules.specs.declared.names.CacheEvent.TheVariants as event
 use Rattle.snoop_rules.specs.declared.names.CacheAction.TheVariants as action
@@ -33,10 +33,6 @@ module _ (s : Situation) (core block word : ℕ) (asking : Op) (answer : Reply) 
   abbrev old : Line
   old = held_by before core
 
-  -- a hit reads and writes the flat value
-  hit_flat : (o : Op) (value : ℕ) (h : Hits asks.row.next old asks.held word o value) → Cell s.protocol old.state (asked o) action.Hit asks.row.next → h.before ≡ flat
-  hit_flat o value h row = same_Some _ _ (sym h.kept ∙ g.kept core asker_in (hit_keeps s.protocol old.state (asked o) asks.row.next row).0)
-
   -- a test of an Ask's row
   abbrev Holds : CacheAction → Op → AskQuestion → Type 0
   Holds a o k = ask_test k s.protocol g.claims.shared (owns g.owner core) (own_open before.transaction core) old.state (asked o) (record { action = a; next = asks.row.next }) ≡ true
@@ -47,23 +43,31 @@ module _ (s : Situation) (core block word : ℕ) (asking : Op) (answer : Reply) 
       → LineFits s.protocol g.claims.shared (owns g.owner core) (own_open before.transaction core) (flat_after flat (did_in asks.entry)) before.memory.value asks.held
       × ((flat_after flat (did_in asks.entry) ≡ flat) ⊎ (owns g.owner core ≡ true)) × IsLawful flat (did_in asks.entry)
   asker action.Hit op.Load row holds (value, (hit, _, entry)) =
-      let same = hit_flat op.Load value hit row in
+      let same = same_Some _ _ (sym hit.kept ∙ g.kept core asker_in (hit_keeps _ _ _ _ row).0) in
       let performed = hit.performed in
       let proper = IsProper-hit s.protocol old event.Load asks.row.next hit.after (g.proper core asker_in) row in
       rw (hit.held, entry) (carried_line old _ (line_of g core asker_in) (λ h. cc) (holds ask_fits) (holds ask_carries) proper, inl refl, λ e. cc)
   asker action.Hit (op.Store v) row holds (value, (hit, _, entry)) =
-      let same = hit_flat (op.Store v) value hit row in
+      let same = same_Some _ _ (sym hit.kept ∙ g.kept core asker_in (hit_keeps _ _ _ _ row).0) in
       let performed = hit.performed in
       let (owning, unclean) = and_parts (owns g.owner core) (not (is_clean asks.row.next)) (holds ask_store_owns) in
       let proper = IsProper-hit s.protocol old event.Store asks.row.next hit.after (g.proper core asker_in) row in
       rw (hit.held, entry) (record { fit = holds ask_fits; kept = λ h. cc; clean = λ h. absurd (both_ways _ (not-true _ unclean) h); proper = proper }, inr owning, λ e. cc)
   asker action.Hit op.Evict row holds took = absurd took.1.0.performed
   asker (action.Issue r) o row holds (held, _, entry) =
-      rw (held, entry) (carried_line old _ (line_of g core asker_in) (kept_reader asks.row.next old.kept) (holds ask_fits) (holds ask_carries)
-      (IsProper-issue s.protocol old word o r asks.row.next (g.proper core asker_in) row), inl refl, tt)
+      rw (held, entry) (
+        carried_line old _ (line_of g core asker_in) (kept_reader asks.row.next old.kept) (holds ask_fits) (holds ask_carries)
+            (IsProper-issue s.protocol old word o r asks.row.next (g.proper core asker_in) row),
+        inl refl,
+        tt,
+      )
   asker action.Drop o row holds (held, _, entry) =
-      rw (held, entry) (carried_line old _ (line_of g core asker_in) (kept_reader asks.row.next old.kept) (holds ask_fits) (holds ask_carries)
-      (IsProper-drop s.protocol old (asked o) asks.row.next (g.proper core asker_in) row), inl refl, tt)
+      rw (held, entry) (
+        carried_line old _ (line_of g core asker_in) (kept_reader asks.row.next old.kept) (holds ask_fits) (holds ask_carries)
+            (IsProper-drop s.protocol old (asked o) asks.row.next (g.proper core asker_in) row),
+        inl refl,
+        tt,
+      )
   asker _ o row holds took = absurd took
 
   -- an Ask keeps the invariant of a picture, and a load that it performs gives the flat value

@@ -19,8 +19,7 @@ owns_owned (Some o) d b e = rw (← e) (or_right (not (eqb d o)) true refl)
 
 pub fits_is_owner : (p : Protocol) (shared ow : Bool) (w : Option Request) (s : CacheState) → fits p shared ow w s ≡ true → is_owner s ≡ ow
 unfolding fits
-fits_is_owner p shared ow w s h =
-    same_is _ _ (and_parts _ _ (and_parts _ _ h).1).0
+fits_is_owner p shared ow w s h = same_is _ _ (and_parts _ _ (and_parts _ _ h).1).0
 
 pub fits_waits : (p : Protocol) (shared ow : Bool) (w : Option Request) (s : CacheState) → fits p shared ow w s ≡ true → wait_fits w s ≡ true
 unfolding fits

@@ -6,7 +6,7 @@ use Rattle.snoop_model.proofs.Tables.SenderLines.{follows_sender_table}
 use Rattle.snoop_model.proofs.OneBlock.Facts.{below_owner, is_itself}
 use Rattle.snoop_model.proofs.OneBlock.OrderStep.{each_row, look, meant, meant_in, sender_told, sends, sends_if_meant, sent}
 use Rattle.snoop_model.proofs.OneBlock.RespondStep.{answered, closing}
-use Rattle.snoop_model.proofs.Tables.AskTests.{ask_row, is_idle_evict}
+use Rattle.snoop_model.proofs.Tables.AskTests.{ask_fits, ask_holds_of, is_idle_evict}
 use Rattle.snoop_model.proofs.Tables.RespondTests.{memory_row_for, row_for}
 
 pub record Possible (p : Protocol) (before : Picture) (c : ℕ) (q : Request) : Type 0 where
@@ -38,7 +38,7 @@ order_possible p flat before c q good c_in waits calm =
 pub ask_possible : (p : Protocol) (n : ℕ) (flat : List ℕ) (before : Picture) (c : ℕ) (o : Op) → BlockInvariant p n flat before → c < n → is_idle_evict (held_by before c).state (asked o) ≡ false → (r : CacheCell) × (cell_of p (held_by before c).state (asked o) ≡ Some r)
 ask_possible p n flat before c o good c_in busy =
     let s = (held_by before c).state in
-    let (row, is_row, _) = some_and (cell_of p s (asked o)) _ (rw busy at (ask_row _ _ _ _ s o (good.states c c_in))) in
+    let (row, is_row, _) = some_and (cell_of p s (asked o)) _ (rw busy at (ask_holds_of ask_fits _ _ _ _ s o (good.states c c_in)).0) in
     (row, is_row)
 
 -- a Respond finds its rows

@@ -42,15 +42,14 @@ unfolding asks all_fitting all_options all_protocols all_states all_requests all
 ask_holds ask_fits = refl
 ask_holds _ = refl
 
-ask_holds_of : (k : AskQuestion) (p : Protocol) (shared ow : Bool) (w : Option Request) (s : CacheState) (o : Op) → fits p shared ow w s ≡ true → ask_case (ask_test k) p shared ow w s (asked o) ≡ true
+-- so there is a row for each Ask of a core whose state fits, but for an Evict in I, and the row passes each test
+pub ask_holds_of : (k : AskQuestion) (p : Protocol) (shared ow : Bool) (w : Option Request) (s : CacheState) (o : Op) → fits p shared ow w s ≡ true
+    → ((is_idle_evict s (asked o) || is_some_and (cell_of p s (asked o)) (λ r. true)) ≡ true) × (given (cell_of p s (asked o)) (λ r. ask_test k p shared ow w s (asked o) r) ≡ true)
 unfolding asks
 ask_holds_of k p shared ow w s o fit =
     let all = all_options-at all_requests all_requests-at _ (either-at _ (all_protocols-at _ (ask_holds k) p) shared) w in
-    when_at _ _ (rw (serving-asked o) refl) (all_events-at _ (all_fitting-at p shared w _ all s ow fit) (asked o))
+    and_parts _ _ (when_at _ _ (rw (serving-asked o) refl) (all_events-at _ (all_fitting-at p shared w _ all s ow fit) (asked o)))
 
 pub ask_rule : (k : AskQuestion) → (p : Protocol) (shared ow : Bool) (w : Option Request) (s : CacheState) (o : Op) (r : CacheCell)
     → fits p shared ow w s ≡ true → cell_of p s (asked o) ≡ Some r → ask_test k p shared ow w s (asked o) r ≡ true
-ask_rule k p shared ow w s o r fit is_row = given_at _ _ r is_row (and_parts _ _ (ask_holds_of k p shared ow w s o fit)).1
-
-pub ask_row : (p : Protocol) (shared ow : Bool) (w : Option Request) (s : CacheState) (o : Op) → fits p shared ow w s ≡ true → (is_idle_evict s (asked o) || is_some_and (cell_of p s (asked o)) (λ r. true)) ≡ true
-ask_row p shared ow w s o fit = (and_parts _ _ (ask_holds_of ask_fits p shared ow w s o fit)).0
+ask_rule k p shared ow w s o r fit is_row = given_at _ _ r is_row (ask_holds_of k p shared ow w s o fit).1
