@@ -30,7 +30,8 @@ module _ (p : Protocol) (before : Picture) (core : ℕ) (request : Request) wher
   Silent-all silent line = silent line.from line.payload (sends_below line.from line.payload line.sent.sends) line.sent.sends
 
   -- the next core sends nothing
-  pub Silent-more : (n : ℕ) (act : CacheAction) (next : CacheState) → SilentBelow p before core request n → Cell p (held_by before n).state (seen_by n core request) act next
+  pub Silent-more : (n : ℕ) (act : CacheAction) (next : CacheState) → SilentBelow p before core request n
+      → Cell p (held_by before n).state (seen_by n core request) act next
       → ((payload : Payload) (target : Target) → act ≡ action.Send payload target → ⊥) → SilentBelow p before core request (n + 1)
   Silent-more n act next so_far row silent None payload below sends = so_far None payload tt sends
   Silent-more n act next so_far row silent (Some k) payload below sends = elim (cases_eq k n) [

@@ -23,11 +23,13 @@ each_set xs i a d P inside here others k = elim (cases_eq k i) [
 ]
 
 -- what holds of each value, and of the new one, holds of each then
-each_still : {A : Type 0} (xs : List A) (i : ℕ) (a d : A) (P : ℕ → A → Type 0) → ((k : ℕ) → P k (slice_index_or xs k d)) → P i a → (k : ℕ) → P k (slice_index_or (slice_set xs i a) k d)
+each_still : {A : Type 0} (xs : List A) (i : ℕ) (a d : A) (P : ℕ → A → Type 0) → ((k : ℕ) → P k (slice_index_or xs k d)) → P i a → (k : ℕ)
+    → P k (slice_index_or (slice_set xs i a) k d)
 each_still xs i a d P all here k = elim (set_cases xs i k a d) [ inl p ↦ rw (p.1, p.0) here | inr e ↦ rw e (all k) ]
 
 -- a write of an equal leaves all equal
-pub same_set : {A B : Type 0} (f : A → B) (xs : List A) (i : ℕ) (a d : A) → f a ≡ f (slice_index_or xs i d) → (k : ℕ) → f (slice_index_or (slice_set xs i a) k d) ≡ f (slice_index_or xs k d)
+pub same_set : {A B : Type 0} (f : A → B) (xs : List A) (i : ℕ) (a d : A) → f a ≡ f (slice_index_or xs i d) → (k : ℕ)
+    → f (slice_index_or (slice_set xs i a) k d) ≡ f (slice_index_or xs k d)
 same_set f xs i a d same = each_still xs i a d (λ k x. f x ≡ f (slice_index_or xs k d)) (λ k. refl) same
 
 pub all_first : {A : Type 0} (P : A → Type 0) (xs : List A) (x : A) → All P xs → slice_get xs 0 ≡ Some x → P x

@@ -12,7 +12,8 @@ use Rattle.snoop_model.proofs.Tables.AskTests.{AskQuestion, ask_rule, ask_test, 
 use Rattle.snoop_model.proofs.Tables.StateTests.{kept_reader}
 
 -- an operation that changes the block's words is of a core that owns it
-module _ {p : Protocol} {n : ℕ} {flat : List ℕ} {picture : Picture} (g : BlockInvariant p n flat picture) (c : ℕ) (words : List ℕ) (changed : (words ≡ flat) ⊎ (owns g.owner c ≡ true)) where
+module _ {p : Protocol} {n : ℕ} {flat : List ℕ} {picture : Picture} (g : BlockInvariant p n flat picture)
+    (c : ℕ) (words : List ℕ) (changed : (words ≡ flat) ⊎ (owns g.owner c ≡ true)) where
   unchanged : (b : Bool) → (owns g.owner c ≡ true → b ≡ false) → b ≡ true → words ≡ flat
   unchanged b unless h = elim changed [ inl same ↦ same | inr owning ↦ absurd (both_ways b (unless owning) h) ]
 

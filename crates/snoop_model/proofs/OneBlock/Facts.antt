@@ -37,15 +37,19 @@ pub record LineFits (p : Protocol) (shared owning : Bool) (wait : Option Request
   pub proper : IsProper line
 
 -- a row that makes no reader, and no clean owner, of a core lets its words carry over
-pub carried_line : {p : Protocol} {shared owning shared' owning' : Bool} {wait wait' : Option Request} {words memory : List ℕ} (old new : Line) → LineFits p shared owning wait words memory old
-    → (keeps new.state ≡ true → new.kept ≡ old.kept) → fits p shared' owning' wait' new.state ≡ true → carries old.state new.state ≡ true → IsProper new → LineFits p shared' owning' wait' words memory new
+pub carried_line : {p : Protocol} {shared owning shared' owning' : Bool} {wait wait' : Option Request} {words memory : List ℕ} (old new : Line)
+    → LineFits p shared owning wait words memory old
+    → (keeps new.state ≡ true → new.kept ≡ old.kept) → fits p shared' owning' wait' new.state ≡ true → carries old.state new.state ≡ true → IsProper new
+    → LineFits p shared' owning' wait' words memory new
 carried_line old new was kept fit carry proper =
     let (read, clean) = and_parts (not (keeps new.state) || keeps old.state) _ carry in
     record { fit = fit; kept = λ h. kept h ∙ was.kept (rw h at read); clean = λ h. was.clean (rw h at clean); proper = proper }
 
 -- a line that stays as it is fits the block's new words, which are the old ones if the line may be read
-pub still_fits : {p : Protocol} {shared owning shared' owning' : Bool} {wait wait' : Option Request} {flat words memory memory' : List ℕ} (line : Line) → LineFits p shared owning wait flat memory line
-    → (keeps line.state ≡ true → words ≡ flat) → (memory ≡ flat → memory' ≡ flat) → fits p shared' owning' wait' line.state ≡ true → LineFits p shared' owning' wait' words memory' line
+pub still_fits : {p : Protocol} {shared owning shared' owning' : Bool} {wait wait' : Option Request} {flat words memory memory' : List ℕ} (line : Line)
+    → LineFits p shared owning wait flat memory line
+    → (keeps line.state ≡ true → words ≡ flat) → (memory ≡ flat → memory' ≡ flat) → fits p shared' owning' wait' line.state ≡ true
+    → LineFits p shared' owning' wait' words memory' line
 still_fits line was same stays fit =
     record { fit = fit; kept = λ h. rw (same h) (was.kept h); clean = λ h. stays (was.clean h) ∙ sym (same (clean_reads line.state h)); proper = was.proper }
 
@@ -68,7 +72,8 @@ module _ {p : Protocol} {n : ℕ} {flat : List ℕ} {picture : Picture} (g : Blo
   line_of d d_in = record { fit = g.states d d_in; kept = g.kept d d_in; clean = g.clean d d_in; proper = g.proper d d_in }
 
   -- while a core owns the block, memory's value and data under way are claimed of nobody, and no other core may read
-  pub owned_alone : (c : ℕ) → owns g.owner c ≡ true → (g.claims.fresh ≡ false) × (brings_data (talk_of picture.transaction) ≡ false) × ((d : ℕ) → d < n → d ≢ c → keeps (held_by picture d).state ≡ false)
+  pub owned_alone : (c : ℕ) → owns g.owner c ≡ true
+      → (g.claims.fresh ≡ false) × (brings_data (talk_of picture.transaction) ≡ false) × ((d : ℕ) → d < n → d ≢ c → keeps (held_by picture d).state ≡ false)
   owned_alone c owning =
       let is_owned : g.claims.owned ≡ true = sym g.is_owned ∙ rw (owner_is g.owner c owning) refl in
       let (unfresh, rest) = and_parts _ _ (owned_rule p picture.memory.state (talk_of picture.transaction) g.claims g.is_claims is_owned) in

@@ -90,7 +90,8 @@ module _ {p : Protocol} {flat : List ℕ} {before : Picture} {good : BlockInvari
   sends_if_meant (Some d) below is = (below, sends_row _ _ ((sends (Some d) below).0 ∙ rw is refl))
 
   -- one that sends is meant to, and what it sends is this payload, whose words it has
-  pub sender_told : (from : Option ℕ) (payload : Payload) → Sends p before c q from payload → (from ≡ meant) × (payload ≡ sent) × (carries_value payload ≡ true → value_sent before from payload ≡ flat)
+  pub sender_told : (from : Option ℕ) (payload : Payload) → Sends p before c q from payload
+      → (from ≡ meant) × (payload ≡ sent) × (carries_value payload ≡ true → value_sent before from payload ≡ flat)
   sender_told from payload does =
       let so = sends from (sends_below p before c q from payload does) in
       let (is, same) = cond_some _ sent payload (sym so.0 ∙ sends_is p before c q from payload does) in
@@ -112,7 +113,8 @@ order_keeps s core block q new flat good in_row o =
     let opened : Open = record { core = core; request = q; block = block; payload = o.payload; value = value_sent before o.from o.payload; from = o.from } in
     let opened_is : (x : Open) → after.transaction ≡ Some x → opened ≡ x = λ x is_x. same_Some _ _ (sym o.opened ∙ is_x) in
     let is_memory : after.memory.state ≡ l.memory.next = o.memory.2 ∙ ap (λ (m : MemCell). m.next) (same_Some _ _ (sym o.memory.1 ∙ l.is_memory)) in
-    let line_after : (d : ℕ) → d < length before.caches → LineFits p l.next.shared (owns (cond l.next.owned good.owner None) d) (own_open (Some opened) d) flat before.memory.value (held_by after d) = λ d d_in.
+    let line_after : (d : ℕ) → d < length before.caches
+    → LineFits p l.next.shared (owns (cond l.next.owned good.owner None) d) (own_open (Some opened) d) flat before.memory.value (held_by after d) = λ d d_in.
     let (row, is_row, fit, carry, _) = each_row l d d_in in
     let (taken, is_taken, moved) = o.taken.rows d d_in in
     let same : row ≡ taken = same_Some _ _ (sym is_row ∙ is_taken) in

@@ -30,7 +30,8 @@ closing {p} {n} {flat} {before} good o opened =
     record { opened = opened; memory = memory; is_memory = is_memory; next = next; is_next = is_next; tests = tests }
 
 -- the requestor of a GetS or a GetM has a row for the data
-pub answered : {p : Protocol} {n : ℕ} {flat : List ℕ} {before : Picture} {good : BlockInvariant p n flat before} {o : Open} (a : Closing good o) → is_put_m o.request ≡ false
+pub answered : {p : Protocol} {n : ℕ} {flat : List ℕ} {before : Picture} {good : BlockInvariant p n flat before} {o : Open} (a : Closing good o)
+    → is_put_m o.request ≡ false
     → (row : CacheCell) × (row_for p (held_by before o.core).state (arrival o.payload) ≡ Some row) × EachHolds (answer_tests p o.request good.claims a.next (owns good.owner o.core) row)
 answered {p} {n} {flat} {before} {good} {o} a get =
     let s = (held_by before o.core).state in
@@ -44,7 +45,8 @@ written_flat mem_action.Write v old flat new stays = new refl
 written_flat _ v old flat new stays = stays refl
 
 -- whether a core owns the block then, if the requestor does in the owner's place where none owned it
-owned_after : (before after : Bool) (c : ℕ) (owner : Option ℕ) → is_some owner ≡ before → (not before || after) ≡ true → is_some (cond (not before && after) (Some c) owner) ≡ after
+owned_after : (before after : Bool) (c : ℕ) (owner : Option ℕ) → is_some owner ≡ before → (not before || after) ≡ true
+    → is_some (cond (not before && after) (Some c) owner) ≡ after
 owned_after true after c owner is h = is ∙ sym h
 owned_after false true c owner is h = refl
 owned_after false false c owner is h = is
@@ -96,7 +98,8 @@ module _ (s : Situation) (block : ℕ) (o : Open) (did : Option Did) (new : Situ
       still_fits (held_by before d) (line_of g d d_in) reads (λ is. memory_flat (λ w. is)) fit
 
   closed : (words : List ℕ) → (is_get_m o.request ≡ false → words ≡ flat)
-      → ((d : ℕ) → d < n → LineFits p a.next.shared (owns (cond gained (Some o.core) g.owner) d) None words r.next.memory.value (held_at r.next.caches d)) → BlockInvariant p n words r.next
+      → ((d : ℕ) → d < n → LineFits p a.next.shared (owns (cond gained (Some o.core) g.owner) d) None words r.next.memory.value (held_at r.next.caches d))
+      → BlockInvariant p n words r.next
   closed words same lines =
       let nothing : (x : Open) → r.next.transaction ≡ Some x → ⊥ = λ x is_x. none-some x (sym r.closed ∙ is_x) in
       record {
@@ -118,7 +121,8 @@ module _ (s : Situation) (block : ℕ) (o : Open) (did : Option Did) (new : Situ
       }
 
   -- the end of a GetS or a GetM
-  respond_get : is_put_m o.request ≡ false → FillsRequestor o p s.log before.caches r.next.caches did → BlockInvariant p n (flat_after flat did) r.next × IsLawful flat did
+  respond_get : is_put_m o.request ≡ false → FillsRequestor o p s.log before.caches r.next.caches did
+      → BlockInvariant p n (flat_after flat did) r.next × IsLawful flat did
   respond_get get f =
       let c = o.core in
       let (row, is_row, (fit, (clean, (stores, _)))) = answered a get in
@@ -146,7 +150,8 @@ module _ (s : Situation) (block : ℕ) (o : Open) (did : Option Did) (new : Situ
       closed flat (λ h. refl) (λ d d_in. simp same (rw no_gain (rw no_gain at (stays flat (λ h. refl) d d_in (λ owned. when_at _ _ owned
       (all_open-at _ _ (Some o) _ (rw put at a.tests.1.1.1.1.1.1.0) d _ _ (rw r.opened at (g.states d d_in))))))))
 
-  by_request : (q : Request) → o.request ≡ q → ArrivesFor q o p s.log before.caches r.next.caches did → BlockInvariant p n (flat_after flat did) r.next × IsLawful flat did
+  by_request : (q : Request) → o.request ≡ q → ArrivesFor q o p s.log before.caches r.next.caches did
+      → BlockInvariant p n (flat_after flat did) r.next × IsLawful flat did
   by_request PutM is arrives = rw arrives.1 (respond_put (ap is_put_m is) arrives.0, tt)
   by_request _ is arrives = respond_get (ap is_put_m is) arrives
 

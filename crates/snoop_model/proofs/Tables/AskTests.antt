@@ -24,7 +24,9 @@ abbrev ask_case : AskTest → Protocol → Bool → Bool → Option Request → 
 ask_case k p shared ow w s e = (is_idle_evict s e || is_some_and (cell_of p s e) (λ r. true)) && given (cell_of p s e) (λ r. k p shared ow w s e r)
 
 asks : AskTest → Bool
-asks k = all_protocols (λ p. either (λ shared. all_options all_requests (λ w. all_fitting p shared w (λ s ow. all_events (λ e. when (is_some (serving e)) (λ _. ask_case k p shared ow w s e))))))
+asks k =
+    all_protocols (λ p. either (λ shared. all_options all_requests (λ w. all_fitting p shared w
+    (λ s ow. all_events (λ e. when (is_some (serving e)) (λ _. ask_case k p shared ow w s e))))))
 
 -- what is asked of the row of an Ask
 pub data AskQuestion : Type 0 where

@@ -16,7 +16,8 @@ sends_so sent meant pl on_line has_words = same_option payloads sent (cond meant
 abbrev pub SendsSo : Option Payload → Bool → Payload → Bool → Bool → Type 0
 SendsSo sent meant pl on_line has_words = (sent ≡ cond meant (Some pl) None) × (meant ≡ true → (on_line ≡ true) × (carries_value pl ≡ true → has_words ≡ true))
 
-pub sends_so-true : (sent : Option Payload) (meant : Bool) (pl : Payload) (on_line has_words : Bool) → sends_so sent meant pl on_line has_words ≡ true → SendsSo sent meant pl on_line has_words
+pub sends_so-true : (sent : Option Payload) (meant : Bool) (pl : Payload) (on_line has_words : Bool) → sends_so sent meant pl on_line has_words ≡ true
+    → SendsSo sent meant pl on_line has_words
 sends_so-true sent meant pl on_line has_words h =
     let (is_sent, rest) = and_parts (same_option payloads sent (cond meant (Some pl) None)) _ h in
     (same_option-true payloads tt _ _ is_sent, λ e. let (line, words) = and_parts on_line _ (rw e at rest) in (line, λ carrying. rw carrying at words))
@@ -59,7 +60,8 @@ unfolding order_case all_fitting all_protocols all_memories all_states either gi
 order_holds = refl
 
 -- what was tried holds of each Order at a quiet line
-pub order_rule : (p : Protocol) (m : MemState) (st : Claims) (s : CacheState) (owns : Bool) (q : Request) → claims_of p m None ≡ Some st → fits p st.shared owns None s ≡ true
+pub order_rule : (p : Protocol) (m : MemState) (st : Claims) (s : CacheState) (owns : Bool) (q : Request) → claims_of p m None ≡ Some st
+    → fits p st.shared owns None s ≡ true
     → (not owns || st.owned) ≡ true → waiting_request s ≡ Some q → order_test p m st s owns q ≡ true
 unfolding order_case
 order_rule p m st s owns q is_claims fit owned is_waiting =

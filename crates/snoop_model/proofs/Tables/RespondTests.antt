@@ -25,7 +25,8 @@ pub settled_so : (takes : Bool) (p : Protocol) (found : Option MemEvent) (old : 
     → SettlesIf takes p found old act new ↔ (settled_if takes p found old ≡ Some (record { action = act; next = new }))
 settled_so true p None old act new = (λ settled. absurd settled, λ h. cc)
 settled_so true p (Some event) old act new = (λ settled. settled, λ h. h)
-settled_so false p found old act new = (λ settled. cc, λ h. let same = same_Some _ _ h in (ap (λ (row : MemCell). row.action) (sym same), ap (λ (row : MemCell). row.next) (sym same)))
+settled_so false p found old act new =
+    (λ settled. cc, λ h. let same = same_Some _ _ h in (ap (λ (row : MemCell). row.action) (sym same), ap (λ (row : MemCell). row.next) (sym same)))
 
 -- the row by which memory takes the message of a transaction
 abbrev pub settled_row : Protocol → Request → MemState → Payload → Option MemCell

@@ -100,7 +100,8 @@ row_test_holds : each_row row_test ≡ true
 unfolding each_row all_protocols all_states all_events same
 row_test_holds = refl
 
-row_rule : (p : Protocol) (s : CacheState) (e : CacheEvent) (a : CacheAction) (n : CacheState) → Cell p s e a n → EachHolds (row_tests s e (record { action = a; next = n }))
+row_rule : (p : Protocol) (s : CacheState) (e : CacheEvent) (a : CacheAction) (n : CacheState) → Cell p s e a n
+    → EachHolds (row_tests s e (record { action = a; next = n }))
 row_rule p s e a n row = each_holds (row_tests s e (record { action = a; next = n })) (each_row-at row_test row_test_holds p s e a n row)
 
 action_rule : (p : Protocol) (s : CacheState) (e : CacheEvent) (a : CacheAction) (n : CacheState) → Cell p s e a n → EachHolds (action_tests s e n a)
@@ -124,7 +125,8 @@ is_some-kept_on IiA kept b h = sym (and-false b)
 is_some-kept_on _ kept b h = h ∙ sym (and-true b)
 
 -- a move that keeps what the next state keeps, and leaves what has missed
-IsProper-move : (old : Line) (n : CacheState) → IsProper old → keeps n ≡ (keeps old.state && not (given_up n)) → missed_request old.state ≡ missed_request n → IsProper (moves_to n old)
+IsProper-move : (old : Line) (n : CacheState) → IsProper old → keeps n ≡ (keeps old.state && not (given_up n)) → missed_request old.state ≡ missed_request n
+    → IsProper (moves_to n old)
 IsProper-move old n proper kept missed = record { kept = is_some-kept_on n old.kept (keeps old.state) proper.kept ∙ sym kept; waiting = proper.waiting ∙ missed }
 
 -- an issue makes a core wait that did not

@@ -78,7 +78,8 @@ same_option-true D bare _ _ h = cc
 unfoldable pub all_options : {A : Type 0} → ((A → Bool) → Bool) → (Option A → Bool) → Bool
 all_options all test = test None && all (λ a. test (Some a))
 
-pub all_options-at : {A : Type 0} (all : (A → Bool) → Bool) → ((f : A → Bool) → all f ≡ true → (a : A) → f a ≡ true) → (test : Option A → Bool) → all_options all test ≡ true → (o : Option A) → test o ≡ true
+pub all_options-at : {A : Type 0} (all : (A → Bool) → Bool) → ((f : A → Bool) → all f ≡ true → (a : A) → f a ≡ true) → (test : Option A → Bool)
+    → all_options all test ≡ true → (o : Option A) → test o ≡ true
 unfolding all_options
 all_options-at all at test h None = (and_parts _ _ h).0
 all_options-at all at test h (Some a) = at _ (and_parts (test None) _ h).1 a
@@ -87,7 +88,8 @@ all_options-at all at test h (Some a) = at _ (and_parts (test None) _ h).1 a
 unfoldable pub all_fitting : Protocol → Bool → Option Request → (CacheState → Bool → Bool) → Bool
 all_fitting p shared wait test = all_states (λ s. either (λ owns. when (fits p shared owns wait s) (λ _. test s owns)))
 
-pub all_fitting-at : (p : Protocol) (shared : Bool) (wait : Option Request) (test : CacheState → Bool → Bool) → all_fitting p shared wait test ≡ true → (s : CacheState) (owns : Bool) → fits p shared owns wait s ≡ true → test s owns ≡ true
+pub all_fitting-at : (p : Protocol) (shared : Bool) (wait : Option Request) (test : CacheState → Bool → Bool) → all_fitting p shared wait test ≡ true
+    → (s : CacheState) (owns : Bool) → fits p shared owns wait s ≡ true → test s owns ≡ true
 unfolding all_fitting
 all_fitting-at p shared wait test h s owns fit = when_at _ _ fit (either-at _ (all_states-at _ h s) owns)
 
@@ -133,14 +135,18 @@ brings_data (Some t) = carries_value t.1
 abbrev claims_test : Protocol → Option Talk → Claims → Bool
 claims_test p t st = cond st.owned (not st.fresh && (not (brings_data t) && all_open p st.shared t (λ s owns. owns || not (keeps s)))) (brings_data t || st.fresh)
 
-claims_hold : all_protocols (λ p. all_memories (λ m. all_options (λ f. all_requests (λ q. all_payloads (λ pl. f (q, pl)))) (λ t. given (claims_of p m t) (λ st. claims_test p t st)))) ≡ true
+-- a test of each talk
+abbrev all_talks : (Talk → Bool) → Bool
+all_talks f = all_requests (λ q. all_payloads (λ pl. f (q, pl)))
+
+claims_hold : all_protocols (λ p. all_memories (λ m. all_options all_talks (λ t. given (claims_of p m t) (λ st. claims_test p t st)))) ≡ true
 unfolding all_fitting all_options all_protocols all_memories all_states all_requests all_payloads either given when claims_of fits is_owner is_sharer is_clean wait_fits in_protocol same
 claims_hold = refl
 
 module _ (p : Protocol) (m : MemState) (t : Option Talk) (st : Claims) (is_claims : claims_of p m t ≡ Some st) where
   claims_rule : claims_test p t st ≡ true
   claims_rule = given_at _ _ st is_claims
-      (all_options-at (λ f. all_requests (λ q. all_payloads (λ pl. f (q, pl)))) (λ f h t. all_payloads-at _ (all_requests-at _ h t.0) t.1) _ (all_memories-at _ (all_protocols-at _ claims_hold p) m) t)
+      (all_options-at all_talks (λ f h t. all_payloads-at _ (all_requests-at _ h t.0) t.1) _ (all_memories-at _ (all_protocols-at _ claims_hold p) m) t)
 
   pub owned_rule : st.owned ≡ true → (not st.fresh && (not (brings_data t) && all_open p st.shared t (λ s owns. owns || not (keeps s)))) ≡ true
   owned_rule is_owned = rw is_owned at claims_rule

@@ -20,7 +20,9 @@ awaited-asked p s _ a n r row awaits = awaited_rule p s _ a n r row awaits
 -- after an Order only its core awaits data of the block, that of its request
 pub awaited-ordered : (p : Protocol) (s : CacheState) (k core : ℕ) (q : Request) (a : CacheAction) (n : CacheState) (r : Request)
     → Cell p s (seen_by k core q) a n → awaited_request n ≡ Some r → (core ≡ k) × (q ≡ r)
-awaited-ordered p s k core q a n r row awaits = let (mine, same) = by_request (k == core) q (awaited_rule p s (seen_by k core q) a n r row awaits) in (sym (eqb-true k core mine), same)
+awaited-ordered p s k core q a n r row awaits =
+    let (mine, same) = by_request (k == core) q (awaited_rule p s (seen_by k core q) a n r row awaits) in
+    (sym (eqb-true k core mine), same)
   where
     by_request : (mine : Bool) (q : Request) → may_await (if mine then own q else other q) (awaited_request s) ≡ Some r → (mine ≡ true) × (q ≡ r)
     by_request true PutM is = cc
