@@ -47,7 +47,7 @@ module _ (s : Situation) (core block word : ℕ) (asking : Op) (answer : Reply) 
       let same = same_Some _ _ (sym hit.kept ∙ g.kept core asker_in (hit_keeps _ _ _ _ row).0) in
       let performed = hit.performed in
       let proper = IsProper-hit s.protocol old event.Load asks.row.next hit.after (g.proper core asker_in) row in
-      rw (hit.held, entry) (carried_line old _ (line_of g core asker_in) (λ h. cc) (holds ask_fits) (holds ask_carries) proper, inl refl, λ e. cc)
+      rw (hit.held, entry) (carried_line old (line_of g core asker_in) _ (λ h. cc) (holds ask_fits) (holds ask_carries) proper, inl refl, λ e. cc)
   asker action.Hit (op.Store v) row holds (value, (hit, _, entry)) =
       let same = same_Some _ _ (sym hit.kept ∙ g.kept core asker_in (hit_keeps _ _ _ _ row).0) in
       let performed = hit.performed in
@@ -57,14 +57,14 @@ module _ (s : Situation) (core block word : ℕ) (asking : Op) (answer : Reply) 
   asker action.Hit op.Evict row holds took = absurd took.1.0.performed
   asker (action.Issue r) o row holds (held, _, entry) =
       rw (held, entry) (
-        carried_line old _ (line_of g core asker_in) (kept_reader asks.row.next old.kept) (holds ask_fits) (holds ask_carries)
+        carried_line old (line_of g core asker_in) _ (kept_reader asks.row.next old.kept) (holds ask_fits) (holds ask_carries)
             (IsProper-issue s.protocol old word o r asks.row.next (g.proper core asker_in) row),
         inl refl,
         tt,
       )
   asker action.Drop o row holds (held, _, entry) =
       rw (held, entry) (
-        carried_line old _ (line_of g core asker_in) (kept_reader asks.row.next old.kept) (holds ask_fits) (holds ask_carries)
+        carried_line old (line_of g core asker_in) _ (kept_reader asks.row.next old.kept) (holds ask_fits) (holds ask_carries)
             (IsProper-drop s.protocol old (asked o) asks.row.next (g.proper core asker_in) row),
         inl refl,
         tt,

@@ -36,22 +36,18 @@ pub record LineFits (p : Protocol) (shared owning : Bool) (wait : Option Request
   pub clean : is_clean line.state ≡ true → memory ≡ words
   pub proper : IsProper line
 
--- a row that makes no reader, and no clean owner, of a core lets its words carry over
-pub carried_line : {p : Protocol} {shared owning shared' owning' : Bool} {wait wait' : Option Request} {words memory : List ℕ} (old new : Line)
-    → LineFits p shared owning wait words memory old
-    → (keeps new.state ≡ true → new.kept ≡ old.kept) → fits p shared' owning' wait' new.state ≡ true → carries old.state new.state ≡ true → IsProper new
-    → LineFits p shared' owning' wait' words memory new
-carried_line old new was kept fit carry proper =
-    let (read, clean) = and_parts (not (keeps new.state) || keeps old.state) _ carry in
-    record { fit = fit; kept = λ h. kept h ∙ was.kept (rw h at read); clean = λ h. was.clean (rw h at clean); proper = proper }
+module _ {p : Protocol} {shared owning shared' owning' : Bool} {wait wait' : Option Request} {flat memory : List ℕ} (old : Line) (was : LineFits p shared owning wait flat memory old) where
+  -- a row that makes no reader, and no clean owner, of a core lets its words carry over
+  pub carried_line : (new : Line) → (keeps new.state ≡ true → new.kept ≡ old.kept) → fits p shared' owning' wait' new.state ≡ true → carries old.state new.state ≡ true → IsProper new
+      → LineFits p shared' owning' wait' flat memory new
+  carried_line new kept fit carry proper =
+      let (read, clean) = and_parts (not (keeps new.state) || keeps old.state) _ carry in
+      record { fit = fit; kept = λ h. kept h ∙ was.kept (rw h at read); clean = λ h. was.clean (rw h at clean); proper = proper }
 
--- a line that stays as it is fits the block's new words, which are the old ones if the line may be read
-pub still_fits : {p : Protocol} {shared owning shared' owning' : Bool} {wait wait' : Option Request} {flat words memory memory' : List ℕ} (line : Line)
-    → LineFits p shared owning wait flat memory line
-    → (keeps line.state ≡ true → words ≡ flat) → (memory ≡ flat → memory' ≡ flat) → fits p shared' owning' wait' line.state ≡ true
-    → LineFits p shared' owning' wait' words memory' line
-still_fits line was same stays fit =
-    record { fit = fit; kept = λ h. rw (same h) (was.kept h); clean = λ h. stays (was.clean h) ∙ sym (same (clean_reads line.state h)); proper = was.proper }
+  -- a line that stays as it is fits the block's new words, which are the old ones if the line may be read
+  pub still_fits : {words memory' : List ℕ} → (keeps old.state ≡ true → words ≡ flat) → (memory ≡ flat → memory' ≡ flat) → fits p shared' owning' wait' old.state ≡ true
+      → LineFits p shared' owning' wait' words memory' old
+  still_fits same stays fit = record { fit = fit; kept = λ h. rw (same h) (was.kept h); clean = λ h. stays (was.clean h) ∙ sym (same (clean_reads old.state h)); proper = was.proper }
 
 pub owner_is : (owner : Option ℕ) (d : ℕ) → owns owner d ≡ true → owner ≡ Some d
 owner_is None d h = cc

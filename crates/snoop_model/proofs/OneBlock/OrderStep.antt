@@ -119,7 +119,7 @@ order_keeps s core block q new flat good in_row o =
     let (taken, is_taken, moved) = o.taken.rows d d_in in
     let same : row ≡ taken = same_Some _ _ (sym is_row ∙ is_taken) in
     let old = held_by before d in
-    rw (moved, of_choice (λ x. owns x d) l.next.owned good.owner None) (carried_line old _ (line_of good d d_in) (kept_reader taken.next old.kept)
+    rw (moved, of_choice (λ x. owns x d) l.next.owned good.owner None) (carried_line old (line_of good d d_in) _ (kept_reader taken.next old.kept)
     (rw same at fit) (rw same at carry) (IsProper-order p old d core q taken.action taken.next (good.proper d d_in) is_taken)) in
     record {
       claims = l.next;

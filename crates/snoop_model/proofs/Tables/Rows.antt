@@ -100,16 +100,29 @@ row_test_holds : each_row row_test ≡ true
 unfolding each_row all_protocols all_states all_events same
 row_test_holds = refl
 
-row_rule : (p : Protocol) (s : CacheState) (e : CacheEvent) (a : CacheAction) (n : CacheState) → Cell p s e a n
-    → EachHolds (row_tests s e (record { action = a; next = n }))
-row_rule p s e a n row = each_holds (row_tests s e (record { action = a; next = n })) (each_row-at row_test row_test_holds p s e a n row)
+module _ (p : Protocol) (s : CacheState) (e : CacheEvent) (a : CacheAction) (n : CacheState) where
+  row_rule : Cell p s e a n → EachHolds (row_tests s e (record { action = a; next = n }))
+  row_rule row = each_holds (row_tests s e (record { action = a; next = n })) (each_row-at row_test row_test_holds p s e a n row)
 
-action_rule : (p : Protocol) (s : CacheState) (e : CacheEvent) (a : CacheAction) (n : CacheState) → Cell p s e a n → EachHolds (action_tests s e n a)
-action_rule p s e a n row = each_holds (action_tests s e n a) (row_rule p s e a n row).1.0
+  action_rule : Cell p s e a n → EachHolds (action_tests s e n a)
+  action_rule row = each_holds (action_tests s e n a) (row_rule row).1.0
 
-pub awaited_rule : (p : Protocol) (s : CacheState) (e : CacheEvent) (a : CacheAction) (n : CacheState) (r : Request) → Cell p s e a n → awaited_request n ≡ Some r
-    → may_await e (awaited_request s) ≡ Some r
-awaited_rule p s e a n r row awaits = sym (same_request-true (Some r) _ (rw awaits at (row_rule p s e a n row).1.1.1.0))
+  pub awaited_rule : (r : Request) → Cell p s e a n → awaited_request n ≡ Some r → may_await e (awaited_request s) ≡ Some r
+  awaited_rule r row awaits = sym (same_request-true (Some r) _ (rw awaits at (row_rule row).1.1.1.0))
+
+  -- a fill ends all waiting and keeps a value
+  abbrev IsFill : Op → Type 0
+  IsFill asking = a ≡ (if is_load asking then action.FillLoad else action.FillStore)
+
+  fill_facts : (asking : Op) → IsFill asking → Cell p s e a n → (keeps n ≡ true) × (missed_request n ≡ None) × (waiting_request n ≡ waiting_request s)
+  fill_facts op.Load fill row = let (kept, (missed, (waits, _))) = rw fill at (action_rule row) in (kept, same_request-true _ _ missed, same_request-true _ _ waits)
+  fill_facts _ fill row = let (kept, (missed, (waits, _))) = rw fill at (action_rule row) in (kept, same_request-true _ _ missed, same_request-true _ _ waits)
+
+  pub fill-waits : (asking : Op) → IsFill asking → Cell p s e a n → waiting_request n ≡ waiting_request s
+  fill-waits asking fill row = (fill_facts asking fill row).2
+
+  pub IsProper-fill : (asking : Op) (after : List ℕ) → IsFill asking → Cell p s e a n → IsProper (record { state = n; kept = Some after; waiting = None })
+  IsProper-fill asking after fill row = let f = fill_facts asking fill row in record { kept = sym f.0; waiting = sym f.1 }
 
 pub serving-asked : (asking : Op) → serving (asked asking) ≡ Some (request_for asking)
 serving-asked op.Evict = refl
@@ -201,18 +214,3 @@ order_facts p s k core q a n row =
 
 pub IsProper-order : (p : Protocol) (old : Line) (k core : ℕ) (q : Request) (a : CacheAction) (n : CacheState) → IsProper old → Cell p old.state (seen_by k core q) a n → IsProper (moves_to n old)
 IsProper-order p old k core q a n proper row = let (kept, missed, _) = order_facts p old.state k core q a n row in IsProper-move old n proper kept missed
-
--- a fill ends all waiting and keeps a value
-module _ (p : Protocol) (s : CacheState) (e : CacheEvent) (a : CacheAction) (n : CacheState) where
-  abbrev IsFill : Op → Type 0
-  IsFill asking = a ≡ (if is_load asking then action.FillLoad else action.FillStore)
-
-  fill_facts : (asking : Op) → IsFill asking → Cell p s e a n → (keeps n ≡ true) × (missed_request n ≡ None) × (waiting_request n ≡ waiting_request s)
-  fill_facts op.Load fill row = let (kept, (missed, (waits, _))) = rw fill at (action_rule p s e a n row) in (kept, same_request-true _ _ missed, same_request-true _ _ waits)
-  fill_facts _ fill row = let (kept, (missed, (waits, _))) = rw fill at (action_rule p s e a n row) in (kept, same_request-true _ _ missed, same_request-true _ _ waits)
-
-  pub fill-waits : (asking : Op) → IsFill asking → Cell p s e a n → waiting_request n ≡ waiting_request s
-  fill-waits asking fill row = (fill_facts asking fill row).2
-
-  pub IsProper-fill : (asking : Op) (after : List ℕ) → IsFill asking → Cell p s e a n → IsProper (record { state = n; kept = Some after; waiting = None })
-  IsProper-fill asking after fill row = let f = fill_facts asking fill row in record { kept = sym f.0; waiting = sym f.1 }
