@@ -1,6 +1,6 @@
 -- What a write in one place does to a list of lists, and to sums over it.
-use Rattle.std.proofs.Common.{◌≡◌, ◌≢◌, ℕ, zero, suc, ◌+◌, ◌<◌, ◌≤◌, List, [], ◌∷◌, ◌++◌, length, filter, not, Bool, false, Some, refl, ap, arith, inl, inr, ◌⊎◌, true, slice_index_or, slice_set, slice_get, All, ◌==◌, sum_by, count_by, eq-eqb, get_or-set_same, get_or-set_other}
-use Rattle.snoop_model.proofs.Common.{cases_eq, cases_lt, same_Some, get_or_past, queue_of, after_issue, after_order}
+use Rattle.std.proofs.Common.{◌≡◌, ◌≢◌, ℕ, zero, suc, ◌+◌, ◌<◌, ◌≤◌, List, [], ◌∷◌, ◌++◌, length, filter, not, Bool, false, Some, refl, ap, arith, inl, inr, ◌⊎◌, slice_index_or, slice_set, slice_get, All, ◌==◌, sum_by, count_by, eq-eqb, get_or-set_same, get_or-set_other}
+use Rattle.snoop_model.proofs.Common.{cond_both, cases_eq, cases_lt, same_Some, get_or_past, queue_of, after_issue, after_order}
 use Rattle.std.proofs.lemmas.Option.{get_or_from_slice_get, slice_get_within}
 use Rattle.std.proofs.lemmas.List.{set_past, length_push}
 use Rattle.std.proofs.lemmas.List.Elements.{All-push, All-filter}
@@ -70,8 +70,7 @@ sum_ordered lines core block first =
     omega (arith, sum_by-set (λ (l : List ℕ). length l) lines core left [] (first_within lines core block first), left_shorter (queue_of lines core) block first)
 
 pub one_small : (t : Bool) → one_if t ≤ 1
-one_small true = omega arith
-one_small false = omega arith
+one_small t = cond_both t 1 0 (λ n. n ≤ 1) (λ is. omega arith) (λ is. omega arith)
 
 -- how many pass a test before and after a write
 pub count_set : {A : Type 0} (test : A → Bool) (xs : List A) (i : ℕ) (a d : A) → test d ≡ false

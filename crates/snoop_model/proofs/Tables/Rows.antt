@@ -191,11 +191,8 @@ IsProper-hit p old e n after proper row = let f = hit_facts p old.state e n row 
 
 -- only an Evict drops a line
 pub drop_evicts : (p : Protocol) (s : CacheState) (asking : Op) (n : CacheState) → Cell p s (asked asking) action.Drop n → asking ≡ op.Evict
-drop_evicts p s asking n row = by_op asking (action_rule p s (asked asking) action.Drop n row).1.1.1.0
-  where
-    by_op : (o : Op) → is_evict (asked o) ≡ true → o ≡ op.Evict
-    by_op op.Evict h = refl
-    by_op _ h = cc
+drop_evicts p s op.Evict n row = refl
+drop_evicts p s _ n row = let evicts = (action_rule p s _ action.Drop n row).1.1.1.0 in cc
 
 pub IsProper-drop : (p : Protocol) (old : Line) (e : CacheEvent) (n : CacheState) → IsProper old → Cell p old.state e action.Drop n → IsProper (moves_to n old)
 IsProper-drop p old e n proper row = let (kept, missed, _) = drop_facts p old.state e n row in IsProper-move old n proper kept missed
