@@ -30,15 +30,15 @@ closing {p} {n} {flat} {before} good o opened =
     record { opened = opened; memory = memory; is_memory = is_memory; next = next; is_next = is_next; tests = tests }
 
 -- the requestor of a GetS or a GetM has a row for the data
-pub answered : {p : Protocol} {n : ℕ} {flat : List ℕ} {before : Picture} {good : BlockInvariant p n flat before} {o : Open} (a : Closing good o)
+pub answered : {p : Protocol} {n : ℕ} {flat : List ℕ} {before : Picture} {good : BlockInvariant p n flat before} {o : Open} (found : Closing good o)
     → is_put_m o.request ≡ false
-    → (row : CacheCell) × (row_for p (held_by before o.core).state (arrival o.payload) ≡ Some row) × EachHolds (answer_tests p o.request good.claims a.next (owns good.owner o.core) row)
-answered {p} {n} {flat} {before} {good} {o} a get =
+    → (row : CacheCell) × (row_for p (held_by before o.core).state (arrival o.payload) ≡ Some row) × EachHolds (answer_tests p o.request good.claims found.next (owns good.owner o.core) row)
+answered {p} {n} {flat} {before} {good} {o} found get =
     let s = (held_by before o.core).state in
     let ow = owns good.owner o.core in
-    let fit = rw (a.opened, eq-eqb o.core o.core refl) at (good.states o.core (good.requestor_in o a.opened)) in
-    some_each (row_for p s (arrival o.payload)) (answer_tests p o.request good.claims a.next ow)
-    (all_fitting-at _ _ _ _ (rw get at a.tests.1.1.1.1.1.0) s ow fit)
+    let fit = rw (found.opened, eq-eqb o.core o.core refl) at (good.states o.core (good.requestor_in o found.opened)) in
+    some_each (row_for p s (arrival o.payload)) (answer_tests p o.request good.claims found.next ow)
+    (all_fitting-at _ _ _ _ (rw get at found.tests.1.1.1.1.1.0) s ow fit)
 
 written_flat : (a : MemAction) (v old flat : List ℕ) → (writes a ≡ true → v ≡ flat) → (writes a ≡ false → old ≡ flat) → written a v old ≡ flat
 written_flat mem_action.Write v old flat new stays = new refl
@@ -69,26 +69,26 @@ module _ (s : Situation) (block : ℕ) (o : Open) (did : Option Did) (new : Situ
   abbrev before : Picture
   before = picture_of s block
 
-  a : Closing g o
-  a = closing g o r.opened
+  found : Closing g o
+  found = closing g o r.opened
 
   abbrev gained : Bool
-  gained = gains g.claims a.next
+  gained = gains g.claims found.next
 
   -- the row that memory takes
-  memory_is : a.memory ≡ record { action = r.memory.act; next = r.next.memory.state }
+  memory_is : found.memory ≡ record { action = r.memory.act; next = r.next.memory.state }
   memory_is =
-      same_Some _ _ (sym a.is_memory
+      same_Some _ _ (sym found.is_memory
       ∙ (settled_so (takes_payload o.request before.memory.state) p (arrival_at_memory o.payload) before.memory.state r.memory.act r.next.memory.state).0 r.memory.settled)
 
   -- memory is written with the block's words, or has them where it had
   memory_flat : (writes r.memory.act ≡ false → before.memory.value ≡ flat) → r.next.memory.value ≡ flat
-  memory_flat stays = r.memory.value ∙ written_flat r.memory.act o.value before.memory.value flat (λ w. g.carried o r.opened (rw (memory_is, w) at a.tests.1.1.1.0)) stays
+  memory_flat stays = r.memory.value ∙ written_flat r.memory.act o.value before.memory.value flat (λ w. g.carried o r.opened (rw (memory_is, w) at found.tests.1.1.1.0)) stays
 
   -- a core that is not answered keeps its line, which fits then, if the block's words change only at a GetM
   stays : (words : List ℕ) → (is_get_m o.request ≡ false → words ≡ flat) → (d : ℕ) → d < n
-      → ((not (owns g.owner d) || g.claims.owned) ≡ true → stays_so p o.request g.claims a.next (held_by before d).state (owns g.owner d) ≡ true)
-      → LineFits p a.next.shared (cond gained false (owns g.owner d)) None words r.next.memory.value (held_by before d)
+      → ((not (owns g.owner d) || g.claims.owned) ≡ true → stays_so p o.request g.claims found.next (held_by before d).state (owns g.owner d) ≡ true)
+      → LineFits p found.next.shared (cond gained false (owns g.owner d)) None words r.next.memory.value (held_by before d)
   stays words same d d_in so =
       let (fit, blind) = and_parts _ _ (so (owns_owned g.owner d g.claims.owned g.is_owned)) in
       let reads : keeps (held_by before d).state ≡ true → words ≡ flat = λ h. elim (cases_Bool (is_get_m o.request)) [
@@ -98,21 +98,21 @@ module _ (s : Situation) (block : ℕ) (o : Open) (did : Option Did) (new : Situ
       still_fits (held_by before d) (line_of g d d_in) reads (λ is. memory_flat (λ w. is)) fit
 
   closed : (words : List ℕ) → (is_get_m o.request ≡ false → words ≡ flat)
-      → ((d : ℕ) → d < n → LineFits p a.next.shared (owns (cond gained (Some o.core) g.owner) d) None words r.next.memory.value (held_at r.next.caches d))
+      → ((d : ℕ) → d < n → LineFits p found.next.shared (owns (cond gained (Some o.core) g.owner) d) None words r.next.memory.value (held_at r.next.caches d))
       → BlockInvariant p n words r.next
   closed words same lines =
       let nothing : (x : Open) → r.next.transaction ≡ Some x → ⊥ = λ x is_x. none-some x (sym r.closed ∙ is_x) in
       record {
-        claims = a.next;
-        is_claims = simp r.closed (rw memory_is at a.is_next);
+        claims = found.next;
+        is_claims = simp r.closed (rw memory_is at found.is_next);
         owner = cond gained (Some o.core) g.owner;
         owner_in = cond_both gained (Some o.core) g.owner (OwnerIn n) (λ is. core_in n o.core (g.requestor_in o r.opened)) (λ is. g.owner_in);
-        is_owned = owned_after g.claims.owned a.next.owned o.core g.owner g.is_owned a.tests.1.0;
+        is_owned = owned_after g.claims.owned found.next.owned o.core g.owner g.is_owned found.tests.1.0;
         states = λ d d_in. simp r.closed (lines d d_in).fit;
         kept = λ d d_in. (lines d d_in).kept;
         clean = λ d d_in. (lines d d_in).clean;
         fresh = λ h.
-            let (get_s, from) = and_parts (not (is_get_m o.request)) _ (rw h at a.tests.1.1.1.1.0) in
+            let (get_s, from) = and_parts (not (is_get_m o.request)) _ (rw h at found.tests.1.1.1.1.0) in
             memory_flat (λ w. g.fresh (rw (memory_is, w) at from)) ∙ sym (same (not-true _ get_s));
         carried = λ x is_x. absurd (nothing x is_x);
         requestor_in = λ x is_x. absurd (nothing x is_x);
@@ -125,30 +125,30 @@ module _ (s : Situation) (block : ℕ) (o : Open) (did : Option Did) (new : Situ
       → BlockInvariant p n (flat_after flat did) r.next × IsLawful flat did
   respond_get get f =
       let c = o.core in
-      let (row, is_row, (fit, (clean, (stores, _)))) = answered a get in
+      let (row, is_row, (fit, (clean, (stores, _)))) = answered found get in
       let row_is : row ≡ f.fills.row = same_Some _ _ (sym is_row ∙ rw f.fills.arrives f.fills.is_row) in
       let words : (f.fills.after ≡ flat_after flat did) × IsLawful flat did × (fills_store f.fills.row.action ≡ false → flat_after flat did ≡ flat) =
-      rw f.logged (filled_words flat s.log c o.block f.asking.word f.value o.value f.fills.after f.fills.row.action f.asking.op (g.carried o r.opened (rw get at a.tests.0)) f.fills.fill f.fills.performed) in
+      rw f.logged (filled_words flat s.log c o.block f.asking.word f.value o.value f.fills.after f.fills.row.action f.asking.op (g.carried o r.opened (rw get at found.tests.0)) f.fills.fill f.fills.performed) in
       let same : is_get_m o.request ≡ false → flat_after flat did ≡ flat = λ h. words.2 (same_is _ _ (rw row_is at stores) ∙ h) in
-      let filled : LineFits p a.next.shared (owns (cond gained (Some c) g.owner) c) None (flat_after flat did) r.next.memory.value f.line = rw f.fills.held (record {
+      let filled : LineFits p found.next.shared (owns (cond gained (Some c) g.owner) c) None (flat_after flat did) r.next.memory.value f.line = rw f.fills.held (record {
         fit = rw (of_choice (λ x. owns x c) gained (Some c) g.owner, eq-eqb c c refl) (rw row_is at fit);
         kept = λ h. rw words.0 refl;
         clean = λ h. let (fresh, get_s) = and_parts g.claims.fresh _ (rw (row_is, h) at clean) in memory_flat (λ w. g.fresh fresh) ∙ sym (same (not-true _ get_s));
         proper = IsProper-fill p (held_by before c).state f.fills.event f.fills.row.action f.fills.row.next f.asking.op f.fills.after f.fills.fill f.fills.is_row;
       }) in (
         closed (flat_after flat did) same (simp f.held (each_set before.caches c f.line nothing_held
-            (λ d x. d < n → LineFits p a.next.shared (owns (cond gained (Some c) g.owner) d) None (flat_after flat did) r.next.memory.value x) in_row (λ c_in. filled)
+            (λ d x. d < n → LineFits p found.next.shared (owns (cond gained (Some c) g.owner) d) None (flat_after flat did) r.next.memory.value x) in_row (λ c_in. filled)
             (λ d apart d_in. rw (of_choice (λ x. owns x d) gained (Some c) g.owner, ne_eqb d c apart) (stays (flat_after flat did) same d d_in (λ owned. when_at _ _ owned
-            (all_fitting-at _ _ _ _ (rw get at a.tests.1.1.1.1.1.1.0) _ _ (rw (r.opened, ne_eqb d c apart) at (g.states d d_in)))))))),
+            (all_fitting-at _ _ _ _ (rw get at found.tests.1.1.1.1.1.1.0) _ _ (rw (r.opened, ne_eqb d c apart) at (g.states d d_in)))))))),
         words.1,
       )
 
   -- a PutM's end changes no line
   respond_put : is_put_m o.request ≡ true → r.next.caches ≡ before.caches → BlockInvariant p n flat r.next
   respond_put put same =
-      let no_gain : gained ≡ false = not-true _ (rw put at a.tests.1.1.0) in
+      let no_gain : gained ≡ false = not-true _ (rw put at found.tests.1.1.0) in
       closed flat (λ h. refl) (λ d d_in. simp same (rw no_gain (rw no_gain at (stays flat (λ h. refl) d d_in (λ owned. when_at _ _ owned
-      (all_open-at _ _ (Some o) _ (rw put at a.tests.1.1.1.1.1.1.0) d _ _ (rw r.opened at (g.states d d_in))))))))
+      (all_open-at _ _ (Some o) _ (rw put at found.tests.1.1.1.1.1.1.0) d _ _ (rw r.opened at (g.states d d_in))))))))
 
   by_request : (q : Request) → o.request ≡ q → ArrivesFor q o p s.log before.caches r.next.caches did
       → BlockInvariant p n (flat_after flat did) r.next × IsLawful flat did

@@ -32,15 +32,18 @@ other_tests p m q memory pl after s owns row =
     fits p after.shared (cond after.owned owns false) None row.next ∷ carries s row.next
     ∷ sends_so (sent_by (Some row)) (cond (is_put_m q) false owns) pl (follows_sender_table p q m (Other s) pl memory.next) (keeps s) ∷ []
 
--- what is asked of an Order, with memory's row, the requestor's, and the claims after it
+-- what is asked of an Order, with memory's row, the requestor's, and the claims after it: an owner then was one; the requestor's state fits; it carries over; memory
+-- is fresh where it is claimed; memory sends if it is meant to; so does the requestor; so do other cores. Proofs cite these by place, `.1.1.0` the third
 abbrev pub end_tests : Protocol → MemState → Claims → CacheState → Bool → Request → MemCell → CacheCell → Claims → List Bool
 end_tests p m st s owns q memory row after =
     (not after.owned || st.owned)
     ∷ fits p after.shared (cond after.owned owns false) (Some q) row.next
     ∷ carries s row.next
     ∷ (not after.fresh || (st.fresh || is_clean s))
-    ∷ sends_so (sent_by_memory (Some memory)) (cond (is_put_m q) false (not st.owned)) (payload_of row memory) (follows_sender_table p q m Memory (payload_of row memory) memory.next) st.fresh
-    ∷ sends_so (sent_by (Some row)) (cond (is_put_m q) true owns) (payload_of row memory) (follows_sender_table p q m (Requestor s) (payload_of row memory) memory.next) (keeps s)
+    ∷ sends_so (sent_by_memory (Some memory)) (cond (is_put_m q) false (not st.owned)) (payload_of row memory)
+    (follows_sender_table p q m Memory (payload_of row memory) memory.next) st.fresh
+    ∷ sends_so (sent_by (Some row)) (cond (is_put_m q) true owns) (payload_of row memory)
+    (follows_sender_table p q m (Requestor s) (payload_of row memory) memory.next) (keeps s)
     ∷ all_fitting p st.shared None (λ s other_owns. when (not (other_owns && owns) && (not other_owns || st.owned))
     (λ _. is_some_and (cell_of p s (other q)) (λ row_seen. each (other_tests p m q memory (payload_of row memory) after s other_owns row_seen))))
     ∷ []

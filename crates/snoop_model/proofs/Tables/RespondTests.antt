@@ -53,7 +53,8 @@ answer_tests p q st after owns row =
 abbrev pub stays_so : Protocol → Request → Claims → Claims → CacheState → Bool → Bool
 stays_so p q st after s owns = fits p after.shared (cond (gains st after) false owns) None s && (not (is_get_m q) || not (keeps s))
 
--- what is asked of a Respond, with memory's row and the claims after it
+-- what is asked of a Respond, with memory's row and the claims after it: data comes for a GetS or a GetM; an owner stays one; a PutM makes none; memory writes only
+-- data that comes; memory is fresh where it is claimed; a requestor has its row; other cores may stay as they are. Proofs cite these by place, `.1.1.0` the third
 abbrev pub respond_tests : Protocol → Request → Payload → Claims → MemCell → Claims → List Bool
 respond_tests p q pl st row after =
     (is_put_m q || carries_value pl)
