@@ -7,7 +7,7 @@ use Rattle.snoop_rules.specs.declared.names.CacheAction.TheVariants as action
 use Rattle.snoop_rules.specs.declared.names.MemAction.TheVariants as mem_action
 use Rattle.snoop_model.proofs.Lists.Facts.{of_choice}
 use Rattle.snoop_model.proofs.Lists.Writes.{each_set}
-use Rattle.snoop_model.proofs.Tables.StateTests.{all_open-at, all_fitting-at, when_at, EachHolds, same_is, some_and, some_each}
+use Rattle.snoop_model.proofs.Tables.StateTests.{when, all_open-at, all_fitting-at, when_at, EachHolds, same_is, some_and, some_each}
 use Rattle.snoop_model.proofs.Tables.RespondTests.{answer_tests, fills_store, gains, respond_rule, respond_tests, row_for, settled_row, settled_so, stays_so, writes}
 use Rattle.snoop_model.proofs.Tables.Rows.{IsProper-fill}
 use Rattle.snoop_model.proofs.OneBlock.Facts.{LineFits, line_of, still_fits, OwnerIn, core_in, owns_owned}
@@ -87,10 +87,10 @@ module _ (s : Situation) (block : ℕ) (o : Open) (did : Option Did) (new : Situ
 
   -- a core that is not answered keeps its line, which fits then, if the block's words change only at a GetM
   stays : (words : List ℕ) → (is_get_m o.request ≡ false → words ≡ flat) → (d : ℕ) → d < n
-      → ((not (owns g.owner d) || g.claims.owned) ≡ true → stays_so p o.request g.claims found.next (held_by before d).state (owns g.owner d) ≡ true)
+      → when (not (owns g.owner d) || g.claims.owned) (λ _. stays_so p o.request g.claims found.next (held_by before d).state (owns g.owner d)) ≡ true
       → LineFits p found.next.shared (cond gained false (owns g.owner d)) None words r.next.memory.value (held_by before d)
   stays words same d d_in so =
-      let (fit, blind) = and_parts _ _ (so (owns_owned g.owner d g.claims.owned g.is_owned)) in
+      let (fit, blind) = and_parts _ _ (when_at _ _ (owns_owned g.owner d g.claims.owned g.is_owned) so) in
       let reads : keeps (held_by before d).state ≡ true → words ≡ flat = λ h. elim (cases_Bool (is_get_m o.request)) [
         | inl m ↦ absurd (both_ways _ (not-true _ (rw m at blind)) h)
         | inr m ↦ same m
@@ -128,7 +128,8 @@ module _ (s : Situation) (block : ℕ) (o : Open) (did : Option Did) (new : Situ
       let (row, is_row, (fit, (clean, (stores, _)))) = answered found get in
       let row_is : row ≡ f.fills.row = same_Some _ _ (sym is_row ∙ rw f.fills.arrives f.fills.is_row) in
       let words : (f.fills.after ≡ flat_after flat did) × IsLawful flat did × (fills_store f.fills.row.action ≡ false → flat_after flat did ≡ flat) =
-      rw f.logged (filled_words flat s.log c o.block f.asking.word f.value o.value f.fills.after f.fills.row.action f.asking.op (g.carried o r.opened (rw get at found.tests.0)) f.fills.fill f.fills.performed) in
+      rw f.logged (filled_words flat s.log c o.block f.asking.word f.value o.value f.fills.after f.fills.row.action f.asking.op
+      (g.carried o r.opened (rw get at found.tests.0)) f.fills.fill f.fills.performed) in
       let same : is_get_m o.request ≡ false → flat_after flat did ≡ flat = λ h. words.2 (same_is _ _ (rw row_is at stores) ∙ h) in
       let filled : LineFits p found.next.shared (owns (cond gained (Some c) g.owner) c) None (flat_after flat did) r.next.memory.value f.line = rw f.fills.held (record {
         fit = rw (of_choice (λ x. owns x c) gained (Some c) g.owner, eq-eqb c c refl) (rw row_is at fit);
@@ -138,8 +139,8 @@ module _ (s : Situation) (block : ℕ) (o : Open) (did : Option Did) (new : Situ
       }) in (
         closed (flat_after flat did) same (simp f.held (each_set before.caches c f.line nothing_held
             (λ d x. d < n → LineFits p found.next.shared (owns (cond gained (Some c) g.owner) d) None (flat_after flat did) r.next.memory.value x) in_row (λ c_in. filled)
-            (λ d apart d_in. rw (of_choice (λ x. owns x d) gained (Some c) g.owner, ne_eqb d c apart) (stays (flat_after flat did) same d d_in (λ owned. when_at _ _ owned
-            (all_fitting-at _ _ _ _ (rw get at found.tests.1.1.1.1.1.1.0) _ _ (rw (r.opened, ne_eqb d c apart) at (g.states d d_in)))))))),
+            (λ d apart d_in. rw (of_choice (λ x. owns x d) gained (Some c) g.owner, ne_eqb d c apart) (stays (flat_after flat did) same d d_in
+            (all_fitting-at _ _ _ _ (rw get at found.tests.1.1.1.1.1.1.0) _ _ (rw (r.opened, ne_eqb d c apart) at (g.states d d_in))))))),
         words.1,
       )
 
@@ -147,8 +148,8 @@ module _ (s : Situation) (block : ℕ) (o : Open) (did : Option Did) (new : Situ
   respond_put : is_put_m o.request ≡ true → r.next.caches ≡ before.caches → BlockInvariant p n flat r.next
   respond_put put same =
       let no_gain : gained ≡ false = not-true _ (rw put at found.tests.1.1.0) in
-      closed flat (λ h. refl) (λ d d_in. simp same (rw no_gain (rw no_gain at (stays flat (λ h. refl) d d_in (λ owned. when_at _ _ owned
-      (all_open-at _ _ (Some o) _ (rw put at found.tests.1.1.1.1.1.1.0) d _ _ (rw r.opened at (g.states d d_in))))))))
+      closed flat (λ h. refl) (λ d d_in. simp same (rw no_gain (rw no_gain at (stays flat (λ h. refl) d d_in
+      (all_open-at _ _ (Some o) _ (rw put at found.tests.1.1.1.1.1.1.0) d _ _ (rw r.opened at (g.states d d_in)))))))
 
   by_request : (q : Request) → o.request ≡ q → ArrivesFor q o p s.log before.caches r.next.caches did
       → BlockInvariant p n (flat_after flat did) r.next × IsLawful flat did
