@@ -1,6 +1,6 @@
 -- What a write in one place does to a list of lists, and to sums over it.
 use Rattle.std.proofs.Common.{◌≡◌, ◌≢◌, ℕ, zero, suc, ◌+◌, ◌<◌, ◌≤◌, List, [], ◌∷◌, ◌++◌, length, filter, not, Bool, false, Some, refl, ap, arith, inl, inr, ◌⊎◌, slice_index_or, slice_set, slice_get, All, ◌==◌, sum_by, count_by, eq-eqb, get_or-set_same, get_or-set_other}
-use Rattle.snoop_model.proofs.Common.{cond_both, cases_eq, cases_lt, same_Some, get_or_past, queue_of, after_issue, after_order}
+use Rattle.snoop_model.proofs.Common.{cond_both, cases_eq, same_Some, get_or_past, queue_of, after_issue, after_order}
 use Rattle.std.proofs.lemmas.Option.{get_or_from_slice_get, slice_get_within}
 use Rattle.std.proofs.lemmas.List.{set_past, length_push}
 use Rattle.std.proofs.lemmas.List.Elements.{All-push, All-filter}
@@ -48,10 +48,7 @@ module _ (P : ℕ → ℕ → Type 0) (lines : List (List ℕ)) (core block : �
 
 -- a sum before and after a write, which past the end of the list does nothing
 sum_set : {A : Type 0} (f : A → ℕ) (xs : List A) (i : ℕ) (a d : A) → f d ≡ 0 → sum_by f (slice_set xs i a) + f (slice_index_or xs i d) ≤ sum_by f xs + f a
-sum_set f xs i a d none = elim (cases_lt i (length xs)) [
-  | inl lt ↦ omega (arith, sum_by-set f xs i a d lt)
-  | inr ge ↦ rw (set_past xs i a ge, get_or_past xs i d ge, none) (omega arith)
-]
+sum_set f xs i a d none = grind (arith, sum_by-set f xs i a d, set_past xs i a, get_or_past xs i d)
 
 -- an issue adds one to the requests that wait, and an Order takes one away
 pub sum_issued : (lines : List (List ℕ)) (core block : ℕ) → sum_by length (after_issue lines core block) ≤ sum_by length lines + 1

@@ -1,7 +1,7 @@
 -- What follows from the invariant of one block.
-use Rattle.std.proofs.Common.{◌≡◌, ◌≢◌, ◌<◌, ◌&&◌, ◌||◌, ◌∙◌, ℕ, List, Bool, true, false, not, eqb, Option, Some, None, refl, inl, inr, sym, subst, length, is_some, eq-eqb, eqb-true, ne_eqb}
-use Rattle.snoop_model.proofs.Common.{and_parts, cases_Bool, cases_eq, not-true, cases_lt, get_or_past, same_Some, Protocol, CacheState, Request, Line, Picture, held_by, held_at, nothing_held, keeps, IsProper, is_owner, is_sharer, is_clean, in_protocol, same, wait_fits, fits, BlockInvariant, talk_of, own_open, owns, or_right}
-use Rattle.std.proofs.Math.Bool.{and-false}
+use Rattle.std.proofs.Common.{arith, ◌≡◌, ◌≢◌, ◌<◌, ◌&&◌, ◌||◌, ◌∙◌, ℕ, List, Bool, true, false, not, eqb, Option, Some, None, refl, inl, inr, sym, subst, length, is_some, eq-eqb, eqb-true, ne_eqb}
+use Rattle.snoop_model.proofs.Common.{and_parts, cases_eq, not-true, cases_lt, get_or_past, same_Some, Protocol, CacheState, Request, Line, Picture, held_by, held_at, nothing_held, keeps, IsProper, is_owner, is_sharer, is_clean, in_protocol, same, wait_fits, fits, BlockInvariant, talk_of, own_open, owns, or_right}
+use Rattle.std.proofs.lemmas.Bool.Decides.{eqb_tells}
 use Rattle.snoop_model.proofs.Lines.TheSender.{IsBelow}
 use Rattle.snoop_model.proofs.Tables.StateTests.{all_open-at, same_is, brings_data, carries, clean_reads, owned_rule}
 
@@ -58,10 +58,8 @@ owns_one owner c d h apart = rw (owner_is owner c h) (ne_eqb d c apart)
 
 -- two cores do not both own
 pub owns_apart : (owner : Option ℕ) (c d : ℕ) → d ≢ c → not (owns owner d && owns owner c) ≡ true
-owns_apart owner c d apart = elim (cases_Bool (owns owner c)) [
-  | inl h ↦ rw (owns_one owner c d h apart) refl
-  | inr h ↦ rw (h, and-false (owns owner d)) refl
-]
+owns_apart None c d apart = refl
+owns_apart (Some o) c d apart = grind (arith, eqb_tells d o, eqb_tells c o)
 
 module _ {p : Protocol} {n : ℕ} {flat : List ℕ} {picture : Picture} (g : BlockInvariant p n flat picture) where
   pub line_of : (d : ℕ) → d < n → LineFits p g.claims.shared (owns g.owner d) (own_open picture.transaction d) flat picture.memory.value (held_by picture d)
