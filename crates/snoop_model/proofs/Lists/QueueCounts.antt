@@ -35,10 +35,8 @@ times_gone taken (x ∷ queue) = grind (arith, times_cons, times_gone taken queu
 
 times_left : (block taken : ℕ) (queue : List ℕ) → block ≢ taken → times block (filter (λ b. not (eqb b taken)) queue) ≡ times block queue
 times_left block taken [] apart = refl
-times_left block taken (x ∷ queue) apart = elim (eqb_tells x taken) [
-  | inl same ↦ rw (same.0, same.1) (simp (ne_eqb taken block (λ e. apart (sym e))) (omega (arith, times_left block taken queue apart)))
-  | inr other ↦ rw other.0 (simp times_cons (omega (arith, times_left block taken queue apart)))
-]
+times_left block taken (x ∷ queue) apart =
+    grind (arith, times_cons block x queue, times_cons block x (filter (λ b. not (eqb b taken)) queue), eqb_tells x taken, eqb_tells x block, times_left block taken queue apart)
 
 module _ (queues : List (List ℕ)) (core block : ℕ) where
   -- an issue adds its block to its core's queue once
