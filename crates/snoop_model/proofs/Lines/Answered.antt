@@ -1,5 +1,5 @@
 -- The lines after a response: the requestor's is filled, or none is changed.
-use Rattle.std.proofs.Common.{arith, ◌≡◌, ℕ, List, length, Option, Some, None, refl, ◌∙◌, ap, inl, inr, ◌⊎◌, length-set}
+use Rattle.std.proofs.Common.{arith, ◌≡◌, ℕ, List, length, Option, Some, None, refl, inl, inr, ◌⊎◌, length-set}
 use Rattle.snoop_model.proofs.Common.{Protocol, Request, Did, Item, Open, Access, Line, held_at, nothing_held, FillsRequestor, ArrivesFor, PutM}
 use Rattle.snoop_model.proofs.Lists.Writes.{set_cases}
 

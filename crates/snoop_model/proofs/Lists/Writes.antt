@@ -1,6 +1,6 @@
 -- What a write in one place does to a list of lists, and to sums over it.
 use Rattle.std.proofs.Common.{◌≡◌, ◌≢◌, ℕ, zero, suc, ◌+◌, ◌<◌, ◌≤◌, List, [], ◌∷◌, ◌++◌, length, filter, not, Bool, false, Some, refl, ap, arith, inl, inr, ◌⊎◌, slice_index_or, slice_set, slice_get, All, ◌==◌, sum_by, count_by, eq-eqb, get_or-set_same, get_or-set_other}
-use Rattle.snoop_model.proofs.Common.{cond_both, cases_eq, same_Some, get_or_past, queue_of, after_issue, after_order}
+use Rattle.snoop_model.proofs.Common.{cond_both, same_Some, get_or_past, queue_of, after_issue, after_order}
 use Rattle.std.proofs.lemmas.Option.{get_or_from_slice_get, slice_get_within}
 use Rattle.std.proofs.lemmas.List.{set_past, length_push}
 use Rattle.std.proofs.lemmas.List.Elements.{All-push, All-filter}
@@ -17,10 +17,7 @@ set_cases (x ∷ xs) (suc i) (suc k) a d = elim (set_cases xs i k a d) [ inl p �
 
 -- what holds of the new value in its place, and of each other, holds of each then
 pub each_set : {A : Type 0} (xs : List A) (i : ℕ) (a d : A) (P : ℕ → A → Type 0) → i < length xs → P i a → ((k : ℕ) → k ≢ i → P k (slice_index_or xs k d)) → (k : ℕ) → P k (slice_index_or (slice_set xs i a) k d)
-each_set xs i a d P inside here others k = elim (cases_eq k i) [
-  | inl e ↦ rw (e, get_or-set_same xs i a d inside) here
-  | inr apart ↦ rw (get_or-set_other xs i k a d apart) (others k apart)
-]
+each_set xs i a d P inside here others k = grind (arith, get_or-set_same xs i a d, get_or-set_other xs i k a d, others k)
 
 -- what holds of each value, and of the new one, holds of each then
 each_still : {A : Type 0} (xs : List A) (i : ℕ) (a d : A) (P : ℕ → A → Type 0) → ((k : ℕ) → P k (slice_index_or xs k d)) → P i a → (k : ℕ)

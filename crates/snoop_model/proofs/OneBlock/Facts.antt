@@ -26,8 +26,7 @@ unfolding fits
 fits_waits p shared ow w s h = (and_parts (not (is_sharer s) || shared) _ (and_parts (same (is_owner s) ow) _ (and_parts (in_protocol p s) _ h).1).1).1
 
 pub implied : (a b : Bool) → (not a || b) ≡ true → a ≡ true → b ≡ true
-implied true b h e = h
-implied false b h e = cc
+implied a b h e = rw e at h
 
 -- what the invariant says of one core's line, where the block's words and memory's are these
 pub record LineFits (p : Protocol) (shared owning : Bool) (wait : Option Request) (words memory : List ℕ) (line : Line) : Type 0 where

@@ -1,5 +1,5 @@
 -- Tests of each value of a type, tests that compare, and those of the states and of the table of claims, computed over all of them.
-use Rattle.std.proofs.Common.{ℕ, eqb, inl, inr, ◌≡◌, ◌&&◌, Bool, true, false, Option, Some, None, List, [], ◌∷◌, refl, ap, ◌||◌, not, cond}
+use Rattle.std.proofs.Common.{arith, ℕ, eqb, inl, inr, ◌≡◌, ◌&&◌, Bool, true, false, Option, Some, None, List, [], ◌∷◌, refl, ap, ◌||◌, not, cond}
 use Rattle.snoop_model.proofs.Common.{Protocol, CacheState, Request, Open, Talk, and_parts, cases_Bool, fits, own_open, same, talk_of, CacheAction, MemState, carries_value, kept_on, keeps, Claims, claims_of, is_owner, is_sharer, is_clean, wait_fits, in_protocol, ⊤, list_all}
 use denote.Enum.Bare.{Bare, same_true, sameb}
 use denote.Enum.Declared.{Declared}
@@ -59,9 +59,7 @@ some_each o tests h = let (a, is_a, holds) = some_and o (λ a. each (tests a)) h
 
 pub same_is : (a b : Bool) → same a b ≡ true → a ≡ b
 unfolding same
-same_is true true h = refl
-same_is false false h = refl
-same_is _ _ h = cc
+same_is a b h = grind arith
 
 -- the same value of an enum without fields, or none in both
 abbrev pub same_option : (D : Declared) → Option D.D → Option D.D → Bool
