@@ -1,8 +1,9 @@
 -- The names that lemmas of the model use most, passed on from one place.
-pub use Rattle.std.specs.Prelude.{is_some}
-pub use Rattle.std.proofs.lemmas.Bool.{and_from, and_parts, both_ways, cases_Bool, cases_eq, cases_lt, not-true, or_cases}
+pub use Rattle.std.specs.Prelude.{is_some, ⊤}
+pub use Rattle.std.specs.List.{list_all, list_any}
+pub use Rattle.std.proofs.lemmas.Bool.{and_from, and_parts, both_ways, cases_Bool, cases_eq, cases_lt, cond_both, not-true, or_cases, or_right}
 pub use Rattle.std.proofs.lemmas.List.{get_or_past}
-pub use Rattle.std.proofs.lemmas.Option.{none-some, same_Some}
+pub use Rattle.std.proofs.lemmas.Option.{cond_some, none-some, same_Some}
 pub use Rattle.snoop_trace.specs.Extent.{Extent}
 pub use Rattle.snoop_trace.specs.declared.protocol.Protocol.{Protocol}
 pub use Rattle.snoop_trace.specs.declared.step.Op.{Op}
@@ -17,6 +18,7 @@ pub use Rattle.snoop_rules.specs.declared.names.MemEvent.{MemEvent}
 pub use Rattle.snoop_rules.specs.declared.names.MemAction.{MemAction}
 pub use Rattle.snoop_rules.specs.declared.names.MemCell.{MemCell}
 pub use Rattle.snoop_rules.specs.declared.names.Request.{Request}
+pub use Rattle.snoop_rules.specs.declared.names.Request.TheVariants.{GetM, GetS, PutM}
 pub use Rattle.snoop_rules.specs.declared.names.Payload.{Payload}
 pub use Rattle.snoop_rules.specs.declared.names.Target.{Target}
 pub use Rattle.snoop_rules.specs.Cell.{Cell, cell_of}
