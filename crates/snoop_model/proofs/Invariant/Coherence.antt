@@ -6,7 +6,7 @@ use Rattle.std.proofs.lemmas.Bool.{and_parts, both_ways, cases_Bool, cases_lt, e
 use Rattle.snoop_model.proofs.Lists.Facts.{if_some}
 use Rattle.snoop_model.proofs.Common.{is_some, arrival, arrival_at_memory, Ask, asked, awaited_request, BlockInvariant, CacheEvent, CacheState, CanOrder, carries_value, data_under_way, flat_words, get_or_past, HasOpen, held_by, Invariant, is_put_m, IsWellKept, IsWithin, keeps, Line, MemEvent, none-some, nothing_held, nothing_there, Op, Open, Order, OrdersFollowSenderTable, own_open, owns, Picture, picture_of, Protocol, Request, Respond, seen_by, Situation, state_of, Step, talk_of, waiting_request, Waits}
 use Rattle.snoop_trace.specs.declared.step.Op.TheVariants as op
-use Rattle.snoop_trace.specs.declared.protocol.Protocol.TheVariants.{Mesi}
+use Rattle.snoop_trace.specs.declared.protocol.Protocol.TheVariants.{Msi, Mesi}
 use Rattle.snoop_rules.specs.declared.names.CacheState.TheVariants as state
 use Rattle.snoop_rules.specs.declared.names.CacheEvent.TheVariants as event
 use Rattle.snoop_rules.specs.declared.names.CacheAction.TheVariants as action
@@ -40,14 +40,9 @@ owner_stores _ _ known owns = cc
 -- a core that keeps words may load
 keeper_loads : (p : Protocol) (s : CacheState) → in_protocol p s ≡ true → keeps s ≡ true → MayLoad p s
 unfolding in_protocol is_clean
-keeper_loads _ state.S known kept = (_, refl)
-keeper_loads _ state.SmAd known kept = (_, refl)
-keeper_loads _ state.SmD known kept = (_, refl)
-keeper_loads _ state.M known kept = (_, refl)
-keeper_loads _ state.MiA known kept = (_, refl)
-keeper_loads Mesi state.E known kept = (_, refl)
-keeper_loads Mesi state.EiA known kept = (_, refl)
-keeper_loads _ _ known kept = cc
+keeper_loads Msi state.S known kept = (_, refl)
+keeper_loads Mesi state.S known kept = (_, refl)
+keeper_loads _ s known kept = (s, cc)
 
 -- where no core may write the block, none owns it
 nobody_owns : {p : Protocol} {n : ℕ} {value : List ℕ} {picture : Picture} (g : BlockInvariant p n value picture) → ((core : ℕ) → ¬ MayStore p (held_by picture core).state) → g.claims.owned ≡ false

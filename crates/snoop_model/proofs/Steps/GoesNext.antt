@@ -19,12 +19,11 @@ use Rattle.snoop_model.proofs.Steps.Next.{Next, value_of, words_after, has_word,
 use Rattle.snoop_model.proofs.Queues.Waiting.{AreQueued, first_waits, none_waits}
 use Rattle.snoop_rules.specs.declared.names.CacheEvent.TheVariants as event
 use Rattle.snoop_rules.specs.declared.names.Payload.TheVariants as payload
-use Rattle.snoop_rules.proofs.Every.{all_protocols, all_states, all_events}
-use Rattle.snoop_rules.proofs.Rows.{each_row, each_row-at}
+use Rattle.snoop_rules.proofs.Every.{all_protocols, all_protocols-at, all_states, all_states-at, all_payloads, all_payloads-at}
+use Rattle.snoop_model.proofs.Tables.Every.{given, given_at}
 use Rattle.snoop_model.proofs.Tables.Rows.{is_evict, asked_answers, hit_keeps}
 use Rattle.snoop_model.proofs.Tables.AskTests.{is_idle_evict}
 use Rattle.snoop_model.proofs.Invariant.Coherence.{orders_follow_sender_table, finds_rows, idle_evict, waits_within}
-use Rattle.snoop_model.proofs.OneBlock.Facts.{implied}
 use Rattle.snoop_model.proofs.OneBlock.Possible.{ask_possible, respond_possible}
 
 -- an operation does one thing
@@ -229,28 +228,15 @@ module _ (s : Situation) (g : Invariant s) where
         after = refl;
       }
 
--- the event is the arrival of data at its requestor
-abbrev is_data : CacheEvent → Bool
-is_data event.Data = true
-is_data event.DataE = true
-is_data _ = false
-
 -- data performs the operation that has missed
 abbrev fills : Option Request → CacheAction → Bool
 fills (Some request.GetS) action.FillLoad = true
 fills (Some request.GetM) action.FillStore = true
 fills _ _ = false
 
-abbrev data_test : Protocol → CacheState → CacheEvent → CacheCell → Bool
-data_test p s e r = not (is_data e) || fills (missed_request s) r.action
-
-data_test_holds : each_row data_test ≡ true
-unfolding each_row all_protocols all_states all_events
-data_test_holds = refl
-
-arrives_as_data : (payload : Payload) (e : CacheEvent) → arrival payload ≡ Some e → is_data e ≡ true
-arrives_as_data payload.NoData e is = cc
-arrives_as_data _ e is = cc
+data_fills : all_protocols (λ p. all_states (λ s. all_payloads (λ message. given (row_for p s (arrival message)) (λ r. fills (missed_request s) r.action)))) ≡ true
+unfolding all_protocols all_states all_payloads given
+data_fills = refl
 
 -- an action that fills for the operation's request is the fill for the operation, which is no eviction
 fill_is : (asking : Op) (act : CacheAction) → fills (Some (request_for asking)) act ≡ true
@@ -266,8 +252,8 @@ module _ (p : Protocol) (log : List Item) (old : List Line) (o : Open) where
       → (let n = filled o p log old waiting in FillsRequestor o p log old n.0 n.1)
   fills_as None arrives row is waiting waits proper = cc
   fills_as (Some e) arrives row is waiting waits proper =
-      let s = (held_at old o.core).state in
-      by_waiting waiting waits (rw proper (implied (is_data e) _ (each_row-at data_test data_test_holds p s e row.action row.next is) (arrives_as_data o.payload e arrives)))
+      let row_of : row_for p (held_at old o.core).state (arrival o.payload) ≡ Some row = rw arrives is in
+      by_waiting waiting waits (rw proper (given_at _ _ row row_of (all_payloads-at _ (all_states-at _ (all_protocols-at _ data_fills p) _) o.payload)))
     where
       by_waiting : (waiting : Option Access) → (held_at old o.core).waiting ≡ waiting → fills (option_map (λ access. request_for access.op) waiting) row.action ≡ true
           → (let n = filled o p log old waiting in FillsRequestor o p log old n.0 n.1)
