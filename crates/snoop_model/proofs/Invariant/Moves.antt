@@ -1,13 +1,13 @@
 -- A move keeps the invariant of the machine.
-use Rattle.std.proofs.Common.{◌≡◌, ◌≢◌, ℕ, ◌<◌, Bool, true, false, not, List, [], ◌∷◌, ◌++◌, length, Option, Some, None, refl, inl, inr, ap, sym, ◌∙◌, subst, arith}
-use Rattle.std.specs.Prelude.{◌==◌, option_to_list, slice_set, IfSome, All, ⊤, if◌then◌else◌}
+use Rattle.std.proofs.Common.{◌≡◌, ◌≢◌, ℕ, ◌<◌, Bool, true, false, not, List, [], ◌∷◌, ◌++◌, length, Option, Some, None, refl, inl, inr, ap, sym, ◌∙◌, arith}
+use Rattle.std.specs.Prelude.{◌==◌, option_to_list, slice_set, IfSome, All, if◌then◌else◌}
 use Rattle.std.proofs.Math.Bool.{and-false}
 use Rattle.std.proofs.lemmas.List.{append-nil, length-set, get_or-set_same, get_or-set_other}
-use Rattle.std.proofs.lemmas.List.Elements.{All-nil, All-cons, All-append, filter_map-append}
+use Rattle.std.proofs.lemmas.List.Elements.{All-nil, All-cons, All-append}
 use Rattle.std.proofs.lemmas.List.FromFn.{length-map-range_with_len, get_or-map-range_with_len, fill_by_all}
 use Rattle.std.proofs.lemmas.Option.{IfSome_then}
 use Rattle.std.proofs.lemmas.Bool.Decides.{eqb_tells}
-use Rattle.snoop_model.proofs.Common.{Access, after_order, ArrivesFor, Ask, BlockInvariant, CacheAction, CacheState, came_of, cases_Bool, Did, eq-eqb, Extent, flat, flat_words, HasWord, held_at, held_by, Invariant, is_store_to, IsNext, IsWithin, IsWord, Item, kept_waiting, Legal, Line, MoveOn, ne_eqb, next_did, none-some, nothing_held, Op, Open, operation_of, operations, option_map_or, Order, Performs, Picture, picture_of, queues_after, Reply, Request, Respond, same_Some, Situation, Step, stores, Takes, with_line, word_at}
+use Rattle.snoop_model.proofs.Common.{Access, after_order, Ask, BlockInvariant, CacheAction, CacheState, came_of, cases_Bool, Did, eq-eqb, Extent, flat, flat_words, HasWord, held_by, Invariant, is_store_to, IsNext, IsWithin, IsWord, Item, kept_waiting, Legal, Line, MoveOn, ne_eqb, next_did, none-some, nothing_held, Op, Open, operation_of, operations, option_map_or, Order, Performs, Picture, picture_of, queues_after, Reply, Respond, same_Some, Situation, Step, stores, Takes, with_line, word_at}
 use Rattle.snoop_trace.specs.declared.step.Op.TheVariants as op
 use Rattle.snoop_rules.specs.declared.names.CacheAction.TheVariants as action
 use Rattle.snoop_history.specs.declared.items.Item.TheVariants as item
@@ -135,31 +135,14 @@ hit_word shape word _ before value after there h = there
 
 -- what waits after an Ask, and its item
 module _ (s : Situation) (core block word : ℕ) (asking : Op) (next : CacheState) (old new : Line) (answer : Reply) (entry : Option Item) (there : HasWord s.shape word asking) where
-  takes_access : (a : CacheAction) → Takes a next s.log core block word asking old new answer entry → AccessWithin s.shape old → AccessWithin s.shape new
-  takes_access action.Hit t was = rw t.1.0.held was
-  takes_access (action.Issue r) t was = rw t.0 (λ access. issued_access s word asking access there)
-  takes_access action.Drop t was = rw t.0 was
-  takes_access _ t was = absurd t
-
-  takes_item : (a : CacheAction) → Takes a next s.log core block word asking old new answer entry → IsWithin s core block → IsLawful (flat_words s.log block) (did_in entry) → IsNextOn s block entry
-  takes_item action.Hit t within lawful =
+  takes_so : (a : CacheAction) → Takes a next s.log core block word asking old new answer entry → AccessWithin s.shape old → IsWithin s core block → IsLawful (flat_words s.log block) (did_in entry)
+      → AccessWithin s.shape new × IsNextOn s block entry
+  takes_so action.Hit t was within lawful =
       let has = hit_word s.shape word asking t.1.0.before t.0 t.1.0.after there t.1.0.performed in
-      rw t.1.2 (refl, next_lawful s.log core block word asking t.0 true has.1 (rw t.1.2 at lawful), (within, has))
-  takes_item (action.Issue r) t within lawful = rw t.2 tt
-  takes_item action.Drop t within lawful = rw t.2 tt
-  takes_item _ t within lawful = absurd t
-
--- the item of a Respond
-arrives_item : (s : Situation) (q : Request) (block : ℕ) (closing : Open) (old new : List Line) (did : Option Did)
-    → ArrivesFor q closing s.protocol s.log old new did → closing.block ≡ block → IsWithin s closing.core closing.block
-    → AccessWithin s.shape (held_at old closing.core) → IsLawful (flat_words s.log block) did → IsNextOn s block (Some (item.Came (came_of closing) did))
-arrives_item s q block closing old new did arrives placed within waits lawful = elim (by_request q arrives) [
-  | inl put ↦ rw put.2 tt
-  | inr f ↦
-      let has = waits f.asking f.fills.waited in
-      let lawful_fill = rw (f.logged, ← placed) at lawful in
-      rw f.logged (placed, next_lawful s.log closing.core closing.block f.asking.word f.asking.op f.value false has.1 lawful_fill, (within, has))
-]
+      (rw t.1.0.held was, rw t.1.2 (refl, next_lawful s.log core block word asking t.0 true has.1 (rw t.1.2 at lawful), (within, has)))
+  takes_so (action.Issue r) t was within lawful = (rw t.0 (λ access. issued_access s word asking access there), rw t.2 tt)
+  takes_so action.Drop t was within lawful = (rw t.0 was, rw t.2 tt)
+  takes_so _ t was within lawful = absurd t
 
 -- a move keeps the invariant
 pub move_keeps : (block : ℕ) (old : Situation) (step : Step) (answer : Reply) (new : Situation) → Invariant old → MoveOn block old step answer new → Invariant new
@@ -171,15 +154,15 @@ move_keeps block old (Ask core on word asking) answer new g m = elim m.moves [
       let act = a.row.action in
       let in_row : core < length before.caches = rw (g.shaped.row block m.within.1) m.within.0 in
       let k = ask_keeps old core block word asking answer new a old.shape.cores (flat_words old.log block) (g.blocks block m.within.1) m.within.0 in_row in
+      let so = takes_so old core block word asking a.row.next line a.held answer a.entry m.has_word act a.taken (g.accesses core block) m.within k.1 in
       rw a.after (kept old block (with_line before core a.held) (queues_after act old.queues core block) a.entry g (record {
         within = m.within.1;
         as_wide = length-set before.caches core a.held;
         as_many_queues = as_many_after act old.queues core block;
         opened = g.opened block;
         block_after = k.0;
-        item = takes_item old core block word asking a.row.next line a.held answer a.entry m.has_word act a.taken m.within k.1;
-        accesses = each_set before.caches core a.held nothing_held (λ c. AccessWithin old.shape) in_row
-            (takes_access old core block word asking a.row.next line a.held answer a.entry m.has_word act a.taken (g.accesses core block))
+        item = so.1;
+        accesses = each_set before.caches core a.held nothing_held (λ c. AccessWithin old.shape) in_row so.0
             (λ c apart. g.accesses c block);
       })))
 ]
@@ -205,12 +188,19 @@ move_keeps block old (Respond on) answer new g m =
     let its_core = (g.blocks block m.within).requestor_in closing r.opened in
     let arrived = by_request closing.request r.requestor in
     let k = respond_keeps old block closing m.did new r old.shape.cores (flat_words old.log block) (g.blocks block m.within) (rw (g.shaped.row block m.within) its_core) in
+    let logged : IsNextOn old block (Some (item.Came (came_of closing) m.did)) = elim arrived [
+      | inl put ↦ rw put.2 tt
+      | inr f ↦
+          (let has = g.accesses closing.core block f.asking f.fills.waited in
+          let lawful = rw (f.logged, ← placed) at k.1 in
+          rw f.logged (placed, next_lawful old.log closing.core closing.block f.asking.word f.asking.op f.value false has.1 lawful, ((its_core, rw placed m.within), has)))
+    ] in
     rw r.after (kept old block r.next old.queues (Some (item.Came (came_of closing) m.did)) g (record {
       within = m.within;
       as_wide = arrives_length arrived;
       as_many_queues = refl;
       opened = λ t is_open. absurd (none-some t (sym r.closed ∙ is_open));
       block_after = k.0;
-      item = arrives_item old closing.request block closing before.caches r.next.caches m.did r.requestor placed (its_core, rw placed m.within) (g.accesses closing.core block) k.1;
+      item = logged;
       accesses = λ c access waits. let same = still_waiting arrived c access waits in g.accesses c block access (rw (← same) waits);
     }))

@@ -7,7 +7,7 @@ use Rattle.std.proofs.lemmas.List.Sorted.{Contains-permutation, IsPermutation-sy
 use Rattle.std.proofs.lemmas.List.Elements.{Contains-append_left, Contains-append_right, Contains-append_cases}
 use Rattle.std.proofs.lemmas.List.{append_cancel_left, map-append}
 use Rattle.std.proofs.lemmas.Bool.{cases_Bool, eqb-true}
-use Rattle.snoop_model.proofs.Common.{Access, answers_of, Ask, asked_access, came_of, Did, did_access, FirstMove, held_by, IsLast, IsOwed, Item, OnceMore, Order, Owes, picture_of, Reply, Respond, same_Some, Situation, Step, waiting_at}
+use Rattle.snoop_model.proofs.Common.{Access, answers_of, asked_access, Did, did_access, FirstMove, held_by, IsLast, IsOwed, Item, OnceMore, Owes, picture_of, Reply, same_Some, Situation, Step, waiting_at}
 use Rattle.snoop_model.proofs.Runs.Shape.{on_stays}
 use Rattle.snoop_history.proofs.Pushed.{answers_of-push, last_or-append, of_core}
 use Rattle.snoop_model.proofs.OneBlock.Operation.{did_in}

@@ -1,6 +1,6 @@
 -- Each load and store that a run asks is done once, or waits.
 use Rattle.std.proofs.Common.{◌≡◌, ℕ, Bool, true, false, ◌<◌, ◌&&◌, cond, eqb, List, [], ◌∷◌, ◌++◌, length, Option, Some, None, refl, inl, inr, ap, sym, ◌∙◌, arith, append-nil, append_assoc}
-use Rattle.std.specs.Prelude.{◌==◌, ⊤, option_to_list, map, filter, filter_map, slice_set, Result, Ok, Err}
+use Rattle.std.specs.Prelude.{◌==◌, option_to_list, map, filter, filter_map, slice_set, Result, Ok, Err}
 use Rattle.std.specs.List.Sorted.{IsPermutation}
 use Rattle.std.proofs.lemmas.List.Sorted.{IsPermutation-refl, IsPermutation-trans, IsPermutation-append_comm, IsPermutation-append_left, IsPermutation-append_right}
 use Rattle.std.proofs.lemmas.List.Elements.{filter-append, filter_map-append}

@@ -1,5 +1,5 @@
 -- Each step that goes comes to what is computed of it, and from every situation of a run each step goes so.
-use Rattle.std.proofs.Common.{◌≡◌, ℕ, zero, suc, ◌<◌, ◌≤◌, ◌&&◌, Bool, true, false, List, length, Option, Some, None, refl, ◌⊎◌, inl, inr, ap, ◌∙◌, arith, not, ◌||◌}
+use Rattle.std.proofs.Common.{◌≡◌, ℕ, zero, suc, ◌<◌, ◌≤◌, ◌&&◌, Bool, true, false, List, length, Option, Some, None, refl, ◌⊎◌, inl, inr, ap, ◌∙◌, arith, not}
 use Rattle.std.specs.Prelude.{Result, Ok, Err, slice_get, is_some, option_map, unwrap_or, if◌then◌else◌}
 use Rattle.std.specs.Bool.{Decides}
 use Rattle.std.proofs.Math.Dec.{ltb}
@@ -17,8 +17,6 @@ use Rattle.snoop_model.proofs.Tables.RespondTests.{SettlesIf, memory_row_for, ro
 use Rattle.snoop_model.proofs.OneBlock.OfBlocks.{same_picture, same_memory}
 use Rattle.snoop_model.proofs.Steps.Next.{Next, value_of, words_after, has_word, after_ask, by_row, next_asked, sender_below, line_after, next_picture, next_ordered, settled, filled, brought, next_closed, next_of, next_first}
 use Rattle.snoop_model.proofs.Queues.Waiting.{AreQueued, first_waits, none_waits}
-use Rattle.snoop_rules.specs.declared.names.CacheEvent.TheVariants as event
-use Rattle.snoop_rules.specs.declared.names.Payload.TheVariants as payload
 use Rattle.snoop_rules.proofs.Every.{all_protocols, all_protocols-at, all_states, all_states-at, all_payloads, all_payloads-at}
 use Rattle.snoop_model.proofs.Tables.Every.{given, given_at}
 use Rattle.snoop_model.proofs.Tables.Rows.{is_evict, asked_answers, hit_keeps}

@@ -1,5 +1,5 @@
 -- A core that waits has its work under way.
-use Rattle.std.proofs.Common.{◌≡◌, ℕ, Bool, true, not, ◌||◌, Option, Some, None, refl, inl, inr, ◌⊎◌}
+use Rattle.std.proofs.Common.{◌≡◌, ℕ, Bool, true, not, ◌||◌, Option, Some, refl, inl, inr, ◌⊎◌}
 use Rattle.std.proofs.lemmas.List.Elements.{All-contains}
 use Rattle.snoop_model.proofs.Common.{awaited_request, CacheCell, CacheEvent, CacheState, Cell, is_some, IsServing, IsWellKept, Protocol, queue_of, Request, Situation, state_of, waiting_request}
 use Rattle.snoop_rules.specs.declared.names.CacheState.TheVariants.{I}
