@@ -207,16 +207,7 @@ module _ (s : Situation) (g : Invariant s) where
         is_line = led_line s.protocol (picture_of s block) core q x.from x.payload x.cell_of_memory.next x.order_line;
       }
 
-  -- a core has a row for what it is asked
-  asked_row : (core block : ℕ) (asking : Op) → (¬ ((asking ≡ op.Evict) × (state_of s core block ≡ state.I))) → HasRow s.protocol (state_of s core block) (asked asking)
-  asked_row core block asking = each_line core block (λ x. (¬ ((asking ≡ op.Evict) × (x.state ≡ state.I))) → HasRow s.protocol x.state (asked asking))
-      (λ within busy.
-      let held = state_of s core block in
-      let not_idle = false_from_ne_true (is_idle_evict held (asked asking)) (λ idle. busy (idle_evict held asking idle)) in
-      ask_possible s.protocol s.shape.cores (flat_words s.log block) (picture_of s block) core asking (g.blocks block within.1) within.0 not_idle)
-      (nothing_asked s.protocol asking)
-
-  -- and for a request that is ordered
+  -- a core has a row for a request that is ordered
   seen_row : (core block : ℕ) (q : Request) → CanOrder s core block q → (k : ℕ) → HasRow s.protocol (state_of s k block) (seen_by k core q)
   seen_row core block q ready k = each_line k block (λ x. (k ≡ core → waiting_request x.state ≡ Some q) → HasRow s.protocol x.state (seen_by k core q))
       (λ within waits. (possible_order core block q ready).rows k (rw (g.shaped.row block within.1) within.0))
@@ -227,7 +218,13 @@ module _ (s : Situation) (g : Invariant s) where
   response_possible block closing opened = respond_possible s.protocol s.shape.cores (flat_words s.log block) (picture_of s block) closing (g.blocks block (opened_within block closing opened)) opened
 
   finds_cache : (step : Step) (core block : ℕ) (event : Option CacheEvent) → ConsultsCache s step core block event → IsSomeAnd event (HasRow s.protocol (state_of s core block))
-  finds_cache (Ask asker on word asking) core block event looks = rw looks.3 (asked_row core block asking looks.2)
+  finds_cache (Ask asker on word asking) core block event looks =
+      rw looks.3 (each_line core block (λ x. (¬ ((asking ≡ op.Evict) × (x.state ≡ state.I))) → HasRow s.protocol x.state (asked asking))
+      (λ within busy.
+      let held = state_of s core block in
+      let not_idle = false_from_ne_true (is_idle_evict held (asked asking)) (λ idle. busy (idle_evict held asking idle)) in
+      ask_possible s.protocol s.shape.cores (flat_words s.log block) (picture_of s block) core asking (g.blocks block within.1) within.0 not_idle)
+      (nothing_asked s.protocol asking) looks.2)
   finds_cache (Order requestor) core block event looks = rw looks.1.1 (seen_row requestor block looks.0 looks.1.0 core)
   finds_cache (Respond on) core block event (closing, looks) =
       rw (looks.4, looks.2) (has_row (row_for s.protocol (state_of s closing.core block)) refl (arrival closing.payload)

@@ -72,15 +72,11 @@ reset_shaped p shape = record {
   queues = length-replicate shape.cores [];
 }
 
--- flat memory at reset
-flat_reset : (block : ℕ) → flat_words [] block ≡ zero_words
-flat_reset block = refl
-
 pub reset_invariant : (p : Protocol) (shape : Extent) → Invariant (reset p shape)
 reset_invariant p shape = record {
   shaped = reset_shaped p shape;
   opened = λ b o is_open. (let none = reset_open p shape b in cc);
-  blocks = λ b b_in. rw (reset_picture p shape b b_in, flat_reset b) (untouched_block p shape.cores);
+  blocks = λ b b_in. rw (reset_picture p shape b b_in) (untouched_block p shape.cores);
   accesses = λ core b access waits. absurd (none-some access (rw (reset_line p shape core b) at waits));
   legal = λ k entry h. cc;
   logged = All-nil (λ did. IsWithin (reset p shape) did.core did.block × IsWord shape did.word);

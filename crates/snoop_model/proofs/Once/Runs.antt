@@ -15,6 +15,7 @@ use Rattle.snoop_model.proofs.Tables.Rows.{issue-missed, drop_evicts}
 use Rattle.snoop_model.proofs.OneBlock.Operation.{did_in}
 use Rattle.snoop_model.proofs.OneBlock.OfBlocks.{changed, each_picture, in_pictures}
 use Rattle.snoop_model.proofs.Lines.Answered.{by_request}
+use Rattle.snoop_model.proofs.Queues.Moves.{each_taken}
 use Rattle.snoop_model.proofs.Once.Owed.{answers_are, cons_one}
 use Rattle.snoop_model.proofs.Invariant.Runs.{nothing_waits, goes_keeps, refusal_same, reset_invariant, reset_line}
 
@@ -103,15 +104,6 @@ module _ (old : Situation) (b c : ℕ) where
         within (λ x apart. rw (ne_eqb b x (λ e. apart (sym e))) (unchanged (waiting_at old core x))) (rw (eq-eqb b b refl) (balance.1 core)) block);
   }
 
--- an Order leaves each operation waiting
-order_waiting : (old : Situation) (core block : ℕ) (q : Request) (new : Situation) (o : Orders old core block q new) (k : ℕ) → (held_by o.next k).waiting ≡ (held_by (picture_of old block) k).waiting
-order_waiting old core block q new o k = elim (cases_lt k (length (picture_of old block).caches)) [
-  | inl inside ↦ rw (o.taken.rows k inside).2 refl
-  | inr past ↦
-      (let long = o.taken.same_length in
-      rw (get_or_past o.next.caches k nothing_held (omega arith), get_or_past (picture_of old block).caches k nothing_held past) refl)
-]
-
 -- a move does each load and store once
 move_once : (b : ℕ) (old : Situation) (step : Step) (answer : Reply) (new : Situation) → Invariant old → MoveOn b old step answer new → OnceMore old (step ∷ []) (Ok answer ∷ []) new
 move_once b old (Ask c on word asking) answer new g m = elim m.moves [
@@ -129,8 +121,10 @@ move_once b old (Ask c on word asking) answer new g m = elim m.moves [
 ]
 move_once b old (Order c) answer new g m =
     let o = m.orders in
+    let waiting = λ (k : ℕ). each_taken old.protocol c m.request (picture_of old b).caches o.next.caches o.taken k (λ x y. y.waiting ≡ x.waiting)
+    (λ inside. rw (o.taken.rows k inside).2 refl) refl in
     rw o.after (grown old b c o.next (after_order old.queues c b) (Some (item.Sent (record { core = c; request = m.request; block = b }))) None (Order c) answer
-    (in_pictures old b g.shaped m.within.1) (λ core block. either_way (eqb b block && eqb c core) None) (rests old b c o.next.caches (order_waiting old c b m.request new o)))
+    (in_pictures old b g.shaped m.within.1) (λ core block. either_way (eqb b block && eqb c core) None) (rests old b c o.next.caches waiting))
 move_once b old (Respond on) answer new g m =
     let r = m.responds in
     let c = m.closing.core in

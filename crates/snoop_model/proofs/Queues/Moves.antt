@@ -97,48 +97,43 @@ module _ (s : Situation) (kept : IsWellKept s) (core block word : ℕ) (asking :
 
 -- who waits once each core has taken its row: the requestor no longer, each other core as before
 module _ (p : Protocol) (core : ℕ) (request : Request) (old new : List Line) (taken : TakesRows p core request old new) where
+  -- what holds of each line before and after its row, and of two that hold nothing, holds of each core's
+  pub each_taken : (k : ℕ) (P : Line → Line → Type 0) → (k < length old → P (held_at old k) (held_at new k)) → P nothing_held nothing_held → P (held_at old k) (held_at new k)
+  each_taken k P row nothing = elim (cases_lt k (length old)) [
+    | inl inside ↦ row inside
+    | inr past ↦ (let same = taken.same_length in rw (get_or_past new k nothing_held (omega arith), get_or_past old k nothing_held past) nothing)
+  ]
+
   row_waits : (k : ℕ) → k < length old → waiting_request (held_at new k).state ≡ (if k == core then None else waiting_request (held_at old k).state)
   row_waits k inside =
-      let row = taken.rows k inside in
-      ap (λ (x : Line). waiting_request x.state) row.2 ∙ (order_facts p (held_at old k).state k core request row.0.action row.0.next row.1).2
+      let (row, is_row, moved) = taken.rows k inside in
+      rw moved (order_facts p (held_at old k).state k core request row.action row.next is_row).2
 
   pub own_waits : core < length old → waiting_request (held_at new core).state ≡ None
   own_waits inside = row_waits core inside ∙ rw (eq-eqb core core refl) refl
 
   pub others_wait : (k : ℕ) → (k ≡ core → ⊥) → waiting_request (held_at new k).state ≡ waiting_request (held_at old k).state
-  others_wait k apart = elim (cases_lt k (length old)) [
-    | inl inside ↦ row_waits k inside ∙ rw (ne_eqb k core apart) refl
-    | inr past ↦ (let same = taken.same_length in rw (get_or_past new k nothing_held (omega arith), get_or_past old k nothing_held past) refl)
-  ]
-
-module _ {closing : Open} {p : Protocol} {log : List Item} {old new : List Line} {did : Option Did} (f : FillsRequestor closing p log old new did) where
-  fills_waits : (k : ℕ) → waiting_request (held_at new k).state ≡ waiting_request (held_at old k).state
-  fills_waits k = elim (filled_or_same f k) [
-    | inl e ↦ rw (e.1, f.fills.held, e.0) (fill-waits p (held_at old closing.core).state f.fills.event f.fills.row.action f.fills.row.next f.asking.op f.fills.fill f.fills.is_row)
-    | inr e ↦ rw e refl
-  ]
-
-  -- the requestor awaits no more
-  fills_awaits : (q : Request) → awaited_request (held_at new closing.core).state ≡ Some q → ⊥
-  fills_awaits q = each_held new closing.core (λ x. awaited_request x.state ≡ Some q → ⊥)
-      (λ below. let inside : closing.core < length old = rw (f.held, length-set) at below in
-      rw (f.held, get_or-set_same old closing.core f.line nothing_held inside, f.fills.held)
-      (awaited-filled p (held_at old closing.core).state closing.payload f.fills.event f.fills.row.action f.fills.row.next q f.fills.arrives f.fills.is_row))
-      (λ h. cc)
+  others_wait k apart = each_taken k (λ x y. waiting_request y.state ≡ waiting_request x.state) (λ inside. row_waits k inside ∙ rw (ne_eqb k core apart) refl) refl
 
 -- a response changes no wait
 pub arrives_waits : (closing : Open) (p : Protocol) (log : List Item) (old new : List Line) (did : Option Did) → ArrivesFor closing.request closing p log old new did
     → (k : ℕ) → waiting_request (held_at new k).state ≡ waiting_request (held_at old k).state
-arrives_waits closing p log old new did arrives k = elim (by_request closing.request arrives) [ inl put ↦ rw put.1 refl | inr fills ↦ fills_waits fills k ]
+arrives_waits closing p log old new did arrives k = elim (by_request closing.request arrives) [
+  | inl put ↦ rw put.1 refl
+  | inr f ↦ elim (filled_or_same f k) [
+    | inl e ↦ rw (e.1, f.fills.held, e.0) (fill-waits p (held_at old closing.core).state f.fills.event f.fills.row.action f.fills.row.next f.asking.op f.fills.fill f.fills.is_row)
+    | inr e ↦ rw e refl
+  ]
+]
 
 -- no core awaits data of the block once a response has come
 none_awaits : (s : Situation) (kept : IsWellKept s) (block : ℕ) (closing : Open) (did : Option Did) (t : Situation) (r : Responds s block closing did t)
     → (k : ℕ) (q : Request) → awaited_request (held_by r.next k).state ≡ Some q → ⊥
 none_awaits s kept block closing did t r k q h = elim (by_request closing.request r.requestor) [
   | inl put ↦ let was = rw put.1 at h in awaited-get (state_of s k block) (cc (was, (its was).1, put.0))
-  | inr fills ↦
-      let same : closing.core ≡ k = elim (filled_or_same fills k) [ inl e ↦ sym e.0 | inr e ↦ (its (rw e at h)).0 ] in
-      fills_awaits fills q (rw (← same) at h)
+  | inr f ↦
+      let same : closing.core ≡ k = elim (filled_or_same f k) [ inl e ↦ sym e.0 | inr e ↦ (its (rw e at h)).0 ] in
+      filled f (rw (← same) at h)
 ]
   where
     -- what it awaited was of this transaction
@@ -147,6 +142,14 @@ none_awaits s kept block closing did t r k q h = elim (by_request closing.reques
         let had = kept.awaits k block q was in
         let same : had.0 ≡ closing = same_Some _ _ (sym had.1.0 ∙ r.opened) in
         rw (← same) (had.1.1, had.1.2)
+
+    -- and a line that is filled awaits no more
+    filled : (f : FillsRequestor closing s.protocol s.log (picture_of s block).caches r.next.caches did) → awaited_request (held_by r.next closing.core).state ≡ Some q → ⊥
+    filled f = each_held r.next.caches closing.core (λ x. awaited_request x.state ≡ Some q → ⊥)
+        (λ below. let inside : closing.core < length (picture_of s block).caches = rw (f.held, length-set) at below in
+        rw (f.held, get_or-set_same (picture_of s block).caches closing.core f.line nothing_held inside, f.fills.held)
+        (awaited-filled s.protocol (state_of s closing.core block) closing.payload f.fills.event f.fills.row.action f.fills.row.next q f.fills.arrives f.fills.is_row))
+        (λ h. cc)
 
 pub on_kept : (block : ℕ) (s t : Situation) (step : Step) (answer : Reply) → IsWellKept s → MoveOn block s step answer t → IsWellKept t
 on_kept block s t (Ask core on word asking) answer kept m = elim m.moves [
