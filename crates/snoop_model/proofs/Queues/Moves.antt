@@ -1,18 +1,20 @@
--- A machine is well kept at reset, and stays so where one block and the queues change as they should: at each kind of move.
-use Rattle.std.proofs.Common.{◌≡◌, ◌≢◌, ℕ, ◌<◌, ◌++◌, List, [], length, Option, Some, None, refl, ap, sym, ◌∙◌, arith, inl, inr}
+-- A machine is well kept at reset, and stays so where one block and the queues change as they should: at each kind of move. A core waits on the blocks in its queue, and on no others.
+use Rattle.std.proofs.Common.{◌≡◌, ◌≢◌, ℕ, ◌<◌, ◌++◌, List, [], length, Option, Some, None, refl, sym, ◌∙◌, arith, inl, inr, ◌∷◌}
 use Rattle.std.specs.Prelude.{◌==◌, if◌then◌else◌, option_to_list, is_some, IsSome}
 use Rattle.std.proofs.lemmas.List.{length-set, get_or_past, get_or-set_same}
-use Rattle.snoop_model.proofs.Common.{Access, after_issue, after_order, ArrivesFor, Ask, asked, awaited_request, CacheAction, CacheState, cases_lt, Cell, Did, eq-eqb, FillsRequestor, held_at, held_by, IsWellKept, IsWithin, Item, KeepsWell, Line, missed_request, MoveOn, ne_eqb, none-some, nothing_held, Op, Open, Order, Picture, picture_of, Protocol, queue_of, queues_after, Reply, Request, reset, Respond, Responds, same_Some, Situation, StartsWell, state_of, Step, Takes, TakesRows, waiting_request, with_line}
+use Rattle.snoop_model.proofs.Common.{Access, after_issue, after_order, ArrivesFor, Ask, asked, awaited_request, CacheAction, CacheState, cases_lt, Cell, Did, eq-eqb, FillsRequestor, held_at, held_by, IsWellKept, IsWithin, Item, KeepsWell, Line, missed_request, MoveOn, ne_eqb, none-some, nothing_held, Op, Open, Order, Picture, picture_of, Protocol, queue_of, queues_after, Reply, Request, reset, Respond, Responds, same_Some, Situation, StartsWell, state_of, Step, Takes, TakesRows, waiting_request, with_line, cases_Bool, Contains, is_some, slice_get, StandsFirst, Waits, WaitsOnNone}
 use Rattle.snoop_rules.specs.declared.names.CacheAction.TheVariants as action
 use Rattle.snoop_model.proofs.Lists.Facts.{one_if, replicated}
 use Rattle.snoop_model.proofs.Lists.Writes.{each_set}
-use Rattle.snoop_model.proofs.Lists.QueueCounts.{times, issued_own, issued_others, issued_elsewhere, ordered_own, ordered_others, ordered_elsewhere}
+use Rattle.snoop_model.proofs.Lists.QueueCounts.{times, issued_own, issued_others, issued_elsewhere, ordered_own, ordered_others, ordered_elsewhere, counted_in, in_counted}
 use Rattle.snoop_model.proofs.Tables.Rows.{issue-waits, issue-missed, asked_missed, hit_facts, drop_facts, order_facts, fill-waits}
 use Rattle.snoop_model.proofs.Tables.WaitingRows.{awaited-asked, awaited-ordered, awaited-filled, awaited-get}
 use Rattle.snoop_model.proofs.OneBlock.Facts.{by_core, each_held}
 use Rattle.snoop_model.proofs.OneBlock.OfBlocks.{changed, in_pictures, each_picture, shaped_after}
 use Rattle.snoop_model.proofs.Lines.Answered.{by_request, filled_or_same, arrives_length, still_waiting}
 use Rattle.snoop_model.proofs.Invariant.Runs.{reset_line, reset_open, reset_shaped}
+use Rattle.snoop_model.specs.Pictures.InQueue.{IsInQueue}
+use Rattle.snoop_model.proofs.Tables.Every.{some_of}
 
 -- how often a core that holds the block in this state has it in its queue
 abbrev waits : CacheState → ℕ
@@ -216,3 +218,36 @@ starts_well protocol shape under_way = (
   where
     queue_is : (k : ℕ) → queue_of (reset protocol shape).queues k ≡ []
     queue_is k = replicated shape.cores k []
+
+-- each core's queue has the blocks on which it waits
+abbrev pub AreQueued : Situation → Type 0
+AreQueued s = (core block : ℕ) → IsInQueue s core block
+
+module _ (s : Situation) (queued : AreQueued s) (core block : ℕ) where
+  pub waits_queued : (request : Request) → Waits s core block request → Contains (queue_of s.queues core) block
+  waits_queued request waits =
+      let one : times block (queue_of s.queues core) ≡ 1 = rw waits at (queued core block) in
+      counted_in block (queue_of s.queues core) (omega arith)
+
+  pub queued_waits : Contains (queue_of s.queues core) block → (request : Request) × Waits s core block request
+  queued_waits there = elim (cases_Bool (is_some (waiting_request (state_of s core block)))) [
+    | inl is ↦ some_of _ is
+    | inr none ↦
+        let zero : times block (queue_of s.queues core) ≡ 0 = rw none at (queued core block) in
+        absurd (omega (arith, in_counted block (queue_of s.queues core) there))
+  ]
+
+first_in : (queue : List ℕ) (block : ℕ) → slice_get queue 0 ≡ Some block → Contains queue block
+first_in [] block e = cc
+first_in (x ∷ queue) block e = (0, omega arith, same_Some _ _ e)
+
+-- it waits on the block that stands first, and on none where none does
+pub first_waits : (s : Situation) → AreQueued s → (core block : ℕ) → StandsFirst s core block → (request : Request) × Waits s core block request
+first_waits s queued core block first = queued_waits s queued core block (first_in (queue_of s.queues core) block first)
+
+pub none_waits : (s : Situation) → AreQueued s → (core : ℕ) → slice_get (queue_of s.queues core) 0 ≡ None → WaitsOnNone s core
+none_waits s queued core none block request waits = nothing (queue_of s.queues core) none (waits_queued s queued core block request waits)
+  where
+    nothing : (queue : List ℕ) → slice_get queue 0 ≡ None → Contains queue block → ⊥
+    nothing [] e there = let below = there.1 in omega arith
+    nothing (x ∷ queue) e there = cc

@@ -16,13 +16,13 @@ use Rattle.snoop_model.proofs.Tables.SentBy.{payload_from, sends_is, sends_row}
 use Rattle.snoop_model.proofs.Tables.RespondTests.{SettlesIf, memory_row_for, row_for}
 use Rattle.snoop_model.proofs.OneBlock.OfBlocks.{same_picture, same_memory}
 use Rattle.snoop_model.proofs.Steps.Next.{Next, value_of, words_after, has_word, after_ask, by_row, next_asked, sender_below, line_after, next_picture, next_ordered, settled, filled, brought, next_closed, next_of, next_first}
-use Rattle.snoop_model.proofs.Queues.Waiting.{AreQueued, first_waits, none_waits}
 use Rattle.snoop_rules.proofs.Every.{all_protocols, all_protocols-at, all_states, all_states-at, all_payloads, all_payloads-at}
 use Rattle.snoop_model.proofs.Tables.Every.{given, given_at}
 use Rattle.snoop_model.proofs.Tables.Rows.{is_evict, asked_answers, hit_keeps}
 use Rattle.snoop_model.proofs.Tables.AskTests.{is_idle_evict}
 use Rattle.snoop_model.proofs.Invariant.Coherence.{orders_follow_sender_table, finds_rows, idle_evict, waits_within}
 use Rattle.snoop_model.proofs.OneBlock.Possible.{ask_possible, respond_possible}
+use Rattle.snoop_model.proofs.Queues.Moves.{AreQueued, first_waits, none_waits}
 
 -- an operation does one thing
 performs_is : (word : ℕ) (asking : Op) (before : List ℕ) (value : ℕ) (after : List ℕ) → Performs word asking before value after

@@ -12,8 +12,7 @@ use Rattle.snoop_model.specs.Turns.Turn.{step_under_way, turn_of}
 use Rattle.snoop_model.proofs.Lists.Facts.{one_if}
 use Rattle.snoop_model.proofs.Lists.Writes.{set_cases, all_first, all_issued, all_ordered, sum_issued, sum_ordered, one_small, count_set}
 use Rattle.snoop_model.proofs.OneBlock.OfBlocks.{same_everywhere}
-use Rattle.snoop_model.proofs.Queues.Waiting.{queued_waits, waits_queued}
-use Rattle.snoop_model.proofs.Queues.Moves.{starts_well, keeps_well}
+use Rattle.snoop_model.proofs.Queues.Moves.{starts_well, keeps_well, queued_waits, waits_queued}
 use Rattle.snoop_model.proofs.Once.Owed.{owes}
 use Rattle.snoop_model.proofs.Turns.WaitingWorks.{stall_busy, busy_cases, busy_under_way, missed_busy}
 

@@ -10,7 +10,7 @@ use Rattle.std.proofs.lemmas.Bool.{or_cases}
 use Rattle.snoop_model.proofs.Tables.Every.{some_of}
 use Rattle.snoop_model.proofs.Tables.AskTests.{is_stall}
 use Rattle.snoop_model.proofs.Tables.WaitingRows.{has_missed}
-use Rattle.snoop_model.proofs.Queues.Waiting.{waits_queued}
+use Rattle.snoop_model.proofs.Queues.Moves.{waits_queued}
 
 -- the core waits in a state, for its own request to be ordered or for data
 abbrev pub is_busy : CacheState → Bool
