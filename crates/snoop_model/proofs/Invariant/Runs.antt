@@ -29,25 +29,6 @@ unfolding fits is_owner is_sharer is_clean wait_fits in_protocol same
 idle_fits protocol.Msi shared = refl
 idle_fits protocol.Mesi shared = refl
 
-untouched_block : (p : Protocol) (n : ℕ) → BlockInvariant p n zero_words (untouched p n)
-untouched_block p n =
-    let claims = first_claims p in
-    record {
-      claims = record { owned = false; shared = claims.0; fresh = true };
-      is_claims = claims.1;
-      owner = None;
-      owner_in = λ o e. cc;
-      is_owned = refl;
-      states = λ d d_in. rw (replicated n d nothing_held) (idle_fits p claims.0);
-      kept = λ d d_in h. (let e = rw (replicated n d nothing_held) at h in cc);
-      clean = λ d d_in h. refl;
-      fresh = λ h. refl;
-      carried = λ o e h. cc;
-      requestor_in = λ o e. cc;
-      sender_in = λ o e. cc;
-      proper = λ d d_in. rw (replicated n d nothing_held) nothing_proper;
-    }
-
 reset_picture : (p : Protocol) (shape : Extent) (block : ℕ) → block < shape.blocks → picture_of (reset p shape) block ≡ untouched p shape.cores
 reset_picture p shape block within = get_or-replicate shape.blocks block (untouched p shape.cores) nothing_there within
 
@@ -76,7 +57,23 @@ pub reset_invariant : (p : Protocol) (shape : Extent) → Invariant (reset p sha
 reset_invariant p shape = record {
   shaped = reset_shaped p shape;
   opened = λ b o is_open. (let none = reset_open p shape b in cc);
-  blocks = λ b b_in. rw (reset_picture p shape b b_in) (untouched_block p shape.cores);
+  blocks = λ b b_in.
+      let claims = first_claims p in
+      rw (reset_picture p shape b b_in) (record {
+        claims = record { owned = false; shared = claims.0; fresh = true };
+        is_claims = claims.1;
+        owner = None;
+        owner_in = λ o e. cc;
+        is_owned = refl;
+        states = λ d d_in. rw (replicated shape.cores d nothing_held) (idle_fits p claims.0);
+        kept = λ d d_in h. (let e = rw (replicated shape.cores d nothing_held) at h in cc);
+        clean = λ d d_in h. refl;
+        fresh = λ h. refl;
+        carried = λ o e h. cc;
+        requestor_in = λ o e. cc;
+        sender_in = λ o e. cc;
+        proper = λ d d_in. rw (replicated shape.cores d nothing_held) nothing_proper;
+      });
   accesses = λ core b access waits. absurd (none-some access (rw (reset_line p shape core b) at waits));
   legal = λ k entry h. cc;
   logged = All-nil (λ did. IsWithin (reset p shape) did.core did.block × IsWord shape did.word);

@@ -2,6 +2,7 @@
 use Rattle.std.proofs.Common.{◌≡◌, ◌≢◌, ℕ, ◌<◌, ◌++◌, List, [], length, Option, Some, None, refl, sym, ◌∙◌, arith, inl, inr, ◌∷◌}
 use Rattle.std.specs.Prelude.{◌==◌, if◌then◌else◌, option_to_list, is_some, IsSome}
 use Rattle.std.proofs.lemmas.List.{length-set, get_or_past, get_or-set_same}
+use Rattle.std.proofs.lemmas.Option.{slice_get-get_or}
 use Rattle.snoop_model.proofs.Common.{Access, after_issue, after_order, ArrivesFor, Ask, asked, awaited_request, CacheAction, CacheState, cases_lt, Cell, Did, eq-eqb, FillsRequestor, held_at, held_by, IsWellKept, IsWithin, Item, KeepsWell, Line, missed_request, MoveOn, ne_eqb, none-some, nothing_held, Op, Open, Order, Picture, picture_of, Protocol, queue_of, queues_after, Reply, Request, reset, Respond, Responds, same_Some, Situation, StartsWell, state_of, Step, Takes, TakesRows, waiting_request, with_line, cases_Bool, Contains, is_some, slice_get, StandsFirst, Waits, WaitsOnNone}
 use Rattle.snoop_rules.specs.declared.names.CacheAction.TheVariants as action
 use Rattle.snoop_model.proofs.Lists.Facts.{one_if, replicated}
@@ -246,8 +247,6 @@ pub first_waits : (s : Situation) → AreQueued s → (core block : ℕ) → Sta
 first_waits s queued core block first = queued_waits s queued core block (first_in (queue_of s.queues core) block first)
 
 pub none_waits : (s : Situation) → AreQueued s → (core : ℕ) → slice_get (queue_of s.queues core) 0 ≡ None → WaitsOnNone s core
-none_waits s queued core none block request waits = nothing (queue_of s.queues core) none (waits_queued s queued core block request waits)
-  where
-    nothing : (queue : List ℕ) → slice_get queue 0 ≡ None → Contains queue block → ⊥
-    nothing [] e there = let below = there.1 in omega arith
-    nothing (x ∷ queue) e there = cc
+none_waits s queued core none block request waits =
+    let there = waits_queued s queued core block request waits in
+    none-some _ (sym none ∙ slice_get-get_or (queue_of s.queues core) 0 0 (omega (arith, there.1)))

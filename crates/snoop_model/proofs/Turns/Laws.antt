@@ -181,21 +181,20 @@ idle_turn core block (Some r) o none_waits none_open = absurd (none_waits r refl
 idle_turn core block None None none_waits none_open = refl
 idle_turn core block None (Some t) none_waits none_open = rw (ne_eqb t.core core (none_open t refl)) refl
 
-no_issue : (act : CacheAction) (next : CacheState) (log : List Item) (queues : List (List ℕ)) (core block word : ℕ) (asking : Op) (old new : Line)
-    (answer : Reply) (entry : Option Item) → Takes act next log core block word asking old new answer entry → ((request : Request) → answer ≢ Issued request)
-    → queues_after act queues core block ≡ queues
-no_issue (action.Issue request) next log queues core block word asking old new answer entry taken other = absurd (other request taken.1)
-no_issue _ next log queues core block word asking old new answer entry taken other = refl
-
 -- the queues and the transactions are as before
 same_queues : (s t : Situation) (core block word : ℕ) (asking : Op) (answer : Reply) → FirstMove s (Ask core block word asking) answer t → ((request : Request) → answer ≢ Issued request) → (t.queues ≡ s.queues) × ((b : ℕ) → (picture_of t b).transaction ≡ (picture_of s b).transaction)
 same_queues s t core block word asking answer m other = elim m.1.1.moves [
   | inl absent ↦ rw absent.3 (refl, λ b. refl)
   | inr a ↦ rw a.after (
-    no_issue a.row.action a.row.next s.log s.queues core m.0 word asking (held_by (picture_of s m.0) core) a.held answer a.entry a.taken other,
+    no_issue a.row.action a.row.next a.held a.entry a.taken,
     same_everywhere s m.0 (with_line (picture_of s m.0) core a.held) s.queues s.log (λ (x : Picture). x.transaction) refl,
   )
 ]
+  where
+    no_issue : (act : CacheAction) (next : CacheState) (held : Line) (entry : Option Item) → Takes act next s.log core m.0 word asking (held_by (picture_of s m.0) core) held answer entry
+        → queues_after act s.queues core m.0 ≡ s.queues
+    no_issue (action.Issue request) next held entry taken = absurd (other request taken.1)
+    no_issue _ next held entry taken = refl
 
 asked_once : EndsAtOnce
 asked_once s t under_way core block word asking answer serving idle kept m other =
