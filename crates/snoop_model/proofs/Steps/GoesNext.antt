@@ -32,8 +32,7 @@ performs_is word _ before value after h = h
 
 word_decides : (shape : Extent) (word : ℕ) (asking : Op) → Decides (has_word shape word asking) (HasWord shape word asking)
 word_decides shape word op.Evict = (λ h. tt, λ h. refl)
-word_decides shape word op.Load = Decides-and _ _ (Decides-ltb word shape.words) (Decides-ltb word word_places)
-word_decides shape word (op.Store v) = Decides-and _ _ (Decides-ltb word shape.words) (Decides-ltb word word_places)
+word_decides shape word _ = Decides-and _ _ (Decides-ltb word shape.words) (Decides-ltb word word_places)
 
 -- An Ask.
 module _ (s : Situation) (core block word : ℕ) (asking : Op) where
@@ -213,12 +212,10 @@ module _ (s : Situation) (g : Invariant s) where
         next = _;
         taken = record {
           same_length = length-map-range_with_len (line_after p before core q) 0 (length before.caches);
-          rows = λ k below. (let row = (finds_rows s g (Order core)).cache k block (Some (seen_by k core q)) (q, (ready, refl)) in (
-            row.0,
-            row.1,
-            get_or-map-range_with_len (line_after p before core q) 0 (length before.caches) k k nothing_held below
-                (omega arith) ∙ rw row.1 refl,
-          ));
+          rows = λ k below.
+              let row = (finds_rows s g (Order core)).cache k block (Some (seen_by k core q)) (q, (ready, refl)) in
+              let is = get_or-map-range_with_len (line_after p before core q) 0 (length before.caches) k k nothing_held below (omega arith) in
+              (row.0, row.1, is ∙ rw row.1 refl);
         };
         memory = (line.ordered.0, line.ordered.1, rw line.ordered.1 refl);
         value = refl;

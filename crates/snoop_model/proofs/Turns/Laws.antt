@@ -185,10 +185,9 @@ idle_turn core block None (Some t) none_waits none_open = rw (ne_eqb t.core core
 same_queues : (s t : Situation) (core block word : ℕ) (asking : Op) (answer : Reply) → FirstMove s (Ask core block word asking) answer t → ((request : Request) → answer ≢ Issued request) → (t.queues ≡ s.queues) × ((b : ℕ) → (picture_of t b).transaction ≡ (picture_of s b).transaction)
 same_queues s t core block word asking answer m other = elim m.1.1.moves [
   | inl absent ↦ rw absent.3 (refl, λ b. refl)
-  | inr a ↦ rw a.after (
-    no_issue a.row.action a.row.next a.held a.entry a.taken,
-    same_everywhere s m.0 (with_line (picture_of s m.0) core a.held) s.queues s.log (λ (x : Picture). x.transaction) refl,
-  )
+  | inr a ↦
+      let transactions = same_everywhere s m.0 (with_line (picture_of s m.0) core a.held) s.queues s.log (λ (x : Picture). x.transaction) refl in
+      rw a.after (no_issue a.row.action a.row.next a.held a.entry a.taken, transactions)
 ]
   where
     no_issue : (act : CacheAction) (next : CacheState) (held : Line) (entry : Option Item) → Takes act next s.log core m.0 word asking (held_by (picture_of s m.0) core) held answer entry
