@@ -23,7 +23,7 @@ use Rattle.snoop_model.proofs.Queues.Moves.{on_kept, starts_well}
 use Rattle.snoop_model.proofs.Runs.Along.{kept_along}
 use Rattle.snoop_model.proofs.Runs.GoOn.{moves_on}
 use Rattle.snoop_model.proofs.Steps.GoesNext.{order_made, settled_is}
-use Rattle.snoop_model.proofs.Turns.WaitingWorks.{stall_busy, busy_cases}
+use Rattle.snoop_model.proofs.Turns.Laws.{stall_busy, busy_cases}
 
 -- a drop at an Evict leaves the block in I
 drop_leaves : (p : Protocol) (s : CacheState) (n : CacheState) → Cell p s (asked op.Evict) action.Drop n → n ≡ state.I

@@ -1,10 +1,10 @@
 -- All laws of turns that follow the turn rule: what they keep, that they are never refused, what they cost, and when a work is over.
-use Rattle.std.proofs.Common.{◌≡◌, ◌≢◌, ℕ, ◌+◌, ◌≤◌, true, false, List, length, Option, Some, None, refl, sym, ◌∙◌, ap, subst, arith, inl, inr, ◌⊎◌}
+use Rattle.std.proofs.Common.{◌≡◌, ◌≢◌, ℕ, ◌+◌, ◌≤◌, true, false, List, length, Option, Some, None, refl, sym, ◌∙◌, ap, subst, arith, inl, inr, ◌⊎◌, Bool, not, ◌||◌}
 use Rattle.std.specs.Prelude.{◌==◌, All, Contains, slice_index_or, slice_set, sum_by}
-use Rattle.std.proofs.lemmas.Bool.{cases_eq, eq-eqb, ne_eqb}
+use Rattle.std.proofs.lemmas.Bool.{cases_eq, eq-eqb, ne_eqb, or_cases}
 use Rattle.std.proofs.lemmas.Option.{cond_some, none-some, same_Some}
 use Rattle.std.proofs.lemmas.List.Elements.{All-contains, All-weaker, Contains-get_or}
-use Rattle.snoop_model.proofs.Common.{Access, Ask, asked, CacheAction, CacheState, ClosedIsLast, ComesToRest, Ends, EndsAtOnce, FirstMove, has_transaction, held_by, IsServing, IsWellKept, Item, Line, NeverRefused, nothing_there, Op, Open, Order, Pays, Picture, picture_of, queue_of, queues_after, Refused, Refuses, Reply, Request, Respond, ServesOn, Situation, state_of, Step, Takes, TurnLaws, waiting_request, Waits, with_line}
+use Rattle.snoop_model.proofs.Common.{Access, Ask, asked, CacheAction, CacheState, ClosedIsLast, ComesToRest, Ends, EndsAtOnce, FirstMove, has_transaction, held_by, IsServing, IsWellKept, Item, Line, NeverRefused, nothing_there, Op, Open, Order, Pays, Picture, picture_of, queue_of, queues_after, Refused, Refuses, Reply, Request, Respond, ServesOn, Situation, state_of, Step, Takes, TurnLaws, waiting_request, Waits, with_line, awaited_request, CacheCell, CacheEvent, Cell, is_some, Protocol}
 use Rattle.snoop_rules.specs.declared.names.CacheAction.TheVariants as action
 use Rattle.snoop_model.specs.declared.replies.Reply.TheVariants.{Issued}
 use Rattle.snoop_model.specs.declared.replies.Refused.TheVariants.{NoCore, NoBlock, Stalled, NothingWaiting, BusTaken, NoTransaction}
@@ -14,7 +14,44 @@ use Rattle.snoop_model.proofs.Lists.Writes.{set_cases, all_first, all_issued, al
 use Rattle.snoop_model.proofs.OneBlock.OfBlocks.{same_everywhere}
 use Rattle.snoop_model.proofs.Queues.Moves.{starts_well, keeps_well, queued_waits, waits_queued}
 use Rattle.snoop_model.proofs.Once.Owed.{owes}
-use Rattle.snoop_model.proofs.Turns.WaitingWorks.{stall_busy, busy_cases, busy_under_way, missed_busy}
+use Rattle.snoop_rules.specs.declared.names.CacheState.TheVariants.{I}
+use Rattle.snoop_rules.proofs.Every.{all_protocols, all_states, all_events}
+use Rattle.snoop_rules.proofs.Rows.{each_row, each_row-at}
+use Rattle.snoop_model.proofs.Tables.Every.{some_of}
+use Rattle.snoop_model.proofs.Tables.AskTests.{is_stall}
+use Rattle.snoop_model.proofs.Tables.WaitingRows.{has_missed}
+
+-- the core waits in a state, for its own request to be ordered or for data
+abbrev pub is_busy : CacheState → Bool
+is_busy state = is_some (waiting_request state) || is_some (awaited_request state)
+
+abbrev stall_test : Protocol → CacheState → CacheEvent → CacheCell → Bool
+stall_test p s e row = not (is_stall row.action) || is_busy s
+
+stall_test_holds : each_row stall_test ≡ true
+unfolding each_row all_protocols all_states all_events
+stall_test_holds = refl
+
+-- a stall comes only where the core waits
+pub stall_busy : (p : Protocol) (s : CacheState) (e : CacheEvent) (n : CacheState) → Cell p s e action.Stall n → is_busy s ≡ true
+stall_busy p s e n h = each_row-at stall_test stall_test_holds p s e action.Stall n h
+
+-- for one of the two
+pub busy_cases : (s : CacheState) → is_busy s ≡ true → ((request : Request) × (waiting_request s ≡ Some request)) ⊎ ((request : Request) × (awaited_request s ≡ Some request))
+busy_cases s busy = elim (or_cases _ _ busy) [ inl waits ↦ inl (some_of _ waits) | inr awaits ↦ inr (some_of _ awaits) ]
+
+pub busy_under_way : (s : Situation) (under_way : ℕ → Option ℕ) → IsServing under_way s → IsWellKept s → (core block : ℕ) → is_busy (state_of s core block) ≡ true → under_way core ≡ Some block
+busy_under_way s under_way serving kept core block busy = elim (busy_cases (state_of s core block) busy) [
+  | inl w ↦ All-contains (λ b. under_way core ≡ Some b) (queue_of s.queues core) block (serving.waits core) (waits_queued s kept.queued core block w.0 w.1)
+  | inr d ↦
+      let own = kept.awaits core block d.0 d.1 in
+      rw (← own.1.1) (serving.opened block own.0 own.1.0)
+]
+
+-- a core that has missed waits
+pub missed_busy : (s : CacheState) → has_missed s ≡ true → is_busy s ≡ true
+missed_busy I h = cc
+missed_busy _ h = cc
 
 -- which steps a work under way takes, and when it takes none
 under_way_step : (w : Option Request) (t : Option Open) (core block : ℕ) (step : Step) → step_under_way w t core block ≡ Some step
