@@ -4,7 +4,7 @@ use Rattle.std.specs.Prelude.{◌<◌, ◌↔◌, IfSome, IsSome, IsSomeAnd, ◌
 use Rattle.std.specs.Option.{ForSome}
 use Rattle.std.proofs.lemmas.Bool.{and_parts, both_ways, cases_Bool, cases_lt, eq-eqb, false_from_ne_true}
 use Rattle.snoop_model.proofs.Lists.Facts.{if_some}
-use Rattle.snoop_model.proofs.Common.{is_some, arrival, arrival_at_memory, Ask, asked, awaited_request, BlockInvariant, CacheEvent, CacheState, CanOrder, carries_value, data_under_way, flat_words, get_or_past, HasOpen, held_by, Invariant, is_put_m, IsWellKept, IsWithin, keeps, Line, MemEvent, none-some, nothing_held, nothing_there, Op, Open, Order, OrdersFollowSenderTable, own_open, owns, Picture, picture_of, Protocol, Request, Respond, seen_by, Situation, state_of, Step, talk_of, waiting_request, Waits}
+use Rattle.snoop_model.proofs.Common.{Cell, is_some, arrival, arrival_at_memory, Ask, asked, awaited_request, BlockInvariant, CacheEvent, CacheState, CanOrder, carries_value, data_under_way, flat_words, get_or_past, HasOpen, held_by, Invariant, is_put_m, IsWellKept, IsWithin, keeps, Line, MemEvent, none-some, nothing_held, nothing_there, Op, Open, Order, OrdersFollowSenderTable, own_open, owns, Picture, picture_of, Protocol, Request, Respond, seen_by, Situation, state_of, Step, talk_of, waiting_request, Waits}
 use Rattle.snoop_trace.specs.declared.step.Op.TheVariants as op
 use Rattle.snoop_trace.specs.declared.protocol.Protocol.TheVariants.{Msi, Mesi}
 use Rattle.snoop_rules.specs.declared.names.CacheState.TheVariants as state
@@ -112,13 +112,11 @@ module _ (s : Situation) (g : Invariant s) where
 
   -- beside a writer no other core is a reader or a writer
   pub has_one_writer : (block : ℕ) → OneWriter s.protocol (picture_of s block)
-  has_one_writer block core other writes apart = (
-    λ h. blind (hit_keeps s.protocol (state_of s other block) event.Load h.0 h.1).0,
-    λ h. blind (hit_keeps s.protocol (state_of s other block) event.Store h.0 h.1).0,
-  )
+  has_one_writer block core other writes apart = (blind event.Load, blind event.Store)
     where
-      blind : keeps (state_of s other block) ≡ true → ⊥
-      blind keeping =
+      blind : (e : CacheEvent) → (n : CacheState) × Cell s.protocol (state_of s other block) e action.Hit n → ⊥
+      blind e hits =
+          let keeping = (hit_keeps s.protocol (state_of s other block) e hits.0 hits.1).0 in
           let held = state_of s core block in
           let within = keeper_within core block (hit_keeps s.protocol held event.Store writes.0 writes.1).0 in
           let good = g.blocks block within.1 in
@@ -149,10 +147,8 @@ module _ (s : Situation) (g : Invariant s) where
   -- and so has memory, where nobody may write and no data is under way
   pub memory_current : (block : ℕ) → block < s.shape.blocks → ((core : ℕ) → ¬ MayStore s.protocol (state_of s core block)) → data_under_way (picture_of s block).transaction ≡ None → (picture_of s block).memory.value ≡ flat_words s.log block
   memory_current block within idle none =
-      let picture : Picture = picture_of s block in
       let it = g.blocks block within in
-      it.fresh (resting_rule s.protocol picture.memory.state (talk_of picture.transaction) it.claims it.is_claims
-      (nobody_owns it idle) (no_data picture.transaction none))
+      it.fresh (resting_rule s.protocol _ (talk_of (picture_of s block).transaction) it.claims it.is_claims (nobody_owns it idle) (no_data _ none))
 
   -- an open transaction is of a block within the shape
   opened_within : (block : ℕ) (o : Open) → (picture_of s block).transaction ≡ Some o → block < s.shape.blocks
@@ -175,8 +171,7 @@ module _ (s : Situation) (g : Invariant s) where
   data_awaited kept core block q = (
     λ waits. (kept.awaits core block q waits, λ put. awaited-get (state_of s core block) (rw put at waits)),
     λ open_get.
-        let o = open_get.0.0 in
-        let is = open_get.0.1 in
+        let (o, is) = open_get.0 in
         let good = g.blocks block (opened_within block o is.0) in
         let there : core < s.shape.cores = rw (← is.1) (good.requestor_in o is.0) in
         let its : own_open (picture_of s block).transaction core ≡ Some q = rw (is.0, is.1, eq-eqb core core refl, is.2) refl in

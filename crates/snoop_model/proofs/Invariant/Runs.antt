@@ -19,15 +19,11 @@ nothing_waits None h = refl
 nothing_waits (Some access) h = cc
 
 -- where the block's value is at reset: with memory, and with each sharer under MSI
-first_claims : (p : Protocol) → (shared : Bool) × (claims_of p (first_memory p) None ≡ Some (record { owned = false; shared = shared; fresh = true }))
-unfolding claims_of
-first_claims protocol.Msi = (true, refl)
-first_claims protocol.Mesi = (false, refl)
-
-idle_fits : (p : Protocol) (shared : Bool) → fits p shared false None I ≡ true
-unfolding fits is_owner is_sharer is_clean wait_fits in_protocol same
-idle_fits protocol.Msi shared = refl
-idle_fits protocol.Mesi shared = refl
+first_claims : (p : Protocol) → (shared : Bool)
+    × ((claims_of p (first_memory p) None ≡ Some (record { owned = false; shared = shared; fresh = true })) × (fits p shared false None I ≡ true))
+unfolding claims_of fits is_owner is_sharer is_clean wait_fits in_protocol same
+first_claims protocol.Msi = (true, (refl, refl))
+first_claims protocol.Mesi = (false, (refl, refl))
 
 reset_picture : (p : Protocol) (shape : Extent) (block : ℕ) → block < shape.blocks → picture_of (reset p shape) block ≡ untouched p shape.cores
 reset_picture p shape block within = get_or-replicate shape.blocks block (untouched p shape.cores) nothing_there within
@@ -61,11 +57,11 @@ reset_invariant p shape = record {
       let claims = first_claims p in
       rw (reset_picture p shape b b_in) (record {
         claims = record { owned = false; shared = claims.0; fresh = true };
-        is_claims = claims.1;
+        is_claims = claims.1.0;
         owner = None;
         owner_in = λ o e. cc;
         is_owned = refl;
-        states = λ d d_in. rw (replicated shape.cores d nothing_held) (idle_fits p claims.0);
+        states = λ d d_in. rw (replicated shape.cores d nothing_held) claims.1.1;
         kept = λ d d_in h. (let e = rw (replicated shape.cores d nothing_held) at h in cc);
         clean = λ d d_in h. refl;
         fresh = λ h. refl;

@@ -136,11 +136,6 @@ move_once b old (Respond on) answer new g m =
     rw r.after (grown old b c r.next old.queues (Some (item.Came (came_of m.closing) m.did)) None (Respond on) answer
     (in_pictures old b g.shaped m.within) (λ core block. either_way (eqb b block && eqb c core) None) balanced)
 
-accesses_in-append : (xs ys : List Item) (core block : ℕ) → accesses_in (xs ++ ys) core block ≡ accesses_in xs core block ++ accesses_in ys core block
-accesses_in-append xs ys core block =
-    rw (filter_map-append operation_of xs ys, filter-append (λ (d : Did). d.core == core) (operations xs) (operations ys), filter-append (λ (d : Did). d.block == block) (answers_of xs core) (answers_of ys core))
-    (map-append did_access (filter (λ (d : Did). d.block == block) (answers_of xs core)) (filter (λ (d : Did). d.block == block) (answers_of ys core)))
-
 -- a run, from any situation that keeps the invariant
 pub run_once : (steps : List Step) (outcomes : List (Result Reply Refused)) (old new : Situation) → Invariant old → RunBy Goes old steps outcomes new → OnceMore old steps outcomes new
 run_once [] [] old new g r = rw r (record { since = []; log = sym (append-nil old.log); once = λ core block. unchanged (waiting_at old core block) })
@@ -158,7 +153,10 @@ run_once (step ∷ steps) (Ok answer ∷ outcomes) old new g r =
           let did = accesses_in a.since core block in
           rw (
             filter_map-append asks (step ∷ []) (taken steps outcomes),
-            accesses_in-append a.since b.since core block,
+            filter_map-append operation_of a.since b.since,
+            filter-append (λ (d : Did). d.core == core) (operations a.since) (operations b.since),
+            filter-append (λ (d : Did). d.block == block) (answers_of a.since core) (answers_of b.since core),
+            map-append did_access (filter (λ (d : Did). d.block == block) (answers_of a.since core)) (filter (λ (d : Did). d.block == block) (answers_of b.since core)),
             append_assoc did (accesses_in b.since core block) (waiting_at new core block),
             ← append_assoc (waiting_at old core block) now more,
           )

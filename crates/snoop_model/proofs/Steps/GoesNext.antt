@@ -191,10 +191,6 @@ module _ (s : Situation) (core block word : ℕ) (asking : Op) (within : IsWithi
             rw row.1 (goes_by row.0.action row.0.next row.1 (good.proper core within.0))
       ]
 
--- a step goes as it is computed
-abbrev pub GoesNext : Situation → Step → Type 0
-GoesNext s step = GoesFirst s step (next_of s step).0 (next_of s step).1
-
 module _ (s : Situation) (g : Invariant s) where
   -- an Order of a request that can be ordered: each controller has its row
   pub order_made : (core block : ℕ) (q : Request) → CanOrder s core block q → Orders s core block q (next_ordered s core block q).1
@@ -288,7 +284,7 @@ remembers true p (Some e) m row = rw (row refl).1 refl
 
 -- each step goes as it is computed
 module _ (s : Situation) (g : Invariant s) where
-  pub goes_next : AreQueued s → (step : Step) → GoesNext s step
+  pub goes_next : AreQueued s → (step : Step) → GoesFirst s step (next_of s step).0 (next_of s step).1
   goes_next queued (Ask core block word asking) = elim (cases_lt core s.shape.cores) [
     | inr past ↦ rw (le-ltb core s.shape.cores past) (past, refl)
     | inl in_cores ↦ elim (cases_Bool (ltb block s.shape.blocks && has_word s.shape word asking)) [
