@@ -17,7 +17,7 @@ use Rattle.snoop_model.proofs.Tables.RespondTests.{SettlesIf, memory_row_for, ro
 use Rattle.snoop_model.proofs.OneBlock.OfBlocks.{same_picture, same_memory}
 use Rattle.snoop_model.proofs.Steps.Next.{Next, value_of, words_after, has_word, after_ask, by_row, next_asked, sender_below, line_after, next_picture, next_ordered, settled, filled, brought, next_closed, next_of, next_first}
 use Rattle.snoop_rules.proofs.Every.{all_protocols, all_protocols-at, all_states, all_states-at, all_payloads, all_payloads-at}
-use Rattle.snoop_model.proofs.Tables.Every.{given, given_at}
+use Rattle.snoop_model.proofs.Tables.Every.{given, given_at, some_of}
 use Rattle.snoop_model.proofs.Tables.Rows.{is_evict, asked_answers, hit_keeps}
 use Rattle.snoop_model.proofs.Tables.AskTests.{is_idle_evict}
 use Rattle.snoop_model.proofs.Invariant.Coherence.{orders_follow_sender_table, finds_rows, idle_evict, waits_within}
@@ -60,18 +60,14 @@ module _ (p : Protocol) (before : Picture) (core : ℕ) (q : Request) where
       → sender_below p before core q n ≡ from
   sender_is zero few None payload sent below = refl
   sender_is zero few (Some k) payload sent below = absurd (omega arith)
-  sender_is (suc n) few from payload sent below = found (payload_from p before core q (Some n)) refl (sender_is n (omega arith) from payload sent)
+  sender_is (suc n) few from payload sent below = elim (cases_Bool (is_some (payload_from p before core q (Some n)))) [
+    | inl is ↦ let x = some_of _ is in rw is (sent.alone (Some n) x.0 (omega arith, sends_row _ x.0 x.1))
+    | inr none ↦ rw none (sender_is n (omega arith) from payload sent (lower none from below (sends_is p before core q from payload sent.sends)))
+  ]
     where
-      lower : (other : Option ℕ) → IsBelow (suc n) other → (other ≡ Some n → ⊥) → IsBelow n other
-      lower None below apart = tt
-      lower (Some k) below apart = elim (cases_eq k n) [ inl e ↦ absurd (apart (ap Some e)) | inr ne ↦ omega arith ]
-
-      found : (sends : Option Payload) → payload_from p before core q (Some n) ≡ sends → (IsBelow n from → sender_below p before core q n ≡ from)
-          → sender_below p before core q (suc n) ≡ from
-      found (Some x) is rest = rw is (sent.alone (Some n) x (omega arith, sends_row _ x is))
-      found None is rest =
-          let silent : from ≡ Some n → ⊥ = λ e. (let sends = rw e at (sends_is p before core q from payload sent.sends) in cc) in
-          rw is (rest (lower from below silent))
+      lower : is_some (payload_from p before core q (Some n)) ≡ false → (other : Option ℕ) → IsBelow (suc n) other → payload_from p before core q other ≡ Some payload → IsBelow n other
+      lower none None below sends = tt
+      lower none (Some k) below sends = elim (cases_eq k n) [ inl e ↦ (let clash = rw (← e, sends) at none in cc) | inr ne ↦ omega arith ]
 
 -- A Respond.
 pub settled_is : (takes : Bool) (p : Protocol) (found : Option MemEvent) (m : MemState) (act : MemAction) (next : MemState)
