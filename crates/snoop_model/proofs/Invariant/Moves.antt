@@ -68,8 +68,7 @@ legal_logged log (Some entry) legal follows = legal-grows log entry legal follow
 
 -- an operation on a word that there is, as it is performed, may come next, if its load gives the flat value
 next_lawful : (log : List Item) (core block word : ℕ) (asking : Op) (value : ℕ) (hit : Bool) → word < 64 → IsLawful (flat_words log block) (Some (next_did log core block word asking value hit)) → IsNext log (next_did log core block word asking value hit)
-next_lawful log core block word op.Load value hit inside lawful = record { numbered = refl; loaded = λ h. lawful h ∙ word_flat log block word inside }
-next_lawful log core block word _ value hit inside lawful = record { numbered = refl; loaded = λ h. cc }
+next_lawful log core block word asking value hit inside lawful = record { numbered = refl; loaded = λ h. lawful h ∙ word_flat log block word inside }
 
 -- the operation's core, block and word are within the shape
 abbrev IsLogged : Situation → Did → Type 0
@@ -88,6 +87,10 @@ all_logged P log (Some entry) was now = rw operations-push (All-append P (operat
 abbrev IsNextOn : Situation → ℕ → Option Item → Type 0
 IsNextOn s block entry = IfSome (did_in entry) (λ did. (did.block ≡ block) × IsNext s.log did × IsLogged s did)
 
+-- what waits in a line is of a word that there is
+abbrev AccessWithin : Extent → Line → Type 0
+AccessWithin shape line = (access : Access) → line.waiting ≡ Some access → IsWord shape access.word
+
 -- what is to be shown of a move
 record Keeps (old : Situation) (block : ℕ) (next : Picture) (queues : List (List ℕ)) (entry : Option Item) : Type 0 where
   within : block < old.shape.blocks
@@ -95,7 +98,7 @@ record Keeps (old : Situation) (block : ℕ) (next : Picture) (queues : List (Li
   as_many_queues : length queues ≡ length old.queues
   opened : (o : Open) → next.transaction ≡ Some o → o.block ≡ block
   block_after : BlockInvariant old.protocol old.shape.cores (flat_after (flat_words old.log block) (did_in entry)) next
-  accesses : (core : ℕ) (access : Access) → (held_by next core).waiting ≡ Some access → IsWord old.shape access.word
+  accesses : (core : ℕ) → AccessWithin old.shape (held_by next core)
   item : IsNextOn old block entry
 
 kept : (old : Situation) (block : ℕ) (next : Picture) (queues : List (List ℕ)) (entry : Option Item) → Invariant old → Keeps old block next queues entry → Invariant (changed old block next queues (old.log ++ option_to_list entry))
@@ -112,17 +115,12 @@ kept old block next queues entry g k =
           (λ b_in. rw (flat_here old.log entry block on) k.block_after);
       legal = legal_logged old.log entry g.legal (IfSome_then (did_in entry) k.item (λ did h. h.1));
       logged = all_logged (IsLogged old) old.log entry g.logged (IfSome_then (did_in entry) k.item (λ did h. h.2));
-      accesses = λ core. each_picture old block next queues log (λ b x. (access : Access) → (held_by x core).waiting ≡ Some access
-          → IsWord old.shape access.word) within (λ b apart. g.accesses core b) (k.accesses core);
+      accesses = λ core. each_picture old block next queues log (λ b x. AccessWithin old.shape (held_by x core)) within (λ b apart. g.accesses core b) (k.accesses core);
     }
 
 as_many_after : (a : CacheAction) (queues : List (List ℕ)) (core block : ℕ) → length (queues_after a queues core block) ≡ length queues
 as_many_after (action.Issue r) queues core block = length-set queues core _
 as_many_after _ queues core block = refl
-
--- what waits in a line is of a word that there is
-abbrev AccessWithin : Extent → Line → Type 0
-AccessWithin shape line = (access : Access) → line.waiting ≡ Some access → IsWord shape access.word
 
 issued_access : (s : Situation) (word : ℕ) (asking : Op) (access : Access) → HasWord s.shape word asking → kept_waiting word asking ≡ Some access → IsWord s.shape access.word
 issued_access s word op.Evict access within e = cc
