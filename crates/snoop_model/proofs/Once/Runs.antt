@@ -65,13 +65,6 @@ module _ (p : Protocol) (next : CacheState) (log : List Item) (core block word :
   line_once action.Drop row t = rw (t.0, t.2, drop_evicts p old.state asking next row) (tt, unchanged (option_to_list old.waiting))
   line_once _ row t = absurd t
 
--- a response performs what waited on the requestor's line
-fills_once : {closing : Open} {p : Protocol} {log : List Item} {old new : List Line} {did : Option Did} (f : FillsRequestor closing p log old new did)
-    → IsPermutation (option_to_list (held_at old closing.core).waiting ++ []) (option_to_list (done did) ++ option_to_list f.line.waiting)
-fills_once {closing} {p} {log} f =
-    let so = performed_so f.asking.word f.asking.op closing.value f.value f.fills.after log closing.core closing.block false f.fills.performed in
-    rw (f.fills.held, f.fills.waited, f.logged, so.0) (IsPermutation-refl (f.asking ∷ []))
-
 module _ (old : Situation) (b c : ℕ) where
   -- the core's operation on the block is done, and in each of its lines what waited and what is asked is what is done and what waits
   abbrev Balances : Option Access → Option Did → List Line → Type 0
@@ -131,7 +124,11 @@ move_once b old (Respond on) answer new g m =
     let in_row : c < length (picture_of old b).caches = rw (g.shaped.row b m.within) ((g.blocks b m.within).requestor_in m.closing r.opened) in
     let balanced : Balances old b c None m.did r.next.caches = elim (by_request m.closing.request r.requestor) [
       | inl put ↦ rw (put.2, put.1) (rests old b c (picture_of old b).caches (λ k. refl))
-      | inr f ↦ rw f.held (balances old b c f.line None m.did in_row (rw f.logged (refl, g.opened b m.closing r.opened)) (fills_once f))
+      | inr f ↦
+          (let so = performed_so f.asking.word f.asking.op m.closing.value f.value f.fills.after old.log c m.closing.block false f.fills.performed in
+          let done_once : IsPermutation (waiting_at old c b ++ []) (option_to_list (done m.did) ++ option_to_list f.line.waiting) =
+          rw (f.fills.held, f.fills.waited, f.logged, so.0) (IsPermutation-refl (f.asking ∷ [])) in
+          rw f.held (balances old b c f.line None m.did in_row (rw f.logged (refl, g.opened b m.closing r.opened)) done_once))
     ] in
     rw r.after (grown old b c r.next old.queues (Some (item.Came (came_of m.closing) m.did)) None (Respond on) answer
     (in_pictures old b g.shaped m.within) (λ core block. either_way (eqb b block && eqb c core) None) balanced)
