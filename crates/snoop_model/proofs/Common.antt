@@ -45,8 +45,8 @@ pub use Rattle.snoop_model.specs.Runs.Run.{FirstRunFrom, Goes, GoesFirst, RunBy,
 pub use Rattle.snoop_model.specs.Turns.Serving.{has_transaction, IsServing}
 pub use Rattle.snoop_model.specs.Turns.TurnLaws.{ComesToRest, Ends, KeepsWell, NeverRefused, Pays, ServesOn, StartsWell, TurnLaws}
 pub use Rattle.snoop_trace.specs.Words.{Data, HasWord, IsWord, word_at, word_places, zero_words}
-pub use Rattle.std.proofs.lemmas.Bool.{cases_Bool, cases_lt, eq-eqb, ne_eqb}
-pub use Rattle.std.proofs.lemmas.List.{get_or-set_same, get_or_past, map-append}
-pub use Rattle.std.proofs.lemmas.Option.{none-some, same_Some}
+pub use Rattle.std.proofs.lemmas.Bool.{and_cases, and_from, and_left, and_parts, and_right, both_ways, cases_Bool, cases_eq, cases_lt, eq-eqb, eqb-true, false_from_ne_true, le-ltb, lt-ltb, ltb-false, ltb-true, ne_eqb, or_cases}
+pub use Rattle.std.proofs.lemmas.List.{append-nil, append_cancel_left, get_or-replicate, get_or-set_other, get_or-set_same, get_or_past, length-replicate, length-set, map-append}
+pub use Rattle.std.proofs.lemmas.Option.{cond_some, IfSome_then, none-some, same_Some, slice_get-get_or}
 pub use Rattle.std.specs.Option.{option_map_or}
-pub use Rattle.std.specs.Prelude.{Contains, Err, IfSome, is_some, Ok, option_map, option_to_list, Result, slice_get}
+pub use Rattle.std.specs.Prelude.{All, Contains, Err, filter, filter_map, IfOk, IfSome, if◌then◌else◌, is_some, IsSome, IsSomeAnd, map, Ok, option_map, option_to_list, Result, slice_get, slice_index_or, slice_set, sum_by, unwrap_or, ◌<◌, ◌==◌, ◌↔◌, ◌≤◌}

@@ -1,10 +1,8 @@
 -- What the invariant says of a situation: one writer, current copies and memory, all rows, one sender.
 use Rattle.std.proofs.Common.{◌≡◌, ◌≢◌, ℕ, true, false, List, [], Option, Some, None, refl, inl, inr, sym, ◌∙◌, arith, rules}
-use Rattle.std.specs.Prelude.{◌<◌, ◌↔◌, IfSome, IsSome, IsSomeAnd, ◌≤◌}
 use Rattle.std.specs.Option.{ForSome}
-use Rattle.std.proofs.lemmas.Bool.{and_parts, both_ways, cases_Bool, cases_lt, eq-eqb, false_from_ne_true}
 use Rattle.snoop_model.proofs.Lists.Facts.{if_some}
-use Rattle.snoop_model.proofs.Common.{Cell, is_some, arrival, arrival_at_memory, Ask, asked, awaited_request, BlockInvariant, CacheEvent, CacheState, CanOrder, carries_value, data_under_way, flat_words, get_or_past, HasOpen, held_by, Invariant, is_put_m, IsWellKept, IsWithin, keeps, Line, MemEvent, none-some, nothing_held, nothing_there, Op, Open, Order, OrdersFollowSenderTable, own_open, owns, Picture, picture_of, Protocol, Request, Respond, seen_by, Situation, state_of, Step, talk_of, waiting_request, Waits}
+use Rattle.snoop_model.proofs.Common.{and_parts, arrival, arrival_at_memory, Ask, asked, awaited_request, BlockInvariant, both_ways, CacheEvent, CacheState, CanOrder, carries_value, cases_Bool, cases_lt, Cell, data_under_way, eq-eqb, false_from_ne_true, flat_words, get_or_past, HasOpen, held_by, IfSome, Invariant, is_put_m, is_some, IsSome, IsSomeAnd, IsWellKept, IsWithin, keeps, Line, MemEvent, none-some, nothing_held, nothing_there, Op, Open, Order, OrdersFollowSenderTable, own_open, owns, Picture, picture_of, Protocol, Request, Respond, seen_by, Situation, state_of, Step, talk_of, waiting_request, Waits, ◌<◌, ◌↔◌, ◌≤◌}
 use Rattle.snoop_trace.specs.declared.step.Op.TheVariants as op
 use Rattle.snoop_trace.specs.declared.protocol.Protocol.TheVariants.{Msi, Mesi}
 use Rattle.snoop_rules.specs.declared.names.CacheState.TheVariants as state

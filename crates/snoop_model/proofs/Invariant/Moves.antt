@@ -1,13 +1,10 @@
 -- A move keeps the invariant of the machine.
 use Rattle.std.proofs.Common.{◌≡◌, ◌≢◌, ℕ, ◌<◌, Bool, true, false, not, List, [], ◌∷◌, ◌++◌, length, Option, Some, None, refl, inl, inr, ap, sym, ◌∙◌, arith}
-use Rattle.std.specs.Prelude.{◌==◌, option_to_list, slice_set, IfSome, All, if◌then◌else◌}
 use Rattle.std.proofs.Math.Bool.{and-false}
-use Rattle.std.proofs.lemmas.List.{append-nil, length-set, get_or-set_same, get_or-set_other}
 use Rattle.std.proofs.lemmas.List.Elements.{All-nil, All-cons, All-append}
 use Rattle.std.proofs.lemmas.List.FromFn.{length-map-range_with_len, get_or-map-range_with_len, fill_by_all}
-use Rattle.std.proofs.lemmas.Option.{IfSome_then}
 use Rattle.std.proofs.lemmas.Bool.Decides.{eqb_tells}
-use Rattle.snoop_model.proofs.Common.{Access, after_order, Ask, BlockInvariant, CacheAction, CacheState, came_of, cases_Bool, Did, eq-eqb, Extent, flat, flat_words, HasWord, held_by, Invariant, is_store_to, IsNext, IsWithin, IsWord, Item, kept_waiting, Legal, Line, MoveOn, ne_eqb, next_did, none-some, nothing_held, Op, Open, operation_of, operations, option_map_or, Order, Performs, Picture, picture_of, queues_after, Reply, Respond, same_Some, Situation, Step, stores, Takes, with_line, word_at}
+use Rattle.snoop_model.proofs.Common.{Access, after_order, All, append-nil, Ask, BlockInvariant, CacheAction, CacheState, came_of, cases_Bool, Did, eq-eqb, Extent, flat, flat_words, get_or-set_other, get_or-set_same, HasWord, held_by, IfSome, IfSome_then, if◌then◌else◌, Invariant, is_store_to, IsNext, IsWithin, IsWord, Item, kept_waiting, Legal, length-set, Line, MoveOn, ne_eqb, next_did, none-some, nothing_held, Op, Open, operation_of, operations, option_map_or, option_to_list, Order, Performs, Picture, picture_of, queues_after, Reply, Respond, same_Some, Situation, slice_set, Step, stores, Takes, with_line, word_at, ◌==◌}
 use Rattle.snoop_trace.specs.declared.step.Op.TheVariants as op
 use Rattle.snoop_rules.specs.declared.names.CacheAction.TheVariants as action
 use Rattle.snoop_history.specs.declared.items.Item.TheVariants as item

@@ -1,8 +1,7 @@
 -- The invariant holds at reset, and after each step of a run.
 use Rattle.std.proofs.Common.{Option, Some, ◌≡◌, ℕ, ◌<◌, [], replicate, Bool, true, false, None, refl, inl, inr, arith}
-use Rattle.std.proofs.lemmas.List.{length-replicate, get_or-replicate, get_or_past}
 use Rattle.std.proofs.lemmas.List.Elements.{All-nil}
-use Rattle.snoop_model.proofs.Common.{MoveOn, Access, cases_lt, Err, Extent, first_memory, Goes, held_by, Invariant, IsProper, IsShaped, IsWithin, IsWord, none-some, nothing_held, nothing_there, Ok, option_map, Picture, picture_of, Protocol, Refused, Reply, request_for, reset, Result, Situation, Step, untouched}
+use Rattle.snoop_model.proofs.Common.{Access, cases_lt, Err, Extent, first_memory, get_or-replicate, get_or_past, Goes, held_by, Invariant, IsProper, IsShaped, IsWithin, IsWord, length-replicate, MoveOn, none-some, nothing_held, nothing_there, Ok, option_map, Picture, picture_of, Protocol, Refused, Reply, request_for, reset, Result, Situation, Step, untouched}
 use Rattle.snoop_trace.specs.declared.protocol.Protocol.TheVariants as protocol
 use Rattle.snoop_rules.specs.declared.names.CacheState.TheVariants.{I}
 use Rattle.snoop_model.specs.declared.replies.Refused.TheVariants.{NoMemory}

@@ -1,9 +1,8 @@
 -- What a step comes to, computed: what it is answered, and where it leads. Where a table has no row, which no run meets, the state stays.
 use Rattle.std.proofs.Common.{ℕ, zero, suc, Bool, true, false, ◌&&◌, List, [], ◌∷◌, ◌++◌, length, map, Option, Some, None}
-use Rattle.std.specs.Prelude.{Result, Ok, Err, is_some, option_to_list, unwrap_or, slice_get, slice_set, if◌then◌else◌}
 use Rattle.std.specs.List.{range_with_len}
 use Rattle.std.proofs.Math.Dec.{ltb}
-use Rattle.snoop_model.proofs.Common.{free_picture, Access, after_order, arrival, arrival_at_memory, Ask, asked, at_memory, CacheAction, CacheState, came_of, cell_of, Data, Did, Extent, held_at, held_by, is_load, Item, kept_waiting, Line, MemAction, MemEvent, memory_cell_of, MemState, moves_to, next_did, Op, Open, option_map_or, Order, Picture, picture_of, Protocol, queue_of, queues_after, Refused, Reply, Request, Respond, seen_by, Situation, state_of, Step, takes_payload, value_sent, waiting_request, with_line, with_picture, word_at, word_places, written, zero_words}
+use Rattle.snoop_model.proofs.Common.{Access, after_order, arrival, arrival_at_memory, Ask, asked, at_memory, CacheAction, CacheState, came_of, cell_of, Data, Did, Err, Extent, free_picture, held_at, held_by, if◌then◌else◌, is_load, is_some, Item, kept_waiting, Line, MemAction, MemEvent, memory_cell_of, MemState, moves_to, next_did, Ok, Op, Open, option_map_or, option_to_list, Order, Picture, picture_of, Protocol, queue_of, queues_after, Refused, Reply, Request, Respond, Result, seen_by, Situation, slice_get, slice_set, state_of, Step, takes_payload, unwrap_or, value_sent, waiting_request, with_line, with_picture, word_at, word_places, written, zero_words}
 use Rattle.snoop_trace.specs.declared.step.Op.TheVariants as op
 use Rattle.snoop_rules.specs.declared.names.CacheAction.TheVariants as action
 use Rattle.snoop_rules.specs.declared.names.MemAction.TheVariants as mem_action

@@ -1,10 +1,7 @@
 -- All laws of turns that follow the turn rule: what they keep, that they are never refused, what they cost, and when a work is over.
 use Rattle.std.proofs.Common.{◌≡◌, ◌≢◌, ℕ, ◌+◌, ◌≤◌, true, false, List, length, Option, Some, None, refl, sym, ◌∙◌, ap, subst, arith, inl, inr, ◌⊎◌, Bool, not, ◌||◌}
-use Rattle.std.specs.Prelude.{◌==◌, All, Contains, slice_index_or, slice_set, sum_by}
-use Rattle.std.proofs.lemmas.Bool.{cases_eq, eq-eqb, ne_eqb, or_cases}
-use Rattle.std.proofs.lemmas.Option.{cond_some, none-some, same_Some}
 use Rattle.std.proofs.lemmas.List.Elements.{All-contains, All-weaker, Contains-get_or}
-use Rattle.snoop_model.proofs.Common.{Access, Ask, asked, CacheAction, CacheState, ClosedIsLast, ComesToRest, Ends, EndsAtOnce, FirstMove, has_transaction, held_by, IsServing, IsWellKept, Item, Line, NeverRefused, nothing_there, Op, Open, Order, Pays, Picture, picture_of, queue_of, queues_after, Refused, Refuses, Reply, Request, Respond, ServesOn, Situation, state_of, Step, Takes, TurnLaws, waiting_request, Waits, with_line, awaited_request, CacheCell, CacheEvent, Cell, is_some, Protocol}
+use Rattle.snoop_model.proofs.Common.{Access, All, Ask, asked, awaited_request, CacheAction, CacheCell, CacheEvent, CacheState, cases_eq, Cell, ClosedIsLast, ComesToRest, cond_some, Contains, Ends, EndsAtOnce, eq-eqb, FirstMove, has_transaction, held_by, is_some, IsServing, IsWellKept, Item, Line, ne_eqb, NeverRefused, none-some, nothing_there, Op, Open, or_cases, Order, Pays, Picture, picture_of, Protocol, queue_of, queues_after, Refused, Refuses, Reply, Request, Respond, same_Some, ServesOn, Situation, slice_index_or, slice_set, state_of, Step, sum_by, Takes, TurnLaws, waiting_request, Waits, with_line, ◌==◌}
 use Rattle.snoop_rules.specs.declared.names.CacheAction.TheVariants as action
 use Rattle.snoop_model.specs.declared.replies.Reply.TheVariants.{Issued}
 use Rattle.snoop_model.specs.declared.replies.Refused.TheVariants.{NoCore, NoBlock, Stalled, NothingWaiting, BusTaken, NoTransaction}
