@@ -17,8 +17,7 @@ use Rattle.snoop_model.proofs.Tables.SentBy.{sends_is}
 use Rattle.snoop_model.proofs.OneBlock.AfterMoves.{ask_line, respond_here}
 use Rattle.snoop_model.proofs.OneBlock.OfBlocks.{in_pictures, each_picture}
 use Rattle.snoop_model.proofs.Invariant.Coherence.{has_one_writer, kept_read, readers_current, data_current, memory_current, names_its_block, data_awaited, each_line, held_within, finds_rows, orders_follow_sender_table}
-use Rattle.snoop_model.proofs.Invariant.Moves.{word_flat, move_keeps}
-use Rattle.snoop_model.proofs.Invariant.Runs.{reset_invariant, reset_open, nothing_proper, nothing_waits, goes_kept}
+use Rattle.snoop_model.proofs.Invariant.Runs.{reset_invariant, reset_open, nothing_proper, nothing_waits, goes_kept, word_flat, move_keeps}
 use Rattle.snoop_model.proofs.Queues.Moves.{on_kept, starts_well}
 use Rattle.snoop_model.proofs.Runs.Along.{kept_along}
 use Rattle.snoop_model.proofs.Runs.GoOn.{moves_on}
