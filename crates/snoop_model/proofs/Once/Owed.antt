@@ -71,7 +71,7 @@ module _ (s t : Situation) (step : Step) (answer : Reply) (move : FirstMove s st
   is_last here = elim (one_or_none core (performed_by s t step answer move)) [
     | inl none ↦ absurd (omega (arith, (rw none at here).1))
     | inr (d, is) ↦ elim (cases_Bool (d.block == block)) [
-      | inl on ↦ (d, rw (answers_after, is, map-append Some (answers_of s.log core) (d ∷ []), last_or-append None (map Some (answers_of s.log core)) (Some d ∷ [])) refl, eqb-true d.block block on, same_Some _ _ (in_one (Some (did_access d)) wanted (rw (is, on) at here)))
+      | inl on ↦ (d, rw (answers_after, is, map-append, last_or-append) refl, eqb-true d.block block on, same_Some _ _ (in_one (Some (did_access d)) wanted (rw (is, on) at here)))
       | inr off ↦ absurd (omega (arith, (rw (is, off) at here).1))
     ]
   ]

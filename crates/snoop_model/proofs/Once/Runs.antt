@@ -65,17 +65,20 @@ module _ (p : Protocol) (next : CacheState) (log : List Item) (core block word :
   line_once _ row t = absurd t
 
 module _ (old : Situation) (b c : ℕ) where
+  -- in a line, the core's own or not, what waited and what is asked is what is done and what waits
+  abbrev Evens : Option Access → Option Did → ℕ → ℕ → Bool → Line → Type 0
+  Evens asked did core block own line = IsPermutation (waiting_at old core block ++ option_to_list (cond own asked None)) (option_to_list (cond own (done did) None) ++ option_to_list line.waiting)
+
   -- the core's operation on the block is done, and in each of its lines what waited and what is asked is what is done and what waits
   abbrev Balances : Option Access → Option Did → List Line → Type 0
-  Balances asked did lines = IsBy c b did × ((k : ℕ) → IsPermutation (waiting_at old k b ++ option_to_list (cond (eqb c k) asked None)) (option_to_list (cond (eqb c k) (done did) None) ++ option_to_list (held_at lines k).waiting))
+  Balances asked did lines = IsBy c b did × ((k : ℕ) → Evens asked did k b (eqb c k) (held_at lines k))
 
   -- so it is where the one line that changes balances
   balances : (held : Line) (asked : Option Access) (did : Option Did) → c < length (picture_of old b).caches → IsBy c b did
       → IsPermutation (option_to_list (held_by (picture_of old b) c).waiting ++ option_to_list asked) (option_to_list (done did) ++ option_to_list held.waiting)
       → Balances asked did (slice_set (picture_of old b).caches c held)
   balances held asked did inside by here =
-      let lines = each_set (picture_of old b).caches c held nothing_held
-      (λ k x. IsPermutation (waiting_at old k b ++ option_to_list (cond (eqb c k) asked None)) (option_to_list (cond (eqb c k) (done did) None) ++ option_to_list x.waiting)) inside
+      let lines = each_set (picture_of old b).caches c held nothing_held (λ k. Evens asked did k b (eqb c k)) inside
       (rw (eq-eqb c c refl) here) (λ k apart. rw (ne_eqb c k (λ e. apart (sym e))) (unchanged (waiting_at old k b))) in
       (by, lines)
 
@@ -92,7 +95,7 @@ module _ (old : Situation) (b c : ℕ) where
     log = refl;
     once = λ core block. rw (cons_one (asked_access core block step), asks core block, accesses_one core block c b entry balance.0)
         (each_picture old b next queues (old.log ++ option_to_list entry)
-        (λ x picture. IsPermutation (waiting_at old core x ++ option_to_list (cond (eqb b x && eqb c core) asked None)) (option_to_list (cond (eqb b x && eqb c core) (done (did_in entry)) None) ++ option_to_list (held_by picture core).waiting))
+        (λ x picture. Evens asked (did_in entry) core x (eqb b x && eqb c core) (held_by picture core))
         within (λ x apart. rw (ne_eqb b x (λ e. apart (sym e))) (unchanged (waiting_at old core x))) (rw (eq-eqb b b refl) (balance.1 core)) block);
   }
 
