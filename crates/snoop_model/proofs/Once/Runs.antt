@@ -150,15 +150,7 @@ run_once (step ∷ steps) (Ok answer ∷ outcomes) old new g r =
           let now = filter_map asks (step ∷ []) in
           let more = filter_map asks (taken steps outcomes) in
           let did = accesses_in a.since core block in
-          rw (
-            filter_map-append asks (step ∷ []) (taken steps outcomes),
-            filter_map-append operation_of a.since b.since,
-            filter-append (λ (d : Did). d.core == core) (operations a.since) (operations b.since),
-            filter-append (λ (d : Did). d.block == block) (answers_of a.since core) (answers_of b.since core),
-            map-append did_access (filter (λ (d : Did). d.block == block) (answers_of a.since core)) (filter (λ (d : Did). d.block == block) (answers_of b.since core)),
-            append_assoc did (accesses_in b.since core block) (waiting_at new core block),
-            ← append_assoc (waiting_at old core block) now more,
-          )
+          rw (filter_map-append asks (step ∷ []), filter_map-append operation_of, filter-append, filter-append, map-append, append_assoc did, ← append_assoc _ now more)
           (IsPermutation-trans _ _ _ (rw (append_assoc did (waiting_at middle core block) more) at (IsPermutation-append_left more _ _ (a.once core block)))
           (IsPermutation-append_right did _ _ (b.once core block)));
     }
