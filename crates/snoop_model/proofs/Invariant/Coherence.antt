@@ -29,11 +29,10 @@ use Rattle.snoop_model.proofs.Tables.StateTests.{brings_data, resting_rule}
 -- an owner may write
 owner_stores : (p : Protocol) (s : CacheState) → in_protocol p s ≡ true → is_owner s ≡ true → MayStore p s
 unfolding in_protocol is_clean is_owner
-owner_stores _ state.M known owns = (_, refl)
-owner_stores _ state.MiA known owns = (_, refl)
+owner_stores Msi state.M known owns = (_, refl)
 owner_stores Mesi state.E known owns = (_, refl)
 owner_stores Mesi state.EiA known owns = (_, refl)
-owner_stores _ _ known owns = cc
+owner_stores _ s known owns = (s, cc)
 
 -- a core that keeps words may load
 keeper_loads : (p : Protocol) (s : CacheState) → in_protocol p s ≡ true → keeps s ≡ true → MayLoad p s

@@ -5,7 +5,7 @@ use Rattle.std.proofs.lemmas.List.Sorted.{IsPermutation-refl, IsPermutation-tran
 use Rattle.std.proofs.lemmas.List.Elements.{filter-append, filter_map-append}
 use Rattle.snoop_model.proofs.Lists.Writes.{each_set}
 use Rattle.snoop_model.proofs.Lists.Facts.{either_way}
-use Rattle.snoop_model.proofs.Common.{Access, accesses_in, after_order, answers_of, Ask, asked, asked_access, CacheAction, CacheState, came_of, Cell, Did, did_access, eq-eqb, Err, Extent, filter, filter_map, Goes, held_at, held_by, IfSome, Invariant, IsProper, Item, kept_waiting, Line, map, map-append, MoveOn, ne_eqb, next_did, nothing_held, Ok, Once, OnceMore, Op, operation_of, operations, option_map, option_to_list, Order, Performs, Picture, picture_of, Protocol, queues_after, Refused, Reply, reset, Respond, Result, RunBy, Situation, slice_set, Step, taken, Takes, waiting_at, with_line, ◌==◌}
+use Rattle.snoop_model.proofs.Common.{Access, accesses_in, after_order, Ask, asked, asked_access, CacheAction, CacheState, came_of, Cell, Did, did_access, eq-eqb, Err, Extent, filter, filter_map, Goes, held_at, held_by, IfSome, Invariant, IsProper, Item, kept_waiting, Line, map, map-append, MoveOn, ne_eqb, next_did, nothing_held, Ok, Once, OnceMore, Op, operation_of, option_map, option_to_list, Order, Performs, Picture, picture_of, Protocol, queues_after, Refused, Reply, reset, Respond, Result, RunBy, Situation, slice_set, Step, taken, Takes, waiting_at, with_line, ◌==◌}
 use Rattle.snoop_trace.specs.declared.step.Op.TheVariants as op
 use Rattle.snoop_rules.specs.declared.names.CacheAction.TheVariants as action
 use Rattle.snoop_history.specs.declared.items.Item.TheVariants as item

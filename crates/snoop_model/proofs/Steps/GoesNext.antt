@@ -95,7 +95,7 @@ move_is s (Order core) answer new (block, (first, m)) =
     let o = m.orders in
     let before : Picture = picture_of s block in
     let sends = sends_is p before core q o.from o.payload o.sent.sends in
-    let from = sender_is p before core q (length before.caches) (omega arith) o.from o.payload o.sent (sends_below p before core q o.from o.payload o.sent.sends) in
+    let from = sender_is p before core q (length before.caches) (omega arith) o.from o.payload o.sent (sends_below p before core q _ _ o.sent.sends) in
     let caches = fill_by_all (line_after p before core q) o.next.caches (length before.caches) nothing_held o.taken.same_length
     (λ k below. (let row = o.taken.rows k below in row.2 ∙ rw row.1 refl)) in
     let next : o.next ≡ next_picture p before core q block =
@@ -106,8 +106,7 @@ move_is s (Respond on) answer new (block, (first, m)) =
     let o = m.closing in
     let before : Picture = picture_of s block in
     let caches = arrives_is o s.protocol s.log before.caches r.next.caches m.did o.request r.requestor in
-    let memory = settled_is (takes_payload o.request before.memory.state) s.protocol
-    (arrival_at_memory o.payload) before.memory.state r.memory.act r.next.memory.state r.memory.settled in
+    let memory = settled_is _ s.protocol (arrival_at_memory o.payload) before.memory.state r.memory.act r.next.memory.state r.memory.settled in
     let next = same_picture (ap (λ x. x.0) caches) (same_memory (ap (λ x. x.1) memory)
     (r.memory.value ∙ ap (λ x. written x.0 o.value before.memory.value) memory)) r.closed in
     rw (m.on_block, m.answered, lt-ltb block s.shape.blocks m.within, r.opened, r.after, next, ap (λ x. x.1) caches) refl
@@ -192,8 +191,7 @@ module _ (s : Situation) (g : Invariant s) where
       let p = s.protocol in
       let before : Picture = picture_of s block in
       let line = orders_follow_sender_table s g core block q ready in
-      let from = sender_is p before core q (length before.caches) (omega arith) line.from line.payload line.sent
-      (sends_below p before core q line.from line.payload line.sent.sends) in
+      let from = sender_is p before core q (length before.caches) (omega arith) line.from line.payload line.sent (sends_below p before core q _ _ line.sent.sends) in
       record {
         ready = ready;
         from = line.from;
@@ -232,13 +230,12 @@ fill_is _ _ h = cc
 
 -- what the response brings to the caches
 module _ (p : Protocol) (log : List Item) (old : List Line) (o : Open) where
-  fills_as : (found : Option CacheEvent) → arrival o.payload ≡ found → (row : CacheCell) → row_for p (held_at old o.core).state found ≡ Some row
-      → (waiting : Option Access) → (held_at old o.core).waiting ≡ waiting → option_map (λ access. request_for access.op) waiting ≡ missed_request (held_at old o.core).state
-      → (let n = filled o p log old waiting in FillsRequestor o p log old n.0 n.1)
-  fills_as None arrives row is waiting waits proper = cc
-  fills_as (Some e) arrives row is waiting waits proper =
+  fills_as : (found : Option CacheEvent) → arrival o.payload ≡ found → (row : CacheCell) → row_for p (held_at old o.core).state found ≡ Some row → IsProper (held_at old o.core)
+      → (let n = filled o p log old (held_at old o.core).waiting in FillsRequestor o p log old n.0 n.1)
+  fills_as None arrives row is proper = cc
+  fills_as (Some e) arrives row is proper =
       let row_of : row_for p (held_at old o.core).state (arrival o.payload) ≡ Some row = rw arrives is in
-      by_waiting waiting waits (rw proper (given_at _ _ row row_of (all_payloads-at _ (all_states-at _ (all_protocols-at _ data_fills p) _) o.payload)))
+      by_waiting (held_at old o.core).waiting refl (rw proper.waiting (given_at _ _ row row_of (all_payloads-at _ (all_states-at _ (all_protocols-at _ data_fills p) _) o.payload)))
     where
       by_waiting : (waiting : Option Access) → (held_at old o.core).waiting ≡ waiting → fills (option_map (λ access. request_for access.op) waiting) row.action ≡ true
           → (let n = filled o p log old waiting in FillsRequestor o p log old n.0 n.1)
@@ -267,7 +264,7 @@ module _ (p : Protocol) (log : List Item) (old : List Line) (o : Open) where
   brings : (q : Request) → (is_put_m q ≡ false → (r : CacheCell) × (row_for p (held_at old o.core).state (arrival o.payload) ≡ Some r))
       → IsProper (held_at old o.core) → (let n = brought o p log old q in ArrivesFor q o p log old n.0 n.1)
   brings request.PutM row proper = (refl, refl)
-  brings _ row proper = fills_as (arrival o.payload) refl (row refl).0 (row refl).1 (held_at old o.core).waiting refl proper.waiting
+  brings _ row proper = fills_as (arrival o.payload) refl (row refl).0 (row refl).1 proper
 
 -- what the response brings to memory
 remembers : (takes : Bool) (p : Protocol) (found : Option MemEvent) (m : MemState) → (takes ≡ true → (r : MemCell) × (memory_row_for p m found ≡ Some r))
