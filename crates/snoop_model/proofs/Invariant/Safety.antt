@@ -90,19 +90,16 @@ module _ (s : Situation) (g : Invariant s) where
   -- an Order is a line of the table
   pub order_is_line : (core block : ℕ) (q : Request) (new : Situation) (made : Orders s core block q new) → IsSenderLine s.protocol (picture_of s block) core q made.from made.payload made.next.memory.state
   order_is_line core block q new o =
-      let p = s.protocol in
-      let before : Picture = picture_of s block in
       let f = orders_follow_sender_table s g core block q o.ready in
       let from : f.from ≡ o.from = o.sent.alone f.from f.payload f.sent.sends in
-      let sends = sends_is p before core q f.from f.payload f.sent.sends in
-      let same : f.payload ≡ o.payload = cc (sends, sends_is p before core q o.from o.payload o.sent.sends) in
+      let sends = sends_is s.protocol (picture_of s block) core q f.from f.payload f.sent.sends in
+      let same : f.payload ≡ o.payload = cc (sends, sends_is s.protocol (picture_of s block) core q o.from o.payload o.sent.sends) in
       let memory : f.next ≡ o.next.memory.state = cc (f.ordered.1, f.ordered.2, o.memory.1, o.memory.2) in
       rw (← from, ← same, ← memory) f.is_line
 
   -- a Respond taken next closes the transaction and leaves memory in the last state of its line
   pub open_is_by_table : AreOnSenderLines s → (block : ℕ) → IfSome (picture_of s block).transaction (IsOpenByTable s block)
   open_is_by_table lines block = if_some (picture_of s block).transaction (IsOpenByTable s block) (λ o is.
-      let memory = (picture_of s block).memory.state in
       let line = rw is at (lines block) in
       record {
         before = line.0;
@@ -112,7 +109,7 @@ module _ (s : Situation) (g : Invariant s) where
             let there : picture_of new block ≡ r.next = respond_here s block m.closing m.did new g m.within r in
             let same : m.closing ≡ o = same_Some _ _ (sym r.opened ∙ is) in
             let settles = rw same at r.memory.settled in
-            let settled = settled_is (takes_payload o.request memory) s.protocol (arrival_at_memory o.payload) memory in
+            let settled = settled_is _ s.protocol (arrival_at_memory o.payload) (picture_of s block).memory.state in
             let done = settled r.memory.act r.next.memory.state settles ∙ sym (settled line.1.act line.1.done line.1.settled) in
             rw there (r.closed, ap (λ x. x.1) done);
       })

@@ -235,6 +235,11 @@ module _ (s : Situation) (queued : AreQueued s) (core block : ℕ) where
         absurd (omega (arith, in_counted block (queue_of s.queues core) there))
   ]
 
+-- what is none of its values is none
+pub none_there : {A : Type 0} (found : Option A) → ((a : A) → found ≡ Some a → ⊥) → found ≡ None
+none_there None h = refl
+none_there (Some a) h = absurd (h a refl)
+
 first_in : (queue : List ℕ) (block : ℕ) → slice_get queue 0 ≡ Some block → Contains queue block
 first_in [] block e = cc
 first_in (x ∷ queue) block e = (0, omega arith, same_Some _ _ e)

@@ -20,7 +20,7 @@ use Rattle.snoop_model.proofs.Tables.Rows.{is_evict, asked_answers, hit_keeps}
 use Rattle.snoop_model.proofs.Tables.AskTests.{is_idle_evict}
 use Rattle.snoop_model.proofs.Invariant.Coherence.{orders_follow_sender_table, finds_rows, idle_evict, waits_within}
 use Rattle.snoop_model.proofs.OneBlock.Possible.{ask_possible, respond_possible}
-use Rattle.snoop_model.proofs.Queues.Moves.{AreQueued, first_waits, none_waits}
+use Rattle.snoop_model.proofs.Queues.Moves.{none_there, AreQueued, first_waits, none_waits}
 
 -- an operation does one thing
 performs_is : (word : ℕ) (asking : Op) (before : List ℕ) (value : ℕ) (after : List ℕ) → Performs word asking before value after
@@ -113,17 +113,15 @@ move_is s (Respond on) answer new (block, (first, m)) =
 
 -- and so does a refusal
 module _ (s : Situation) (queued : AreQueued s) where
-  none_first : (core : ℕ) → WaitsOnNone s core → (found : Option ℕ) → slice_get (queue_of s.queues core) 0 ≡ found → found ≡ None
-  none_first core none None is = refl
-  none_first core none (Some block) is = let waits = first_waits s queued core block is in absurd (none block waits.0 waits.1)
-
   refused_is : (step : Step) (cause : Refused) → Refuses s step cause → ◌≡◌ {A = Next} (Err cause, s) (next_of s step)
   refused_is (Ask core block word asking) NoCore h = rw (le-ltb core s.shape.cores h) refl
   refused_is (Ask core block word asking) NoBlock h = rw (lt-ltb core s.shape.cores h.0, no_place s core block word asking h.1) refl
   refused_is (Ask core block word asking) (Stalled held) h =
       rw (lt-ltb core s.shape.cores h.0.0, in_place s core block word asking h.0.1 h.3, h.1, h.2.1) refl
   refused_is (Order core) NoCore h = rw (le-ltb core s.shape.cores h) refl
-  refused_is (Order core) NothingWaiting h = rw (lt-ltb core s.shape.cores h.0, none_first core h.1 (slice_get (queue_of s.queues core) 0) refl) refl
+  refused_is (Order core) NothingWaiting h =
+      let empty = none_there (slice_get (queue_of s.queues core) 0) (λ block is. let waits = first_waits s queued core block is in h.1 block waits.0 waits.1) in
+      rw (lt-ltb core s.shape.cores h.0, empty) refl
   refused_is (Order core) (BusTaken block) h = rw (lt-ltb core s.shape.cores h.0, h.1, h.2) refl
   refused_is (Respond block) NoBlock h = rw (le-ltb block s.shape.blocks h) refl
   refused_is (Respond block) NoTransaction h = rw (lt-ltb block s.shape.blocks h.0, h.1) refl

@@ -9,7 +9,7 @@ use Rattle.snoop_model.specs.Turns.Turn.{step_under_way, turn_of}
 use Rattle.snoop_model.proofs.Lists.Facts.{one_if}
 use Rattle.snoop_model.proofs.Lists.Writes.{set_cases, all_first, all_issued, all_ordered, sum_issued, sum_ordered, one_small, count_set}
 use Rattle.snoop_model.proofs.OneBlock.OfBlocks.{same_everywhere}
-use Rattle.snoop_model.proofs.Queues.Moves.{starts_well, keeps_well, queued_waits, waits_queued}
+use Rattle.snoop_model.proofs.Queues.Moves.{none_there, starts_well, keeps_well, queued_waits, waits_queued}
 use Rattle.snoop_model.proofs.Once.Owed.{owes}
 use Rattle.snoop_rules.specs.declared.names.CacheState.TheVariants.{I}
 use Rattle.snoop_rules.proofs.Every.{all_protocols, all_states, all_events}
@@ -160,10 +160,6 @@ ends s before after core block word asking serving kept works none others =
         | inr ne ↦ others o.core ne ∙ serving.opened b o is
       ];
     }
-
-none_there : {A : Type 0} (found : Option A) → ((a : A) → found ≡ Some a → ⊥) → found ≡ None
-none_there None h = refl
-none_there (Some a) h = absurd (h a refl)
 
 comes_to_rest : ComesToRest
 comes_to_rest s serving kept = record {
