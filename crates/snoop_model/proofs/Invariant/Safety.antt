@@ -1,6 +1,6 @@
 -- What every machine keeps makes it safe, and its steps keep it.
 use Rattle.std.proofs.Common.{◌≡◌, ℕ, List, ◌<◌, ◌≤◌, Option, Some, None, refl, ap, sym, ◌∙◌, arith, inl, inr, ◌⊎◌, true}
-use Rattle.snoop_model.proofs.Common.{arrival_at_memory, Ask, asked, CacheAction, CacheCell, CacheState, Cell, cell_of, Extent, flat, flat_words, Goes, HasOpen, held_by, IfSome, Invariant, is_some, IsOpenByTable, IsProper, IsSenderLine, IsWellKept, Item, keeps, Line, MoveOn, nothing_held, Op, option_map, Order, Orders, Picture, picture_of, Protocol, Refused, Refuses, Reply, Request, reset, Respond, Result, RunBy, same_Some, Situation, state_of, Step, Takes, takes_payload, Waits, with_line, with_picture, word_at}
+use Rattle.snoop_model.proofs.Common.{arrival_at_memory, Ask, asked, CacheAction, CacheCell, CacheState, Cell, cell_of, Extent, flat, flat_words, Goes, HasOpen, held_by, IfSome, Invariant, is_some, IsOpenByTable, IsProper, IsSenderLine, IsWellKept, Item, keeps, Line, MoveOn, nothing_held, Op, option_map, Order, Orders, Picture, picture_of, Protocol, Refused, Refuses, Reply, Request, reset, Respond, Result, RunBy, same_Some, Situation, state_of, Step, Takes, Waits, with_line, with_picture, word_at}
 use Rattle.snoop_trace.specs.declared.step.Op.TheVariants as op
 use Rattle.snoop_trace.specs.declared.protocol.Protocol.TheVariants.{Msi, Mesi}
 use Rattle.snoop_rules.specs.declared.names.CacheState.TheVariants as state

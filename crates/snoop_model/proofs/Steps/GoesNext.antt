@@ -4,7 +4,7 @@ use Rattle.std.specs.Bool.{Decides}
 use Rattle.std.proofs.Math.Dec.{ltb}
 use Rattle.std.proofs.lemmas.Bool.Decides.{Decides-and, Decides-ltb}
 use Rattle.std.proofs.lemmas.List.FromFn.{fill_by_all, get_or-map-range_with_len, length-map-range_with_len}
-use Rattle.snoop_model.proofs.Common.{Access, and_cases, and_from, and_left, and_parts, and_right, arrival, arrival_at_memory, ArrivesFor, Ask, asked, both_ways, CacheAction, CacheCell, CacheEvent, CacheState, CanOrder, cases_Bool, cases_eq, cases_lt, Cell, Did, Err, Extent, false_from_ne_true, FillsRequestor, FirstMove, flat_words, GoesFirst, HasWord, held_at, held_by, Hits, if◌then◌else◌, Invariant, is_load, is_put_m, is_some, IsOnlySender, IsProper, IsWithin, Item, le-ltb, Line, lt-ltb, ltb-false, ltb-true, MemAction, MemCell, MemEvent, MemState, missed_request, nothing_held, Ok, Op, Open, option_map, option_map_or, Order, Orders, Payload, Performs, Picture, picture_of, Protocol, queue_of, Refused, Refuses, Reply, Request, request_for, Respond, Responds, Result, seen_by, Situation, slice_get, StandsFirst, state_of, Step, Takes, takes_payload, unwrap_or, WaitsOnNone, word_places, written, zero_words}
+use Rattle.snoop_model.proofs.Common.{Access, and_cases, and_from, and_left, and_parts, and_right, arrival, arrival_at_memory, ArrivesFor, Ask, asked, both_ways, CacheAction, CacheCell, CacheEvent, CacheState, CanOrder, cases_Bool, cases_eq, cases_lt, Cell, Did, Err, Extent, false_from_ne_true, FillsRequestor, FirstMove, flat_words, GoesFirst, HasWord, held_at, held_by, Hits, if◌then◌else◌, Invariant, is_load, is_put_m, is_some, IsOnlySender, IsProper, IsWithin, Item, le-ltb, Line, lt-ltb, ltb-false, ltb-true, MemAction, MemCell, MemEvent, MemState, missed_request, nothing_held, Ok, Op, Open, option_map, option_map_or, Order, Orders, Payload, Performs, Picture, picture_of, Protocol, queue_of, Refused, Refuses, Reply, Request, request_for, Respond, Responds, Result, seen_by, Situation, slice_get, StandsFirst, state_of, Step, Takes, takes_payload, unwrap_or, word_places, written, zero_words}
 use Rattle.snoop_trace.specs.declared.step.Op.TheVariants as op
 use Rattle.snoop_rules.specs.declared.names.CacheAction.TheVariants as action
 use Rattle.snoop_rules.specs.declared.names.Request.TheVariants as request

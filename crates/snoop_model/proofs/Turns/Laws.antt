@@ -1,7 +1,7 @@
 -- All laws of turns that follow the turn rule: what they keep, that they are never refused, what they cost, and when a work is over.
 use Rattle.std.proofs.Common.{◌≡◌, ◌≢◌, ℕ, ◌+◌, ◌≤◌, true, false, List, length, Option, Some, None, refl, sym, ◌∙◌, ap, subst, arith, inl, inr, ◌⊎◌, Bool, not, ◌||◌}
 use Rattle.std.proofs.lemmas.List.Elements.{All-contains, All-weaker, Contains-get_or}
-use Rattle.snoop_model.proofs.Common.{Access, All, Ask, asked, awaited_request, CacheAction, CacheCell, CacheEvent, CacheState, cases_eq, Cell, ClosedIsLast, ComesToRest, cond_some, Contains, Ends, EndsAtOnce, eq-eqb, FirstMove, has_transaction, held_by, is_some, IsServing, IsWellKept, Item, Line, ne_eqb, NeverRefused, none-some, nothing_there, Op, Open, or_cases, Order, Pays, Picture, picture_of, Protocol, queue_of, queues_after, Refused, Refuses, Reply, Request, Respond, same_Some, ServesOn, Situation, slice_index_or, slice_set, state_of, Step, sum_by, Takes, TurnLaws, waiting_request, Waits, with_line, ◌==◌}
+use Rattle.snoop_model.proofs.Common.{Access, All, Ask, asked, awaited_request, CacheAction, CacheEvent, CacheState, cases_eq, Cell, ClosedIsLast, ComesToRest, cond_some, Contains, Ends, EndsAtOnce, eq-eqb, FirstMove, has_transaction, held_by, is_some, IsServing, IsWellKept, Item, Line, ne_eqb, NeverRefused, none-some, nothing_there, Op, Open, or_cases, Order, Pays, Picture, picture_of, Protocol, queue_of, queues_after, Refused, Refuses, Reply, Request, Respond, same_Some, ServesOn, Situation, slice_index_or, slice_set, state_of, Step, sum_by, Takes, TurnLaws, waiting_request, Waits, with_line, ◌==◌}
 use Rattle.snoop_rules.specs.declared.names.CacheAction.TheVariants as action
 use Rattle.snoop_model.specs.declared.replies.Reply.TheVariants.{Issued}
 use Rattle.snoop_model.specs.declared.replies.Refused.TheVariants.{NoCore, NoBlock, Stalled, NothingWaiting, BusTaken, NoTransaction}
@@ -22,18 +22,15 @@ use Rattle.snoop_model.proofs.Tables.WaitingRows.{has_missed}
 abbrev pub is_busy : CacheState → Bool
 is_busy state = is_some (waiting_request state) || is_some (awaited_request state)
 
-abbrev stall_test : Protocol → CacheState → CacheEvent → CacheCell → Bool
-stall_test p s e row = not (is_stall row.action) || is_busy s
-
-stall_test_holds : each_row stall_test ≡ true
+stalls_wait : each_row (λ p s e row. not (is_stall row.action) || is_busy s) ≡ true
 unfolding each_row all_protocols all_states all_events
-stall_test_holds = refl
+stalls_wait = refl
 
 -- a stall comes only where the core waits
 pub stall_busy : (p : Protocol) (s : CacheState) (e : CacheEvent) (n : CacheState) → Cell p s e action.Stall n → is_busy s ≡ true
-stall_busy p s e n h = each_row-at stall_test stall_test_holds p s e action.Stall n h
+stall_busy p s e n h = each_row-at _ stalls_wait p s e action.Stall n h
 
--- for one of the two
+-- for one of the two, or the other
 pub busy_cases : (s : CacheState) → is_busy s ≡ true → ((request : Request) × (waiting_request s ≡ Some request)) ⊎ ((request : Request) × (awaited_request s ≡ Some request))
 busy_cases s busy = elim (or_cases _ _ busy) [ inl waits ↦ inl (some_of _ waits) | inr awaits ↦ inr (some_of _ awaits) ]
 
@@ -170,7 +167,7 @@ comes_to_rest s serving kept = record {
       (λ o is. none-some block (busy_under_way s (λ _. None) serving kept core block (missed_busy _ (kept.operations core block o is))));
 }
 
--- what is paid for
+-- an Ask puts at most one request more into the queues
 sum_asked : (act : CacheAction) (lines : List (List ℕ)) (core block : ℕ) → sum_by length (queues_after act lines core block) ≤ sum_by length lines + 1
 sum_asked (action.Issue request) lines core block = sum_issued lines core block
 sum_asked _ lines core block = omega arith
