@@ -1,6 +1,6 @@
 -- Tests of each value of a type, tests that compare, and those of the states and of the table of claims, computed over all of them.
 use Rattle.std.proofs.Common.{arith, ℕ, eqb, inl, inr, ◌≡◌, ◌&&◌, Bool, true, false, Option, Some, None, List, [], ◌∷◌, refl, ap, ◌||◌, not, cond}
-use Rattle.snoop_model.proofs.Common.{Protocol, CacheState, Request, Open, Talk, and_parts, cases_Bool, fits, own_open, same, talk_of, CacheAction, MemState, carries_value, kept_on, keeps, Claims, claims_of, is_owner, is_sharer, is_clean, wait_fits, in_protocol, ⊤, list_all}
+use Rattle.snoop_model.proofs.Common.{Protocol, CacheState, Request, Open, Talk, and_parts, cases_Bool, fits, own_open, same, talk_of, CacheAction, MemState, carries_value, kept_on, keeps, Claims, claims_of, is_owner, is_sharer, is_clean, wait_fits, in_protocol, ⊤, list_all, is_some}
 use denote.Enum.Bare.{Bare, same_true, sameb}
 use denote.Enum.Declared.{Declared}
 use Rattle.snoop_rules.proofs.Every.{all_states, all_states-at, all_protocols, all_protocols-at, all_memories, all_memories-at, all_requests, all_requests-at, all_payloads, all_payloads-at}
@@ -32,6 +32,10 @@ given (Some a) f = f a
 pub given_at : {A : Type 0} (o : Option A) (f : A → Bool) (a : A) → o ≡ Some a → given o f ≡ true → f a ≡ true
 unfolding given
 given_at o f a e h = rw e at h
+
+pub some_of : {A : Type 0} (o : Option A) → is_some o ≡ true → (a : A) × (o ≡ Some a)
+some_of None h = cc
+some_of (Some a) h = (a, refl)
 
 -- there is a value, and it passes the test
 abbrev pub is_some_and : {A : Type 0} → Option A → (A → Bool) → Bool
