@@ -1,8 +1,9 @@
 -- The names that lemmas of the model use most, passed on from one place.
-pub use Rattle.std.specs.Prelude.{is_some}
-pub use Rattle.std.proofs.lemmas.Bool.{and_from, and_parts, both_ways, cases_Bool, cases_eq, cases_lt, not-true, or_cases}
-pub use Rattle.std.proofs.lemmas.List.{get_or_past}
-pub use Rattle.std.proofs.lemmas.Option.{none-some, same_Some}
+pub use Rattle.std.specs.Prelude.{is_some, ⊤, All, Contains, Err, IfOk, IfSome, IsSome, IsSomeAnd, Ok, Result, filter, filter_map, if◌then◌else◌, map, option_map, option_to_list, slice_get, slice_index_or, slice_set, sum_by, unwrap_or, ◌<◌, ◌==◌, ◌↔◌, ◌≤◌}
+pub use Rattle.std.specs.List.{list_all, list_any}
+pub use Rattle.std.proofs.lemmas.Bool.{and_from, and_parts, both_ways, cases_Bool, cases_eq, cases_lt, cond_both, not-true, or_cases, or_right, and_cases, and_left, and_right, eq-eqb, eqb-true, false_from_ne_true, le-ltb, lt-ltb, ltb-false, ltb-true, ne_eqb}
+pub use Rattle.std.proofs.lemmas.List.{get_or_past, append-nil, append_cancel_left, get_or-replicate, get_or-set_other, get_or-set_same, length-replicate, length-set, map-append}
+pub use Rattle.std.proofs.lemmas.Option.{cond_some, none-some, same_Some, IfSome_then, slice_get-get_or}
 pub use Rattle.snoop_trace.specs.Extent.{Extent}
 pub use Rattle.snoop_trace.specs.declared.protocol.Protocol.{Protocol}
 pub use Rattle.snoop_trace.specs.declared.step.Op.{Op}
@@ -17,6 +18,7 @@ pub use Rattle.snoop_rules.specs.declared.names.MemEvent.{MemEvent}
 pub use Rattle.snoop_rules.specs.declared.names.MemAction.{MemAction}
 pub use Rattle.snoop_rules.specs.declared.names.MemCell.{MemCell}
 pub use Rattle.snoop_rules.specs.declared.names.Request.{Request}
+pub use Rattle.snoop_rules.specs.declared.names.Request.TheVariants.{GetM, GetS, PutM}
 pub use Rattle.snoop_rules.specs.declared.names.Payload.{Payload}
 pub use Rattle.snoop_rules.specs.declared.names.Target.{Target}
 pub use Rattle.snoop_rules.specs.Cell.{Cell, cell_of}
@@ -43,7 +45,6 @@ unfoldable pub use Rattle.snoop_model.specs.Invariant.Fits.{claims_of, fits, in_
 pub use Rattle.snoop_model.specs.Invariant.Block.{BlockInvariant, own_open, owns, talk_of}
 pub use Rattle.snoop_model.specs.Invariant.WellKept.{IsShaped, IsWellKept}
 pub use Rattle.snoop_history.specs.History.{IsNext, Legal, answers_of, flat, flat_words, is_store_to, operation_of, operations, stores}
-pub use Rattle.snoop_history.specs.Totals.{is_put_m}
 pub use Rattle.snoop_model.specs.Invariant.Invariant.{Invariant}
 pub use Rattle.snoop_model.specs.Moves.Refuses.{Refuses, WaitsOnNone}
 pub use Rattle.snoop_model.specs.Moves.SenderTable.{IsOpenByTable, IsSenderLine, OrdersFollowSenderTable}
@@ -53,7 +54,4 @@ pub use Rattle.snoop_model.specs.Runs.Run.{FirstRunFrom, Goes, GoesFirst, RunBy,
 pub use Rattle.snoop_model.specs.Turns.Serving.{IsServing, has_transaction}
 pub use Rattle.snoop_model.specs.Turns.TurnLaws.{ComesToRest, Ends, KeepsWell, NeverRefused, Pays, ServesOn, StartsWell, TurnLaws}
 pub use Rattle.snoop_trace.specs.Words.{Data, HasWord, IsWord, word_at, word_places, zero_words}
-pub use Rattle.std.proofs.lemmas.Bool.{cases_Bool, cases_lt, eq-eqb, ne_eqb}
-pub use Rattle.std.proofs.lemmas.List.{get_or-set_same, get_or_past, map-append}
 pub use Rattle.std.specs.Option.{option_map_or}
-pub use Rattle.std.specs.Prelude.{Contains, Err, IfSome, Ok, Result, is_some, option_map, option_to_list, slice_get}

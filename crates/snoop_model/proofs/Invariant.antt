@@ -1,5 +1,4 @@
 -- The invariant of the machine, and what follows from it.
-pub mod Moves
 pub mod Runs
 pub mod Coherence
 pub mod Safety

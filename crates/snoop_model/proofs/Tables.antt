@@ -1,5 +1,4 @@
 -- The rows of the tables, found by trying all.
-pub mod Every
 pub mod Rows
 pub mod WaitingRows
 pub mod StateTests

@@ -1,4 +1,3 @@
 -- Turns by the turn rule.
 pub mod Laws
-pub mod WaitingWorks
 pub mod ClosedWorks

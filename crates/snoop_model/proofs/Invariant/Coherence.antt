@@ -1,12 +1,10 @@
 -- What the invariant says of a situation: one writer, current copies and memory, all rows, one sender.
 use Rattle.std.proofs.Common.{◌≡◌, ◌≢◌, ℕ, true, false, List, [], Option, Some, None, refl, inl, inr, sym, ◌∙◌, arith, rules}
-use Rattle.std.specs.Prelude.{◌<◌, ◌↔◌, IfSome, IsSome, IsSomeAnd, ◌≤◌}
 use Rattle.std.specs.Option.{ForSome}
-use Rattle.std.proofs.lemmas.Bool.{and_parts, both_ways, cases_Bool, cases_lt, eq-eqb, false_from_ne_true}
 use Rattle.snoop_model.proofs.Lists.Facts.{if_some}
-use Rattle.snoop_model.proofs.Common.{is_some, arrival, arrival_at_memory, Ask, asked, awaited_request, BlockInvariant, CacheEvent, CacheState, CanOrder, carries_value, data_under_way, flat_words, get_or_past, HasOpen, held_by, Invariant, is_put_m, IsWellKept, IsWithin, keeps, Line, MemEvent, none-some, nothing_held, nothing_there, Op, Open, Order, OrdersFollowSenderTable, own_open, owns, Picture, picture_of, Protocol, Request, Respond, seen_by, Situation, state_of, Step, talk_of, waiting_request, Waits}
+use Rattle.snoop_model.proofs.Common.{and_parts, arrival, arrival_at_memory, Ask, asked, awaited_request, BlockInvariant, both_ways, CacheEvent, CacheState, CanOrder, carries_value, cases_Bool, cases_lt, Cell, data_under_way, eq-eqb, false_from_ne_true, flat_words, get_or_past, HasOpen, held_by, IfSome, Invariant, is_put_m, is_some, IsSome, IsSomeAnd, IsWellKept, IsWithin, keeps, Line, MemEvent, none-some, nothing_held, nothing_there, Op, Open, Order, OrdersFollowSenderTable, own_open, owns, Picture, picture_of, Protocol, Request, Respond, seen_by, Situation, state_of, Step, talk_of, waiting_request, Waits, ◌<◌, ◌↔◌, ◌≤◌}
 use Rattle.snoop_trace.specs.declared.step.Op.TheVariants as op
-use Rattle.snoop_trace.specs.declared.protocol.Protocol.TheVariants.{Mesi}
+use Rattle.snoop_trace.specs.declared.protocol.Protocol.TheVariants.{Msi, Mesi}
 use Rattle.snoop_rules.specs.declared.names.CacheState.TheVariants as state
 use Rattle.snoop_rules.specs.declared.names.CacheEvent.TheVariants as event
 use Rattle.snoop_rules.specs.declared.names.CacheAction.TheVariants as action
@@ -16,7 +14,7 @@ use Rattle.snoop_rules.specs.Takers.{other as another}
 use Rattle.snoop_model.specs.Moves.LookUps.{HasRow, HasMemRow, ConsultsCache, ConsultsMemory, FindsRows}
 use Rattle.snoop_model.specs.Pictures.OneWriter.{OneWriter}
 use Rattle.snoop_model.specs.Invariant.Fits.{in_protocol, is_clean, is_owner, wait_fits, fits}
-use Rattle.snoop_model.proofs.Tables.Every.{some_of}
+use Rattle.snoop_model.proofs.Tables.StateTests.{some_of}
 use Rattle.snoop_model.proofs.Tables.AskTests
 use Rattle.snoop_model.proofs.Tables.AskTests.{ask_rule, is_idle_evict}
 use Rattle.snoop_model.proofs.Tables.Rows.{hit_keeps}
@@ -31,23 +29,17 @@ use Rattle.snoop_model.proofs.Tables.StateTests.{brings_data, resting_rule}
 -- an owner may write
 owner_stores : (p : Protocol) (s : CacheState) → in_protocol p s ≡ true → is_owner s ≡ true → MayStore p s
 unfolding in_protocol is_clean is_owner
-owner_stores _ state.M known owns = (_, refl)
-owner_stores _ state.MiA known owns = (_, refl)
+owner_stores Msi state.M known owns = (_, refl)
 owner_stores Mesi state.E known owns = (_, refl)
 owner_stores Mesi state.EiA known owns = (_, refl)
-owner_stores _ _ known owns = cc
+owner_stores _ s known owns = (s, cc)
 
 -- a core that keeps words may load
 keeper_loads : (p : Protocol) (s : CacheState) → in_protocol p s ≡ true → keeps s ≡ true → MayLoad p s
 unfolding in_protocol is_clean
-keeper_loads _ state.S known kept = (_, refl)
-keeper_loads _ state.SmAd known kept = (_, refl)
-keeper_loads _ state.SmD known kept = (_, refl)
-keeper_loads _ state.M known kept = (_, refl)
-keeper_loads _ state.MiA known kept = (_, refl)
-keeper_loads Mesi state.E known kept = (_, refl)
-keeper_loads Mesi state.EiA known kept = (_, refl)
-keeper_loads _ _ known kept = cc
+keeper_loads Msi state.S known kept = (_, refl)
+keeper_loads Mesi state.S known kept = (_, refl)
+keeper_loads _ s known kept = (s, cc)
 
 -- where no core may write the block, none owns it
 nobody_owns : {p : Protocol} {n : ℕ} {value : List ℕ} {picture : Picture} (g : BlockInvariant p n value picture) → ((core : ℕ) → ¬ MayStore p (held_by picture core).state) → g.claims.owned ≡ false
@@ -117,13 +109,11 @@ module _ (s : Situation) (g : Invariant s) where
 
   -- beside a writer no other core is a reader or a writer
   pub has_one_writer : (block : ℕ) → OneWriter s.protocol (picture_of s block)
-  has_one_writer block core other writes apart = (
-    λ h. blind (hit_keeps s.protocol (state_of s other block) event.Load h.0 h.1).0,
-    λ h. blind (hit_keeps s.protocol (state_of s other block) event.Store h.0 h.1).0,
-  )
+  has_one_writer block core other writes apart = (blind event.Load, blind event.Store)
     where
-      blind : keeps (state_of s other block) ≡ true → ⊥
-      blind keeping =
+      blind : (e : CacheEvent) → (n : CacheState) × Cell s.protocol (state_of s other block) e action.Hit n → ⊥
+      blind e hits =
+          let keeping = (hit_keeps s.protocol (state_of s other block) e hits.0 hits.1).0 in
           let held = state_of s core block in
           let within = keeper_within core block (hit_keeps s.protocol held event.Store writes.0 writes.1).0 in
           let good = g.blocks block within.1 in
@@ -154,10 +144,8 @@ module _ (s : Situation) (g : Invariant s) where
   -- and so has memory, where nobody may write and no data is under way
   pub memory_current : (block : ℕ) → block < s.shape.blocks → ((core : ℕ) → ¬ MayStore s.protocol (state_of s core block)) → data_under_way (picture_of s block).transaction ≡ None → (picture_of s block).memory.value ≡ flat_words s.log block
   memory_current block within idle none =
-      let picture : Picture = picture_of s block in
       let it = g.blocks block within in
-      it.fresh (resting_rule s.protocol picture.memory.state (talk_of picture.transaction) it.claims it.is_claims
-      (nobody_owns it idle) (no_data picture.transaction none))
+      it.fresh (resting_rule s.protocol _ (talk_of (picture_of s block).transaction) it.claims it.is_claims (nobody_owns it idle) (no_data _ none))
 
   -- an open transaction is of a block within the shape
   opened_within : (block : ℕ) (o : Open) → (picture_of s block).transaction ≡ Some o → block < s.shape.blocks
@@ -180,8 +168,7 @@ module _ (s : Situation) (g : Invariant s) where
   data_awaited kept core block q = (
     λ waits. (kept.awaits core block q waits, λ put. awaited-get (state_of s core block) (rw put at waits)),
     λ open_get.
-        let o = open_get.0.0 in
-        let is = open_get.0.1 in
+        let (o, is) = open_get.0 in
         let good = g.blocks block (opened_within block o is.0) in
         let there : core < s.shape.cores = rw (← is.1) (good.requestor_in o is.0) in
         let its : own_open (picture_of s block).transaction core ≡ Some q = rw (is.0, is.1, eq-eqb core core refl, is.2) refl in
@@ -212,16 +199,7 @@ module _ (s : Situation) (g : Invariant s) where
         is_line = led_line s.protocol (picture_of s block) core q x.from x.payload x.cell_of_memory.next x.order_line;
       }
 
-  -- a core has a row for what it is asked
-  asked_row : (core block : ℕ) (asking : Op) → (¬ ((asking ≡ op.Evict) × (state_of s core block ≡ state.I))) → HasRow s.protocol (state_of s core block) (asked asking)
-  asked_row core block asking = each_line core block (λ x. (¬ ((asking ≡ op.Evict) × (x.state ≡ state.I))) → HasRow s.protocol x.state (asked asking))
-      (λ within busy.
-      let held = state_of s core block in
-      let not_idle = false_from_ne_true (is_idle_evict held (asked asking)) (λ idle. busy (idle_evict held asking idle)) in
-      ask_possible s.protocol s.shape.cores (flat_words s.log block) (picture_of s block) core asking (g.blocks block within.1) within.0 not_idle)
-      (nothing_asked s.protocol asking)
-
-  -- and for a request that is ordered
+  -- a core has a row for a request that is ordered
   seen_row : (core block : ℕ) (q : Request) → CanOrder s core block q → (k : ℕ) → HasRow s.protocol (state_of s k block) (seen_by k core q)
   seen_row core block q ready k = each_line k block (λ x. (k ≡ core → waiting_request x.state ≡ Some q) → HasRow s.protocol x.state (seen_by k core q))
       (λ within waits. (possible_order core block q ready).rows k (rw (g.shaped.row block within.1) within.0))
@@ -232,7 +210,13 @@ module _ (s : Situation) (g : Invariant s) where
   response_possible block closing opened = respond_possible s.protocol s.shape.cores (flat_words s.log block) (picture_of s block) closing (g.blocks block (opened_within block closing opened)) opened
 
   finds_cache : (step : Step) (core block : ℕ) (event : Option CacheEvent) → ConsultsCache s step core block event → IsSomeAnd event (HasRow s.protocol (state_of s core block))
-  finds_cache (Ask asker on word asking) core block event looks = rw looks.3 (asked_row core block asking looks.2)
+  finds_cache (Ask asker on word asking) core block event looks =
+      rw looks.3 (each_line core block (λ x. (¬ ((asking ≡ op.Evict) × (x.state ≡ state.I))) → HasRow s.protocol x.state (asked asking))
+      (λ within busy.
+      let held = state_of s core block in
+      let not_idle = false_from_ne_true (is_idle_evict held (asked asking)) (λ idle. busy (idle_evict held asking idle)) in
+      ask_possible s.protocol s.shape.cores (flat_words s.log block) (picture_of s block) core asking (g.blocks block within.1) within.0 not_idle)
+      (nothing_asked s.protocol asking) looks.2)
   finds_cache (Order requestor) core block event looks = rw looks.1.1 (seen_row requestor block looks.0 looks.1.0 core)
   finds_cache (Respond on) core block event (closing, looks) =
       rw (looks.4, looks.2) (has_row (row_for s.protocol (state_of s closing.core block)) refl (arrival closing.payload)

@@ -1,14 +1,209 @@
--- The invariant holds at reset, and after each step of a run.
-use Rattle.std.proofs.Common.{Option, Some, ◌≡◌, ℕ, ◌<◌, [], replicate, Bool, true, false, None, refl, inl, inr, arith}
-use Rattle.std.proofs.lemmas.List.{length-replicate, get_or-replicate, get_or_past}
-use Rattle.std.proofs.lemmas.List.Elements.{All-nil}
-use Rattle.snoop_model.proofs.Common.{MoveOn, Access, BlockInvariant, cases_lt, Err, Extent, first_memory, flat_words, Goes, held_by, Invariant, IsProper, IsShaped, IsWithin, IsWord, none-some, nothing_held, nothing_there, Ok, option_map, Picture, picture_of, Protocol, Refused, Reply, request_for, reset, Result, Situation, Step, untouched, zero_words}
+-- The invariant holds at reset, and after each move: flat memory and the log first, then the block, and what waits.
+use Rattle.std.proofs.Common.{◌≡◌, ◌≢◌, ℕ, ◌<◌, Bool, true, false, not, List, [], ◌∷◌, ◌++◌, length, Option, Some, None, refl, inl, inr, ap, sym, ◌∙◌, arith, replicate}
+use Rattle.std.proofs.Math.Bool.{and-false}
+use Rattle.std.proofs.lemmas.List.Elements.{All-nil, All-cons, All-append}
+use Rattle.std.proofs.lemmas.List.FromFn.{length-map-range_with_len, get_or-map-range_with_len, fill_by_all}
+use Rattle.std.proofs.lemmas.Bool.Decides.{eqb_tells}
+use Rattle.snoop_model.proofs.Common.{Access, after_order, All, append-nil, Ask, BlockInvariant, CacheAction, CacheState, came_of, cases_Bool, cases_lt, Did, eq-eqb, Err, Extent, first_memory, flat, flat_words, get_or-replicate, get_or-set_other, get_or-set_same, get_or_past, Goes, HasWord, held_by, IfSome, IfSome_then, if◌then◌else◌, Invariant, is_store_to, IsNext, IsProper, IsShaped, IsWithin, IsWord, Item, kept_waiting, Legal, length-replicate, length-set, Line, MoveOn, ne_eqb, next_did, none-some, nothing_held, nothing_there, Ok, Op, Open, operation_of, operations, option_map, option_map_or, option_to_list, Order, Performs, Picture, picture_of, Protocol, queues_after, Refused, Reply, request_for, reset, Respond, Result, same_Some, Situation, slice_set, Step, stores, Takes, untouched, with_line, word_at, ◌==◌}
+use Rattle.snoop_trace.specs.declared.step.Op.TheVariants as op
+use Rattle.snoop_rules.specs.declared.names.CacheAction.TheVariants as action
+use Rattle.snoop_history.specs.declared.items.Item.TheVariants as item
+use Rattle.snoop_history.proofs.Pushed.{operations-push}
+use Rattle.snoop_history.proofs.Legal.{flat-grows, legal-grows}
+use Rattle.snoop_model.proofs.Lists.Writes.{each_set}
+use Rattle.snoop_model.proofs.OneBlock.Facts.{each_held}
+use Rattle.snoop_model.proofs.OneBlock.Operation.{did_in, flat_after, IsLawful}
+use Rattle.snoop_model.proofs.OneBlock.OfBlocks.{changed, in_pictures, each_picture, shaped_after}
+use Rattle.snoop_model.proofs.Lines.Answered.{by_request, arrives_length, still_waiting}
+use Rattle.snoop_model.proofs.OneBlock.AskStep.{ask_keeps}
+use Rattle.snoop_model.proofs.OneBlock.OrderStep.{order_keeps}
+use Rattle.snoop_model.proofs.OneBlock.RespondStep.{respond_keeps}
 use Rattle.snoop_trace.specs.declared.protocol.Protocol.TheVariants as protocol
 use Rattle.snoop_rules.specs.declared.names.CacheState.TheVariants.{I}
 use Rattle.snoop_model.specs.declared.replies.Refused.TheVariants.{NoMemory}
 use Rattle.snoop_model.specs.Invariant.Fits.{claims_of, is_owner, is_sharer, is_clean, wait_fits, in_protocol, same, fits}
 use Rattle.snoop_model.proofs.Lists.Facts.{replicated}
-use Rattle.snoop_model.proofs.Invariant.Moves.{move_keeps}
+
+-- a word of a block in flat memory
+pub word_flat : (log : List Item) (block word : ℕ) → word < 64 → word_at (flat_words log block) word ≡ flat log block word
+word_flat log block word h = get_or-map-range_with_len (flat log block) 0 64 word word 0 h (omega arith)
+
+-- after one more item the words of a block are those of a list that has, word by word, what the item leaves there
+words_are : (log : List Item) (entry : Item) (b : ℕ) (ws : List ℕ) → length ws ≡ 64 → ((k : ℕ) → k < 64 → word_at ws k ≡ stores entry b k (flat log b k))
+    → flat_words (log ++ entry ∷ []) b ≡ ws
+words_are log entry b ws long each = sym (fill_by_all (flat (log ++ entry ∷ []) b) ws 64 0 long (λ k h. each k h ∙ sym (flat-grows log entry b k)))
+
+-- a move on a block leaves the words of each other
+flat_elsewhere : (log : List Item) (entry : Option Item) (block b : ℕ) → IfSome (did_in entry) (λ did. did.block ≡ block) → b ≢ block → flat_words (log ++ option_to_list entry) b ≡ flat_words log b
+flat_elsewhere log None block b on apart = rw append-nil refl
+flat_elsewhere log (Some entry) block b on apart = words_are log entry b (flat_words log b) (length-map-range_with_len (flat log b) 0 64)
+    (λ k h. word_flat log b k h ∙ left (operation_of entry) on k)
+  where
+    left : (did : Option Did) → IfSome did (λ d. d.block ≡ block) → (k : ℕ) → flat log b k ≡ option_map_or (λ d. if is_store_to b k d then d.value else flat log b k) did (flat log b k)
+    left None on k = refl
+    left (Some did) on k = rw (on, ne_eqb block b (λ e. apart (sym e)), and-false (not did.load)) refl
+
+-- and on its own block it does as its operation says
+flat_here : (log : List Item) (entry : Option Item) (block : ℕ) → IfSome (did_in entry) (λ did. did.block ≡ block)
+    → flat_words (log ++ option_to_list entry) block ≡ flat_after (flat_words log block) (did_in entry)
+flat_here log None block on = rw append-nil refl
+flat_here log (Some entry) block on = let so = after (operation_of entry) on in words_are log entry block _ so.0 so.1
+  where
+    stored : (did : Did) (k : ℕ) → k < 64 → word_at (slice_set (flat_words log block) did.word did.value) k ≡ (if did.word == k then did.value else flat log block k)
+    stored did k h = elim (eqb_tells did.word k) [
+      | inl t ↦ rw (t.0, t.1) (get_or-set_same (flat_words log block) k did.value 0 (rw length-map-range_with_len h))
+      | inr t ↦ rw t.0 (get_or-set_other (flat_words log block) did.word k did.value 0 (λ e. t.1 (sym e)) ∙ word_flat log block k h)
+    ]
+
+    after : (did : Option Did) → IfSome did (λ d. d.block ≡ block) → (length (flat_after (flat_words log block) did) ≡ 64)
+        × ((k : ℕ) → k < 64 → word_at (flat_after (flat_words log block) did) k ≡ option_map_or (λ d. if is_store_to block k d then d.value else flat log block k) did (flat log block k))
+    after None on = (length-map-range_with_len (flat log block) 0 64, word_flat log block)
+    after (Some did) on = elim (cases_Bool did.load) [
+      | inl e ↦ rw e (length-map-range_with_len (flat log block) 0 64, word_flat log block)
+      | inr e ↦ rw (e, eq-eqb did.block block on) (length-set (flat_words log block) did.word did.value ∙ length-map-range_with_len (flat log block) 0 64, λ k h. stored did k h)
+    ]
+
+-- a log stays legal where the item's operation, if it has one, may come next
+legal_logged : (log : List Item) (entry : Option Item) → Legal log → IfSome (did_in entry) (IsNext log) → Legal (log ++ option_to_list entry)
+legal_logged log None legal follows = rw append-nil legal
+legal_logged log (Some entry) legal follows = legal-grows log entry legal follows
+
+-- an operation on a word that there is, as it is performed, may come next, if its load gives the flat value
+next_lawful : (log : List Item) (core block word : ℕ) (asking : Op) (value : ℕ) (hit : Bool) → word < 64 → IsLawful (flat_words log block) (Some (next_did log core block word asking value hit)) → IsNext log (next_did log core block word asking value hit)
+next_lawful log core block word asking value hit inside lawful = record { numbered = refl; loaded = λ h. lawful h ∙ word_flat log block word inside }
+
+-- the operation's core, block and word are within the shape
+abbrev IsLogged : Situation → Did → Type 0
+IsLogged s did = IsWithin s did.core did.block × IsWord s.shape did.word
+
+-- so are those of a log, with those of the move's item
+all_logged : (P : Did → Type 0) (log : List Item) (entry : Option Item) → All P (operations log) → IfSome (did_in entry) P → All P (operations (log ++ option_to_list entry))
+all_logged P log None was now = rw append-nil was
+all_logged P log (Some entry) was now = rw operations-push (All-append P (operations log) (option_to_list (operation_of entry)) was (one (operation_of entry) now))
+  where
+    one : (did : Option Did) → IfSome did P → All P (option_to_list did)
+    one None here = All-nil P
+    one (Some did) here = All-cons P did [] here (All-nil P)
+
+-- the item of a move on a block: its operation, if it has one, is on the block, may come next, and is of a core and a word that there are
+abbrev IsNextOn : Situation → ℕ → Option Item → Type 0
+IsNextOn s block entry = IfSome (did_in entry) (λ did. (did.block ≡ block) × IsNext s.log did × IsLogged s did)
+
+-- what waits in a line is of a word that there is
+abbrev AccessWithin : Extent → Line → Type 0
+AccessWithin shape line = (access : Access) → line.waiting ≡ Some access → IsWord shape access.word
+
+-- what is to be shown of a move
+record Keeps (old : Situation) (block : ℕ) (next : Picture) (queues : List (List ℕ)) (entry : Option Item) : Type 0 where
+  within : block < old.shape.blocks
+  as_wide : length next.caches ≡ length (picture_of old block).caches
+  as_many_queues : length queues ≡ length old.queues
+  opened : (o : Open) → next.transaction ≡ Some o → o.block ≡ block
+  block_after : BlockInvariant old.protocol old.shape.cores (flat_after (flat_words old.log block) (did_in entry)) next
+  accesses : (core : ℕ) → AccessWithin old.shape (held_by next core)
+  item : IsNextOn old block entry
+
+kept : (old : Situation) (block : ℕ) (next : Picture) (queues : List (List ℕ)) (entry : Option Item) → Invariant old → Keeps old block next queues entry → Invariant (changed old block next queues (old.log ++ option_to_list entry))
+kept old block next queues entry g k =
+    let log = old.log ++ option_to_list entry in
+    let within = in_pictures old block g.shaped k.within in
+    let on = IfSome_then (did_in entry) k.item (λ did h. h.0) in
+    let Good : List ℕ → Picture → Type 0 = BlockInvariant old.protocol old.shape.cores in
+    record {
+      shaped = shaped_after old block next queues log g.shaped k.as_wide k.as_many_queues;
+      opened = each_picture old block next queues log (λ b x. (o : Open) → x.transaction ≡ Some o → o.block ≡ b) within (λ b apart. g.opened b) k.opened;
+      blocks = each_picture old block next queues log (λ b x. b < old.shape.blocks → Good (flat_words log b) x) within
+          (λ b apart b_in. rw (flat_elsewhere old.log entry block b on apart) (g.blocks b b_in))
+          (λ b_in. rw (flat_here old.log entry block on) k.block_after);
+      legal = legal_logged old.log entry g.legal (IfSome_then (did_in entry) k.item (λ did h. h.1));
+      logged = all_logged (IsLogged old) old.log entry g.logged (IfSome_then (did_in entry) k.item (λ did h. h.2));
+      accesses = λ core. each_picture old block next queues log (λ b x. AccessWithin old.shape (held_by x core)) within (λ b apart. g.accesses core b) (k.accesses core);
+    }
+
+as_many_after : (a : CacheAction) (queues : List (List ℕ)) (core block : ℕ) → length (queues_after a queues core block) ≡ length queues
+as_many_after (action.Issue r) queues core block = length-set queues core _
+as_many_after _ queues core block = refl
+
+issued_access : (s : Situation) (word : ℕ) (asking : Op) (access : Access) → HasWord s.shape word asking → kept_waiting word asking ≡ Some access → IsWord s.shape access.word
+issued_access s word op.Evict access within e = cc
+issued_access s word _ access within e = rw (← same_Some _ _ e) within
+
+-- a hit is of a load or a store, whose word there is
+hit_word : (shape : Extent) (word : ℕ) (asking : Op) (before : List ℕ) (value : ℕ) (after : List ℕ) → HasWord shape word asking → Performs word asking before value after → IsWord shape word
+hit_word shape word op.Evict before value after there h = absurd h
+hit_word shape word _ before value after there h = there
+
+-- what waits after an Ask, and its item
+module _ (s : Situation) (core block word : ℕ) (asking : Op) (next : CacheState) (old new : Line) (answer : Reply) (entry : Option Item) (there : HasWord s.shape word asking) where
+  takes_so : (a : CacheAction) → Takes a next s.log core block word asking old new answer entry → AccessWithin s.shape old → IsWithin s core block → IsLawful (flat_words s.log block) (did_in entry)
+      → AccessWithin s.shape new × IsNextOn s block entry
+  takes_so action.Hit t was within lawful =
+      let has = hit_word s.shape word asking t.1.0.before t.0 t.1.0.after there t.1.0.performed in
+      (rw t.1.0.held was, rw t.1.2 (refl, next_lawful s.log core block word asking t.0 true has.1 (rw t.1.2 at lawful), (within, has)))
+  takes_so (action.Issue r) t was within lawful = (rw t.0 (λ access. issued_access s word asking access there), rw t.2 tt)
+  takes_so action.Drop t was within lawful = (rw t.0 was, rw t.2 tt)
+  takes_so _ t was within lawful = absurd t
+
+-- a move keeps the invariant
+pub move_keeps : (block : ℕ) (old : Situation) (step : Step) (answer : Reply) (new : Situation) → Invariant old → MoveOn block old step answer new → Invariant new
+move_keeps block old (Ask core on word asking) answer new g m = elim m.moves [
+  | inl idle ↦ rw idle.3 g
+  | inr a ↦
+      (let before : Picture = picture_of old block in
+      let line = held_by before core in
+      let act = a.row.action in
+      let in_row : core < length before.caches = rw (g.shaped.row block m.within.1) m.within.0 in
+      let k = ask_keeps old core block word asking answer new a old.shape.cores (flat_words old.log block) (g.blocks block m.within.1) m.within.0 in_row in
+      let so = takes_so old core block word asking a.row.next line a.held answer a.entry m.has_word act a.taken (g.accesses core block) m.within k.1 in
+      rw a.after (kept old block (with_line before core a.held) (queues_after act old.queues core block) a.entry g (record {
+        within = m.within.1;
+        as_wide = length-set before.caches core a.held;
+        as_many_queues = as_many_after act old.queues core block;
+        opened = g.opened block;
+        block_after = k.0;
+        item = so.1;
+        accesses = each_set before.caches core a.held nothing_held (λ c. AccessWithin old.shape) in_row so.0
+            (λ c apart. g.accesses c block);
+      })))
+]
+move_keeps block old (Order core) answer new g m =
+    let o = m.orders in
+    let within = m.within in
+    let cores : length (picture_of old block).caches ≡ old.shape.cores = g.shaped.row block within.1 in
+    rw o.after (kept old block o.next (after_order old.queues core block) (Some (item.Sent (record { core = core; request = m.request; block = block }))) g (record {
+      within = within.1;
+      as_wide = o.taken.same_length;
+      as_many_queues = length-set old.queues core _;
+      opened = λ t is_open. ap (λ (x : Open). x.block) (same_Some _ _ (sym is_open ∙ o.opened));
+      block_after = rw (← cores) (order_keeps old core block m.request new (flat_words old.log block) (rw cores (g.blocks block within.1)) (rw cores within.0) o);
+      item = tt;
+      accesses = λ c. each_held o.next.caches c (AccessWithin old.shape)
+          (λ below. rw (o.taken.rows c (rw (← o.taken.same_length) below)).2 (g.accesses c block)) (λ access waits. cc);
+    }))
+move_keeps block old (Respond on) answer new g m =
+    let closing = m.closing in
+    let r = m.responds in
+    let before : Picture = picture_of old block in
+    let placed : closing.block ≡ block = g.opened block closing r.opened in
+    let its_core = (g.blocks block m.within).requestor_in closing r.opened in
+    let arrived = by_request closing.request r.requestor in
+    let k = respond_keeps old block closing m.did new r old.shape.cores (flat_words old.log block) (g.blocks block m.within) (rw (g.shaped.row block m.within) its_core) in
+    let logged : IsNextOn old block (Some (item.Came (came_of closing) m.did)) = elim arrived [
+      | inl put ↦ rw put.2 tt
+      | inr f ↦
+          (let has = g.accesses closing.core block f.asking f.fills.waited in
+          let lawful = rw (f.logged, ← placed) at k.1 in
+          rw f.logged (placed, next_lawful old.log closing.core closing.block f.asking.word f.asking.op f.value false has.1 lawful, ((its_core, rw placed m.within), has)))
+    ] in
+    rw r.after (kept old block r.next old.queues (Some (item.Came (came_of closing) m.did)) g (record {
+      within = m.within;
+      as_wide = arrives_length arrived;
+      as_many_queues = refl;
+      opened = λ t is_open. absurd (none-some t (sym r.closed ∙ is_open));
+      block_after = k.0;
+      item = logged;
+      accesses = λ c access waits. let same = still_waiting arrived c access waits in g.accesses c block access (rw (← same) waits);
+    }))
 
 pub nothing_proper : IsProper nothing_held
 nothing_proper = record { kept = refl; waiting = refl }
@@ -19,34 +214,11 @@ nothing_waits None h = refl
 nothing_waits (Some access) h = cc
 
 -- where the block's value is at reset: with memory, and with each sharer under MSI
-first_claims : (p : Protocol) → (shared : Bool) × (claims_of p (first_memory p) None ≡ Some (record { owned = false; shared = shared; fresh = true }))
-unfolding claims_of
-first_claims protocol.Msi = (true, refl)
-first_claims protocol.Mesi = (false, refl)
-
-idle_fits : (p : Protocol) (shared : Bool) → fits p shared false None I ≡ true
-unfolding fits is_owner is_sharer is_clean wait_fits in_protocol same
-idle_fits protocol.Msi shared = refl
-idle_fits protocol.Mesi shared = refl
-
-untouched_block : (p : Protocol) (n : ℕ) → BlockInvariant p n zero_words (untouched p n)
-untouched_block p n =
-    let claims = first_claims p in
-    record {
-      claims = record { owned = false; shared = claims.0; fresh = true };
-      is_claims = claims.1;
-      owner = None;
-      owner_in = λ o e. cc;
-      is_owned = refl;
-      states = λ d d_in. rw (replicated n d nothing_held) (idle_fits p claims.0);
-      kept = λ d d_in h. (let e = rw (replicated n d nothing_held) at h in cc);
-      clean = λ d d_in h. refl;
-      fresh = λ h. refl;
-      carried = λ o e h. cc;
-      requestor_in = λ o e. cc;
-      sender_in = λ o e. cc;
-      proper = λ d d_in. rw (replicated n d nothing_held) nothing_proper;
-    }
+first_claims : (p : Protocol) → (shared : Bool)
+    × ((claims_of p (first_memory p) None ≡ Some (record { owned = false; shared = shared; fresh = true })) × (fits p shared false None I ≡ true))
+unfolding claims_of fits is_owner is_sharer is_clean wait_fits in_protocol same
+first_claims protocol.Msi = (true, (refl, refl))
+first_claims protocol.Mesi = (false, (refl, refl))
 
 reset_picture : (p : Protocol) (shape : Extent) (block : ℕ) → block < shape.blocks → picture_of (reset p shape) block ≡ untouched p shape.cores
 reset_picture p shape block within = get_or-replicate shape.blocks block (untouched p shape.cores) nothing_there within
@@ -72,15 +244,27 @@ reset_shaped p shape = record {
   queues = length-replicate shape.cores [];
 }
 
--- flat memory at reset
-flat_reset : (block : ℕ) → flat_words [] block ≡ zero_words
-flat_reset block = refl
-
 pub reset_invariant : (p : Protocol) (shape : Extent) → Invariant (reset p shape)
 reset_invariant p shape = record {
   shaped = reset_shaped p shape;
   opened = λ b o is_open. (let none = reset_open p shape b in cc);
-  blocks = λ b b_in. rw (reset_picture p shape b b_in, flat_reset b) (untouched_block p shape.cores);
+  blocks = λ b b_in.
+      let claims = first_claims p in
+      rw (reset_picture p shape b b_in) (record {
+        claims = record { owned = false; shared = claims.0; fresh = true };
+        is_claims = claims.1.0;
+        owner = None;
+        owner_in = λ o e. cc;
+        is_owned = refl;
+        states = λ d d_in. rw (replicated shape.cores d nothing_held) claims.1.1;
+        kept = λ d d_in h. (let e = rw (replicated shape.cores d nothing_held) at h in cc);
+        clean = λ d d_in h. refl;
+        fresh = λ h. refl;
+        carried = λ o e h. cc;
+        requestor_in = λ o e. cc;
+        sender_in = λ o e. cc;
+        proper = λ d d_in. rw (replicated shape.cores d nothing_held) nothing_proper;
+      });
   accesses = λ core b access waits. absurd (none-some access (rw (reset_line p shape core b) at waits));
   legal = λ k entry h. cc;
   logged = All-nil (λ did. IsWithin (reset p shape) did.core did.block × IsWord shape did.word);

@@ -1,6 +1,6 @@
 -- What every machine keeps makes it safe, and its steps keep it.
-use Rattle.std.proofs.Common.{◌≡◌, ℕ, List, ◌<◌, ◌≤◌, ◌++◌, Option, Some, None, refl, ap, sym, ◌∙◌, arith, inl, inr, ◌⊎◌, true}
-use Rattle.snoop_model.proofs.Common.{arrival_at_memory, Ask, asked, CacheAction, CacheCell, CacheState, Cell, cell_of, Err, Extent, flat, flat_words, get_or-set_same, Goes, HasOpen, held_by, IfSome, Invariant, is_some, IsOpenByTable, IsProper, IsSenderLine, IsWellKept, Item, keeps, Line, MoveOn, nothing_held, Ok, Op, option_map, option_to_list, Order, Orders, Picture, picture_of, Protocol, queues_after, Refused, Refuses, Reply, Request, reset, Respond, Result, RunBy, same_Some, Situation, state_of, Step, Takes, takes_payload, Waits, with_line, with_picture, word_at}
+use Rattle.std.proofs.Common.{◌≡◌, ℕ, List, ◌<◌, ◌≤◌, Option, Some, None, refl, ap, sym, ◌∙◌, arith, inl, inr, ◌⊎◌, true}
+use Rattle.snoop_model.proofs.Common.{arrival_at_memory, Ask, asked, CacheAction, CacheCell, CacheState, Cell, cell_of, Extent, flat, flat_words, Goes, HasOpen, held_by, IfSome, Invariant, is_some, IsOpenByTable, IsProper, IsSenderLine, IsWellKept, Item, keeps, Line, MoveOn, nothing_held, Op, option_map, Order, Orders, Picture, picture_of, Protocol, Refused, Refuses, Reply, Request, reset, Respond, Result, RunBy, same_Some, Situation, state_of, Step, Takes, Waits, with_line, with_picture, word_at}
 use Rattle.snoop_trace.specs.declared.step.Op.TheVariants as op
 use Rattle.snoop_trace.specs.declared.protocol.Protocol.TheVariants.{Msi, Mesi}
 use Rattle.snoop_rules.specs.declared.names.CacheState.TheVariants as state
@@ -15,15 +15,14 @@ use Rattle.snoop_model.proofs.Lists.Facts.{if_some}
 use Rattle.snoop_model.proofs.Tables.Rows.{IsProper-drop}
 use Rattle.snoop_model.proofs.Tables.SentBy.{sends_is}
 use Rattle.snoop_model.proofs.OneBlock.AfterMoves.{ask_line, respond_here}
-use Rattle.snoop_model.proofs.OneBlock.OfBlocks.{in_pictures, each_picture, picture_here}
+use Rattle.snoop_model.proofs.OneBlock.OfBlocks.{in_pictures, each_picture}
 use Rattle.snoop_model.proofs.Invariant.Coherence.{has_one_writer, kept_read, readers_current, data_current, memory_current, names_its_block, data_awaited, each_line, held_within, finds_rows, orders_follow_sender_table}
-use Rattle.snoop_model.proofs.Invariant.Moves.{word_flat, move_keeps}
-use Rattle.snoop_model.proofs.Invariant.Runs.{reset_invariant, reset_open, nothing_proper, nothing_waits, goes_kept}
+use Rattle.snoop_model.proofs.Invariant.Runs.{reset_invariant, reset_open, nothing_proper, nothing_waits, goes_kept, word_flat, move_keeps}
 use Rattle.snoop_model.proofs.Queues.Moves.{on_kept, starts_well}
 use Rattle.snoop_model.proofs.Runs.Along.{kept_along}
 use Rattle.snoop_model.proofs.Runs.GoOn.{moves_on}
 use Rattle.snoop_model.proofs.Steps.GoesNext.{order_made, settled_is}
-use Rattle.snoop_model.proofs.Turns.WaitingWorks.{stall_busy, busy_cases}
+use Rattle.snoop_model.proofs.Turns.Laws.{stall_busy, busy_cases}
 
 -- a drop at an Evict leaves the block in I
 drop_leaves : (p : Protocol) (s : CacheState) (n : CacheState) → Cell p s (asked op.Evict) action.Drop n → n ≡ state.I
@@ -91,19 +90,16 @@ module _ (s : Situation) (g : Invariant s) where
   -- an Order is a line of the table
   pub order_is_line : (core block : ℕ) (q : Request) (new : Situation) (made : Orders s core block q new) → IsSenderLine s.protocol (picture_of s block) core q made.from made.payload made.next.memory.state
   order_is_line core block q new o =
-      let p = s.protocol in
-      let before : Picture = picture_of s block in
       let f = orders_follow_sender_table s g core block q o.ready in
       let from : f.from ≡ o.from = o.sent.alone f.from f.payload f.sent.sends in
-      let sends = sends_is p before core q f.from f.payload f.sent.sends in
-      let same : f.payload ≡ o.payload = cc (sends, sends_is p before core q o.from o.payload o.sent.sends) in
+      let sends = sends_is s.protocol (picture_of s block) core q f.from f.payload f.sent.sends in
+      let same : f.payload ≡ o.payload = cc (sends, sends_is s.protocol (picture_of s block) core q o.from o.payload o.sent.sends) in
       let memory : f.next ≡ o.next.memory.state = cc (f.ordered.1, f.ordered.2, o.memory.1, o.memory.2) in
       rw (← from, ← same, ← memory) f.is_line
 
   -- a Respond taken next closes the transaction and leaves memory in the last state of its line
   pub open_is_by_table : AreOnSenderLines s → (block : ℕ) → IfSome (picture_of s block).transaction (IsOpenByTable s block)
   open_is_by_table lines block = if_some (picture_of s block).transaction (IsOpenByTable s block) (λ o is.
-      let memory = (picture_of s block).memory.state in
       let line = rw is at (lines block) in
       record {
         before = line.0;
@@ -113,7 +109,7 @@ module _ (s : Situation) (g : Invariant s) where
             let there : picture_of new block ≡ r.next = respond_here s block m.closing m.did new g m.within r in
             let same : m.closing ≡ o = same_Some _ _ (sym r.opened ∙ is) in
             let settles = rw same at r.memory.settled in
-            let settled = settled_is (takes_payload o.request memory) s.protocol (arrival_at_memory o.payload) memory in
+            let settled = settled_is _ s.protocol (arrival_at_memory o.payload) (picture_of s block).memory.state in
             let done = settled r.memory.act r.next.memory.state settles ∙ sym (settled line.1.act line.1.done line.1.settled) in
             rw there (r.closed, ap (λ x. x.1) done);
       })

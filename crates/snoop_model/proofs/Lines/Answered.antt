@@ -1,7 +1,6 @@
 -- The lines after a response: the requestor's is filled, or none is changed.
-use Rattle.std.proofs.Common.{◌≡◌, ℕ, List, length, Option, Some, None, refl, ◌∙◌, ap, inl, inr, ◌⊎◌, length-set}
-use Rattle.snoop_model.proofs.Common.{Protocol, Request, Did, Item, Open, Access, Line, held_at, nothing_held, FillsRequestor, ArrivesFor}
-use Rattle.snoop_rules.specs.declared.names.Request.TheVariants.{PutM}
+use Rattle.std.proofs.Common.{arith, ◌≡◌, ℕ, List, length, Option, Some, None, refl, inl, inr, ◌⊎◌, length-set}
+use Rattle.snoop_model.proofs.Common.{Protocol, Request, Did, Item, Open, Access, Line, held_at, nothing_held, FillsRequestor, ArrivesFor, PutM}
 use Rattle.snoop_model.proofs.Lists.Writes.{set_cases}
 
 module _ {closing : Open} {p : Protocol} {log : List Item} {old new : List Line} {did : Option Did} where
@@ -16,10 +15,7 @@ module _ {closing : Open} {p : Protocol} {log : List Item} {old new : List Line}
 module _ {q : Request} {closing : Open} {p : Protocol} {log : List Item} {old new : List Line} {did : Option Did}
     (arrived : ((q ≡ PutM) × (new ≡ old) × (did ≡ None)) ⊎ FillsRequestor closing p log old new did) where
   pub arrives_length : length new ≡ length old
-  arrives_length = elim arrived [
-    | inl put ↦ ap length put.1
-    | inr fills ↦ ap length fills.held ∙ length-set old closing.core fills.line
-  ]
+  arrives_length = grind (arith, length-set {A = Line})
 
   -- a line in which an operation still waits is as it was
   pub still_waiting : (k : ℕ) (access : Access) → (held_at new k).waiting ≡ Some access → held_at new k ≡ held_at old k

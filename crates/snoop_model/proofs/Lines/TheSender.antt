@@ -1,7 +1,6 @@
 -- The loop that looks for the one sender.
 use Rattle.std.proofs.Common.{◌≡◌, ℕ, ◌+◌, ◌<◌, ◌≤◌, length, Option, Some, None, arith, inl, inr, ◌≢◌}
-use Rattle.snoop_model.proofs.Common.{cases_eq, cases_lt, Protocol, CacheState, CacheAction, MemState, MemAction, Request, Payload, Target, Cell, MemoryCell, seen_by, at_memory, Picture, held_by, Sends}
-use Rattle.std.specs.Prelude.{⊤}
+use Rattle.snoop_model.proofs.Common.{cases_eq, cases_lt, Protocol, CacheState, CacheAction, MemState, MemAction, Request, Payload, Target, Cell, MemoryCell, seen_by, at_memory, Picture, held_by, Sends, ⊤}
 use Rattle.snoop_rules.specs.declared.names.CacheAction.TheVariants as action
 use Rattle.snoop_rules.specs.declared.names.MemAction.TheVariants as mem_action
 use Rattle.snoop_model.specs.Moves.SenderTable.{FollowsSenderTable}
@@ -31,7 +30,8 @@ module _ (p : Protocol) (before : Picture) (core : ℕ) (request : Request) wher
   Silent-all silent line = silent line.from line.payload (sends_below line.from line.payload line.sent.sends) line.sent.sends
 
   -- the next core sends nothing
-  pub Silent-more : (n : ℕ) (act : CacheAction) (next : CacheState) → SilentBelow p before core request n → Cell p (held_by before n).state (seen_by n core request) act next
+  pub Silent-more : (n : ℕ) (act : CacheAction) (next : CacheState) → SilentBelow p before core request n
+      → Cell p (held_by before n).state (seen_by n core request) act next
       → ((payload : Payload) (target : Target) → act ≡ action.Send payload target → ⊥) → SilentBelow p before core request (n + 1)
   Silent-more n act next so_far row silent None payload below sends = so_far None payload tt sends
   Silent-more n act next so_far row silent (Some k) payload below sends = elim (cases_eq k n) [

@@ -1,6 +1,6 @@
 -- How often a block stands in a queue.
-use Rattle.std.proofs.Common.{◌≡◌, ◌≢◌, ℕ, suc, ◌+◌, ◌<◌, ◌≤◌, not, cond, eqb, List, [], ◌∷◌, ◌++◌, length, filter, refl, inl, inr, sym, ◌∙◌, arith, count_by, Contains, eq-eqb, ne_eqb, get_or-set_same, get_or-set_other}
-use Rattle.snoop_model.proofs.Common.{cases_Bool, queue_of, after_issue, after_order}
+use Rattle.std.proofs.Common.{zero-add, ◌≡◌, ◌≢◌, ℕ, suc, ◌+◌, ◌<◌, ◌≤◌, not, cond, eqb, List, [], ◌∷◌, ◌++◌, length, filter, refl, inl, inr, sym, ◌∙◌, arith, count_by, Contains, eq-eqb, ne_eqb, get_or-set_same, get_or-set_other}
+use Rattle.snoop_model.proofs.Common.{queue_of, after_issue, after_order}
 use Rattle.std.proofs.lemmas.Bool.Decides.{eqb_tells}
 use Rattle.std.proofs.lemmas.List.Sums.{get_or-le-sum_by, sum_by_push, sum_by-cons}
 use Rattle.snoop_model.proofs.Lists.Facts.{one_if}
@@ -21,9 +21,8 @@ counted_in block [] some = absurd (omega arith)
 counted_in block (x ∷ queue) some = elim (eqb_tells x block) [
   | inl same ↦ (0, omega arith, same.1)
   | inr other ↦
-      let none : one_if (eqb x block) ≡ 0 = rw other.0 refl in
-      let rest = counted_in block queue (omega (arith, times_cons block x queue)) in
-      (suc rest.0, (let below = rest.1 in omega arith), rest.2)
+      let (k, below, is) = counted_in block queue (simp (other.0, zero-add) at some) in
+      (suc k, omega arith, is)
 ]
 
 pub in_counted : (block : ℕ) (queue : List ℕ) → Contains queue block → 1 ≤ times block queue
@@ -32,17 +31,12 @@ in_counted block queue (k, below, is) = rw (is, eq-eqb block block refl) at (get
 -- a block is taken out of a queue, and the others stay
 times_gone : (taken : ℕ) (queue : List ℕ) → times taken (filter (λ b. not (eqb b taken)) queue) ≡ 0
 times_gone taken [] = refl
-times_gone taken (x ∷ queue) = elim (cases_Bool (eqb x taken)) [
-  | inl e ↦ rw e (times_gone taken queue)
-  | inr e ↦ rw e (simp e (omega (arith, times_gone taken queue)))
-]
+times_gone taken (x ∷ queue) = grind (arith, times_cons, times_gone taken queue)
 
 times_left : (block taken : ℕ) (queue : List ℕ) → block ≢ taken → times block (filter (λ b. not (eqb b taken)) queue) ≡ times block queue
 times_left block taken [] apart = refl
-times_left block taken (x ∷ queue) apart = elim (eqb_tells x taken) [
-  | inl same ↦ rw (same.0, same.1) (simp (ne_eqb taken block (λ e. apart (sym e))) (omega (arith, times_left block taken queue apart)))
-  | inr other ↦ rw other.0 (simp times_cons (omega (arith, times_left block taken queue apart)))
-]
+times_left block taken (x ∷ queue) apart =
+    grind (arith, times_cons block x queue, times_cons block x (filter (λ b. not (eqb b taken)) queue), eqb_tells x taken, eqb_tells x block, times_left block taken queue apart)
 
 module _ (queues : List (List ℕ)) (core block : ℕ) where
   -- an issue adds its block to its core's queue once

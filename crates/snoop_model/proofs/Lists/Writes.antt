@@ -1,6 +1,6 @@
 -- What a write in one place does to a list of lists, and to sums over it.
-use Rattle.std.proofs.Common.{◌≡◌, ◌≢◌, ℕ, zero, suc, ◌+◌, ◌<◌, ◌≤◌, List, [], ◌∷◌, ◌++◌, length, filter, not, Bool, false, Some, refl, ap, arith, inl, inr, ◌⊎◌, true, slice_index_or, slice_set, slice_get, All, ◌==◌, sum_by, count_by, eq-eqb, get_or-set_same, get_or-set_other}
-use Rattle.snoop_model.proofs.Common.{cases_eq, cases_lt, same_Some, get_or_past, queue_of, after_issue, after_order}
+use Rattle.std.proofs.Common.{◌≡◌, ◌≢◌, ℕ, zero, suc, ◌+◌, ◌<◌, ◌≤◌, List, [], ◌∷◌, ◌++◌, length, filter, not, Bool, false, Some, refl, ap, arith, inl, inr, ◌⊎◌, slice_index_or, slice_set, slice_get, All, ◌==◌, sum_by, count_by, eq-eqb, get_or-set_same, get_or-set_other}
+use Rattle.snoop_model.proofs.Common.{cond_both, same_Some, get_or_past, queue_of, after_issue, after_order}
 use Rattle.std.proofs.lemmas.Option.{get_or_from_slice_get, slice_get_within}
 use Rattle.std.proofs.lemmas.List.{set_past, length_push}
 use Rattle.std.proofs.lemmas.List.Elements.{All-push, All-filter}
@@ -17,17 +17,16 @@ set_cases (x ∷ xs) (suc i) (suc k) a d = elim (set_cases xs i k a d) [ inl p �
 
 -- what holds of the new value in its place, and of each other, holds of each then
 pub each_set : {A : Type 0} (xs : List A) (i : ℕ) (a d : A) (P : ℕ → A → Type 0) → i < length xs → P i a → ((k : ℕ) → k ≢ i → P k (slice_index_or xs k d)) → (k : ℕ) → P k (slice_index_or (slice_set xs i a) k d)
-each_set xs i a d P inside here others k = elim (cases_eq k i) [
-  | inl e ↦ rw (e, get_or-set_same xs i a d inside) here
-  | inr apart ↦ rw (get_or-set_other xs i k a d apart) (others k apart)
-]
+each_set xs i a d P inside here others k = grind (arith, get_or-set_same xs i a d, get_or-set_other xs i k a d, others k)
 
 -- what holds of each value, and of the new one, holds of each then
-each_still : {A : Type 0} (xs : List A) (i : ℕ) (a d : A) (P : ℕ → A → Type 0) → ((k : ℕ) → P k (slice_index_or xs k d)) → P i a → (k : ℕ) → P k (slice_index_or (slice_set xs i a) k d)
+each_still : {A : Type 0} (xs : List A) (i : ℕ) (a d : A) (P : ℕ → A → Type 0) → ((k : ℕ) → P k (slice_index_or xs k d)) → P i a → (k : ℕ)
+    → P k (slice_index_or (slice_set xs i a) k d)
 each_still xs i a d P all here k = elim (set_cases xs i k a d) [ inl p ↦ rw (p.1, p.0) here | inr e ↦ rw e (all k) ]
 
 -- a write of an equal leaves all equal
-pub same_set : {A B : Type 0} (f : A → B) (xs : List A) (i : ℕ) (a d : A) → f a ≡ f (slice_index_or xs i d) → (k : ℕ) → f (slice_index_or (slice_set xs i a) k d) ≡ f (slice_index_or xs k d)
+pub same_set : {A B : Type 0} (f : A → B) (xs : List A) (i : ℕ) (a d : A) → f a ≡ f (slice_index_or xs i d) → (k : ℕ)
+    → f (slice_index_or (slice_set xs i a) k d) ≡ f (slice_index_or xs k d)
 same_set f xs i a d same = each_still xs i a d (λ k x. f x ≡ f (slice_index_or xs k d)) (λ k. refl) same
 
 pub all_first : {A : Type 0} (P : A → Type 0) (xs : List A) (x : A) → All P xs → slice_get xs 0 ≡ Some x → P x
@@ -44,14 +43,14 @@ module _ (P : ℕ → ℕ → Type 0) (lines : List (List ℕ)) (core block : �
   pub all_ordered : (k : ℕ) → All (P k) (queue_of (after_order lines core block) k)
   all_ordered = each_still lines core _ [] (λ k line. All (P k) line) all (All-filter (λ b. not (b == block)) (P core) (queue_of lines core) (all core))
 
+-- a sum before and after a write, which past the end of the list does nothing
+sum_set : {A : Type 0} (f : A → ℕ) (xs : List A) (i : ℕ) (a d : A) → f d ≡ 0 → sum_by f (slice_set xs i a) + f (slice_index_or xs i d) ≤ sum_by f xs + f a
+sum_set f xs i a d none = grind (arith, sum_by-set f xs i a d, set_past xs i a, get_or_past xs i d)
+
 -- an issue adds one to the requests that wait, and an Order takes one away
 pub sum_issued : (lines : List (List ℕ)) (core block : ℕ) → sum_by length (after_issue lines core block) ≤ sum_by length lines + 1
 sum_issued lines core block =
-    let line : List ℕ = queue_of lines core ++ block ∷ [] in
-    elim (cases_lt core (length lines)) [
-      | inl lt ↦ omega (arith, sum_by-set (λ (l : List ℕ). length l) lines core line [] lt, length_push (queue_of lines core) block)
-      | inr ge ↦ rw (set_past lines core line ge) (omega arith)
-    ]
+    omega (arith, sum_set (λ (line : List ℕ). length line) lines core (queue_of lines core ++ block ∷ []) [] refl, length_push (queue_of lines core) block)
 
 left_shorter : (line : List ℕ) (block : ℕ) → slice_get line 0 ≡ Some block → length (filter (λ b. not (b == block)) line) + 1 ≤ length line
 left_shorter [] block h = cc
@@ -65,13 +64,9 @@ sum_ordered lines core block first =
     omega (arith, sum_by-set (λ (l : List ℕ). length l) lines core left [] (first_within lines core block first), left_shorter (queue_of lines core) block first)
 
 pub one_small : (t : Bool) → one_if t ≤ 1
-one_small true = omega arith
-one_small false = omega arith
+one_small t = cond_both t 1 0 (λ n. n ≤ 1) (λ is. omega arith) (λ is. omega arith)
 
--- how many pass a test before and after a write, which past the end of the list does nothing
+-- how many pass a test before and after a write
 pub count_set : {A : Type 0} (test : A → Bool) (xs : List A) (i : ℕ) (a d : A) → test d ≡ false
     → count_by test (slice_set xs i a) + one_if (test (slice_index_or xs i d)) ≤ count_by test xs + one_if (test a)
-count_set test xs i a d none = elim (cases_lt i (length xs)) [
-  | inl lt ↦ omega (arith, sum_by-set (λ x. one_if (test x)) xs i a d lt)
-  | inr ge ↦ rw (set_past xs i a ge, get_or_past xs i d ge, none) (omega arith)
-]
+count_set test xs i a d none = sum_set (λ x. one_if (test x)) xs i a d (rw none refl)

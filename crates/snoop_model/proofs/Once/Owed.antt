@@ -1,13 +1,10 @@
 -- What waited, or was asked, waits or is its core's last operation: by `once` alone.
 use Rattle.std.proofs.Common.{◌≡◌, ℕ, zero, suc, ◌⊎◌, inl, inr, ◌==◌, List, [], ◌∷◌, ◌++◌, map, Option, Some, None, refl, ap, sym, ◌∙◌, arith, append-nil}
-use Rattle.std.specs.Prelude.{option_to_list, Ok, Contains, filter}
 use Rattle.std.specs.List.Sorted.{IsPermutation}
 use Rattle.std.specs.List.{cons_option}
 use Rattle.std.proofs.lemmas.List.Sorted.{Contains-permutation, IsPermutation-sym}
 use Rattle.std.proofs.lemmas.List.Elements.{Contains-append_left, Contains-append_right, Contains-append_cases}
-use Rattle.std.proofs.lemmas.List.{append_cancel_left, map-append}
-use Rattle.std.proofs.lemmas.Bool.{cases_Bool, eqb-true}
-use Rattle.snoop_model.proofs.Common.{Access, answers_of, Ask, asked_access, came_of, Did, did_access, FirstMove, held_by, IsLast, IsOwed, Item, OnceMore, Order, Owes, picture_of, Reply, Respond, same_Some, Situation, Step, waiting_at}
+use Rattle.snoop_model.proofs.Common.{Access, answers_of, append_cancel_left, asked_access, cases_Bool, Contains, Did, did_access, eqb-true, filter, FirstMove, held_by, IsLast, IsOwed, Item, map-append, Ok, OnceMore, option_to_list, Owes, picture_of, Reply, same_Some, Situation, Step, waiting_at}
 use Rattle.snoop_model.proofs.Runs.Shape.{on_stays}
 use Rattle.snoop_history.proofs.Pushed.{answers_of-push, last_or-append, of_core}
 use Rattle.snoop_model.proofs.OneBlock.Operation.{did_in}
@@ -74,7 +71,7 @@ module _ (s t : Situation) (step : Step) (answer : Reply) (move : FirstMove s st
   is_last here = elim (one_or_none core (performed_by s t step answer move)) [
     | inl none ↦ absurd (omega (arith, (rw none at here).1))
     | inr (d, is) ↦ elim (cases_Bool (d.block == block)) [
-      | inl on ↦ (d, rw (answers_after, is, map-append Some (answers_of s.log core) (d ∷ []), last_or-append None (map Some (answers_of s.log core)) (Some d ∷ [])) refl, eqb-true d.block block on, same_Some _ _ (in_one (Some (did_access d)) wanted (rw (is, on) at here)))
+      | inl on ↦ (d, rw (answers_after, is, map-append, last_or-append) refl, eqb-true d.block block on, same_Some _ _ (in_one (Some (did_access d)) wanted (rw (is, on) at here)))
       | inr off ↦ absurd (omega (arith, (rw (is, off) at here).1))
     ]
   ]

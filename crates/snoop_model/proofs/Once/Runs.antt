@@ -1,12 +1,11 @@
 -- Each load and store that a run asks is done once, or waits.
-use Rattle.std.proofs.Common.{◌≡◌, ℕ, Bool, true, false, ◌<◌, ◌&&◌, cond, eqb, List, [], ◌∷◌, ◌++◌, length, Option, Some, None, refl, inl, inr, ap, sym, ◌∙◌, arith, append-nil, append_assoc}
-use Rattle.std.specs.Prelude.{◌==◌, ⊤, option_to_list, map, filter, filter_map, slice_set, Result, Ok, Err}
+use Rattle.std.proofs.Common.{◌≡◌, ℕ, Bool, true, false, ◌<◌, ◌&&◌, cond, eqb, List, [], ◌∷◌, ◌++◌, length, Option, Some, None, refl, inl, inr, ap, sym, ◌∙◌, append-nil, append_assoc}
 use Rattle.std.specs.List.Sorted.{IsPermutation}
 use Rattle.std.proofs.lemmas.List.Sorted.{IsPermutation-refl, IsPermutation-trans, IsPermutation-append_comm, IsPermutation-append_left, IsPermutation-append_right}
 use Rattle.std.proofs.lemmas.List.Elements.{filter-append, filter_map-append}
 use Rattle.snoop_model.proofs.Lists.Writes.{each_set}
 use Rattle.snoop_model.proofs.Lists.Facts.{either_way}
-use Rattle.snoop_model.proofs.Common.{option_map, IfSome, Access, accesses_in, after_order, answers_of, Ask, asked, asked_access, CacheAction, CacheState, came_of, cases_lt, Cell, Did, did_access, eq-eqb, Extent, FillsRequestor, get_or_past, Goes, held_at, held_by, Invariant, IsProper, Item, kept_waiting, Line, map-append, MoveOn, ne_eqb, next_did, nothing_held, Once, OnceMore, Op, Open, operation_of, operations, Order, Orders, Performs, Picture, picture_of, Protocol, queues_after, Refused, Reply, Request, reset, Respond, RunBy, Situation, Step, taken, Takes, waiting_at, with_line}
+use Rattle.snoop_model.proofs.Common.{Access, accesses_in, after_order, Ask, asked, asked_access, CacheAction, CacheState, came_of, Cell, Did, did_access, eq-eqb, Err, Extent, filter, filter_map, Goes, held_at, held_by, IfSome, Invariant, IsProper, Item, kept_waiting, Line, map, map-append, MoveOn, ne_eqb, next_did, nothing_held, Ok, Once, OnceMore, Op, operation_of, option_map, option_to_list, Order, Performs, Picture, picture_of, Protocol, queues_after, Refused, Reply, reset, Respond, Result, RunBy, Situation, slice_set, Step, taken, Takes, waiting_at, with_line, ◌==◌}
 use Rattle.snoop_trace.specs.declared.step.Op.TheVariants as op
 use Rattle.snoop_rules.specs.declared.names.CacheAction.TheVariants as action
 use Rattle.snoop_history.specs.declared.items.Item.TheVariants as item
@@ -15,6 +14,7 @@ use Rattle.snoop_model.proofs.Tables.Rows.{issue-missed, drop_evicts}
 use Rattle.snoop_model.proofs.OneBlock.Operation.{did_in}
 use Rattle.snoop_model.proofs.OneBlock.OfBlocks.{changed, each_picture, in_pictures}
 use Rattle.snoop_model.proofs.Lines.Answered.{by_request}
+use Rattle.snoop_model.proofs.Queues.Moves.{each_taken}
 use Rattle.snoop_model.proofs.Once.Owed.{answers_are, cons_one}
 use Rattle.snoop_model.proofs.Invariant.Runs.{nothing_waits, goes_keeps, refusal_same, reset_invariant, reset_line}
 
@@ -64,25 +64,21 @@ module _ (p : Protocol) (next : CacheState) (log : List Item) (core block word :
   line_once action.Drop row t = rw (t.0, t.2, drop_evicts p old.state asking next row) (tt, unchanged (option_to_list old.waiting))
   line_once _ row t = absurd t
 
--- a response performs what waited on the requestor's line
-fills_once : {closing : Open} {p : Protocol} {log : List Item} {old new : List Line} {did : Option Did} (f : FillsRequestor closing p log old new did)
-    → IsPermutation (option_to_list (held_at old closing.core).waiting ++ []) (option_to_list (done did) ++ option_to_list f.line.waiting)
-fills_once {closing} {p} {log} f =
-    let so = performed_so f.asking.word f.asking.op closing.value f.value f.fills.after log closing.core closing.block false f.fills.performed in
-    rw (f.fills.held, f.fills.waited, f.logged, so.0) (IsPermutation-refl (f.asking ∷ []))
-
 module _ (old : Situation) (b c : ℕ) where
+  -- in a line, the core's own or not, what waited and what is asked is what is done and what waits
+  abbrev Evens : Option Access → Option Did → ℕ → ℕ → Bool → Line → Type 0
+  Evens asked did core block own line = IsPermutation (waiting_at old core block ++ option_to_list (cond own asked None)) (option_to_list (cond own (done did) None) ++ option_to_list line.waiting)
+
   -- the core's operation on the block is done, and in each of its lines what waited and what is asked is what is done and what waits
   abbrev Balances : Option Access → Option Did → List Line → Type 0
-  Balances asked did lines = IsBy c b did × ((k : ℕ) → IsPermutation (waiting_at old k b ++ option_to_list (cond (eqb c k) asked None)) (option_to_list (cond (eqb c k) (done did) None) ++ option_to_list (held_at lines k).waiting))
+  Balances asked did lines = IsBy c b did × ((k : ℕ) → Evens asked did k b (eqb c k) (held_at lines k))
 
   -- so it is where the one line that changes balances
   balances : (held : Line) (asked : Option Access) (did : Option Did) → c < length (picture_of old b).caches → IsBy c b did
       → IsPermutation (option_to_list (held_by (picture_of old b) c).waiting ++ option_to_list asked) (option_to_list (done did) ++ option_to_list held.waiting)
       → Balances asked did (slice_set (picture_of old b).caches c held)
   balances held asked did inside by here =
-      let lines = each_set (picture_of old b).caches c held nothing_held
-      (λ k x. IsPermutation (waiting_at old k b ++ option_to_list (cond (eqb c k) asked None)) (option_to_list (cond (eqb c k) (done did) None) ++ option_to_list x.waiting)) inside
+      let lines = each_set (picture_of old b).caches c held nothing_held (λ k. Evens asked did k b (eqb c k)) inside
       (rw (eq-eqb c c refl) here) (λ k apart. rw (ne_eqb c k (λ e. apart (sym e))) (unchanged (waiting_at old k b))) in
       (by, lines)
 
@@ -99,18 +95,9 @@ module _ (old : Situation) (b c : ℕ) where
     log = refl;
     once = λ core block. rw (cons_one (asked_access core block step), asks core block, accesses_one core block c b entry balance.0)
         (each_picture old b next queues (old.log ++ option_to_list entry)
-        (λ x picture. IsPermutation (waiting_at old core x ++ option_to_list (cond (eqb b x && eqb c core) asked None)) (option_to_list (cond (eqb b x && eqb c core) (done (did_in entry)) None) ++ option_to_list (held_by picture core).waiting))
+        (λ x picture. Evens asked (did_in entry) core x (eqb b x && eqb c core) (held_by picture core))
         within (λ x apart. rw (ne_eqb b x (λ e. apart (sym e))) (unchanged (waiting_at old core x))) (rw (eq-eqb b b refl) (balance.1 core)) block);
   }
-
--- an Order leaves each operation waiting
-order_waiting : (old : Situation) (core block : ℕ) (q : Request) (new : Situation) (o : Orders old core block q new) (k : ℕ) → (held_by o.next k).waiting ≡ (held_by (picture_of old block) k).waiting
-order_waiting old core block q new o k = elim (cases_lt k (length (picture_of old block).caches)) [
-  | inl inside ↦ rw (o.taken.rows k inside).2 refl
-  | inr past ↦
-      (let long = o.taken.same_length in
-      rw (get_or_past o.next.caches k nothing_held (omega arith), get_or_past (picture_of old block).caches k nothing_held past) refl)
-]
 
 -- a move does each load and store once
 move_once : (b : ℕ) (old : Situation) (step : Step) (answer : Reply) (new : Situation) → Invariant old → MoveOn b old step answer new → OnceMore old (step ∷ []) (Ok answer ∷ []) new
@@ -129,23 +116,24 @@ move_once b old (Ask c on word asking) answer new g m = elim m.moves [
 ]
 move_once b old (Order c) answer new g m =
     let o = m.orders in
+    let waiting = λ (k : ℕ). each_taken old.protocol c m.request (picture_of old b).caches o.next.caches o.taken k (λ x y. y.waiting ≡ x.waiting)
+    (λ inside. rw (o.taken.rows k inside).2 refl) refl in
     rw o.after (grown old b c o.next (after_order old.queues c b) (Some (item.Sent (record { core = c; request = m.request; block = b }))) None (Order c) answer
-    (in_pictures old b g.shaped m.within.1) (λ core block. either_way (eqb b block && eqb c core) None) (rests old b c o.next.caches (order_waiting old c b m.request new o)))
+    (in_pictures old b g.shaped m.within.1) (λ core block. either_way (eqb b block && eqb c core) None) (rests old b c o.next.caches waiting))
 move_once b old (Respond on) answer new g m =
     let r = m.responds in
     let c = m.closing.core in
     let in_row : c < length (picture_of old b).caches = rw (g.shaped.row b m.within) ((g.blocks b m.within).requestor_in m.closing r.opened) in
     let balanced : Balances old b c None m.did r.next.caches = elim (by_request m.closing.request r.requestor) [
       | inl put ↦ rw (put.2, put.1) (rests old b c (picture_of old b).caches (λ k. refl))
-      | inr f ↦ rw f.held (balances old b c f.line None m.did in_row (rw f.logged (refl, g.opened b m.closing r.opened)) (fills_once f))
+      | inr f ↦
+          (let so = performed_so f.asking.word f.asking.op m.closing.value f.value f.fills.after old.log c m.closing.block false f.fills.performed in
+          let done_once : IsPermutation (waiting_at old c b ++ []) (option_to_list (done m.did) ++ option_to_list f.line.waiting) =
+          rw (f.fills.held, f.fills.waited, f.logged, so.0) (IsPermutation-refl (f.asking ∷ [])) in
+          rw f.held (balances old b c f.line None m.did in_row (rw f.logged (refl, g.opened b m.closing r.opened)) done_once))
     ] in
     rw r.after (grown old b c r.next old.queues (Some (item.Came (came_of m.closing) m.did)) None (Respond on) answer
     (in_pictures old b g.shaped m.within) (λ core block. either_way (eqb b block && eqb c core) None) balanced)
-
-accesses_in-append : (xs ys : List Item) (core block : ℕ) → accesses_in (xs ++ ys) core block ≡ accesses_in xs core block ++ accesses_in ys core block
-accesses_in-append xs ys core block =
-    rw (filter_map-append operation_of xs ys, filter-append (λ (d : Did). d.core == core) (operations xs) (operations ys), filter-append (λ (d : Did). d.block == block) (answers_of xs core) (answers_of ys core))
-    (map-append did_access (filter (λ (d : Did). d.block == block) (answers_of xs core)) (filter (λ (d : Did). d.block == block) (answers_of ys core)))
 
 -- a run, from any situation that keeps the invariant
 pub run_once : (steps : List Step) (outcomes : List (Result Reply Refused)) (old new : Situation) → Invariant old → RunBy Goes old steps outcomes new → OnceMore old steps outcomes new
@@ -162,12 +150,7 @@ run_once (step ∷ steps) (Ok answer ∷ outcomes) old new g r =
           let now = filter_map asks (step ∷ []) in
           let more = filter_map asks (taken steps outcomes) in
           let did = accesses_in a.since core block in
-          rw (
-            filter_map-append asks (step ∷ []) (taken steps outcomes),
-            accesses_in-append a.since b.since core block,
-            append_assoc did (accesses_in b.since core block) (waiting_at new core block),
-            ← append_assoc (waiting_at old core block) now more,
-          )
+          rw (filter_map-append asks (step ∷ []), filter_map-append operation_of, filter-append, filter-append, map-append, append_assoc did, ← append_assoc _ now more)
           (IsPermutation-trans _ _ _ (rw (append_assoc did (waiting_at middle core block) more) at (IsPermutation-append_left more _ _ (a.once core block)))
           (IsPermutation-append_right did _ _ (b.once core block)));
     }

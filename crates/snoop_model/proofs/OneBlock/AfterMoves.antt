@@ -4,15 +4,15 @@ use Rattle.snoop_model.proofs.Common.{Op, Request, Did, Open, Reply, held_by, no
 use Rattle.snoop_model.specs.Invariant.Invariant.{Invariant}
 use Rattle.snoop_model.proofs.OneBlock.OfBlocks.{in_pictures}
 
-module _ (old : Situation) (c b word : ℕ) (asking : Op) (answer : Reply) (new : Situation) (g : Invariant old) (within : IsWithin old c b) (a : Asks old c b word asking answer new) where
-  pub ask_line : held_by (picture_of new b) c ≡ a.held
-  ask_line = rw (a.after, get_or-set_same old.pictures b (with_line (picture_of old b) c a.held) nothing_there (in_pictures old b g.shaped within.1))
-      (get_or-set_same (picture_of old b).caches c a.held nothing_held (rw (g.shaped.row b within.1) within.0))
+pub ask_line : (old : Situation) (c b word : ℕ) (asking : Op) (answer : Reply) (new : Situation) → Invariant old → IsWithin old c b
+    → (a : Asks old c b word asking answer new) → held_by (picture_of new b) c ≡ a.held
+ask_line old c b word asking answer new g within a =
+    rw (a.after, get_or-set_same old.pictures b (with_line (picture_of old b) c a.held) nothing_there (in_pictures old b g.shaped within.1))
+    (get_or-set_same (picture_of old b).caches c a.held nothing_held (rw (g.shaped.row b within.1) within.0))
 
-module _ (old : Situation) (c b : ℕ) (q : Request) (new : Situation) (g : Invariant old) (within : IsWithin old c b) (o : Orders old c b q new) where
-  pub order_here : picture_of new b ≡ o.next
-  order_here = rw o.after (get_or-set_same old.pictures b o.next nothing_there (in_pictures old b g.shaped within.1))
+pub order_here : (old : Situation) (c b : ℕ) (q : Request) (new : Situation) → Invariant old → IsWithin old c b → (o : Orders old c b q new) → picture_of new b ≡ o.next
+order_here old c b q new g within o = rw o.after (get_or-set_same old.pictures b o.next nothing_there (in_pictures old b g.shaped within.1))
 
-module _ (old : Situation) (b : ℕ) (closing : Open) (did : Option Did) (new : Situation) (g : Invariant old) (within : b < old.shape.blocks) (r : Responds old b closing did new) where
-  pub respond_here : picture_of new b ≡ r.next
-  respond_here = rw r.after (get_or-set_same old.pictures b r.next nothing_there (in_pictures old b g.shaped within))
+pub respond_here : (old : Situation) (b : ℕ) (closing : Open) (did : Option Did) (new : Situation) → Invariant old → b < old.shape.blocks
+    → (r : Responds old b closing did new) → picture_of new b ≡ r.next
+respond_here old b closing did new g within r = rw r.after (get_or-set_same old.pictures b r.next nothing_there (in_pictures old b g.shaped within))

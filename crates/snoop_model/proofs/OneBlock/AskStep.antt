@@ -1,86 +1,86 @@
 -- An Ask keeps the invariant, and a load that it performs gives the flat value.
-use Rattle.std.proofs.Common.{◌≡◌, ◌≢◌, ◌<◌, ◌⊎◌, ◌∙◌, ℕ, List, true, not, length, Some, refl, inl, inr, sym}
-use Rattle.snoop_model.proofs.Common.{and_parts, both_ways, not-true, same_Some, Protocol, Op, CacheAction, Cell, asked, carries_value, Open, Reply, Line, Picture, held_by, nothing_held, with_line, Situation, picture_of, Hits, Takes, Asks, is_clean, BlockInvariant, own_open, owns}
+use Rattle.std.proofs.Common.{◌≡◌, ◌≢◌, ◌<◌, ◌⊎◌, ◌∙◌, ℕ, Bool, false, List, true, not, length, Some, refl, inl, inr, sym}
+use Rattle.snoop_model.proofs.Common.{and_parts, both_ways, not-true, same_Some, Protocol, Op, CacheAction, Cell, asked, carries_value, Open, Reply, Line, Picture, held_by, nothing_held, with_line, Situation, picture_of, Takes, Asks, is_clean, BlockInvariant, own_open, owns}
 use Rattle.snoop_trace.specs.declared.step.Op.TheVariants as op
 use Rattle.snoop_rules.specs.declared.names.CacheEvent.TheVariants as event
 use Rattle.snoop_rules.specs.declared.names.CacheAction.TheVariants as action
 use Rattle.snoop_model.proofs.OneBlock.Operation.{did_in, flat_after, IsLawful}
 use Rattle.snoop_model.proofs.Lists.Writes.{each_set}
-use Rattle.snoop_model.proofs.OneBlock.Facts.{LineFits, calm_carries, carried_line, line_of, one_writer, owned_alone}
+use Rattle.snoop_model.proofs.OneBlock.Facts.{LineFits, carried_line, line_of, one_writer, owned_alone, still_fits}
 use Rattle.snoop_model.proofs.Tables.Rows.{hit_keeps, IsProper-issue, IsProper-hit, IsProper-drop}
 use Rattle.snoop_model.proofs.Tables.AskTests.{AskQuestion, ask_rule, ask_test, ask_fits, ask_carries, ask_store_owns}
-use Rattle.snoop_model.proofs.Tables.StateTests.{clean_reads, kept_reader}
+use Rattle.snoop_model.proofs.Tables.StateTests.{kept_reader}
 
 -- an operation that changes the block's words is of a core that owns it
-module _ {p : Protocol} {n : ℕ} {flat : List ℕ} {picture : Picture} (g : BlockInvariant p n flat picture) (c : ℕ) (words : List ℕ) (changed : (words ≡ flat) ⊎ (owns g.owner c ≡ true)) where
+module _ {p : Protocol} {n : ℕ} {flat : List ℕ} {picture : Picture} (g : BlockInvariant p n flat picture)
+    (c : ℕ) (words : List ℕ) (changed : (words ≡ flat) ⊎ (owns g.owner c ≡ true)) where
+  unchanged : (b : Bool) → (owns g.owner c ≡ true → b ≡ false) → b ≡ true → words ≡ flat
+  unchanged b unless h = elim changed [ inl same ↦ same | inr owning ↦ absurd (both_ways b (unless owning) h) ]
+
   other_fits : (d : ℕ) → d < n → d ≢ c → LineFits p g.claims.shared (owns g.owner d) (own_open picture.transaction d) words picture.memory.value (held_by picture d)
-  other_fits d d_in apart = elim changed [
-    | inl same ↦ rw same (line_of g d d_in)
-    | inr owning ↦
-        let blind = one_writer g c owning d d_in apart in
-        record { fit = g.states d d_in; kept = λ h. absurd (both_ways _ blind h); clean = λ h. absurd (both_ways _ blind (clean_reads _ h)); proper = g.proper d d_in }
-  ]
+  other_fits d d_in apart = still_fits (held_by picture d) (line_of g d d_in) (unchanged _ (λ owning. one_writer g c owning d d_in apart)) (λ is. is) (g.states d d_in)
 
   still_fresh : g.claims.fresh ≡ true → picture.memory.value ≡ words
-  still_fresh h = elim changed [ inl same ↦ g.fresh h ∙ sym same | inr owning ↦ absurd (both_ways _ (owned_alone g c owning).1 h) ]
+  still_fresh h = g.fresh h ∙ sym (unchanged _ (λ owning. (owned_alone g c owning).0) h)
 
   still_carried : (o : Open) → picture.transaction ≡ Some o → carries_value o.payload ≡ true → o.value ≡ words
-  still_carried o is_o carrying = elim changed [
-    | inl same ↦ g.carried o is_o carrying ∙ sym same
-    | inr owning ↦ absurd (calm_carries picture.transaction o (owned_alone g c owning).2 is_o carrying)
-  ]
+  still_carried o is_o carrying = g.carried o is_o carrying ∙ sym (unchanged _ (λ owning. rw is_o at (owned_alone g c owning).1) carrying)
 
 module _ (s : Situation) (core block word : ℕ) (asking : Op) (answer : Reply) (new : Situation) (asks : Asks s core block word asking answer new)
     (n : ℕ) (flat : List ℕ) (g : BlockInvariant s.protocol n flat (picture_of s block)) (asker_in : core < n) (in_row : core < length (picture_of s block).caches) where
   abbrev before : Picture
   before = picture_of s block
 
-  abbrev after : Picture
-  after = with_line before core asks.held
-
   abbrev old : Line
   old = held_by before core
-
-  -- a hit reads and writes the flat value
-  hit_flat : (o : Op) (value : ℕ) (h : Hits asks.row.next old asks.held word o value) → Cell s.protocol old.state (asked o) action.Hit asks.row.next → h.before ≡ flat
-  hit_flat o value h row = same_Some _ _ (sym h.kept ∙ g.kept core asker_in (hit_keeps s.protocol old.state (asked o) asks.row.next row).0)
-
-  abbrev Fits : List ℕ → Line → Type 0
-  Fits words line = LineFits s.protocol g.claims.shared (owns g.owner core) (own_open before.transaction core) words before.memory.value line
 
   -- a test of an Ask's row
   abbrev Holds : CacheAction → Op → AskQuestion → Type 0
   Holds a o k = ask_test k s.protocol g.claims.shared (owns g.owner core) (own_open before.transaction core) old.state (asked o) (record { action = a; next = asks.row.next }) ≡ true
 
   -- what the core holds after an Ask, by its row; whether the block's words change; and that a load gives the flat value
-  asker : (a : CacheAction) (o : Op) → Cell s.protocol old.state (asked o) a asks.row.next → ((k : AskQuestion) → Holds a o k) → Takes a asks.row.next s.log core block word o old asks.held answer asks.entry
-      → Fits (flat_after flat (did_in asks.entry)) asks.held × ((flat_after flat (did_in asks.entry) ≡ flat) ⊎ (owns g.owner core ≡ true)) × IsLawful flat (did_in asks.entry)
+  asker : (a : CacheAction) (o : Op) → Cell s.protocol old.state (asked o) a asks.row.next
+      → ((k : AskQuestion) → Holds a o k) → Takes a asks.row.next s.log core block word o old asks.held answer asks.entry
+      → LineFits s.protocol g.claims.shared (owns g.owner core) (own_open before.transaction core) (flat_after flat (did_in asks.entry)) before.memory.value asks.held
+      × ((flat_after flat (did_in asks.entry) ≡ flat) ⊎ (owns g.owner core ≡ true)) × IsLawful flat (did_in asks.entry)
   asker action.Hit op.Load row holds (value, (hit, _, entry)) =
-      let same = hit_flat op.Load value hit row in
+      let same = same_Some _ _ (sym hit.kept ∙ g.kept core asker_in (hit_keeps _ _ _ _ row).0) in
       let performed = hit.performed in
       let proper = IsProper-hit s.protocol old event.Load asks.row.next hit.after (g.proper core asker_in) row in
-      rw (hit.held, entry) (carried_line old _ (line_of g core asker_in) (λ h. cc) (holds ask_fits) (holds ask_carries) proper, inl refl, λ e. cc)
+      rw (hit.held, entry) (carried_line old (line_of g core asker_in) _ (λ h. cc) (holds ask_fits) (holds ask_carries) proper, inl refl, λ e. cc)
   asker action.Hit (op.Store v) row holds (value, (hit, _, entry)) =
-      let same = hit_flat (op.Store v) value hit row in
+      let same = same_Some _ _ (sym hit.kept ∙ g.kept core asker_in (hit_keeps _ _ _ _ row).0) in
       let performed = hit.performed in
       let (owning, unclean) = and_parts (owns g.owner core) (not (is_clean asks.row.next)) (holds ask_store_owns) in
       let proper = IsProper-hit s.protocol old event.Store asks.row.next hit.after (g.proper core asker_in) row in
       rw (hit.held, entry) (record { fit = holds ask_fits; kept = λ h. cc; clean = λ h. absurd (both_ways _ (not-true _ unclean) h); proper = proper }, inr owning, λ e. cc)
   asker action.Hit op.Evict row holds took = absurd took.1.0.performed
-  asker (action.Issue r) o row holds (held, _, entry) = rw (held, entry) (carried_line old _ (line_of g core asker_in) (kept_reader asks.row.next old.kept) (holds ask_fits) (holds ask_carries) (IsProper-issue s.protocol old word o r asks.row.next (g.proper core asker_in) row), inl refl, tt)
-  asker action.Drop o row holds (held, _, entry) = rw (held, entry) (carried_line old _ (line_of g core asker_in) (kept_reader asks.row.next old.kept) (holds ask_fits) (holds ask_carries) (IsProper-drop s.protocol old (asked o) asks.row.next (g.proper core asker_in) row), inl refl, tt)
+  asker (action.Issue r) o row holds (held, _, entry) =
+      rw (held, entry) (
+        carried_line old (line_of g core asker_in) _ (kept_reader asks.row.next old.kept) (holds ask_fits) (holds ask_carries)
+            (IsProper-issue s.protocol old word o r asks.row.next (g.proper core asker_in) row),
+        inl refl,
+        tt,
+      )
+  asker action.Drop o row holds (held, _, entry) =
+      rw (held, entry) (
+        carried_line old (line_of g core asker_in) _ (kept_reader asks.row.next old.kept) (holds ask_fits) (holds ask_carries)
+            (IsProper-drop s.protocol old (asked o) asks.row.next (g.proper core asker_in) row),
+        inl refl,
+        tt,
+      )
   asker _ o row holds took = absurd took
 
   -- an Ask keeps the invariant of a picture, and a load that it performs gives the flat value
-  pub ask_keeps : BlockInvariant s.protocol n (flat_after flat (did_in asks.entry)) after × IsLawful flat (did_in asks.entry)
+  pub ask_keeps : BlockInvariant s.protocol n (flat_after flat (did_in asks.entry)) (with_line before core asks.held) × IsLawful flat (did_in asks.entry)
   ask_keeps =
       let words = flat_after flat (did_in asks.entry) in
-      let rule : (k : AskQuestion) → Holds asks.row.action asking k = λ k. ask_rule k s.protocol g.claims.shared (owns g.owner core) (own_open before.transaction core) old.state asking asks.row (g.states core asker_in) asks.is_row in
+      let rule : (k : AskQuestion) → Holds asks.row.action asking k = λ k. ask_rule k _ _ _ _ _ asking asks.row (g.states core asker_in) asks.is_row in
       let (line, changed, lawful) = asker asks.row.action asking asks.is_row rule asks.taken in
       let lines = each_set before.caches core asks.held nothing_held
       (λ d x. d < n → LineFits s.protocol g.claims.shared (owns g.owner d) (own_open before.transaction d) words before.memory.value x)
       in_row (λ c_in. line) (λ d apart d_in. other_fits g core words changed d d_in apart) in
-      let good : BlockInvariant s.protocol n words after = record {
+      let good : BlockInvariant s.protocol n words (with_line before core asks.held) = record {
         claims = g.claims;
         is_claims = g.is_claims;
         owner = g.owner;

@@ -1,11 +1,9 @@
 -- What follows from the invariant of one block.
-use Rattle.std.proofs.Common.{◌≡◌, ◌≢◌, ◌<◌, ◌&&◌, ◌||◌, ◌∙◌, ℕ, List, Bool, true, false, not, eqb, Option, Some, None, refl, inl, inr, sym, subst, length, is_some, eq-eqb, eqb-true, ne_eqb}
-use Rattle.snoop_model.proofs.Common.{and_parts, both_ways, cases_Bool, cases_eq, not-true, cases_lt, get_or_past, same_Some, Protocol, CacheState, Request, carries_value, Open, Line, Picture, held_by, held_at, nothing_held, keeps, IsProper, is_put_m, is_owner, is_sharer, is_clean, in_protocol, same, wait_fits, fits, BlockInvariant, talk_of, own_open, owns}
-use Rattle.std.proofs.lemmas.Bool.{or_right}
-use Rattle.std.proofs.Math.Bool.{and-false}
+use Rattle.std.proofs.Common.{arith, ◌≡◌, ◌≢◌, ◌<◌, ◌&&◌, ◌||◌, ◌∙◌, ℕ, List, Bool, true, false, not, eqb, Option, Some, None, refl, inl, inr, sym, subst, length, is_some, eq-eqb, eqb-true, ne_eqb}
+use Rattle.snoop_model.proofs.Common.{and_parts, cases_eq, not-true, cases_lt, get_or_past, same_Some, Protocol, CacheState, Request, Line, Picture, held_by, held_at, nothing_held, keeps, IsProper, is_owner, is_sharer, is_clean, in_protocol, same, wait_fits, fits, BlockInvariant, talk_of, own_open, owns, or_right}
+use Rattle.std.proofs.lemmas.Bool.Decides.{eqb_tells}
 use Rattle.snoop_model.proofs.Lines.TheSender.{IsBelow}
-use Rattle.snoop_model.proofs.Tables.Every.{same_is}
-use Rattle.snoop_model.proofs.Tables.StateTests.{alone_rule, calm_talk, carries, fits_calm, is_calm, owned_rule}
+use Rattle.snoop_model.proofs.Tables.StateTests.{all_open-at, same_is, brings_data, carries, clean_reads, owned_rule}
 
 -- what holds of one core and of each other holds of each
 pub by_core : (c : ℕ) (P : ℕ → Type 0) → P c → ((d : ℕ) → d ≢ c → P d) → (d : ℕ) → P d
@@ -21,16 +19,14 @@ owns_owned (Some o) d b e = rw (← e) (or_right (not (eqb d o)) true refl)
 
 pub fits_is_owner : (p : Protocol) (shared ow : Bool) (w : Option Request) (s : CacheState) → fits p shared ow w s ≡ true → is_owner s ≡ ow
 unfolding fits
-fits_is_owner p shared ow w s h =
-    same_is _ _ (and_parts _ _ (and_parts _ _ h).1).0
+fits_is_owner p shared ow w s h = same_is _ _ (and_parts _ _ (and_parts _ _ h).1).0
 
 pub fits_waits : (p : Protocol) (shared ow : Bool) (w : Option Request) (s : CacheState) → fits p shared ow w s ≡ true → wait_fits w s ≡ true
 unfolding fits
 fits_waits p shared ow w s h = (and_parts (not (is_sharer s) || shared) _ (and_parts (same (is_owner s) ow) _ (and_parts (in_protocol p s) _ h).1).1).1
 
 pub implied : (a b : Bool) → (not a || b) ≡ true → a ≡ true → b ≡ true
-implied true b h e = h
-implied false b h e = cc
+implied a b h e = rw e at h
 
 -- what the invariant says of one core's line, where the block's words and memory's are these
 pub record LineFits (p : Protocol) (shared owning : Bool) (wait : Option Request) (words memory : List ℕ) (line : Line) : Type 0 where
@@ -39,19 +35,18 @@ pub record LineFits (p : Protocol) (shared owning : Bool) (wait : Option Request
   pub clean : is_clean line.state ≡ true → memory ≡ words
   pub proper : IsProper line
 
--- a row that makes no reader, and no clean owner, of a core lets its words carry over
-pub carried_line : {p : Protocol} {shared owning shared' owning' : Bool} {wait wait' : Option Request} {words memory : List ℕ} (old new : Line) → LineFits p shared owning wait words memory old
-    → (keeps new.state ≡ true → new.kept ≡ old.kept) → fits p shared' owning' wait' new.state ≡ true → carries old.state new.state ≡ true → IsProper new → LineFits p shared' owning' wait' words memory new
-carried_line old new was kept fit carry proper =
-    let (read, clean) = and_parts (not (keeps new.state) || keeps old.state) _ carry in
-    record { fit = fit; kept = λ h. kept h ∙ was.kept (rw h at read); clean = λ h. was.clean (rw h at clean); proper = proper }
+module _ {p : Protocol} {shared owning shared' owning' : Bool} {wait wait' : Option Request} {flat memory : List ℕ} (old : Line) (was : LineFits p shared owning wait flat memory old) where
+  -- a row that makes no reader, and no clean owner, of a core lets its words carry over
+  pub carried_line : (new : Line) → (keeps new.state ≡ true → new.kept ≡ old.kept) → fits p shared' owning' wait' new.state ≡ true → carries old.state new.state ≡ true → IsProper new
+      → LineFits p shared' owning' wait' flat memory new
+  carried_line new kept fit carry proper =
+      let (read, clean) = and_parts (not (keeps new.state) || keeps old.state) _ carry in
+      record { fit = fit; kept = λ h. kept h ∙ was.kept (rw h at read); clean = λ h. was.clean (rw h at clean); proper = proper }
 
-pub put_calm : (o : Open) (d : ℕ) → is_put_m o.request ≡ true → is_calm (own_open (Some o) d) ≡ true
-put_calm o d h = elim (cases_Bool (eqb d o.core)) [ inl e ↦ rw e h | inr e ↦ rw e refl ]
-
-pub calm_wait : (t : Option Open) (d : ℕ) → calm_talk (talk_of t) ≡ true → is_calm (own_open t d) ≡ true
-calm_wait None d h = refl
-calm_wait (Some o) d h = put_calm o d (and_parts (is_put_m o.request) (not (carries_value o.payload)) h).0
+  -- a line that stays as it is fits the block's new words, which are the old ones if the line may be read
+  pub still_fits : {words memory' : List ℕ} → (keeps old.state ≡ true → words ≡ flat) → (memory ≡ flat → memory' ≡ flat) → fits p shared' owning' wait' old.state ≡ true
+      → LineFits p shared' owning' wait' words memory' old
+  still_fits same stays fit = record { fit = fit; kept = λ h. rw (same h) (was.kept h); clean = λ h. stays (was.clean h) ∙ sym (same (clean_reads old.state h)); proper = was.proper }
 
 pub owner_is : (owner : Option ℕ) (d : ℕ) → owns owner d ≡ true → owner ≡ Some d
 owner_is None d h = cc
@@ -62,32 +57,29 @@ owns_one owner c d h apart = rw (owner_is owner c h) (ne_eqb d c apart)
 
 -- two cores do not both own
 pub owns_apart : (owner : Option ℕ) (c d : ℕ) → d ≢ c → not (owns owner d && owns owner c) ≡ true
-owns_apart owner c d apart = elim (cases_Bool (owns owner c)) [
-  | inl h ↦ rw (owns_one owner c d h apart) refl
-  | inr h ↦ rw (h, and-false (owns owner d)) refl
-]
+owns_apart None c d apart = refl
+owns_apart (Some o) c d apart = grind (arith, eqb_tells d o, eqb_tells c o)
 
 module _ {p : Protocol} {n : ℕ} {flat : List ℕ} {picture : Picture} (g : BlockInvariant p n flat picture) where
   pub line_of : (d : ℕ) → d < n → LineFits p g.claims.shared (owns g.owner d) (own_open picture.transaction d) flat picture.memory.value (held_by picture d)
   line_of d d_in = record { fit = g.states d d_in; kept = g.kept d d_in; clean = g.clean d d_in; proper = g.proper d d_in }
 
-  -- while a core owns the block, memory's value and data under way are claimed of nobody
-  pub owned_alone : (c : ℕ) → owns g.owner c ≡ true → (g.claims.shared ≡ false) × (g.claims.fresh ≡ false) × (calm_talk (talk_of picture.transaction) ≡ true)
+  -- while a core owns the block, memory's value and data under way are claimed of nobody, and no other core may read
+  pub owned_alone : (c : ℕ) → owns g.owner c ≡ true
+      → (g.claims.fresh ≡ false) × (brings_data (talk_of picture.transaction) ≡ false) × ((d : ℕ) → d < n → d ≢ c → keeps (held_by picture d).state ≡ false)
   owned_alone c owning =
       let is_owned : g.claims.owned ≡ true = sym g.is_owned ∙ rw (owner_is g.owner c owning) refl in
-      let (unshared, h) = and_parts _ _ (owned_rule p picture.memory.state (talk_of picture.transaction) g.claims g.is_claims is_owned) in
-      let (unfresh, calm) = and_parts _ _ h in
-      (not-true _ unshared, not-true _ unfresh, calm)
+      let (unfresh, rest) = and_parts _ _ (owned_rule p picture.memory.state (talk_of picture.transaction) g.claims g.is_claims is_owned) in
+      let (no_data, blind) = and_parts _ _ rest in (
+        not-true _ unfresh,
+        not-true _ no_data,
+        λ d d_in apart.
+            not-true _ (rw (owns_one g.owner c d owning apart) at (all_open-at _ _ picture.transaction _ blind d _ _ (g.states d d_in))),
+      )
 
   -- one writer alone, or only readers
   pub one_writer : (c : ℕ) → owns g.owner c ≡ true → (d : ℕ) → d < n → d ≢ c → keeps (held_by picture d).state ≡ false
-  one_writer c owning d d_in apart =
-      let (unshared, unfresh, calm) = owned_alone c owning in
-      let fit = rw (unshared, owns_one g.owner c d owning apart) at (g.states d d_in) in
-      alone_rule p (held_by picture d).state (fits_calm p false false (own_open picture.transaction d) (held_by picture d).state (calm_wait picture.transaction d calm) fit)
-
-pub calm_carries : (t : Option Open) (o : Open) → calm_talk (talk_of t) ≡ true → t ≡ Some o → carries_value o.payload ≡ true → ⊥
-calm_carries t o h e carrying = both_ways _ (not-true _ (and_parts (is_put_m o.request) (not (carries_value o.payload)) (rw e at h)).1) carrying
+  one_writer c owning = (owned_alone c owning).2
 
 -- whether a sender, memory or a core, is this one
 abbrev pub is_it : Option ℕ → Option ℕ → Bool

@@ -1,5 +1,5 @@
 -- One block has a new picture, and the others are as they were.
-use Rattle.std.proofs.Common.{◌≡◌, ◌≢◌, ℕ, ◌<◌, List, length, Option, refl, ◌∙◌, length-set, get_or-set_same, get_or-set_other}
+use Rattle.std.proofs.Common.{◌≡◌, ◌≢◌, ℕ, ◌<◌, List, length, Option, refl, ◌∙◌, length-set, get_or-set_same}
 use Rattle.snoop_model.proofs.Common.{MemState, Item, Open, Line, MemLine, Picture, Situation, picture_of, with_picture, nothing_there, IsShaped}
 use Rattle.snoop_model.proofs.Lists.Writes.{each_set, same_set}
 
@@ -22,9 +22,6 @@ changed s block next queues log = record (with_picture s block next) { queues = 
 module _ (s : Situation) (block : ℕ) (next : Picture) (queues : List (List ℕ)) (log : List Item) where
   pub picture_here : block < length s.pictures → picture_of (changed s block next queues log) block ≡ next
   picture_here within = get_or-set_same s.pictures block next nothing_there within
-
-  pub picture_elsewhere : (b : ℕ) → b ≢ block → picture_of (changed s block next queues log) b ≡ picture_of s b
-  picture_elsewhere b apart = get_or-set_other s.pictures block b next nothing_there apart
 
   -- what holds of each other block's picture and of the new one holds of each block's then
   pub each_picture : (P : ℕ → Picture → Type 0) → block < length s.pictures → ((b : ℕ) → b ≢ block → P b (picture_of s b)) → P block next → (b : ℕ)

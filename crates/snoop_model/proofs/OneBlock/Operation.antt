@@ -1,7 +1,6 @@
 -- What a move's operation, if it has one, does to its block's words in flat memory.
 use Rattle.std.proofs.Common.{◌≡◌, List, ℕ, true, cond, Option, Some, None, slice_set}
-use Rattle.snoop_model.proofs.Common.{Did, Item}
-use Rattle.std.specs.Prelude.{⊤}
+use Rattle.snoop_model.proofs.Common.{Did, Item, ⊤}
 use Rattle.snoop_trace.specs.Words.{word_at}
 use Rattle.snoop_history.specs.History.{operation_of}
 

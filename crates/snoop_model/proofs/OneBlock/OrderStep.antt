@@ -1,16 +1,13 @@
 -- An Order finds all its rows and one sender, and keeps the invariant.
 use Rattle.std.proofs.Common.{◌≡◌, ◌≢◌, ◌<◌, ◌∙◌, ℕ, length, List, Bool, true, false, not, cond, eqb, Option, Some, None, refl, inl, inr, ap, sym, is_some, eq-eqb, ne_eqb}
-use Rattle.snoop_model.proofs.Common.{and_from, or_cases, same_Some, Protocol, CacheCell, MemCell, Request, Payload, cell_of, memory_cell_of, own, other, seen_by, at_memory, carries_value, waiting_request, Open, Picture, held_by, Situation, picture_of, keeps, Orders, sender_of, is_put_m, Sends, value_sent, Claims, claims_of, fits, BlockInvariant, own_open, owns}
-use Rattle.std.proofs.lemmas.Bool.{cond_both}
-use Rattle.std.proofs.lemmas.Option.{cond_some}
+use Rattle.snoop_model.proofs.Common.{and_from, or_cases, same_Some, Protocol, CacheCell, MemCell, Request, Payload, cell_of, memory_cell_of, own, other, seen_by, at_memory, carries_value, waiting_request, Open, Picture, held_by, Situation, picture_of, keeps, Orders, sender_of, is_put_m, Sends, value_sent, Claims, claims_of, fits, BlockInvariant, own_open, owns, cond_both, cond_some}
 use Rattle.snoop_model.proofs.Lists.Facts.{of_choice}
 use Rattle.snoop_model.proofs.Lines.TheSender.{IsBelow, sends_below}
-use Rattle.snoop_model.proofs.Tables.Every.{all_fitting-at, when_at, EachHolds, some_and, some_each}
+use Rattle.snoop_model.proofs.Tables.StateTests.{all_fitting-at, when_at, EachHolds, some_and, some_each, carries, kept_reader}
 use Rattle.snoop_model.proofs.Tables.OrderTests.{SendsSo, end_tests, order_rule, other_tests, payload_of, sends_so-true}
 use Rattle.snoop_model.proofs.Tables.Rows.{IsProper-order}
 use Rattle.snoop_model.proofs.Tables.SenderLines.{follows_sender_table}
 use Rattle.snoop_model.proofs.Tables.SentBy.{payload_from, sends_is, sends_row, memory_sends_row}
-use Rattle.snoop_model.proofs.Tables.StateTests.{carries, kept_reader}
 use Rattle.snoop_model.proofs.OneBlock.Facts.{LineFits, by_core, carried_line, is_it, it_is, line_of, OwnerIn, core_in, owns_owned, owns_apart}
 
 -- all that an Order looks up of a picture that keeps its invariant
@@ -31,7 +28,7 @@ look {p} {flat} {before} good calm c q c_in waits =
     let m = before.memory.state in
     let s = (held_by before c).state in
     let ow = owns good.owner c in
-    let test = order_rule p m good.claims s ow q (rw calm at good.is_claims) (rw calm at (good.states c c_in)) (owns_owned good.owner c good.claims.owned good.is_owned) waits in
+    let test = order_rule _ _ _ _ _ q (rw calm at good.is_claims) (rw calm at (good.states c c_in)) (owns_owned good.owner c good.claims.owned good.is_owned) waits in
     let (memory, is_memory, test) = some_and (memory_cell_of p m (at_memory q)) _ test in
     let (row, is_row, test) = some_and (cell_of p s (own q)) _ test in
     let (next, is_next, ends) = some_each (claims_of p memory.next (Some (q, payload_of row memory))) (end_tests p m good.claims s ow q memory row) test in
@@ -53,18 +50,7 @@ module _ {p : Protocol} {flat : List ℕ} {before : Picture} {good : BlockInvari
       let ow = owns good.owner d in
       let apart_owned = and_from _ _ (owns_apart good.owner c d apart) (owns_owned good.owner d _ good.is_owned) in
       some_each (cell_of p s (other q)) (other_tests p before.memory.state q l.memory sent l.next s ow)
-      (when_at _ _ apart_owned (all_fitting-at p good.claims.shared None _ l.ends.1.1.1.1.1.1.0 s ow (rw l.calm at (good.states d d_in))))
-
-  -- a core has its row, with which its state fits after it, and its words carry over
-  abbrev pub HasRow : ℕ → Type 0
-  HasRow d =
-      (row : CacheCell) × (cell_of p (held_by before d).state (seen_by d c q) ≡ Some row)
-      × (fits p l.next.shared (cond l.next.owned (owns good.owner d) false) (cond (eqb d c) (Some q) None) row.next ≡ true) × (carries (held_by before d).state row.next ≡ true)
-
-  pub each_row : (d : ℕ) → d < length before.caches → HasRow d
-  each_row = by_core c (λ d. d < length before.caches → HasRow d)
-      (λ c_in. rw (eq-eqb c c refl) (l.row, l.is_row, l.ends.1.0, l.ends.1.1.0))
-      (λ d apart d_in. let (row, is_row, tests) = other_core d d_in apart in rw (ne_eqb d c apart) (row, is_row, tests.0, tests.1.0))
+      (when_at _ _ apart_owned (all_fitting-at _ _ _ _ l.ends.1.1.1.1.1.1.0 _ _ (rw l.calm at (good.states d d_in))))
 
   -- who is meant to send: the requestor of a PutM, else the owner, else memory
   abbrev pub meant : Option ℕ
@@ -81,20 +67,31 @@ module _ {p : Protocol} {flat : List ℕ} {before : Picture} {good : BlockInvari
   has_words None = good.claims.fresh
   has_words (Some d) = keeps (held_by before d).state
 
-  -- each controller sends if it is meant to
+  -- a core has its row, with which its state fits after it, its words carry over, and it sends if it is meant to
+  abbrev pub HasRow : ℕ → Type 0
+  HasRow d =
+      (row : CacheCell) × (cell_of p (held_by before d).state (seen_by d c q) ≡ Some row)
+      × (fits p l.next.shared (cond l.next.owned (owns good.owner d) false) (cond (eqb d c) (Some q) None) row.next ≡ true) × (carries (held_by before d).state row.next ≡ true)
+      × SendsSo (payload_from p before c q (Some d)) (owns meant d) sent (on_line (Some d)) (has_words (Some d))
+
+  pub each_row : (d : ℕ) → d < length before.caches → HasRow d
+  each_row = by_core c (λ d. d < length before.caches → HasRow d)
+      (λ c_in. rw (of_choice (λ x. owns x c) (is_put_m q) (Some c) good.owner, eq-eqb c c refl)
+      (l.row, l.is_row, l.ends.1.0, l.ends.1.1.0, rw l.is_row (sends_so-true _ _ _ _ _ l.ends.1.1.1.1.1.0)))
+      (λ d apart d_in. let (row, is_row, (fit, (carry, (sends, _)))) = other_core d d_in apart in
+      rw (of_choice (λ x. owns x d) (is_put_m q) (Some c) good.owner, ne_eqb d c apart) (row, is_row, fit, carry, rw is_row (sends_so-true _ _ _ _ _ sends)))
+
   pub sends : (from : Option ℕ) → IsBelow (length before.caches) from → SendsSo (payload_from p before c q from) (is_it meant from) sent (on_line from) (has_words from)
   sends None below = rw (l.is_memory, of_choice (λ x. not (is_some x)) (is_put_m q) (Some c) good.owner, good.is_owned) (sends_so-true _ _ _ _ _ l.ends.1.1.1.1.0)
-  sends (Some k) below = by_core c (λ d. d < length before.caches → SendsSo (payload_from p before c q (Some d)) (owns meant d) sent (on_line (Some d)) (has_words (Some d)))
-      (λ c_in. rw (of_choice (λ x. owns x c) (is_put_m q) (Some c) good.owner, eq-eqb c c refl, l.is_row) (sends_so-true _ _ _ _ _ l.ends.1.1.1.1.1.0))
-      (λ d apart d_in. let (row, is_row, tests) = other_core d d_in apart in
-      rw (of_choice (λ x. owns x d) (is_put_m q) (Some c) good.owner, ne_eqb d c apart, is_row) (sends_so-true _ _ _ _ _ tests.1.1.0)) k below
+  sends (Some d) below = (each_row d below).4
 
   pub sends_if_meant : (from : Option ℕ) → IsBelow (length before.caches) from → is_it meant from ≡ true → Sends p before c q from sent
   sends_if_meant None below is = memory_sends_row _ _ ((sends None tt).0 ∙ rw is refl)
   sends_if_meant (Some d) below is = (below, sends_row _ _ ((sends (Some d) below).0 ∙ rw is refl))
 
   -- one that sends is meant to, and what it sends is this payload, whose words it has
-  pub sender_told : (from : Option ℕ) (payload : Payload) → Sends p before c q from payload → (from ≡ meant) × (payload ≡ sent) × (carries_value payload ≡ true → value_sent before from payload ≡ flat)
+  pub sender_told : (from : Option ℕ) (payload : Payload) → Sends p before c q from payload
+      → (from ≡ meant) × (payload ≡ sent) × (carries_value payload ≡ true → value_sent before from payload ≡ flat)
   sender_told from payload does =
       let so = sends from (sends_below p before c q from payload does) in
       let (is, same) = cond_some _ sent payload (sym so.0 ∙ sends_is p before c q from payload does) in
@@ -116,12 +113,13 @@ order_keeps s core block q new flat good in_row o =
     let opened : Open = record { core = core; request = q; block = block; payload = o.payload; value = value_sent before o.from o.payload; from = o.from } in
     let opened_is : (x : Open) → after.transaction ≡ Some x → opened ≡ x = λ x is_x. same_Some _ _ (sym o.opened ∙ is_x) in
     let is_memory : after.memory.state ≡ l.memory.next = o.memory.2 ∙ ap (λ (m : MemCell). m.next) (same_Some _ _ (sym o.memory.1 ∙ l.is_memory)) in
-    let line_after : (d : ℕ) → d < length before.caches → LineFits p l.next.shared (owns (cond l.next.owned good.owner None) d) (own_open (Some opened) d) flat before.memory.value (held_by after d) = λ d d_in.
-    let (row, is_row, fit, carry) = each_row l d d_in in
+    let line_after : (d : ℕ) → d < length before.caches
+    → LineFits p l.next.shared (owns (cond l.next.owned good.owner None) d) (own_open (Some opened) d) flat before.memory.value (held_by after d) = λ d d_in.
+    let (row, is_row, fit, carry, _) = each_row l d d_in in
     let (taken, is_taken, moved) = o.taken.rows d d_in in
     let same : row ≡ taken = same_Some _ _ (sym is_row ∙ is_taken) in
     let old = held_by before d in
-    rw (moved, of_choice (λ x. owns x d) l.next.owned good.owner None) (carried_line old _ (line_of good d d_in) (kept_reader taken.next old.kept)
+    rw (moved, of_choice (λ x. owns x d) l.next.owned good.owner None) (carried_line old (line_of good d d_in) _ (kept_reader taken.next old.kept)
     (rw same at fit) (rw same at carry) (IsProper-order p old d core q taken.action taken.next (good.proper d d_in) is_taken)) in
     record {
       claims = l.next;

@@ -1,12 +1,12 @@
 -- Each step finds its rows, and an Order exactly one sender.
 use Rattle.std.proofs.Common.{◌≡◌, ◌<◌, ℕ, length, List, true, false, Option, Some, None}
-use Rattle.snoop_model.proofs.Common.{owns, own_open, Protocol, Op, CacheCell, MemCell, Request, Payload, cell_of, memory_cell_of, asked, seen_by, at_memory, arrival, arrival_at_memory, takes_payload, waiting_request, Open, Picture, held_by, sender_of, is_put_m, IsOnlySender, BlockInvariant}
-use Rattle.snoop_model.proofs.Tables.Every.{some_and}
+use Rattle.snoop_model.proofs.Common.{Protocol, Op, CacheCell, MemCell, Request, Payload, cell_of, memory_cell_of, asked, seen_by, at_memory, arrival, arrival_at_memory, takes_payload, waiting_request, Open, Picture, held_by, sender_of, is_put_m, IsOnlySender, BlockInvariant}
+use Rattle.snoop_model.proofs.Tables.StateTests.{some_and}
 use Rattle.snoop_model.proofs.Tables.SenderLines.{follows_sender_table}
 use Rattle.snoop_model.proofs.OneBlock.Facts.{below_owner, is_itself}
 use Rattle.snoop_model.proofs.OneBlock.OrderStep.{each_row, look, meant, meant_in, sender_told, sends, sends_if_meant, sent}
 use Rattle.snoop_model.proofs.OneBlock.RespondStep.{answered, closing}
-use Rattle.snoop_model.proofs.Tables.AskTests.{ask_row, is_idle_evict}
+use Rattle.snoop_model.proofs.Tables.AskTests.{ask_fits, ask_holds_of, is_idle_evict}
 use Rattle.snoop_model.proofs.Tables.RespondTests.{memory_row_for, row_for}
 
 pub record Possible (p : Protocol) (before : Picture) (c : ℕ) (q : Request) : Type 0 where
@@ -25,7 +25,7 @@ order_possible p flat before c q good c_in waits calm =
     let below = below_owner (length before.caches) (meant l) (meant_in l) in
     let itself = is_itself (meant l) in
     record {
-      rows = λ d d_in. let (row, is_row, _, _) = each_row l d d_in in (row, is_row);
+      rows = λ d d_in. let (row, is_row, _, _, _) = each_row l d d_in in (row, is_row);
       cell_of_memory = l.memory;
       memory_row = l.is_memory;
       from = meant l;
@@ -38,7 +38,7 @@ order_possible p flat before c q good c_in waits calm =
 pub ask_possible : (p : Protocol) (n : ℕ) (flat : List ℕ) (before : Picture) (c : ℕ) (o : Op) → BlockInvariant p n flat before → c < n → is_idle_evict (held_by before c).state (asked o) ≡ false → (r : CacheCell) × (cell_of p (held_by before c).state (asked o) ≡ Some r)
 ask_possible p n flat before c o good c_in busy =
     let s = (held_by before c).state in
-    let (row, is_row, _) = some_and (cell_of p s (asked o)) _ (rw busy at (ask_row p good.claims.shared (owns good.owner c) (own_open before.transaction c) s o (good.states c c_in))) in
+    let (row, is_row, _) = some_and (cell_of p s (asked o)) _ (rw busy at (ask_holds_of ask_fits _ _ _ _ s o (good.states c c_in)).0) in
     (row, is_row)
 
 -- a Respond finds its rows

@@ -1,19 +1,16 @@
 -- A Respond finds its rows and keeps the invariant, and a load that it performs gives the flat value.
-use Rattle.std.proofs.Common.{◌≡◌, ◌<◌, ◌&&◌, ◌||◌, ◌∙◌, ℕ, length, List, Bool, true, false, not, cond, Option, Some, None, refl, inl, inr, ap, sym, is_some, if◌then◌else◌, eq-eqb, ne_eqb}
-use Rattle.snoop_model.proofs.Common.{and_parts, both_ways, cases_Bool, not-true, none-some, same_Some, Protocol, Op, CacheAction, CacheCell, MemAction, MemCell, Request, arrival, arrival_at_memory, takes_payload, Did, Item, Open, Picture, held_at, held_by, nothing_held, Situation, picture_of, keeps, Performs, is_load, FillsRequestor, ArrivesFor, Responds, next_did, written, is_put_m, is_get_m, Claims, claims_of, BlockInvariant, own_open, owns}
+use Rattle.std.proofs.Common.{arith, ◌≡◌, ◌<◌, ◌&&◌, ◌||◌, ◌∙◌, ℕ, length, List, Bool, true, false, not, cond, Option, Some, None, refl, inl, inr, ap, sym, is_some, if◌then◌else◌, eq-eqb, ne_eqb}
+use Rattle.snoop_model.proofs.Common.{and_parts, both_ways, cases_Bool, not-true, none-some, same_Some, Protocol, Op, CacheAction, CacheCell, MemAction, MemCell, Request, arrival, arrival_at_memory, takes_payload, Did, Item, Open, Picture, held_at, held_by, nothing_held, Situation, picture_of, keeps, Performs, is_load, FillsRequestor, ArrivesFor, Responds, next_did, written, is_put_m, is_get_m, Claims, claims_of, BlockInvariant, owns, PutM, cond_both}
 use Rattle.snoop_trace.specs.Words.{word_at}
 use Rattle.snoop_trace.specs.declared.step.Op.TheVariants as op
 use Rattle.snoop_rules.specs.declared.names.CacheAction.TheVariants as action
 use Rattle.snoop_rules.specs.declared.names.MemAction.TheVariants as mem_action
-use Rattle.snoop_rules.specs.declared.names.Request.TheVariants as request
 use Rattle.snoop_model.proofs.Lists.Facts.{of_choice}
-use Rattle.std.proofs.lemmas.Bool.{cond_both}
 use Rattle.snoop_model.proofs.Lists.Writes.{each_set}
-use Rattle.snoop_model.proofs.Tables.Every.{all_fitting-at, when_at, EachHolds, same_is, some_and, some_each}
-use Rattle.snoop_model.proofs.Tables.RespondTests.{answer_tests, fills_store, gains, respond_rule, respond_tests, row_for, settled_row, settled_so, writes}
+use Rattle.snoop_model.proofs.Tables.StateTests.{when, all_open-at, all_fitting-at, when_at, EachHolds, same_is, some_and, some_each}
+use Rattle.snoop_model.proofs.Tables.RespondTests.{answer_tests, fills_store, gains, respond_rule, respond_tests, row_for, settled_row, settled_so, stays_so, writes}
 use Rattle.snoop_model.proofs.Tables.Rows.{IsProper-fill}
-use Rattle.snoop_model.proofs.Tables.StateTests.{clean_reads, fits_calm, is_calm}
-use Rattle.snoop_model.proofs.OneBlock.Facts.{LineFits, OwnerIn, core_in, owns_owned, put_calm}
+use Rattle.snoop_model.proofs.OneBlock.Facts.{LineFits, line_of, still_fits, OwnerIn, core_in, owns_owned}
 use Rattle.snoop_model.proofs.OneBlock.Operation.{flat_after, IsLawful}
 
 -- all that a Respond looks up of a picture that keeps its invariant
@@ -28,29 +25,29 @@ pub record Closing {p : Protocol} {n : ℕ} {flat : List ℕ} {before : Picture}
 pub closing : {p : Protocol} {n : ℕ} {flat : List ℕ} {before : Picture} (good : BlockInvariant p n flat before) (o : Open) → before.transaction ≡ Some o → Closing good o
 closing {p} {n} {flat} {before} good o opened =
     let m = before.memory.state in
-    let (memory, is_memory, test) = some_and (settled_row p o.request m o.payload) _ (respond_rule p m o.request o.payload good.claims (rw opened at good.is_claims)) in
+    let (memory, is_memory, test) = some_and (settled_row p o.request m o.payload) _ (respond_rule _ _ _ _ _ (rw opened at good.is_claims)) in
     let (next, is_next, tests) = some_each (claims_of p memory.next None) (respond_tests p o.request o.payload good.claims memory) test in
     record { opened = opened; memory = memory; is_memory = is_memory; next = next; is_next = is_next; tests = tests }
 
 -- the requestor of a GetS or a GetM has a row for the data
-pub answered : {p : Protocol} {n : ℕ} {flat : List ℕ} {before : Picture} {good : BlockInvariant p n flat before} {o : Open} (a : Closing good o) → is_put_m o.request ≡ false
-    → (row : CacheCell) × (row_for p (held_by before o.core).state (arrival o.payload) ≡ Some row) × EachHolds (answer_tests p o.request good.claims a.next (owns good.owner o.core) row)
-answered {p} {n} {flat} {before} {good} {o} a get =
+pub answered : {p : Protocol} {n : ℕ} {flat : List ℕ} {before : Picture} {good : BlockInvariant p n flat before} {o : Open} (found : Closing good o)
+    → is_put_m o.request ≡ false
+    → (row : CacheCell) × (row_for p (held_by before o.core).state (arrival o.payload) ≡ Some row) × EachHolds (answer_tests p o.request good.claims found.next (owns good.owner o.core) row)
+answered {p} {n} {flat} {before} {good} {o} found get =
     let s = (held_by before o.core).state in
     let ow = owns good.owner o.core in
-    let fit = rw (a.opened, eq-eqb o.core o.core refl) at (good.states o.core (good.requestor_in o a.opened)) in
-    some_each (row_for p s (arrival o.payload)) (answer_tests p o.request good.claims a.next ow)
-    (all_fitting-at p good.claims.shared (Some o.request) _ (rw get at a.tests.1.1.1.1.1.0) s ow fit)
+    let fit = rw (found.opened, eq-eqb o.core o.core refl) at (good.states o.core (good.requestor_in o found.opened)) in
+    some_each (row_for p s (arrival o.payload)) (answer_tests p o.request good.claims found.next ow)
+    (all_fitting-at _ _ _ _ (rw get at found.tests.1.1.1.1.1.0) s ow fit)
 
 written_flat : (a : MemAction) (v old flat : List ℕ) → (writes a ≡ true → v ≡ flat) → (writes a ≡ false → old ≡ flat) → written a v old ≡ flat
 written_flat mem_action.Write v old flat new stays = new refl
 written_flat _ v old flat new stays = stays refl
 
 -- whether a core owns the block then, if the requestor does in the owner's place where none owned it
-owned_after : (before after : Bool) (c : ℕ) (owner : Option ℕ) → is_some owner ≡ before → (not before || after) ≡ true → is_some (cond (not before && after) (Some c) owner) ≡ after
-owned_after true after c owner is h = is ∙ sym h
-owned_after false true c owner is h = refl
-owned_after false false c owner is h = is
+owned_after : (before after : Bool) (c : ℕ) (owner : Option ℕ) → is_some owner ≡ before → (not before || after) ≡ true
+    → is_some (cond (not before && after) (Some c) owner) ≡ after
+owned_after before after c owner is h = grind arith
 
 -- the words that the operation leaves are those in flat memory after it
 module _ (flat : List ℕ) (log : List Item) (core block word value : ℕ) (came after : List ℕ) where
@@ -70,58 +67,51 @@ module _ (s : Situation) (block : ℕ) (o : Open) (did : Option Did) (new : Situ
   abbrev before : Picture
   before = picture_of s block
 
-  a : Closing g o
-  a = closing g o r.opened
+  found : Closing g o
+  found = closing g o r.opened
 
   abbrev gained : Bool
-  gained = gains g.claims a.next
+  gained = gains g.claims found.next
 
   -- the row that memory takes
-  memory_is : a.memory ≡ record { action = r.memory.act; next = r.next.memory.state }
+  memory_is : found.memory ≡ record { action = r.memory.act; next = r.next.memory.state }
   memory_is =
-      same_Some _ _ (sym a.is_memory ∙ (settled_so (takes_payload o.request before.memory.state) p (arrival_at_memory o.payload) before.memory.state r.memory.act r.next.memory.state).0 r.memory.settled)
+      same_Some _ _ (sym found.is_memory
+      ∙ (settled_so (takes_payload o.request before.memory.state) p (arrival_at_memory o.payload) before.memory.state r.memory.act r.next.memory.state).0 r.memory.settled)
 
   -- memory is written with the block's words, or has them where it had
   memory_flat : (writes r.memory.act ≡ false → before.memory.value ≡ flat) → r.next.memory.value ≡ flat
-  memory_flat stays = r.memory.value ∙ written_flat r.memory.act o.value before.memory.value flat (λ w. g.carried o r.opened (rw (memory_is, w) at a.tests.1.1.1.0)) stays
-
-  refreshed : a.next.fresh ≡ true → (is_get_m o.request ≡ false) × (r.next.memory.value ≡ flat)
-  refreshed h =
-      let (get_s, from) = and_parts (not (is_get_m o.request)) _ (rw h at a.tests.1.1.1.1.0) in
-      (not-true _ get_s, memory_flat (λ w. g.fresh (rw (memory_is, w) at from)))
+  memory_flat stays = r.memory.value ∙ written_flat r.memory.act o.value before.memory.value flat (λ w. g.carried o r.opened (rw (memory_is, w) at found.tests.1.1.1.0)) stays
 
   -- a core that is not answered keeps its line, which fits then, if the block's words change only at a GetM
-  stays : (words : List ℕ) → (is_get_m o.request ≡ false → words ≡ flat) → (d : ℕ) → d < n → is_calm (own_open before.transaction d) ≡ true
-      → LineFits p a.next.shared (cond gained false (owns g.owner d)) None words r.next.memory.value (held_by before d)
-  stays words same d d_in calm =
-      let s = (held_by before d).state in
-      let fit = fits_calm p g.claims.shared (owns g.owner d) (own_open before.transaction d) s calm (g.states d d_in) in
-      let (fit_after, blind) = and_parts _ _ (when_at _ _ (owns_owned g.owner d g.claims.owned g.is_owned) (all_fitting-at p g.claims.shared None _ a.tests.1.1.1.1.1.1.0 s (owns g.owner d) fit)) in
-      let reads : keeps s ≡ true → words ≡ flat = λ h. elim (cases_Bool (is_get_m o.request)) [
+  stays : (words : List ℕ) → (is_get_m o.request ≡ false → words ≡ flat) → (d : ℕ) → d < n
+      → when (not (owns g.owner d) || g.claims.owned) (λ _. stays_so p o.request g.claims found.next (held_by before d).state (owns g.owner d)) ≡ true
+      → LineFits p found.next.shared (cond gained false (owns g.owner d)) None words r.next.memory.value (held_by before d)
+  stays words same d d_in so =
+      let (fit, blind) = and_parts _ _ (when_at _ _ (owns_owned g.owner d g.claims.owned g.is_owned) so) in
+      let reads : keeps (held_by before d).state ≡ true → words ≡ flat = λ h. elim (cases_Bool (is_get_m o.request)) [
         | inl m ↦ absurd (both_ways _ (not-true _ (rw m at blind)) h)
         | inr m ↦ same m
       ] in
-      record {
-        fit = fit_after;
-        kept = λ h. rw (reads h) (g.kept d d_in h);
-        clean = λ h. memory_flat (λ w. g.clean d d_in h) ∙ sym (reads (clean_reads s h));
-        proper = g.proper d d_in;
-      }
+      still_fits (held_by before d) (line_of g d d_in) reads (λ is. memory_flat (λ w. is)) fit
 
   closed : (words : List ℕ) → (is_get_m o.request ≡ false → words ≡ flat)
-      → ((d : ℕ) → d < n → LineFits p a.next.shared (owns (cond gained (Some o.core) g.owner) d) None words r.next.memory.value (held_at r.next.caches d)) → BlockInvariant p n words r.next
+      → ((d : ℕ) → d < n → LineFits p found.next.shared (owns (cond gained (Some o.core) g.owner) d) None words r.next.memory.value (held_at r.next.caches d))
+      → BlockInvariant p n words r.next
   closed words same lines =
       let nothing : (x : Open) → r.next.transaction ≡ Some x → ⊥ = λ x is_x. none-some x (sym r.closed ∙ is_x) in
       record {
-        claims = a.next;
-        is_claims = simp r.closed (rw memory_is at a.is_next);
+        claims = found.next;
+        is_claims = simp r.closed (rw memory_is at found.is_next);
         owner = cond gained (Some o.core) g.owner;
         owner_in = cond_both gained (Some o.core) g.owner (OwnerIn n) (λ is. core_in n o.core (g.requestor_in o r.opened)) (λ is. g.owner_in);
-        is_owned = owned_after g.claims.owned a.next.owned o.core g.owner g.is_owned a.tests.1.0;
+        is_owned = owned_after g.claims.owned found.next.owned o.core g.owner g.is_owned found.tests.1.0;
         states = λ d d_in. simp r.closed (lines d d_in).fit;
         kept = λ d d_in. (lines d d_in).kept;
         clean = λ d d_in. (lines d d_in).clean;
-        fresh = λ h. (refreshed h).1 ∙ sym (same (refreshed h).0);
+        fresh = λ h.
+            let (get_s, from) = and_parts (not (is_get_m o.request)) _ (rw h at found.tests.1.1.1.1.0) in
+            memory_flat (λ w. g.fresh (rw (memory_is, w) at from)) ∙ sym (same (not-true _ get_s));
         carried = λ x is_x. absurd (nothing x is_x);
         requestor_in = λ x is_x. absurd (nothing x is_x);
         sender_in = λ x is_x. absurd (nothing x is_x);
@@ -129,34 +119,39 @@ module _ (s : Situation) (block : ℕ) (o : Open) (did : Option Did) (new : Situ
       }
 
   -- the end of a GetS or a GetM
-  respond_get : is_put_m o.request ≡ false → FillsRequestor o p s.log before.caches r.next.caches did → BlockInvariant p n (flat_after flat did) r.next × IsLawful flat did
+  respond_get : is_put_m o.request ≡ false → FillsRequestor o p s.log before.caches r.next.caches did
+      → BlockInvariant p n (flat_after flat did) r.next × IsLawful flat did
   respond_get get f =
       let c = o.core in
-      let (row, is_row, (fit, (clean, (stores, _)))) = answered a get in
+      let (row, is_row, (fit, (clean, (stores, _)))) = answered found get in
       let row_is : row ≡ f.fills.row = same_Some _ _ (sym is_row ∙ rw f.fills.arrives f.fills.is_row) in
       let words : (f.fills.after ≡ flat_after flat did) × IsLawful flat did × (fills_store f.fills.row.action ≡ false → flat_after flat did ≡ flat) =
-      rw f.logged (filled_words flat s.log c o.block f.asking.word f.value o.value f.fills.after f.fills.row.action f.asking.op (g.carried o r.opened (rw get at a.tests.0)) f.fills.fill f.fills.performed) in
+      rw f.logged (filled_words flat s.log c o.block f.asking.word f.value o.value f.fills.after f.fills.row.action f.asking.op
+      (g.carried o r.opened (rw get at found.tests.0)) f.fills.fill f.fills.performed) in
       let same : is_get_m o.request ≡ false → flat_after flat did ≡ flat = λ h. words.2 (same_is _ _ (rw row_is at stores) ∙ h) in
-      let filled : LineFits p a.next.shared (owns (cond gained (Some c) g.owner) c) None (flat_after flat did) r.next.memory.value f.line = rw f.fills.held (record {
+      let filled : LineFits p found.next.shared (owns (cond gained (Some c) g.owner) c) None (flat_after flat did) r.next.memory.value f.line = rw f.fills.held (record {
         fit = rw (of_choice (λ x. owns x c) gained (Some c) g.owner, eq-eqb c c refl) (rw row_is at fit);
         kept = λ h. rw words.0 refl;
         clean = λ h. let (fresh, get_s) = and_parts g.claims.fresh _ (rw (row_is, h) at clean) in memory_flat (λ w. g.fresh fresh) ∙ sym (same (not-true _ get_s));
         proper = IsProper-fill p (held_by before c).state f.fills.event f.fills.row.action f.fills.row.next f.asking.op f.fills.after f.fills.fill f.fills.is_row;
       }) in (
         closed (flat_after flat did) same (simp f.held (each_set before.caches c f.line nothing_held
-            (λ d x. d < n → LineFits p a.next.shared (owns (cond gained (Some c) g.owner) d) None (flat_after flat did) r.next.memory.value x) in_row (λ c_in. filled)
-            (λ d apart d_in. rw (of_choice (λ x. owns x d) gained (Some c) g.owner, ne_eqb d c apart) (stays (flat_after flat did) same d d_in (rw (r.opened, ne_eqb d c apart) refl))))),
+            (λ d x. d < n → LineFits p found.next.shared (owns (cond gained (Some c) g.owner) d) None (flat_after flat did) r.next.memory.value x) in_row (λ c_in. filled)
+            (λ d apart d_in. rw (of_choice (λ x. owns x d) gained (Some c) g.owner, ne_eqb d c apart) (stays (flat_after flat did) same d d_in
+            (all_fitting-at _ _ _ _ (rw get at found.tests.1.1.1.1.1.1.0) _ _ (rw (r.opened, ne_eqb d c apart) at (g.states d d_in))))))),
         words.1,
       )
 
   -- a PutM's end changes no line
   respond_put : is_put_m o.request ≡ true → r.next.caches ≡ before.caches → BlockInvariant p n flat r.next
   respond_put put same =
-      let no_gain : gained ≡ false = not-true _ (rw put at a.tests.1.1.0) in
-      closed flat (λ h. refl) (λ d d_in. simp same (rw no_gain (rw no_gain at (stays flat (λ h. refl) d d_in (rw r.opened (put_calm o d put))))))
+      let no_gain : gained ≡ false = not-true _ (rw put at found.tests.1.1.0) in
+      closed flat (λ h. refl) (λ d d_in. simp same (rw no_gain (rw no_gain at (stays flat (λ h. refl) d d_in
+      (all_open-at _ _ (Some o) _ (rw put at found.tests.1.1.1.1.1.1.0) d _ _ (rw r.opened at (g.states d d_in)))))))
 
-  by_request : (q : Request) → o.request ≡ q → ArrivesFor q o p s.log before.caches r.next.caches did → BlockInvariant p n (flat_after flat did) r.next × IsLawful flat did
-  by_request request.PutM is arrives = rw arrives.1 (respond_put (ap is_put_m is) arrives.0, tt)
+  by_request : (q : Request) → o.request ≡ q → ArrivesFor q o p s.log before.caches r.next.caches did
+      → BlockInvariant p n (flat_after flat did) r.next × IsLawful flat did
+  by_request PutM is arrives = rw arrives.1 (respond_put (ap is_put_m is) arrives.0, tt)
   by_request _ is arrives = respond_get (ap is_put_m is) arrives
 
   -- a Respond keeps the invariant of a picture, and a load that it performs gives the flat value

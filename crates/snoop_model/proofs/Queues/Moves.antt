@@ -1,18 +1,18 @@
--- A machine is well kept at reset, and stays so where one block and the queues change as they should: at each kind of move.
-use Rattle.std.proofs.Common.{◌≡◌, ◌≢◌, ℕ, ◌<◌, ◌++◌, List, [], length, Option, Some, None, refl, ap, sym, ◌∙◌, arith, inl, inr}
-use Rattle.std.specs.Prelude.{◌==◌, if◌then◌else◌, option_to_list, is_some, IsSome}
-use Rattle.std.proofs.lemmas.List.{length-set, get_or_past, get_or-set_same}
-use Rattle.snoop_model.proofs.Common.{Access, after_issue, after_order, ArrivesFor, Ask, asked, awaited_request, CacheAction, CacheState, cases_lt, Cell, Did, eq-eqb, FillsRequestor, held_at, held_by, IsWellKept, IsWithin, Item, KeepsWell, Line, missed_request, MoveOn, ne_eqb, none-some, nothing_held, Op, Open, Order, Picture, picture_of, Protocol, queue_of, queues_after, Reply, Request, reset, Respond, Responds, same_Some, Situation, StartsWell, state_of, Step, Takes, TakesRows, waiting_request, with_line}
+-- A machine is well kept at reset, and stays so at each kind of move; so a core waits on the blocks in its queue, and on no others.
+use Rattle.std.proofs.Common.{◌≡◌, ◌≢◌, ℕ, ◌<◌, ◌++◌, List, [], length, Option, Some, None, refl, sym, ◌∙◌, arith, inl, inr, ◌∷◌}
+use Rattle.snoop_model.proofs.Common.{Access, after_issue, after_order, ArrivesFor, Ask, asked, awaited_request, CacheAction, CacheState, cases_Bool, cases_lt, Cell, Contains, Did, eq-eqb, FillsRequestor, get_or-set_same, get_or_past, held_at, held_by, if◌then◌else◌, is_some, IsSome, IsWellKept, IsWithin, Item, KeepsWell, length-set, Line, missed_request, MoveOn, ne_eqb, none-some, nothing_held, Op, Open, option_to_list, Order, Picture, picture_of, Protocol, queue_of, queues_after, Reply, Request, reset, Respond, Responds, same_Some, Situation, slice_get, slice_get-get_or, StandsFirst, StartsWell, state_of, Step, Takes, TakesRows, waiting_request, Waits, WaitsOnNone, with_line, ◌==◌}
 use Rattle.snoop_rules.specs.declared.names.CacheAction.TheVariants as action
 use Rattle.snoop_model.proofs.Lists.Facts.{one_if, replicated}
 use Rattle.snoop_model.proofs.Lists.Writes.{each_set}
-use Rattle.snoop_model.proofs.Lists.QueueCounts.{times, issued_own, issued_others, issued_elsewhere, ordered_own, ordered_others, ordered_elsewhere}
+use Rattle.snoop_model.proofs.Lists.QueueCounts.{times, issued_own, issued_others, issued_elsewhere, ordered_own, ordered_others, ordered_elsewhere, counted_in, in_counted}
 use Rattle.snoop_model.proofs.Tables.Rows.{issue-waits, issue-missed, asked_missed, hit_facts, drop_facts, order_facts, fill-waits}
 use Rattle.snoop_model.proofs.Tables.WaitingRows.{awaited-asked, awaited-ordered, awaited-filled, awaited-get}
 use Rattle.snoop_model.proofs.OneBlock.Facts.{by_core, each_held}
 use Rattle.snoop_model.proofs.OneBlock.OfBlocks.{changed, in_pictures, each_picture, shaped_after}
 use Rattle.snoop_model.proofs.Lines.Answered.{by_request, filled_or_same, arrives_length, still_waiting}
 use Rattle.snoop_model.proofs.Invariant.Runs.{reset_line, reset_open, reset_shaped}
+use Rattle.snoop_model.specs.Pictures.InQueue.{IsInQueue}
+use Rattle.snoop_model.proofs.Tables.StateTests.{some_of}
 
 -- how often a core that holds the block in this state has it in its queue
 abbrev waits : CacheState → ℕ
@@ -97,48 +97,43 @@ module _ (s : Situation) (kept : IsWellKept s) (core block word : ℕ) (asking :
 
 -- who waits once each core has taken its row: the requestor no longer, each other core as before
 module _ (p : Protocol) (core : ℕ) (request : Request) (old new : List Line) (taken : TakesRows p core request old new) where
+  -- what holds of each line before and after its row, and of two that hold nothing, holds of each core's
+  pub each_taken : (k : ℕ) (P : Line → Line → Type 0) → (k < length old → P (held_at old k) (held_at new k)) → P nothing_held nothing_held → P (held_at old k) (held_at new k)
+  each_taken k P row nothing = elim (cases_lt k (length old)) [
+    | inl inside ↦ row inside
+    | inr past ↦ (let same = taken.same_length in rw (get_or_past new k nothing_held (omega arith), get_or_past old k nothing_held past) nothing)
+  ]
+
   row_waits : (k : ℕ) → k < length old → waiting_request (held_at new k).state ≡ (if k == core then None else waiting_request (held_at old k).state)
   row_waits k inside =
-      let row = taken.rows k inside in
-      ap (λ (x : Line). waiting_request x.state) row.2 ∙ (order_facts p (held_at old k).state k core request row.0.action row.0.next row.1).2
+      let (row, is_row, moved) = taken.rows k inside in
+      rw moved (order_facts p (held_at old k).state k core request row.action row.next is_row).2
 
   pub own_waits : core < length old → waiting_request (held_at new core).state ≡ None
   own_waits inside = row_waits core inside ∙ rw (eq-eqb core core refl) refl
 
   pub others_wait : (k : ℕ) → (k ≡ core → ⊥) → waiting_request (held_at new k).state ≡ waiting_request (held_at old k).state
-  others_wait k apart = elim (cases_lt k (length old)) [
-    | inl inside ↦ row_waits k inside ∙ rw (ne_eqb k core apart) refl
-    | inr past ↦ (let same = taken.same_length in rw (get_or_past new k nothing_held (omega arith), get_or_past old k nothing_held past) refl)
-  ]
-
-module _ {closing : Open} {p : Protocol} {log : List Item} {old new : List Line} {did : Option Did} (f : FillsRequestor closing p log old new did) where
-  fills_waits : (k : ℕ) → waiting_request (held_at new k).state ≡ waiting_request (held_at old k).state
-  fills_waits k = elim (filled_or_same f k) [
-    | inl e ↦ rw (e.1, f.fills.held, e.0) (fill-waits p (held_at old closing.core).state f.fills.event f.fills.row.action f.fills.row.next f.asking.op f.fills.fill f.fills.is_row)
-    | inr e ↦ rw e refl
-  ]
-
-  -- the requestor awaits no more
-  fills_awaits : (q : Request) → awaited_request (held_at new closing.core).state ≡ Some q → ⊥
-  fills_awaits q = each_held new closing.core (λ x. awaited_request x.state ≡ Some q → ⊥)
-      (λ below. let inside : closing.core < length old = rw (f.held, length-set) at below in
-      rw (f.held, get_or-set_same old closing.core f.line nothing_held inside, f.fills.held)
-      (awaited-filled p (held_at old closing.core).state closing.payload f.fills.event f.fills.row.action f.fills.row.next q f.fills.arrives f.fills.is_row))
-      (λ h. cc)
+  others_wait k apart = each_taken k (λ x y. waiting_request y.state ≡ waiting_request x.state) (λ inside. row_waits k inside ∙ rw (ne_eqb k core apart) refl) refl
 
 -- a response changes no wait
 pub arrives_waits : (closing : Open) (p : Protocol) (log : List Item) (old new : List Line) (did : Option Did) → ArrivesFor closing.request closing p log old new did
     → (k : ℕ) → waiting_request (held_at new k).state ≡ waiting_request (held_at old k).state
-arrives_waits closing p log old new did arrives k = elim (by_request closing.request arrives) [ inl put ↦ rw put.1 refl | inr fills ↦ fills_waits fills k ]
+arrives_waits closing p log old new did arrives k = elim (by_request closing.request arrives) [
+  | inl put ↦ rw put.1 refl
+  | inr f ↦ elim (filled_or_same f k) [
+    | inl e ↦ rw (e.1, f.fills.held, e.0) (fill-waits p (held_at old closing.core).state f.fills.event f.fills.row.action f.fills.row.next f.asking.op f.fills.fill f.fills.is_row)
+    | inr e ↦ rw e refl
+  ]
+]
 
 -- no core awaits data of the block once a response has come
 none_awaits : (s : Situation) (kept : IsWellKept s) (block : ℕ) (closing : Open) (did : Option Did) (t : Situation) (r : Responds s block closing did t)
     → (k : ℕ) (q : Request) → awaited_request (held_by r.next k).state ≡ Some q → ⊥
 none_awaits s kept block closing did t r k q h = elim (by_request closing.request r.requestor) [
   | inl put ↦ let was = rw put.1 at h in awaited-get (state_of s k block) (cc (was, (its was).1, put.0))
-  | inr fills ↦
-      let same : closing.core ≡ k = elim (filled_or_same fills k) [ inl e ↦ sym e.0 | inr e ↦ (its (rw e at h)).0 ] in
-      fills_awaits fills q (rw (← same) at h)
+  | inr f ↦
+      let same : closing.core ≡ k = elim (filled_or_same f k) [ inl e ↦ sym e.0 | inr e ↦ (its (rw e at h)).0 ] in
+      filled f (rw (← same) at h)
 ]
   where
     -- what it awaited was of this transaction
@@ -147,6 +142,14 @@ none_awaits s kept block closing did t r k q h = elim (by_request closing.reques
         let had = kept.awaits k block q was in
         let same : had.0 ≡ closing = same_Some _ _ (sym had.1.0 ∙ r.opened) in
         rw (← same) (had.1.1, had.1.2)
+
+    -- and a line that is filled awaits no more
+    filled : (f : FillsRequestor closing s.protocol s.log (picture_of s block).caches r.next.caches did) → awaited_request (held_by r.next closing.core).state ≡ Some q → ⊥
+    filled f = each_held r.next.caches closing.core (λ x. awaited_request x.state ≡ Some q → ⊥)
+        (λ below. let inside : closing.core < length (picture_of s block).caches = rw (f.held, length-set) at below in
+        rw (f.held, get_or-set_same (picture_of s block).caches closing.core f.line nothing_held inside, f.fills.held)
+        (awaited-filled s.protocol (state_of s closing.core block) closing.payload f.fills.event f.fills.row.action f.fills.row.next q f.fills.arrives f.fills.is_row))
+        (λ h. cc)
 
 pub on_kept : (block : ℕ) (s t : Situation) (step : Step) (answer : Reply) → IsWellKept s → MoveOn block s step answer t → IsWellKept t
 on_kept block s t (Ask core on word asking) answer kept m = elim m.moves [
@@ -213,3 +216,39 @@ starts_well protocol shape under_way = (
   where
     queue_is : (k : ℕ) → queue_of (reset protocol shape).queues k ≡ []
     queue_is k = replicated shape.cores k []
+
+-- each core's queue has the blocks on which it waits
+abbrev pub AreQueued : Situation → Type 0
+AreQueued s = (core block : ℕ) → IsInQueue s core block
+
+module _ (s : Situation) (queued : AreQueued s) (core block : ℕ) where
+  pub waits_queued : (request : Request) → Waits s core block request → Contains (queue_of s.queues core) block
+  waits_queued request waits =
+      let one : times block (queue_of s.queues core) ≡ 1 = rw waits at (queued core block) in
+      counted_in block (queue_of s.queues core) (omega arith)
+
+  pub queued_waits : Contains (queue_of s.queues core) block → (request : Request) × Waits s core block request
+  queued_waits there = elim (cases_Bool (is_some (waiting_request (state_of s core block)))) [
+    | inl is ↦ some_of _ is
+    | inr none ↦
+        let zero : times block (queue_of s.queues core) ≡ 0 = rw none at (queued core block) in
+        absurd (omega (arith, in_counted block (queue_of s.queues core) there))
+  ]
+
+-- what is none of its values is none
+pub none_there : {A : Type 0} (found : Option A) → ((a : A) → found ≡ Some a → ⊥) → found ≡ None
+none_there None h = refl
+none_there (Some a) h = absurd (h a refl)
+
+first_in : (queue : List ℕ) (block : ℕ) → slice_get queue 0 ≡ Some block → Contains queue block
+first_in [] block e = cc
+first_in (x ∷ queue) block e = (0, omega arith, same_Some _ _ e)
+
+-- it waits on the block that stands first, and on none where none does
+pub first_waits : (s : Situation) → AreQueued s → (core block : ℕ) → StandsFirst s core block → (request : Request) × Waits s core block request
+first_waits s queued core block first = queued_waits s queued core block (first_in (queue_of s.queues core) block first)
+
+pub none_waits : (s : Situation) → AreQueued s → (core : ℕ) → slice_get (queue_of s.queues core) 0 ≡ None → WaitsOnNone s core
+none_waits s queued core none block request waits =
+    let there = waits_queued s queued core block request waits in
+    none-some _ (sym none ∙ slice_get-get_or (queue_of s.queues core) 0 0 (omega (arith, there.1)))

@@ -11,17 +11,12 @@ module _ {A : Type 0} (One : A → Step → Result Reply Refused → A → Type 
       kept_along P keeps steps outcomes run.0 new (keeps old step outcome run.0 holds run.1.0) run.1.1
   kept_along P keeps _ _ old new holds run = absurd run
 
-  -- a run, and one from where it led
-  pub run_on : (first rest : List Step) (outcomes more : List (Result Reply Refused)) (old middle new : A) → RunBy One old first outcomes middle → RunBy One middle rest more new
-      → RunBy One old (first ++ rest) (outcomes ++ more) new
-  run_on [] rest [] more old middle new run later = subst (λ s. RunBy One s rest more new) run later
-  run_on (step ∷ first) rest (outcome ∷ outcomes) more old middle new run later = (run.0, (run.1.0, run_on first rest outcomes more run.0 middle new run.1.1 later))
-  run_on _ rest _ more old middle new run later = absurd run
-
   -- a run, and one more step
   pub run_more : (steps : List Step) (outcomes : List (Result Reply Refused)) (old middle new : A) (step : Step) (outcome : Result Reply Refused) → RunBy One old steps outcomes middle → One middle step outcome new
       → RunBy One old (steps ++ step ∷ []) (outcomes ++ outcome ∷ []) new
-  run_more steps outcomes old middle new step outcome run one = run_on steps (step ∷ []) outcomes (outcome ∷ []) old middle new run (new, (one, refl))
+  run_more [] [] old middle new step outcome run one = (new, (subst (λ s. One s step outcome new) run one, refl))
+  run_more (first ∷ steps) (had ∷ outcomes) old middle new step outcome run one = (run.0, (run.1.0, run_more steps outcomes run.0 middle new step outcome run.1.1 one))
+  run_more _ _ old middle new step outcome run one = absurd run
 
 -- a run is one of what is seen of it, where each step is
 pub seen_along : {A B : Type 0} (One : A → Step → Result Reply Refused → A → Type 0) (Other : B → Step → Result Reply Refused → B → Type 0) (see : A → B)

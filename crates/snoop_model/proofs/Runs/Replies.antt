@@ -1,7 +1,6 @@
 -- What the outcome of a step tells of the history.
-use Rattle.std.proofs.Common.{◌≡◌, ℕ, ◌++◌, List, [], ◌∷◌, Option, refl, ap, sym, subst, inl, inr}
-use Rattle.std.proofs.lemmas.List.{append-nil}
-use Rattle.snoop_model.proofs.Common.{Ask, asked, CacheAction, CacheState, Cell, Err, FirstMove, Goes, held_by, Invariant, Item, Line, Ok, Op, option_to_list, Order, picture_of, Protocol, Refused, Reply, Respond, Result, RunBy, Situation, Step, Takes}
+use Rattle.std.proofs.Common.{◌≡◌, ℕ, false, ◌++◌, List, [], ◌∷◌, Option, refl, ap, sym, subst, inl, inr}
+use Rattle.snoop_model.proofs.Common.{append-nil, Ask, asked, CacheAction, CacheState, Cell, Err, FirstMove, Goes, held_by, IfSome, Invariant, Item, Line, Ok, Op, option_to_list, Order, picture_of, Protocol, Refused, Reply, Respond, Result, RunBy, Situation, Step, Takes}
 use Rattle.snoop_trace.specs.declared.step.Op.TheVariants as op
 use Rattle.snoop_rules.specs.declared.names.CacheAction.TheVariants as action
 use Rattle.snoop_model.specs.Moves.Replies.{Tells}
@@ -36,14 +35,9 @@ goes_tells old (Ask core on word asking) (Ok answer) new g goes = elim goes.1.mo
 goes_tells old (Order core) (Ok answer) new g goes = rw goes.1.answered (goes.0, ap (λ (s : Situation). s.log) goes.1.orders.after)
 goes_tells old (Respond on) (Ok answer) new g goes =
     let m = goes.1 in
-    rw (m.answered, m.on_block, ← g.opened goes.0 m.closing m.responds.opened) (
-      m.closing.core,
-      (
-        m.closing.request,
-        ap (λ (s : Situation). s.log) m.responds.after,
-        elim (by_request m.closing.request m.responds.requestor) [ inl put ↦ rw put.2 tt | inr fills ↦ rw fills.logged (refl, refl, refl) ],
-      ),
-    )
+    let told : IfSome m.did (λ d. (d.core ≡ m.closing.core) × (d.block ≡ m.closing.block) × (d.hit ≡ false)) =
+    elim (by_request m.closing.request m.responds.requestor) [ inl put ↦ rw put.2 tt | inr fills ↦ rw fills.logged (refl, refl, refl) ] in
+    rw (m.answered, m.on_block, ← g.opened goes.0 m.closing m.responds.opened) (m.closing.core, (m.closing.request, ap (λ (s : Situation). s.log) m.responds.after, told))
 goes_tells old step (Err cause) new g goes = refusal_tells step cause (ap (λ (s : Situation). s.log) (refusal_same old step cause new goes))
 
 -- a run's history is what its outcomes tell

@@ -1,12 +1,10 @@
 -- Each step that goes comes to what is computed of it, and from every situation of a run each step goes so.
-use Rattle.std.proofs.Common.{◌≡◌, ℕ, zero, suc, ◌<◌, ◌≤◌, ◌&&◌, Bool, true, false, List, length, Option, Some, None, refl, ◌⊎◌, inl, inr, ap, ◌∙◌, arith, not, ◌||◌}
-use Rattle.std.specs.Prelude.{Result, Ok, Err, slice_get, is_some, option_map, unwrap_or, if◌then◌else◌}
+use Rattle.std.proofs.Common.{◌≡◌, ℕ, zero, suc, ◌<◌, ◌≤◌, ◌&&◌, Bool, true, false, List, length, Option, Some, None, refl, ◌⊎◌, inl, inr, ap, ◌∙◌, arith, not}
 use Rattle.std.specs.Bool.{Decides}
 use Rattle.std.proofs.Math.Dec.{ltb}
-use Rattle.std.proofs.lemmas.Bool.{and_from, and_left, and_right, cases_eq, false_from_ne_true, le-ltb, lt-ltb, and_cases, and_parts, both_ways, cases_Bool, cases_lt, ltb-false, ltb-true}
 use Rattle.std.proofs.lemmas.Bool.Decides.{Decides-and, Decides-ltb}
 use Rattle.std.proofs.lemmas.List.FromFn.{fill_by_all, get_or-map-range_with_len, length-map-range_with_len}
-use Rattle.snoop_model.proofs.Common.{Access, arrival, arrival_at_memory, ArrivesFor, Ask, asked, CacheAction, CacheCell, CacheEvent, CacheState, CanOrder, Cell, Did, Extent, FillsRequestor, FirstMove, flat_words, GoesFirst, HasWord, held_at, held_by, Hits, Invariant, is_load, is_put_m, IsOnlySender, IsProper, IsWithin, Item, Line, MemAction, MemCell, MemEvent, MemState, missed_request, nothing_held, Op, Open, option_map_or, Order, Orders, Payload, Performs, Picture, picture_of, Protocol, queue_of, Refused, Refuses, Reply, Request, request_for, Respond, Responds, seen_by, Situation, StandsFirst, state_of, Step, Takes, takes_payload, WaitsOnNone, word_places, written, zero_words}
+use Rattle.snoop_model.proofs.Common.{Access, and_cases, and_from, and_left, and_parts, and_right, arrival, arrival_at_memory, ArrivesFor, Ask, asked, both_ways, CacheAction, CacheCell, CacheEvent, CacheState, CanOrder, cases_Bool, cases_eq, cases_lt, Cell, Did, Err, Extent, false_from_ne_true, FillsRequestor, FirstMove, flat_words, GoesFirst, HasWord, held_at, held_by, Hits, if◌then◌else◌, Invariant, is_load, is_put_m, is_some, IsOnlySender, IsProper, IsWithin, Item, le-ltb, Line, lt-ltb, ltb-false, ltb-true, MemAction, MemCell, MemEvent, MemState, missed_request, nothing_held, Ok, Op, Open, option_map, option_map_or, Order, Orders, Payload, Performs, Picture, picture_of, Protocol, queue_of, Refused, Refuses, Reply, Request, request_for, Respond, Responds, Result, seen_by, Situation, slice_get, StandsFirst, state_of, Step, Takes, takes_payload, unwrap_or, word_places, written, zero_words}
 use Rattle.snoop_trace.specs.declared.step.Op.TheVariants as op
 use Rattle.snoop_rules.specs.declared.names.CacheAction.TheVariants as action
 use Rattle.snoop_rules.specs.declared.names.Request.TheVariants as request
@@ -16,16 +14,13 @@ use Rattle.snoop_model.proofs.Tables.SentBy.{payload_from, sends_is, sends_row}
 use Rattle.snoop_model.proofs.Tables.RespondTests.{SettlesIf, memory_row_for, row_for}
 use Rattle.snoop_model.proofs.OneBlock.OfBlocks.{same_picture, same_memory}
 use Rattle.snoop_model.proofs.Steps.Next.{Next, value_of, words_after, has_word, after_ask, by_row, next_asked, sender_below, line_after, next_picture, next_ordered, settled, filled, brought, next_closed, next_of, next_first}
-use Rattle.snoop_model.proofs.Queues.Waiting.{AreQueued, first_waits, none_waits}
-use Rattle.snoop_rules.specs.declared.names.CacheEvent.TheVariants as event
-use Rattle.snoop_rules.specs.declared.names.Payload.TheVariants as payload
-use Rattle.snoop_rules.proofs.Every.{all_protocols, all_states, all_events}
-use Rattle.snoop_rules.proofs.Rows.{each_row, each_row-at}
+use Rattle.snoop_rules.proofs.Every.{all_protocols, all_protocols-at, all_states, all_states-at, all_payloads, all_payloads-at}
+use Rattle.snoop_model.proofs.Tables.StateTests.{given, given_at, some_of}
 use Rattle.snoop_model.proofs.Tables.Rows.{is_evict, asked_answers, hit_keeps}
 use Rattle.snoop_model.proofs.Tables.AskTests.{is_idle_evict}
 use Rattle.snoop_model.proofs.Invariant.Coherence.{orders_follow_sender_table, finds_rows, idle_evict, waits_within}
-use Rattle.snoop_model.proofs.OneBlock.Facts.{implied}
 use Rattle.snoop_model.proofs.OneBlock.Possible.{ask_possible, respond_possible}
+use Rattle.snoop_model.proofs.Queues.Moves.{none_there, AreQueued, first_waits, none_waits}
 
 -- an operation does one thing
 performs_is : (word : ℕ) (asking : Op) (before : List ℕ) (value : ℕ) (after : List ℕ) → Performs word asking before value after
@@ -35,8 +30,7 @@ performs_is word _ before value after h = h
 
 word_decides : (shape : Extent) (word : ℕ) (asking : Op) → Decides (has_word shape word asking) (HasWord shape word asking)
 word_decides shape word op.Evict = (λ h. tt, λ h. refl)
-word_decides shape word op.Load = Decides-and _ _ (Decides-ltb word shape.words) (Decides-ltb word word_places)
-word_decides shape word (op.Store v) = Decides-and _ _ (Decides-ltb word shape.words) (Decides-ltb word word_places)
+word_decides shape word _ = Decides-and _ _ (Decides-ltb word shape.words) (Decides-ltb word word_places)
 
 -- An Ask.
 module _ (s : Situation) (core block word : ℕ) (asking : Op) where
@@ -64,18 +58,14 @@ module _ (p : Protocol) (before : Picture) (core : ℕ) (q : Request) where
       → sender_below p before core q n ≡ from
   sender_is zero few None payload sent below = refl
   sender_is zero few (Some k) payload sent below = absurd (omega arith)
-  sender_is (suc n) few from payload sent below = found (payload_from p before core q (Some n)) refl (sender_is n (omega arith) from payload sent)
+  sender_is (suc n) few from payload sent below = elim (cases_Bool (is_some (payload_from p before core q (Some n)))) [
+    | inl is ↦ let x = some_of _ is in rw is (sent.alone (Some n) x.0 (omega arith, sends_row _ x.0 x.1))
+    | inr none ↦ rw none (sender_is n (omega arith) from payload sent (lower none from below (sends_is p before core q from payload sent.sends)))
+  ]
     where
-      lower : (other : Option ℕ) → IsBelow (suc n) other → (other ≡ Some n → ⊥) → IsBelow n other
-      lower None below apart = tt
-      lower (Some k) below apart = elim (cases_eq k n) [ inl e ↦ absurd (apart (ap Some e)) | inr ne ↦ omega arith ]
-
-      found : (sends : Option Payload) → payload_from p before core q (Some n) ≡ sends → (IsBelow n from → sender_below p before core q n ≡ from)
-          → sender_below p before core q (suc n) ≡ from
-      found (Some x) is rest = rw is (sent.alone (Some n) x (omega arith, sends_row _ x is))
-      found None is rest =
-          let silent : from ≡ Some n → ⊥ = λ e. (let sends = rw e at (sends_is p before core q from payload sent.sends) in cc) in
-          rw is (rest (lower from below silent))
+      lower : is_some (payload_from p before core q (Some n)) ≡ false → (other : Option ℕ) → IsBelow (suc n) other → payload_from p before core q other ≡ Some payload → IsBelow n other
+      lower none None below sends = tt
+      lower none (Some k) below sends = elim (cases_eq k n) [ inl e ↦ (let clash = rw (← e, sends) at none in cc) | inr ne ↦ omega arith ]
 
 -- A Respond.
 pub settled_is : (takes : Bool) (p : Protocol) (found : Option MemEvent) (m : MemState) (act : MemAction) (next : MemState)
@@ -105,7 +95,7 @@ move_is s (Order core) answer new (block, (first, m)) =
     let o = m.orders in
     let before : Picture = picture_of s block in
     let sends = sends_is p before core q o.from o.payload o.sent.sends in
-    let from = sender_is p before core q (length before.caches) (omega arith) o.from o.payload o.sent (sends_below p before core q o.from o.payload o.sent.sends) in
+    let from = sender_is p before core q (length before.caches) (omega arith) o.from o.payload o.sent (sends_below p before core q _ _ o.sent.sends) in
     let caches = fill_by_all (line_after p before core q) o.next.caches (length before.caches) nothing_held o.taken.same_length
     (λ k below. (let row = o.taken.rows k below in row.2 ∙ rw row.1 refl)) in
     let next : o.next ≡ next_picture p before core q block =
@@ -116,25 +106,22 @@ move_is s (Respond on) answer new (block, (first, m)) =
     let o = m.closing in
     let before : Picture = picture_of s block in
     let caches = arrives_is o s.protocol s.log before.caches r.next.caches m.did o.request r.requestor in
-    let memory = settled_is (takes_payload o.request before.memory.state) s.protocol
-    (arrival_at_memory o.payload) before.memory.state r.memory.act r.next.memory.state r.memory.settled in
+    let memory = settled_is _ s.protocol (arrival_at_memory o.payload) before.memory.state r.memory.act r.next.memory.state r.memory.settled in
     let next = same_picture (ap (λ x. x.0) caches) (same_memory (ap (λ x. x.1) memory)
     (r.memory.value ∙ ap (λ x. written x.0 o.value before.memory.value) memory)) r.closed in
     rw (m.on_block, m.answered, lt-ltb block s.shape.blocks m.within, r.opened, r.after, next, ap (λ x. x.1) caches) refl
 
 -- and so does a refusal
 module _ (s : Situation) (queued : AreQueued s) where
-  none_first : (core : ℕ) → WaitsOnNone s core → (found : Option ℕ) → slice_get (queue_of s.queues core) 0 ≡ found → found ≡ None
-  none_first core none None is = refl
-  none_first core none (Some block) is = let waits = first_waits s queued core block is in absurd (none block waits.0 waits.1)
-
   refused_is : (step : Step) (cause : Refused) → Refuses s step cause → ◌≡◌ {A = Next} (Err cause, s) (next_of s step)
   refused_is (Ask core block word asking) NoCore h = rw (le-ltb core s.shape.cores h) refl
   refused_is (Ask core block word asking) NoBlock h = rw (lt-ltb core s.shape.cores h.0, no_place s core block word asking h.1) refl
   refused_is (Ask core block word asking) (Stalled held) h =
       rw (lt-ltb core s.shape.cores h.0.0, in_place s core block word asking h.0.1 h.3, h.1, h.2.1) refl
   refused_is (Order core) NoCore h = rw (le-ltb core s.shape.cores h) refl
-  refused_is (Order core) NothingWaiting h = rw (lt-ltb core s.shape.cores h.0, none_first core h.1 (slice_get (queue_of s.queues core) 0) refl) refl
+  refused_is (Order core) NothingWaiting h =
+      let empty = none_there (slice_get (queue_of s.queues core) 0) (λ block is. let waits = first_waits s queued core block is in h.1 block waits.0 waits.1) in
+      rw (lt-ltb core s.shape.cores h.0, empty) refl
   refused_is (Order core) (BusTaken block) h = rw (lt-ltb core s.shape.cores h.0, h.1, h.2) refl
   refused_is (Respond block) NoBlock h = rw (le-ltb block s.shape.blocks h) refl
   refused_is (Respond block) NoTransaction h = rw (lt-ltb block s.shape.blocks h.0, h.1) refl
@@ -195,10 +182,6 @@ module _ (s : Situation) (core block word : ℕ) (asking : Op) (within : IsWithi
             rw row.1 (goes_by row.0.action row.0.next row.1 (good.proper core within.0))
       ]
 
--- a step goes as it is computed
-abbrev pub GoesNext : Situation → Step → Type 0
-GoesNext s step = GoesFirst s step (next_of s step).0 (next_of s step).1
-
 module _ (s : Situation) (g : Invariant s) where
   -- an Order of a request that can be ordered: each controller has its row
   pub order_made : (core block : ℕ) (q : Request) → CanOrder s core block q → Orders s core block q (next_ordered s core block q).1
@@ -206,8 +189,7 @@ module _ (s : Situation) (g : Invariant s) where
       let p = s.protocol in
       let before : Picture = picture_of s block in
       let line = orders_follow_sender_table s g core block q ready in
-      let from = sender_is p before core q (length before.caches) (omega arith) line.from line.payload line.sent
-      (sends_below p before core q line.from line.payload line.sent.sends) in
+      let from = sender_is p before core q (length before.caches) (omega arith) line.from line.payload line.sent (sends_below p before core q _ _ line.sent.sends) in
       record {
         ready = ready;
         from = line.from;
@@ -216,12 +198,10 @@ module _ (s : Situation) (g : Invariant s) where
         next = _;
         taken = record {
           same_length = length-map-range_with_len (line_after p before core q) 0 (length before.caches);
-          rows = λ k below. (let row = (finds_rows s g (Order core)).cache k block (Some (seen_by k core q)) (q, (ready, refl)) in (
-            row.0,
-            row.1,
-            get_or-map-range_with_len (line_after p before core q) 0 (length before.caches) k k nothing_held below
-                (omega arith) ∙ rw row.1 refl,
-          ));
+          rows = λ k below.
+              let row = (finds_rows s g (Order core)).cache k block (Some (seen_by k core q)) (q, (ready, refl)) in
+              let is = get_or-map-range_with_len (line_after p before core q) 0 (length before.caches) k k nothing_held below (omega arith) in
+              (row.0, row.1, is ∙ rw row.1 refl);
         };
         memory = (line.ordered.0, line.ordered.1, rw line.ordered.1 refl);
         value = refl;
@@ -229,28 +209,15 @@ module _ (s : Situation) (g : Invariant s) where
         after = refl;
       }
 
--- the event is the arrival of data at its requestor
-abbrev is_data : CacheEvent → Bool
-is_data event.Data = true
-is_data event.DataE = true
-is_data _ = false
-
 -- data performs the operation that has missed
 abbrev fills : Option Request → CacheAction → Bool
 fills (Some request.GetS) action.FillLoad = true
 fills (Some request.GetM) action.FillStore = true
 fills _ _ = false
 
-abbrev data_test : Protocol → CacheState → CacheEvent → CacheCell → Bool
-data_test p s e r = not (is_data e) || fills (missed_request s) r.action
-
-data_test_holds : each_row data_test ≡ true
-unfolding each_row all_protocols all_states all_events
-data_test_holds = refl
-
-arrives_as_data : (payload : Payload) (e : CacheEvent) → arrival payload ≡ Some e → is_data e ≡ true
-arrives_as_data payload.NoData e is = cc
-arrives_as_data _ e is = cc
+data_fills : all_protocols (λ p. all_states (λ s. all_payloads (λ message. given (row_for p s (arrival message)) (λ r. fills (missed_request s) r.action)))) ≡ true
+unfolding all_protocols all_states all_payloads given
+data_fills = refl
 
 -- an action that fills for the operation's request is the fill for the operation, which is no eviction
 fill_is : (asking : Op) (act : CacheAction) → fills (Some (request_for asking)) act ≡ true
@@ -261,13 +228,12 @@ fill_is _ _ h = cc
 
 -- what the response brings to the caches
 module _ (p : Protocol) (log : List Item) (old : List Line) (o : Open) where
-  fills_as : (found : Option CacheEvent) → arrival o.payload ≡ found → (row : CacheCell) → row_for p (held_at old o.core).state found ≡ Some row
-      → (waiting : Option Access) → (held_at old o.core).waiting ≡ waiting → option_map (λ access. request_for access.op) waiting ≡ missed_request (held_at old o.core).state
-      → (let n = filled o p log old waiting in FillsRequestor o p log old n.0 n.1)
-  fills_as None arrives row is waiting waits proper = cc
-  fills_as (Some e) arrives row is waiting waits proper =
-      let s = (held_at old o.core).state in
-      by_waiting waiting waits (rw proper (implied (is_data e) _ (each_row-at data_test data_test_holds p s e row.action row.next is) (arrives_as_data o.payload e arrives)))
+  fills_as : (found : Option CacheEvent) → arrival o.payload ≡ found → (row : CacheCell) → row_for p (held_at old o.core).state found ≡ Some row → IsProper (held_at old o.core)
+      → (let n = filled o p log old (held_at old o.core).waiting in FillsRequestor o p log old n.0 n.1)
+  fills_as None arrives row is proper = cc
+  fills_as (Some e) arrives row is proper =
+      let row_of : row_for p (held_at old o.core).state (arrival o.payload) ≡ Some row = rw arrives is in
+      by_waiting (held_at old o.core).waiting refl (rw proper.waiting (given_at _ _ row row_of (all_payloads-at _ (all_states-at _ (all_protocols-at _ data_fills p) _) o.payload)))
     where
       by_waiting : (waiting : Option Access) → (held_at old o.core).waiting ≡ waiting → fills (option_map (λ access. request_for access.op) waiting) row.action ≡ true
           → (let n = filled o p log old waiting in FillsRequestor o p log old n.0 n.1)
@@ -296,7 +262,7 @@ module _ (p : Protocol) (log : List Item) (old : List Line) (o : Open) where
   brings : (q : Request) → (is_put_m q ≡ false → (r : CacheCell) × (row_for p (held_at old o.core).state (arrival o.payload) ≡ Some r))
       → IsProper (held_at old o.core) → (let n = brought o p log old q in ArrivesFor q o p log old n.0 n.1)
   brings request.PutM row proper = (refl, refl)
-  brings _ row proper = fills_as (arrival o.payload) refl (row refl).0 (row refl).1 (held_at old o.core).waiting refl proper.waiting
+  brings _ row proper = fills_as (arrival o.payload) refl (row refl).0 (row refl).1 proper
 
 -- what the response brings to memory
 remembers : (takes : Bool) (p : Protocol) (found : Option MemEvent) (m : MemState) → (takes ≡ true → (r : MemCell) × (memory_row_for p m found ≡ Some r))
@@ -307,7 +273,7 @@ remembers true p (Some e) m row = rw (row refl).1 refl
 
 -- each step goes as it is computed
 module _ (s : Situation) (g : Invariant s) where
-  pub goes_next : AreQueued s → (step : Step) → GoesNext s step
+  pub goes_next : AreQueued s → (step : Step) → GoesFirst s step (next_of s step).0 (next_of s step).1
   goes_next queued (Ask core block word asking) = elim (cases_lt core s.shape.cores) [
     | inr past ↦ rw (le-ltb core s.shape.cores past) (past, refl)
     | inl in_cores ↦ elim (cases_Bool (ltb block s.shape.blocks && has_word s.shape word asking)) [

@@ -1,9 +1,8 @@
 -- What a step comes to, computed: what it is answered, and where it leads. Where a table has no row, which no run meets, the state stays.
 use Rattle.std.proofs.Common.{ℕ, zero, suc, Bool, true, false, ◌&&◌, List, [], ◌∷◌, ◌++◌, length, map, Option, Some, None}
-use Rattle.std.specs.Prelude.{Result, Ok, Err, is_some, option_to_list, unwrap_or, slice_get, slice_set, if◌then◌else◌}
 use Rattle.std.specs.List.{range_with_len}
 use Rattle.std.proofs.Math.Dec.{ltb}
-use Rattle.snoop_model.proofs.Common.{Access, after_order, arrival, arrival_at_memory, Ask, asked, at_memory, CacheAction, CacheState, came_of, cell_of, Data, Did, Extent, held_at, held_by, is_load, Item, kept_waiting, Line, MemAction, MemEvent, memory_cell_of, MemState, moves_to, next_did, Op, Open, option_map_or, Order, Picture, picture_of, Protocol, queue_of, queues_after, Refused, Reply, Request, Respond, seen_by, Situation, state_of, Step, takes_payload, value_sent, waiting_request, with_line, with_picture, word_at, word_places, written, zero_words}
+use Rattle.snoop_model.proofs.Common.{Access, after_order, arrival, arrival_at_memory, Ask, asked, at_memory, CacheAction, CacheState, came_of, cell_of, Data, Did, Err, Extent, free_picture, held_at, held_by, if◌then◌else◌, is_load, is_some, Item, kept_waiting, Line, MemAction, MemEvent, memory_cell_of, MemState, moves_to, next_did, Ok, Op, Open, option_map_or, option_to_list, Order, Picture, picture_of, Protocol, queue_of, queues_after, Refused, Reply, Request, Respond, Result, seen_by, Situation, slice_get, slice_set, state_of, Step, takes_payload, unwrap_or, value_sent, waiting_request, with_line, with_picture, word_at, word_places, written, zero_words}
 use Rattle.snoop_trace.specs.declared.step.Op.TheVariants as op
 use Rattle.snoop_rules.specs.declared.names.CacheAction.TheVariants as action
 use Rattle.snoop_rules.specs.declared.names.MemAction.TheVariants as mem_action
@@ -12,6 +11,7 @@ use Rattle.snoop_rules.specs.declared.names.Payload.TheVariants as payload
 use Rattle.snoop_history.specs.declared.items.Item.TheVariants as item
 use Rattle.snoop_model.specs.declared.replies.Reply.TheVariants as reply
 use Rattle.snoop_model.specs.declared.replies.Refused.TheVariants.{NoCore, NoBlock, Stalled, NothingWaiting, BusTaken, NoTransaction}
+use Rattle.snoop_model.proofs.OneBlock.OfBlocks.{changed}
 use Rattle.snoop_model.proofs.Tables.RespondTests.{row_for, memory_row_for}
 use Rattle.snoop_model.proofs.Tables.SentBy.{payload_from}
 
@@ -40,25 +40,18 @@ module _ (s : Situation) (core block word : ℕ) (asking : Op) where
 
   abbrev pub after_ask : CacheAction → Line → Option Item → Situation
   after_ask act held entry =
-      record (with_picture s block (with_line (picture_of s block) core held)) {
-        queues = queues_after act s.queues core block;
-        log = s.log ++ option_to_list entry;
-      }
+      changed s block (with_line (picture_of s block) core held) (queues_after act s.queues core block) (s.log ++ option_to_list entry)
 
   abbrev pub by_row : CacheAction → CacheState → Next
   by_row action.Hit next =
       let before = unwrap_or asker.kept zero_words in
       let value = value_of word asking before in
-      let held : Line = record { state = next; kept = Some (words_after word asking before); waiting = asker.waiting } in (
-        Ok (if is_load asking then reply.Hit value else reply.StoreHit),
-        after_ask action.Hit held
-            (Some (item.Did (next_did s.log core block word asking value true))),
-      )
-  by_row (action.Issue request) next = (
-    Ok (reply.Issued request),
-    after_ask (action.Issue request)
-        (record (moves_to next asker) { waiting = kept_waiting word asking }) None,
-  )
+      let held : Line = record { state = next; kept = Some (words_after word asking before); waiting = asker.waiting } in
+      let did : Item = item.Did (next_did s.log core block word asking value true) in
+      (Ok (if is_load asking then reply.Hit value else reply.StoreHit), after_ask action.Hit held (Some did))
+  by_row (action.Issue request) next =
+      let held : Line = record (moves_to next asker) { waiting = kept_waiting word asking } in
+      (Ok (reply.Issued request), after_ask (action.Issue request) held None)
   by_row action.Drop next = (Ok reply.Gone, after_ask action.Drop (moves_to next asker) None)
   by_row _ next = (Err (Stalled asker.state), s)
 
@@ -91,13 +84,10 @@ module _ (p : Protocol) (before : Picture) (core : ℕ) (request : Request) wher
       }
 
 abbrev pub next_ordered : Situation → ℕ → ℕ → Request → Next
-next_ordered s core block request = (
-  Ok (reply.Ordered request),
-  record (with_picture s block (next_picture s.protocol (picture_of s block) core request block)) {
-    queues = after_order s.queues core block;
-    log = s.log ++ item.Sent (record { core = core; request = request; block = block }) ∷ [];
-  },
-)
+next_ordered s core block request =
+    let next = next_picture s.protocol (picture_of s block) core request block in
+    let sent : Item = item.Sent (record { core = core; request = request; block = block }) in
+    (Ok (reply.Ordered request), changed s block next (after_order s.queues core block) (s.log ++ sent ∷ []))
 
 -- what memory does with a message, and its state then
 abbrev pub settled : Bool → Protocol → Option MemEvent → MemState → MemAction × MemState
@@ -110,10 +100,10 @@ module _ (closing : Open) (p : Protocol) (log : List Item) (lines : List Line) w
   filled None = (lines, None)
   filled (Some access) =
       let held = held_at lines closing.core in
-      let next = option_map_or (λ row. row.next) (row_for p held.state (arrival closing.payload)) held.state in (
-        slice_set lines closing.core (record { state = next; kept = Some (words_after access.word access.op closing.value); waiting = None }),
-        Some (next_did log closing.core closing.block access.word access.op (value_of access.word access.op closing.value) false),
-      )
+      let next = option_map_or (λ row. row.next) (row_for p held.state (arrival closing.payload)) held.state in
+      let line : Line = record { state = next; kept = Some (words_after access.word access.op closing.value); waiting = None } in
+      let did = next_did log closing.core closing.block access.word access.op (value_of access.word access.op closing.value) false in
+      (slice_set lines closing.core line, Some did)
 
   abbrev pub brought : Request → List Line × Option Did
   brought PutM = (lines, None)
@@ -124,11 +114,7 @@ next_closed s block closing =
     let before = picture_of s block in
     let caches = brought closing s.protocol s.log before.caches closing.request in
     let memory = settled (takes_payload closing.request before.memory.state) s.protocol (arrival_at_memory closing.payload) before.memory.state in
-    let next : Picture = record {
-      caches = caches.0;
-      memory = record { state = memory.1; value = written memory.0 closing.value before.memory.value };
-      transaction = None;
-    } in
+    let next = free_picture caches.0 (record { state = memory.1; value = written memory.0 closing.value before.memory.value }) in
     (Ok (reply.Came closing.payload closing.from caches.1), record (with_picture s block next) { log = s.log ++ item.Came (came_of closing) caches.1 ∷ [] })
 
 -- an Order of the block that stands first, if any

@@ -1,17 +1,11 @@
 -- Tests of the rows of an Ask, computed over the whole tables.
 use Rattle.std.proofs.Common.{◌≡◌, ◌&&◌, ◌||◌, Bool, true, false, not, Option, Some, refl}
-use Rattle.snoop_model.proofs.Common.{and_parts, is_some, Protocol, Op, CacheState, CacheEvent, CacheAction, CacheCell, Request, cell_of, asked, is_owner, is_sharer, is_clean, wait_fits, in_protocol, same, fits}
+use Rattle.snoop_model.proofs.Common.{and_parts, is_some, Protocol, Op, CacheState, CacheEvent, CacheCell, Request, cell_of, asked, is_owner, is_sharer, is_clean, wait_fits, in_protocol, same, fits}
 use Rattle.snoop_rules.specs.declared.names.CacheState.TheVariants as state
 use Rattle.snoop_rules.specs.declared.names.CacheEvent.TheVariants as event
-use Rattle.snoop_rules.specs.declared.names.CacheAction.TheVariants as action
 use Rattle.snoop_rules.proofs.Every.{all_events, all_events-at, all_protocols, all_protocols-at, all_requests, all_requests-at, all_states}
-use Rattle.snoop_model.proofs.Tables.Every.{all_fitting, all_fitting-at, all_options, all_options-at, either, either-at, given, given_at, is_some_and, when, when_at}
+use Rattle.snoop_model.proofs.Tables.StateTests.{all_fitting, all_fitting-at, all_options, all_options-at, either, either-at, given, given_at, is_some_and, when, when_at, is_hit, carries}
 use Rattle.snoop_model.proofs.Tables.Rows.{serving, serving-asked}
-use Rattle.snoop_model.proofs.Tables.StateTests.{is_hit, carries}
-
-abbrev pub is_stall : CacheAction → Bool
-is_stall action.Stall = true
-is_stall _ = false
 
 abbrev pub is_store : CacheEvent → Bool
 is_store event.Store = true
@@ -30,7 +24,9 @@ abbrev ask_case : AskTest → Protocol → Bool → Bool → Option Request → 
 ask_case k p shared ow w s e = (is_idle_evict s e || is_some_and (cell_of p s e) (λ r. true)) && given (cell_of p s e) (λ r. k p shared ow w s e r)
 
 asks : AskTest → Bool
-asks k = all_protocols (λ p. either (λ shared. all_options all_requests (λ w. all_fitting p shared w (λ s ow. all_events (λ e. when (is_some (serving e)) (λ _. ask_case k p shared ow w s e))))))
+asks k =
+    all_protocols (λ p. either (λ shared. all_options all_requests (λ w. all_fitting p shared w
+    (λ s ow. all_events (λ e. when (is_some (serving e)) (λ _. ask_case k p shared ow w s e))))))
 
 -- what is asked of the row of an Ask
 pub data AskQuestion : Type 0 where
@@ -39,8 +35,8 @@ pub data AskQuestion : Type 0 where
   ask_store_owns : AskQuestion
 
 abbrev pub ask_test : AskQuestion → AskTest
-ask_test ask_fits p shared ow w s e r = is_stall r.action || fits p shared ow w r.next
-ask_test ask_carries p shared ow w s e r = is_stall r.action || ((is_hit r.action && is_store e) || carries s r.next)
+ask_test ask_fits p shared ow w s e r = fits p shared ow w r.next
+ask_test ask_carries p shared ow w s e r = (is_hit r.action && is_store e) || carries s r.next
 ask_test ask_store_owns p shared ow w s e r = not (is_hit r.action && is_store e) || (ow && not (is_clean r.next))
 
 ask_holds : (k : AskQuestion) → asks (ask_test k) ≡ true
@@ -48,15 +44,14 @@ unfolding asks all_fitting all_options all_protocols all_states all_requests all
 ask_holds ask_fits = refl
 ask_holds _ = refl
 
-ask_holds_of : (k : AskQuestion) (p : Protocol) (shared ow : Bool) (w : Option Request) (s : CacheState) (o : Op) → fits p shared ow w s ≡ true → ask_case (ask_test k) p shared ow w s (asked o) ≡ true
+-- so there is a row for each Ask of a core whose state fits, but for an Evict in I, and the row passes each test
+pub ask_holds_of : (k : AskQuestion) (p : Protocol) (shared ow : Bool) (w : Option Request) (s : CacheState) (o : Op) → fits p shared ow w s ≡ true
+    → ((is_idle_evict s (asked o) || is_some_and (cell_of p s (asked o)) (λ r. true)) ≡ true) × (given (cell_of p s (asked o)) (λ r. ask_test k p shared ow w s (asked o) r) ≡ true)
 unfolding asks
 ask_holds_of k p shared ow w s o fit =
     let all = all_options-at all_requests all_requests-at _ (either-at _ (all_protocols-at _ (ask_holds k) p) shared) w in
-    when_at _ _ (rw (serving-asked o) refl) (all_events-at _ (all_fitting-at p shared w _ all s ow fit) (asked o))
+    and_parts _ _ (when_at _ _ (rw (serving-asked o) refl) (all_events-at _ (all_fitting-at p shared w _ all s ow fit) (asked o)))
 
 pub ask_rule : (k : AskQuestion) → (p : Protocol) (shared ow : Bool) (w : Option Request) (s : CacheState) (o : Op) (r : CacheCell)
     → fits p shared ow w s ≡ true → cell_of p s (asked o) ≡ Some r → ask_test k p shared ow w s (asked o) r ≡ true
-ask_rule k p shared ow w s o r fit is_row = given_at _ _ r is_row (and_parts _ _ (ask_holds_of k p shared ow w s o fit)).1
-
-pub ask_row : (p : Protocol) (shared ow : Bool) (w : Option Request) (s : CacheState) (o : Op) → fits p shared ow w s ≡ true → (is_idle_evict s (asked o) || is_some_and (cell_of p s (asked o)) (λ r. true)) ≡ true
-ask_row p shared ow w s o fit = (and_parts _ _ (ask_holds_of ask_fits p shared ow w s o fit)).0
+ask_rule k p shared ow w s o r fit is_row = given_at _ _ r is_row (ask_holds_of k p shared ow w s o fit).1

@@ -5,7 +5,4 @@ use Rattle.snoop_trace.specs.declared.step.Op.TheVariants as op
 use Rattle.snoop_rules.specs.declared.names.CacheState.TheVariants.{I}
 
 pub no_row : (p : Protocol) (s : CacheState) (asking : Op) (a : CacheAction) (n : CacheState) → asking ≡ op.Evict → s ≡ I → Cell p s (asked asking) a n → ⊥
-no_row p s asking a n e i row = go p (rw (e, i) at row)
-  where
-    go : (x : Protocol) → Cell x I (asked op.Evict) a n → ⊥
-    go _ h = cc
+no_row p s asking a n e i row = let none = rw (e, i) at row in cc

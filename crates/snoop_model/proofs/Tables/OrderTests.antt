@@ -5,10 +5,9 @@ use Rattle.std.specs.Option.{option_or}
 use Rattle.snoop_rules.specs.declared.names.Payload.TheVariants as payload
 use Rattle.snoop_rules.specs.contracts.names.Payload.{the_type as payloads}
 use Rattle.snoop_rules.proofs.Every.{all_protocols, all_protocols-at, all_states, all_memories, all_memories-at}
-use Rattle.snoop_model.proofs.Tables.Every.{all_fitting, all_fitting-at, each, either, given, given_at, is_some_and, same_option, same_option-true, when, when_at}
+use Rattle.snoop_model.proofs.Tables.StateTests.{all_fitting, all_fitting-at, each, either, given, given_at, is_some_and, same_option, same_option-true, when, when_at, carries}
 use Rattle.snoop_model.proofs.Tables.SenderLines.{follows_sender_table}
 use Rattle.snoop_model.proofs.Tables.SentBy.{sent_by, sent_by_memory}
-use Rattle.snoop_model.proofs.Tables.StateTests.{carries}
 
 -- what a controller sends is this payload if it is meant to send, else nothing; one that sends is on a line of the table, and has the words that the payload carries
 abbrev pub sends_so : Option Payload → Bool → Payload → Bool → Bool → Bool
@@ -17,7 +16,8 @@ sends_so sent meant pl on_line has_words = same_option payloads sent (cond meant
 abbrev pub SendsSo : Option Payload → Bool → Payload → Bool → Bool → Type 0
 SendsSo sent meant pl on_line has_words = (sent ≡ cond meant (Some pl) None) × (meant ≡ true → (on_line ≡ true) × (carries_value pl ≡ true → has_words ≡ true))
 
-pub sends_so-true : (sent : Option Payload) (meant : Bool) (pl : Payload) (on_line has_words : Bool) → sends_so sent meant pl on_line has_words ≡ true → SendsSo sent meant pl on_line has_words
+pub sends_so-true : (sent : Option Payload) (meant : Bool) (pl : Payload) (on_line has_words : Bool) → sends_so sent meant pl on_line has_words ≡ true
+    → SendsSo sent meant pl on_line has_words
 sends_so-true sent meant pl on_line has_words h =
     let (is_sent, rest) = and_parts (same_option payloads sent (cond meant (Some pl) None)) _ h in
     (same_option-true payloads tt _ _ is_sent, λ e. let (line, words) = and_parts on_line _ (rw e at rest) in (line, λ carrying. rw carrying at words))
@@ -32,15 +32,18 @@ other_tests p m q memory pl after s owns row =
     fits p after.shared (cond after.owned owns false) None row.next ∷ carries s row.next
     ∷ sends_so (sent_by (Some row)) (cond (is_put_m q) false owns) pl (follows_sender_table p q m (Other s) pl memory.next) (keeps s) ∷ []
 
--- what is asked of an Order, with memory's row, the requestor's, and the claims after it
+-- what is asked of an Order, with memory's row, the requestor's, and the claims after it: an owner then was one; the requestor's state fits; it carries over; memory
+-- is fresh where it is claimed; memory sends if it is meant to; so does the requestor; so do other cores. Proofs cite these by place, `.1.1.0` the third
 abbrev pub end_tests : Protocol → MemState → Claims → CacheState → Bool → Request → MemCell → CacheCell → Claims → List Bool
 end_tests p m st s owns q memory row after =
     (not after.owned || st.owned)
     ∷ fits p after.shared (cond after.owned owns false) (Some q) row.next
     ∷ carries s row.next
     ∷ (not after.fresh || (st.fresh || is_clean s))
-    ∷ sends_so (sent_by_memory (Some memory)) (cond (is_put_m q) false (not st.owned)) (payload_of row memory) (follows_sender_table p q m Memory (payload_of row memory) memory.next) st.fresh
-    ∷ sends_so (sent_by (Some row)) (cond (is_put_m q) true owns) (payload_of row memory) (follows_sender_table p q m (Requestor s) (payload_of row memory) memory.next) (keeps s)
+    ∷ sends_so (sent_by_memory (Some memory)) (cond (is_put_m q) false (not st.owned)) (payload_of row memory)
+    (follows_sender_table p q m Memory (payload_of row memory) memory.next) st.fresh
+    ∷ sends_so (sent_by (Some row)) (cond (is_put_m q) true owns) (payload_of row memory)
+    (follows_sender_table p q m (Requestor s) (payload_of row memory) memory.next) (keeps s)
     ∷ all_fitting p st.shared None (λ s other_owns. when (not (other_owns && owns) && (not other_owns || st.owned))
     (λ _. is_some_and (cell_of p s (other q)) (λ row_seen. each (other_tests p m q memory (payload_of row memory) after s other_owns row_seen))))
     ∷ []
@@ -60,7 +63,8 @@ unfolding order_case all_fitting all_protocols all_memories all_states either gi
 order_holds = refl
 
 -- what was tried holds of each Order at a quiet line
-pub order_rule : (p : Protocol) (m : MemState) (st : Claims) (s : CacheState) (owns : Bool) (q : Request) → claims_of p m None ≡ Some st → fits p st.shared owns None s ≡ true
+pub order_rule : (p : Protocol) (m : MemState) (st : Claims) (s : CacheState) (owns : Bool) (q : Request) → claims_of p m None ≡ Some st
+    → fits p st.shared owns None s ≡ true
     → (not owns || st.owned) ≡ true → waiting_request s ≡ Some q → order_test p m st s owns q ≡ true
 unfolding order_case
 order_rule p m st s owns q is_claims fit owned is_waiting =

@@ -1,19 +1,17 @@
 -- A test of the rows of a Respond, computed over the whole tables.
-use Rattle.std.proofs.Common.{◌≡◌, ◌&&◌, ◌||◌, Bool, true, false, not, cond, List, [], ◌∷◌, Option, Some, None, refl, ap, sym, MatchBool, IsSomeAnd, ◌↔◌}
+use Rattle.std.proofs.Common.{option_and_then, ◌≡◌, ◌&&◌, ◌||◌, Bool, true, false, not, cond, List, [], ◌∷◌, Option, Some, None, refl, ap, sym, MatchBool, IsSomeAnd, ◌↔◌}
 use Rattle.snoop_model.proofs.Common.{same_Some, Protocol, CacheState, CacheEvent, CacheAction, CacheCell, MemState, MemEvent, MemAction, MemCell, Request, Payload, cell_of, MemoryCell, memory_cell_of, arrival, arrival_at_memory, takes_payload, carries_value, keeps, is_put_m, is_get_m, Claims, claims_of, is_owner, is_sharer, is_clean, wait_fits, in_protocol, same, fits}
 use Rattle.snoop_rules.specs.declared.names.CacheAction.TheVariants as action
 use Rattle.snoop_rules.specs.declared.names.MemAction.TheVariants as mem_action
 use Rattle.snoop_rules.proofs.Every.{all_protocols, all_protocols-at, all_states, all_memories, all_memories-at, all_requests, all_requests-at, all_payloads, all_payloads-at}
-use Rattle.snoop_model.proofs.Tables.Every.{all_fitting, each, either, given, given_at, is_some_and, when}
+use Rattle.snoop_model.proofs.Tables.StateTests.{all_fitting, all_open, each, either, given, given_at, is_some_and, when}
 
 -- the row for an event, if there are both
 abbrev pub row_for : Protocol → CacheState → Option CacheEvent → Option CacheCell
-row_for p s None = None
-row_for p s (Some e) = cell_of p s e
+row_for p s found = option_and_then (cell_of p s) found
 
 abbrev pub memory_row_for : Protocol → MemState → Option MemEvent → Option MemCell
-memory_row_for p m None = None
-memory_row_for p m (Some e) = memory_cell_of p m e
+memory_row_for p m found = option_and_then (memory_cell_of p m) found
 
 -- memory takes its row for a message, or stays as it is
 abbrev pub SettlesIf : Bool → Protocol → Option MemEvent → MemState → MemAction → MemState → Type 0
@@ -27,7 +25,8 @@ pub settled_so : (takes : Bool) (p : Protocol) (found : Option MemEvent) (old : 
     → SettlesIf takes p found old act new ↔ (settled_if takes p found old ≡ Some (record { action = act; next = new }))
 settled_so true p None old act new = (λ settled. absurd settled, λ h. cc)
 settled_so true p (Some event) old act new = (λ settled. settled, λ h. h)
-settled_so false p found old act new = (λ settled. cc, λ h. let same = same_Some _ _ h in (ap (λ (row : MemCell). row.action) (sym same), ap (λ (row : MemCell). row.next) (sym same)))
+settled_so false p found old act new =
+    (λ settled. cc, λ h. let same = same_Some _ _ h in (ap (λ (row : MemCell). row.action) (sym same), ap (λ (row : MemCell). row.next) (sym same)))
 
 -- the row by which memory takes the message of a transaction
 abbrev pub settled_row : Protocol → Request → MemState → Payload → Option MemCell
@@ -54,7 +53,8 @@ answer_tests p q st after owns row =
 abbrev pub stays_so : Protocol → Request → Claims → Claims → CacheState → Bool → Bool
 stays_so p q st after s owns = fits p after.shared (cond (gains st after) false owns) None s && (not (is_get_m q) || not (keeps s))
 
--- what is asked of a Respond, with memory's row and the claims after it
+-- what is asked of a Respond, with memory's row and the claims after it: data comes for a GetS or a GetM; an owner stays one; a PutM makes none; memory writes only
+-- data that comes; memory is fresh where it is claimed; a requestor has its row; other cores may stay as they are. Proofs cite these by place, `.1.1.0` the third
 abbrev pub respond_tests : Protocol → Request → Payload → Claims → MemCell → Claims → List Bool
 respond_tests p q pl st row after =
     (is_put_m q || carries_value pl)
@@ -63,7 +63,7 @@ respond_tests p q pl st row after =
     ∷ (not (writes row.action) || carries_value pl)
     ∷ (not after.fresh || (not (is_get_m q) && (writes row.action || st.fresh)))
     ∷ (is_put_m q || all_fitting p st.shared (Some q) (λ s owns. is_some_and (row_for p s (arrival pl)) (λ answer. each (answer_tests p q st after owns answer))))
-    ∷ all_fitting p st.shared None (λ s owns. when (not owns || st.owned) (λ _. stays_so p q st after s owns))
+    ∷ all_open p st.shared (cond (is_put_m q) (Some (q, pl)) None) (λ s owns. when (not owns || st.owned) (λ _. stays_so p q st after s owns))
     ∷ []
 
 abbrev pub respond_test : Protocol → MemState → Request → Payload → Claims → Bool

@@ -1,16 +1,15 @@
 -- What holds of every row, found by trying all.
 use Rattle.std.proofs.Common.{List, ◌≡◌, ℕ, Bool, true, false, not, ◌&&◌, ◌||◌, Option, Some, None, [], ◌∷◌, refl, sym, ◌∙◌, is_some, option_map, ◌==◌, if◌then◌else◌}
-use Rattle.snoop_model.proofs.Common.{same_Some, Protocol, Op, CacheState, CacheEvent, CacheAction, CacheCell, Request, Cell, asked, own, other, seen_by, waiting_request, Line, kept_on, keeps, request_for, missed_request, awaited_request, IsProper, moves_to, kept_waiting, is_load, same}
+use Rattle.snoop_model.proofs.Common.{same_Some, Protocol, Op, CacheState, CacheEvent, CacheAction, CacheCell, Request, Cell, asked, own, other, seen_by, waiting_request, Line, kept_on, keeps, request_for, missed_request, awaited_request, IsProper, moves_to, kept_waiting, is_load, same, GetS, GetM, PutM}
 use Rattle.std.proofs.Math.Bool.{and-true, and-false}
 use Rattle.snoop_trace.specs.declared.step.Op.TheVariants as op
 use Rattle.snoop_rules.specs.declared.names.CacheState.TheVariants.{I, ImAd, IiA}
 use Rattle.snoop_rules.specs.declared.names.CacheEvent.TheVariants as event
 use Rattle.snoop_rules.specs.declared.names.CacheAction.TheVariants as action
-use Rattle.snoop_rules.specs.declared.names.Request.TheVariants.{GetS, GetM, PutM}
 use Rattle.snoop_rules.specs.contracts.names.Request.{the_type as requests}
 use Rattle.snoop_rules.proofs.Every.{all_protocols, all_states, all_events}
 use Rattle.snoop_rules.proofs.Rows.{each_row, each_row-at}
-use Rattle.snoop_model.proofs.Tables.Every.{EachHolds, each, each_holds, same_is, same_option, same_option-true}
+use Rattle.snoop_model.proofs.Tables.StateTests.{EachHolds, each, each_holds, same_is, same_option, same_option-true}
 
 -- the same requests, or none
 abbrev pub same_request : Option Request → Option Request → Bool
@@ -101,15 +100,29 @@ row_test_holds : each_row row_test ≡ true
 unfolding each_row all_protocols all_states all_events same
 row_test_holds = refl
 
-row_rule : (p : Protocol) (s : CacheState) (e : CacheEvent) (a : CacheAction) (n : CacheState) → Cell p s e a n → EachHolds (row_tests s e (record { action = a; next = n }))
-row_rule p s e a n row = each_holds (row_tests s e (record { action = a; next = n })) (each_row-at row_test row_test_holds p s e a n row)
+module _ (p : Protocol) (s : CacheState) (e : CacheEvent) (a : CacheAction) (n : CacheState) where
+  row_rule : Cell p s e a n → EachHolds (row_tests s e (record { action = a; next = n }))
+  row_rule row = each_holds (row_tests s e (record { action = a; next = n })) (each_row-at row_test row_test_holds p s e a n row)
 
-action_rule : (p : Protocol) (s : CacheState) (e : CacheEvent) (a : CacheAction) (n : CacheState) → Cell p s e a n → EachHolds (action_tests s e n a)
-action_rule p s e a n row = each_holds (action_tests s e n a) (row_rule p s e a n row).1.0
+  action_rule : Cell p s e a n → EachHolds (action_tests s e n a)
+  action_rule row = each_holds (action_tests s e n a) (row_rule row).1.0
 
-pub awaited_rule : (p : Protocol) (s : CacheState) (e : CacheEvent) (a : CacheAction) (n : CacheState) (r : Request) → Cell p s e a n → awaited_request n ≡ Some r
-    → may_await e (awaited_request s) ≡ Some r
-awaited_rule p s e a n r row awaits = sym (same_request-true (Some r) _ (rw awaits at (row_rule p s e a n row).1.1.1.0))
+  pub awaited_rule : (r : Request) → Cell p s e a n → awaited_request n ≡ Some r → may_await e (awaited_request s) ≡ Some r
+  awaited_rule r row awaits = sym (same_request-true (Some r) _ (rw awaits at (row_rule row).1.1.1.0))
+
+  -- a fill ends all waiting and keeps a value
+  abbrev IsFill : Op → Type 0
+  IsFill asking = a ≡ (if is_load asking then action.FillLoad else action.FillStore)
+
+  fill_facts : (asking : Op) → IsFill asking → Cell p s e a n → (keeps n ≡ true) × (missed_request n ≡ None) × (waiting_request n ≡ waiting_request s)
+  fill_facts op.Load fill row = let (kept, (missed, (waits, _))) = rw fill at (action_rule row) in (kept, same_request-true _ _ missed, same_request-true _ _ waits)
+  fill_facts _ fill row = let (kept, (missed, (waits, _))) = rw fill at (action_rule row) in (kept, same_request-true _ _ missed, same_request-true _ _ waits)
+
+  pub fill-waits : (asking : Op) → IsFill asking → Cell p s e a n → waiting_request n ≡ waiting_request s
+  fill-waits asking fill row = (fill_facts asking fill row).2
+
+  pub IsProper-fill : (asking : Op) (after : List ℕ) → IsFill asking → Cell p s e a n → IsProper (record { state = n; kept = Some after; waiting = None })
+  IsProper-fill asking after fill row = let f = fill_facts asking fill row in record { kept = sym f.0; waiting = sym f.1 }
 
 pub serving-asked : (asking : Op) → serving (asked asking) ≡ Some (request_for asking)
 serving-asked op.Evict = refl
@@ -125,7 +138,8 @@ is_some-kept_on IiA kept b h = sym (and-false b)
 is_some-kept_on _ kept b h = h ∙ sym (and-true b)
 
 -- a move that keeps what the next state keeps, and leaves what has missed
-IsProper-move : (old : Line) (n : CacheState) → IsProper old → keeps n ≡ (keeps old.state && not (given_up n)) → missed_request old.state ≡ missed_request n → IsProper (moves_to n old)
+IsProper-move : (old : Line) (n : CacheState) → IsProper old → keeps n ≡ (keeps old.state && not (given_up n)) → missed_request old.state ≡ missed_request n
+    → IsProper (moves_to n old)
 IsProper-move old n proper kept missed = record { kept = is_some-kept_on n old.kept (keeps old.state) proper.kept ∙ sym kept; waiting = proper.waiting ∙ missed }
 
 -- an issue makes a core wait that did not
@@ -177,11 +191,8 @@ IsProper-hit p old e n after proper row = let f = hit_facts p old.state e n row 
 
 -- only an Evict drops a line
 pub drop_evicts : (p : Protocol) (s : CacheState) (asking : Op) (n : CacheState) → Cell p s (asked asking) action.Drop n → asking ≡ op.Evict
-drop_evicts p s asking n row = by_op asking (action_rule p s (asked asking) action.Drop n row).1.1.1.0
-  where
-    by_op : (o : Op) → is_evict (asked o) ≡ true → o ≡ op.Evict
-    by_op op.Evict h = refl
-    by_op _ h = cc
+drop_evicts p s op.Evict n row = refl
+drop_evicts p s _ n row = let evicts = (action_rule p s _ action.Drop n row).1.1.1.0 in cc
 
 pub IsProper-drop : (p : Protocol) (old : Line) (e : CacheEvent) (n : CacheState) → IsProper old → Cell p old.state e action.Drop n → IsProper (moves_to n old)
 IsProper-drop p old e n proper row = let (kept, missed, _) = drop_facts p old.state e n row in IsProper-move old n proper kept missed
@@ -200,15 +211,3 @@ order_facts p s k core q a n row =
 
 pub IsProper-order : (p : Protocol) (old : Line) (k core : ℕ) (q : Request) (a : CacheAction) (n : CacheState) → IsProper old → Cell p old.state (seen_by k core q) a n → IsProper (moves_to n old)
 IsProper-order p old k core q a n proper row = let (kept, missed, _) = order_facts p old.state k core q a n row in IsProper-move old n proper kept missed
-
--- a fill ends all waiting and keeps a value
-module _ (p : Protocol) (s : CacheState) (e : CacheEvent) (a : CacheAction) (n : CacheState) where
-  fill_facts : (asking : Op) → a ≡ (if is_load asking then action.FillLoad else action.FillStore) → Cell p s e a n → (keeps n ≡ true) × (missed_request n ≡ None) × (waiting_request n ≡ waiting_request s)
-  fill_facts op.Load fill row = let (kept, (missed, (waits, _))) = rw fill at (action_rule p s e a n row) in (kept, same_request-true _ _ missed, same_request-true _ _ waits)
-  fill_facts _ fill row = let (kept, (missed, (waits, _))) = rw fill at (action_rule p s e a n row) in (kept, same_request-true _ _ missed, same_request-true _ _ waits)
-
-  pub fill-waits : (asking : Op) → a ≡ (if is_load asking then action.FillLoad else action.FillStore) → Cell p s e a n → waiting_request n ≡ waiting_request s
-  fill-waits asking fill row = (fill_facts asking fill row).2
-
-  pub IsProper-fill : (asking : Op) (after : List ℕ) → a ≡ (if is_load asking then action.FillLoad else action.FillStore) → Cell p s e a n → IsProper (record { state = n; kept = Some after; waiting = None })
-  IsProper-fill asking after fill row = let f = fill_facts asking fill row in record { kept = sym f.0; waiting = sym f.1 }

@@ -36,13 +36,11 @@ sending_memory _ payload h = cc
 -- a row that sends
 pub sends_row : (found : Option CacheCell) (payload : Payload) → sent_by found ≡ Some payload → (target : Target) × ((next : CacheState) × (found ≡ Some (record { action = action.Send payload target; next = next })))
 sends_row None payload h = cc
-sends_row (Some row) payload h =
-    let does = sending row.action payload h in
-    (does.0, (row.next, ap (λ (act : CacheAction). let o : Option CacheCell = Some (record { action = act; next = row.next }) in o) does.1))
+sends_row (Some row) payload h = let (target, does) = sending row.action payload h in (target, (row.next, rw (← does)))
 
 pub memory_sends_row : (found : Option MemCell) (payload : Payload) → sent_by_memory found ≡ Some payload → (next : MemState) × (found ≡ Some (record { action = mem_action.Send payload; next = next }))
 memory_sends_row None payload h = cc
-memory_sends_row (Some row) payload h = (row.next, ap (λ (act : MemAction). let o : Option MemCell = Some (record { action = act; next = row.next }) in o) (sending_memory row.action payload h))
+memory_sends_row (Some row) payload h = (row.next, rw (← (sending_memory row.action payload h)))
 
 module _ (p : Protocol) (before : Picture) (core : ℕ) (q : Request) where
   -- what the row of memory, or of a core, sends for the core's request

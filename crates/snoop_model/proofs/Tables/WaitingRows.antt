@@ -1,11 +1,10 @@
 -- What every row does to what a core awaits, found by trying all.
 use Rattle.std.proofs.Common.{◌≡◌, ℕ, Bool, true, false, Some, refl, sym, is_some, ◌==◌, if◌then◌else◌, eqb-true}
-use Rattle.snoop_model.proofs.Common.{same_Some, Protocol, Op, CacheState, CacheEvent, CacheAction, Request, Payload, Cell, asked, own, other, seen_by, arrival, missed_request, awaited_request}
+use Rattle.snoop_model.proofs.Common.{same_Some, Protocol, Op, CacheState, CacheEvent, CacheAction, Request, Payload, Cell, asked, own, other, seen_by, arrival, missed_request, awaited_request, PutM}
 use Rattle.snoop_trace.specs.declared.step.Op.TheVariants as op
 use Rattle.snoop_rules.specs.declared.names.CacheState.TheVariants.{IsD}
 use Rattle.snoop_rules.specs.declared.names.CacheEvent.TheVariants as event
 use Rattle.snoop_rules.specs.declared.names.Payload.TheVariants as payload
-use Rattle.snoop_rules.specs.declared.names.Request.TheVariants.{PutM}
 use Rattle.snoop_model.proofs.Tables.Rows.{awaited_rule, may_await}
 
 -- a load or a store has missed
@@ -21,7 +20,9 @@ awaited-asked p s _ a n r row awaits = awaited_rule p s _ a n r row awaits
 -- after an Order only its core awaits data of the block, that of its request
 pub awaited-ordered : (p : Protocol) (s : CacheState) (k core : ℕ) (q : Request) (a : CacheAction) (n : CacheState) (r : Request)
     → Cell p s (seen_by k core q) a n → awaited_request n ≡ Some r → (core ≡ k) × (q ≡ r)
-awaited-ordered p s k core q a n r row awaits = let (mine, same) = by_request (k == core) q (awaited_rule p s (seen_by k core q) a n r row awaits) in (sym (eqb-true k core mine), same)
+awaited-ordered p s k core q a n r row awaits =
+    let (mine, same) = by_request (k == core) q (awaited_rule p s (seen_by k core q) a n r row awaits) in
+    (sym (eqb-true k core mine), same)
   where
     by_request : (mine : Bool) (q : Request) → may_await (if mine then own q else other q) (awaited_request s) ≡ Some r → (mine ≡ true) × (q ≡ r)
     by_request true PutM is = cc
@@ -32,9 +33,8 @@ awaited-ordered p s k core q a n r row awaits = let (mine, same) = by_request (k
 -- data that has come is awaited no more
 pub awaited-filled : (p : Protocol) (s : CacheState) (message : Payload) (e : CacheEvent) (a : CacheAction) (n : CacheState) (r : Request)
     → arrival message ≡ Some e → Cell p s e a n → awaited_request n ≡ Some r → ⊥
-awaited-filled p s payload.Data e a n r is row awaits = let none = rw (← (same_Some _ _ is)) at (awaited_rule p s e a n r row awaits) in cc
-awaited-filled p s payload.DataE e a n r is row awaits = let none = rw (← (same_Some _ _ is)) at (awaited_rule p s e a n r row awaits) in cc
-awaited-filled p s _ e a n r is row awaits = cc
+awaited-filled p s payload.Data e a n r is row awaits = let rule = awaited_rule p s e a n r row awaits in cc
+awaited-filled p s _ e a n r is row awaits = let rule = awaited_rule p s e a n r row awaits in cc
 
 -- no data comes for a PutM
 pub awaited-get : (s : CacheState) → awaited_request s ≡ Some PutM → ⊥

@@ -1,10 +1,7 @@
 -- All laws of turns that follow the turn rule: what they keep, that they are never refused, what they cost, and when a work is over.
-use Rattle.std.proofs.Common.{◌≡◌, ◌≢◌, ℕ, ◌+◌, ◌≤◌, true, false, List, length, Option, Some, None, refl, sym, ◌∙◌, ap, subst, arith, inl, inr, ◌⊎◌}
-use Rattle.std.specs.Prelude.{◌==◌, All, Contains, slice_index_or, slice_set, sum_by}
-use Rattle.std.proofs.lemmas.Bool.{cases_eq, eq-eqb, ne_eqb}
-use Rattle.std.proofs.lemmas.Option.{cond_some, none-some, same_Some}
+use Rattle.std.proofs.Common.{◌≡◌, ◌≢◌, ℕ, ◌+◌, ◌≤◌, true, false, List, length, Option, Some, None, refl, sym, ◌∙◌, ap, subst, arith, inl, inr, ◌⊎◌, Bool, not, ◌||◌}
 use Rattle.std.proofs.lemmas.List.Elements.{All-contains, All-weaker, Contains-get_or}
-use Rattle.snoop_model.proofs.Common.{Access, Ask, asked, CacheAction, CacheState, ClosedIsLast, ComesToRest, Ends, EndsAtOnce, FirstMove, has_transaction, held_by, IsServing, IsWellKept, Item, Line, NeverRefused, nothing_there, Op, Open, Order, Pays, Picture, picture_of, queue_of, queues_after, Refused, Refuses, Reply, Request, Respond, ServesOn, Situation, state_of, Step, Takes, TurnLaws, waiting_request, Waits, with_line}
+use Rattle.snoop_model.proofs.Common.{Access, All, Ask, asked, awaited_request, CacheAction, CacheEvent, CacheState, cases_eq, Cell, ClosedIsLast, ComesToRest, cond_some, Contains, Ends, EndsAtOnce, eq-eqb, FirstMove, has_transaction, held_by, is_some, IsServing, IsWellKept, Item, Line, ne_eqb, NeverRefused, none-some, nothing_there, Op, Open, or_cases, Order, Pays, Picture, picture_of, Protocol, queue_of, queues_after, Refused, Refuses, Reply, Request, Respond, same_Some, ServesOn, Situation, slice_index_or, slice_set, state_of, Step, sum_by, Takes, TurnLaws, waiting_request, Waits, with_line, ◌==◌}
 use Rattle.snoop_rules.specs.declared.names.CacheAction.TheVariants as action
 use Rattle.snoop_model.specs.declared.replies.Reply.TheVariants.{Issued}
 use Rattle.snoop_model.specs.declared.replies.Refused.TheVariants.{NoCore, NoBlock, Stalled, NothingWaiting, BusTaken, NoTransaction}
@@ -12,10 +9,46 @@ use Rattle.snoop_model.specs.Turns.Turn.{step_under_way, turn_of}
 use Rattle.snoop_model.proofs.Lists.Facts.{one_if}
 use Rattle.snoop_model.proofs.Lists.Writes.{set_cases, all_first, all_issued, all_ordered, sum_issued, sum_ordered, one_small, count_set}
 use Rattle.snoop_model.proofs.OneBlock.OfBlocks.{same_everywhere}
-use Rattle.snoop_model.proofs.Queues.Waiting.{queued_waits, waits_queued}
-use Rattle.snoop_model.proofs.Queues.Moves.{starts_well, keeps_well}
+use Rattle.snoop_model.proofs.Queues.Moves.{none_there, starts_well, keeps_well, queued_waits, waits_queued}
 use Rattle.snoop_model.proofs.Once.Owed.{owes}
-use Rattle.snoop_model.proofs.Turns.WaitingWorks.{stall_busy, busy_cases, busy_under_way, missed_busy}
+use Rattle.snoop_rules.specs.declared.names.CacheState.TheVariants.{I}
+use Rattle.snoop_rules.proofs.Every.{all_protocols, all_states, all_events}
+use Rattle.snoop_rules.proofs.Rows.{each_row, each_row-at}
+use Rattle.snoop_model.proofs.Tables.StateTests.{some_of}
+use Rattle.snoop_model.proofs.Tables.WaitingRows.{has_missed}
+
+-- the core waits in a state, for its own request to be ordered or for data
+abbrev pub is_busy : CacheState → Bool
+is_busy state = is_some (waiting_request state) || is_some (awaited_request state)
+
+abbrev is_stall : CacheAction → Bool
+is_stall action.Stall = true
+is_stall _ = false
+
+stalls_wait : each_row (λ p s e row. not (is_stall row.action) || is_busy s) ≡ true
+unfolding each_row all_protocols all_states all_events
+stalls_wait = refl
+
+-- a stall comes only where the core waits
+pub stall_busy : (p : Protocol) (s : CacheState) (e : CacheEvent) (n : CacheState) → Cell p s e action.Stall n → is_busy s ≡ true
+stall_busy p s e n h = each_row-at _ stalls_wait p s e action.Stall n h
+
+-- for one of the two, or the other
+pub busy_cases : (s : CacheState) → is_busy s ≡ true → ((request : Request) × (waiting_request s ≡ Some request)) ⊎ ((request : Request) × (awaited_request s ≡ Some request))
+busy_cases s busy = elim (or_cases _ _ busy) [ inl waits ↦ inl (some_of _ waits) | inr awaits ↦ inr (some_of _ awaits) ]
+
+pub busy_under_way : (s : Situation) (under_way : ℕ → Option ℕ) → IsServing under_way s → IsWellKept s → (core block : ℕ) → is_busy (state_of s core block) ≡ true → under_way core ≡ Some block
+busy_under_way s under_way serving kept core block busy = elim (busy_cases (state_of s core block) busy) [
+  | inl w ↦ All-contains (λ b. under_way core ≡ Some b) (queue_of s.queues core) block (serving.waits core) (waits_queued s kept.queued core block w.0 w.1)
+  | inr d ↦
+      let own = kept.awaits core block d.0 d.1 in
+      rw (← own.1.1) (serving.opened block own.0 own.1.0)
+]
+
+-- a core that has missed waits
+pub missed_busy : (s : CacheState) → has_missed s ≡ true → is_busy s ≡ true
+missed_busy I h = cc
+missed_busy _ h = cc
 
 -- which steps a work under way takes, and when it takes none
 under_way_step : (w : Option Request) (t : Option Open) (core block : ℕ) (step : Step) → step_under_way w t core block ≡ Some step
@@ -128,10 +161,6 @@ ends s before after core block word asking serving kept works none others =
       ];
     }
 
-none_there : {A : Type 0} (found : Option A) → ((a : A) → found ≡ Some a → ⊥) → found ≡ None
-none_there None h = refl
-none_there (Some a) h = absurd (h a refl)
-
 comes_to_rest : ComesToRest
 comes_to_rest s serving kept = record {
   ordered = λ core block request waits. none-some block (All-contains (λ b. ◌≡◌ {A = Option ℕ} None (Some b)) (queue_of s.queues core) block
@@ -141,7 +170,7 @@ comes_to_rest s serving kept = record {
       (λ o is. none-some block (busy_under_way s (λ _. None) serving kept core block (missed_busy _ (kept.operations core block o is))));
 }
 
--- what is paid for
+-- an Ask puts at most one request more into the queues
 sum_asked : (act : CacheAction) (lines : List (List ℕ)) (core block : ℕ) → sum_by length (queues_after act lines core block) ≤ sum_by length lines + 1
 sum_asked (action.Issue request) lines core block = sum_issued lines core block
 sum_asked _ lines core block = omega arith
@@ -182,21 +211,19 @@ idle_turn core block (Some r) o none_waits none_open = absurd (none_waits r refl
 idle_turn core block None None none_waits none_open = refl
 idle_turn core block None (Some t) none_waits none_open = rw (ne_eqb t.core core (none_open t refl)) refl
 
-no_issue : (act : CacheAction) (next : CacheState) (log : List Item) (queues : List (List ℕ)) (core block word : ℕ) (asking : Op) (old new : Line)
-    (answer : Reply) (entry : Option Item) → Takes act next log core block word asking old new answer entry → ((request : Request) → answer ≢ Issued request)
-    → queues_after act queues core block ≡ queues
-no_issue (action.Issue request) next log queues core block word asking old new answer entry taken other = absurd (other request taken.1)
-no_issue _ next log queues core block word asking old new answer entry taken other = refl
-
 -- the queues and the transactions are as before
 same_queues : (s t : Situation) (core block word : ℕ) (asking : Op) (answer : Reply) → FirstMove s (Ask core block word asking) answer t → ((request : Request) → answer ≢ Issued request) → (t.queues ≡ s.queues) × ((b : ℕ) → (picture_of t b).transaction ≡ (picture_of s b).transaction)
 same_queues s t core block word asking answer m other = elim m.1.1.moves [
   | inl absent ↦ rw absent.3 (refl, λ b. refl)
-  | inr a ↦ rw a.after (
-    no_issue a.row.action a.row.next s.log s.queues core m.0 word asking (held_by (picture_of s m.0) core) a.held answer a.entry a.taken other,
-    same_everywhere s m.0 (with_line (picture_of s m.0) core a.held) s.queues s.log (λ (x : Picture). x.transaction) refl,
-  )
+  | inr a ↦
+      let transactions = same_everywhere s m.0 (with_line (picture_of s m.0) core a.held) s.queues s.log (λ (x : Picture). x.transaction) refl in
+      rw a.after (no_issue a.row.action a.row.next a.held a.entry a.taken, transactions)
 ]
+  where
+    no_issue : (act : CacheAction) (next : CacheState) (held : Line) (entry : Option Item) → Takes act next s.log core m.0 word asking (held_by (picture_of s m.0) core) held answer entry
+        → queues_after act s.queues core m.0 ≡ s.queues
+    no_issue (action.Issue request) next held entry taken = absurd (other request taken.1)
+    no_issue _ next held entry taken = refl
 
 asked_once : EndsAtOnce
 asked_once s t under_way core block word asking answer serving idle kept m other =
