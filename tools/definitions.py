@@ -19,6 +19,7 @@ TOP = pathlib.Path(__file__).resolve().parent.parent
 NAME = re.compile(r"(?:(?:abbrev|unfoldable) )?pub (?:(?:record|data) )?([^\s:({]+)")
 MODULE = re.compile(r"use Rattle\.(\w+)\.specs\.([\w.]+?) as (\w+);")
 IMPORT = re.compile(r"use Rattle\.(\w+)\.specs\.([\w.]+?)\.\{([^}]*)\}")
+NESTED = re.compile(r"use (\S+\{.*\})")
 WORD = re.compile(r"[^\s(){}\[\],;.]+")
 THEOREM = TOP / "crates" / "snoop_model" / "src" / "laws.rt"
 
@@ -76,6 +77,33 @@ def files_of(specs):
     return list(under(specs, specs / "Lib.antt"))
 
 
+def names_in(path):
+    """The module and the name of all that a path has: of `a.{b.{c, d}, e}` those of a.b.c, a.b.d and a.e."""
+    above, word = [""], ""
+    for sign in path:
+        if sign == "{":
+            above.append(above[-1] + word.strip())
+            word = ""
+        elif sign in ",}":
+            if word.strip():
+                module, _, name = (above[-1] + word.strip()).rpartition(".")
+                yield module, name
+            above = above[:-1] if sign == "}" else above
+            word = ""
+        else:
+            word += sign
+
+
+def read(path):
+    """The text of a file, with an import for each module."""
+    def flat(found):
+        names = {}
+        for module, name in names_in(found.group(1)):
+            names.setdefault(module, []).append(name)
+        return "\n".join(f"use {module}.{{{', '.join(those)}}}" for module, those in names.items())
+    return NESTED.sub(flat, path.read_text())
+
+
 def imports_in(text):
     """The module of each imported name, by the name that the file uses for it."""
     found = {}
@@ -103,7 +131,7 @@ def page_of(path):
         elif found and line and not comment and not line.startswith("use "):
             found[-1].lines.append(line)
         comment = []
-    return Page(path.relative_to(TOP), head, imports_in(path.read_text()), found)
+    return Page(path.relative_to(TOP), head, imports_in(read(path)), found)
 
 
 def key_of(page, name):

@@ -198,7 +198,7 @@ def shows(text, name):
 
 def used_of_std(page, text):
     """The words and operators of the standard library that a text in the page has."""
-    groups = [names for crate, _, names in specs.IMPORT.findall((TOP / page.path).read_text()) if crate == "std"]
+    groups = [names for crate, _, names in specs.IMPORT.findall(specs.read(TOP / page.path)) if crate == "std"]
     return {name.strip() for names in groups for name in names.split(",") if shows(text, name.strip())}
 
 
@@ -234,7 +234,7 @@ def types_of(shown):
 
     for page, definition in shown:
         text = "\n".join(definition.lines)
-        for crate, name, members, alias in DECLARED.findall((TOP / page.path).read_text()):
+        for crate, name, members, alias in DECLARED.findall(specs.read(TOP / page.path)):
             if any(re.search(rf"\b{word}\b", text) for word in [alias or name, *re.findall(r"\w+", members)]):
                 visit((crate, name))
     return "\n".join(text for key, text in known.items() if key in found)

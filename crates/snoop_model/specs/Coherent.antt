@@ -46,7 +46,7 @@ pub record IsCoherent (s : Situation) : Type 0 where
   pub carried : (block : ℕ) → block < s.shape.blocks → IfSome (data_under_way (picture_of s block).transaction) (λ words. words ≡ flat_words s.log block)
   -- and so has memory, where no core may write the block and no data is under way
   pub memory : (block : ℕ) → block < s.shape.blocks → ((core : ℕ) → ¬ MayStore s.protocol (state_of s core block)) → data_under_way (picture_of s block).transaction ≡ None → (picture_of s block).memory.value ≡ flat_words s.log block
-  -- so it has where a core holds the block in E or EI_A, unwritten
+  -- memory has that too where a core holds the block in E or EI_A: the copy is clean
   pub clean : (core block : ℕ) → (state_of s core block ≡ E) ⊎ (state_of s core block ≡ EiA) → (picture_of s block).memory.value ≡ flat_words s.log block
   -- a block's open transaction is of this block, and its requestor is a core of the machine; so is its sender, where that isn't memory
   pub opened : (block : ℕ) → IfSome (picture_of s block).transaction (λ transaction. (transaction.block ≡ block) × (transaction.core < s.shape.cores) × IfSome transaction.from (λ sender. sender < s.shape.cores))

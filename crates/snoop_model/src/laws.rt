@@ -6,9 +6,9 @@ ghost use Rattle.snoop_model.specs.Runs.TakenOnce.{TakenOnce};
 
 /// Every run from reset is coherent, for every number of cores and blocks, under MSI and MESI.
 ///
-/// `IsCoherentRun` has what that says: each block has one writer alone, or only readers; each load has the value of the last store
-/// to its word before it, or 0; no step is stuck at an impossible cell; no load or store is lost or doubled; and each reply is true
-/// to the history.
+/// `IsCoherentRun` has what that says: each block has one writer alone, or only readers, or neither; in the history each load has
+/// the value of the last store to its word before it, or 0; no step is stuck at an impossible cell; no load or store that was taken
+/// is lost or doubled; and each reply is true to the history.
 pub fn coherent()
     ensures { EveryRun IsCoherentRun }
 {}

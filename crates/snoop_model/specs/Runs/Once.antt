@@ -38,7 +38,7 @@ accesses_in items core block = map did_access (filter (λ did. did.block == bloc
 abbrev pub waiting_at : Situation → ℕ → ℕ → List Access
 waiting_at s core block = option_to_list (held_by (picture_of s block) core).waiting
 
--- the loads and stores whose Asks were taken are those in the log and those that wait, each as often
+-- of each core and block, the loads and stores whose Asks were taken are those in the log and the one that waits, if any, each as often
 abbrev pub Once : List Step → List (Result Reply Refused) → Situation → Type 0
 Once steps outcomes s = (core block : ℕ) → IsPermutation (filter_map (asked_access core block) (taken steps outcomes)) (accesses_in s.log core block ++ waiting_at s core block)
 
