@@ -20,7 +20,7 @@ use Rattle.snoop_rules.specs.declared.names.Payload.TheVariants.{Data}
 use Rattle.snoop_history.specs.Totals.{how_many, totals_of, is_put_m, performed}
 use Rattle.snoop_history.specs.Within.{IsItemWithin, block_of}
 use Rattle.snoop_history.specs.declared.items.Item.TheVariants as item
-use Rattle.snoop_model.specs.Invariant.WellKept.{IsShaped}
+use Rattle.snoop_model.specs.Pictures.Situation.{IsShaped}
 use Rattle.snoop_model.proofs.Invariant.Runs.{reset_invariant}
 use Rattle.snoop_model.proofs.Queues.Moves.{keeps_well, starts_well}
 use Rattle.snoop_model.proofs.Runs.GoOn.{IsSteady, steady_on}

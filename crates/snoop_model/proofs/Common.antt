@@ -36,14 +36,14 @@ pub use Rattle.snoop_model.specs.declared.replies.Reply.{Reply}
 pub use Rattle.snoop_model.specs.declared.replies.Refused.{Refused}
 pub use Rattle.snoop_model.specs.Pictures.Lines.{Line, MemLine}
 pub use Rattle.snoop_model.specs.Pictures.Picture.{Picture, data_under_way, first_memory, free_picture, held_at, held_by, kept_on, nothing_held, with_line}
-pub use Rattle.snoop_model.specs.Pictures.Situation.{CanOrder, HasOpen, Situation, StandsFirst, Waits, nothing_there, picture_of, reset, state_of, untouched, with_picture}
+pub use Rattle.snoop_model.specs.Pictures.Situation.{CanOrder, HasOpen, IsShaped, Situation, StandsFirst, Waits, nothing_there, picture_of, reset, state_of, untouched, with_picture}
 pub use Rattle.snoop_model.specs.Pictures.Proper.{IsProper, awaited_request, keeps, missed_request, request_for}
 pub use Rattle.snoop_model.specs.Moves.Move.{ArrivesAtMemory, ArrivesFor, Asks, Fills, FillsRequestor, FirstMove, Hits, IsAbsent, IsWithin, MoveOn, Orders, Performs, Responds, Takes, TakesRow, TakesRows, came_of, is_load, kept_waiting, moves_to, next_did, queues_after, written}
 pub use Rattle.snoop_model.specs.Pictures.Sends.{IsOnlySender, Sends, value_sent}
 pub use Rattle.snoop_model.specs.Invariant.Fits.{Claims, Talk}
 unfoldable pub use Rattle.snoop_model.specs.Invariant.Fits.{claims_of, fits, in_protocol, is_clean, is_owner, is_sharer, same, wait_fits}
 pub use Rattle.snoop_model.specs.Invariant.Block.{BlockInvariant, own_open, owns, talk_of}
-pub use Rattle.snoop_model.specs.Invariant.WellKept.{IsShaped, IsWellKept}
+pub use Rattle.snoop_model.specs.Invariant.WellKept.{IsWellKept}
 pub use Rattle.snoop_history.specs.History.{IsNext, Legal, answers_of, flat, flat_words, is_store_to, operation_of, operations, stores}
 pub use Rattle.snoop_model.specs.Invariant.Invariant.{Invariant}
 pub use Rattle.snoop_model.specs.Moves.Refuses.{Refuses, WaitsOnNone}

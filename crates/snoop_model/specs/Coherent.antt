@@ -15,11 +15,11 @@ use Rattle.snoop_rules.specs.declared.names.Request.TheVariants.{PutM}
 use Rattle.snoop_rules.specs.Possible.{MayLoad, MayStore}
 use Rattle.snoop_history.specs.History.{flat_words, operations, Legal}
 use Rattle.snoop_model.specs.declared.replies.Reply.{Reply}
-use Rattle.snoop_model.specs.declared.replies.Reply.TheVariants.{Gone}
+use Rattle.snoop_model.specs.declared.replies.Reply.TheVariants.{Gone, Absent}
 use Rattle.snoop_model.specs.declared.replies.Refused.{Refused}
 use Rattle.snoop_model.specs.declared.replies.Refused.TheVariants.{Stalled}
 use Rattle.snoop_model.specs.Pictures.Picture.{held_by, nothing_held, data_under_way}
-use Rattle.snoop_model.specs.Pictures.Situation.{Situation, picture_of, state_of, Waits, CanOrder, HasOpen}
+use Rattle.snoop_model.specs.Pictures.Situation.{Situation, IsShaped, picture_of, state_of, Waits, CanOrder, HasOpen}
 use Rattle.snoop_model.specs.Pictures.OneWriter.{OneWriter}
 use Rattle.snoop_model.specs.Pictures.Proper.{missed_request, request_for, awaited_request}
 use Rattle.snoop_model.specs.Pictures.InQueue.{IsInQueue}
@@ -32,6 +32,8 @@ use Rattle.snoop_model.specs.Runs.Once.{Once}
 
 -- a coherent machine
 pub record IsCoherent (s : Situation) : Type 0 where
+  -- it has a picture for each block, with a line for each core, and a queue for each core
+  pub shaped : IsShaped s
   -- each block has one writer alone, or only readers, or neither
   pub one_writer : (block : ℕ) → OneWriter s.protocol (picture_of s block)
   -- in the history, which has operations in the order in which they were performed, each load has the value of the last store to its word before it, or 0 where there is none, and each core's operations are numbered in order
@@ -56,10 +58,10 @@ pub record IsCoherent (s : Situation) : Type 0 where
   pub awaited : (core block : ℕ) (request : Request) → (awaited_request (state_of s core block) ≡ Some request) ↔ (HasOpen s core block request × (request ≢ PutM))
   -- each core's queue has the blocks on which it waits to be ordered, each once
   pub queued : (core block : ℕ) → IsInQueue s core block
-  -- an operation is stalled only where its core's own request for the block waits or is open
-  pub stalls : (core block word : ℕ) (asking : Op) (state : CacheState) → Refuses s (Ask core block word asking) (Stalled state) → (request : Request) × (Waits s core block request ⊎ HasOpen s core block request)
-  -- an eviction that is answered Gone leaves the core with nothing of the block
-  pub gone : (core block word : ℕ) (new : Situation) → MoveOn block s (Ask core block word Evict) Gone new → held_by (picture_of new block) core ≡ nothing_held
+  -- an operation is stalled only where its core's own request for the block waits, or is open and no PutM
+  pub stalls : (core block word : ℕ) (asking : Op) (state : CacheState) → Refuses s (Ask core block word asking) (Stalled state) → (request : Request) × (Waits s core block request ⊎ (HasOpen s core block request × (request ≢ PutM)))
+  -- an eviction that is answered Gone or Absent leaves the core with nothing of the block
+  pub gone : (core block word : ℕ) (answer : Reply) (new : Situation) → (answer ≡ Gone) ⊎ (answer ≡ Absent) → MoveOn block s (Ask core block word Evict) answer new → held_by (picture_of new block) core ≡ nothing_held
   -- no step is stuck at an impossible cell: each that is not refused is a move, an Order's on the first block of its core's queue
   pub moves : (step : Step) → ((cause : Refused) → ¬ Refuses s step cause) → (answer : Reply) × ((new : Situation) × FirstMove s step answer new)
   -- so is an Order of a waiting request of any free block: each controller takes its row for it, and exactly one sends

@@ -4,7 +4,7 @@ use Rattle.std.proofs.Math.Bool.{and-false}
 use Rattle.std.proofs.lemmas.List.Elements.{All-nil, All-cons, All-append}
 use Rattle.std.proofs.lemmas.List.FromFn.{length-map-range_with_len, get_or-map-range_with_len, fill_by_all}
 use Rattle.std.proofs.lemmas.Bool.Decides.{eqb_tells}
-use Rattle.snoop_model.proofs.Common.{Access, after_order, All, append-nil, Ask, BlockInvariant, CacheAction, CacheState, came_of, cases_Bool, cases_lt, Did, eq-eqb, Err, Extent, first_memory, flat, flat_words, get_or-replicate, get_or-set_other, get_or-set_same, get_or_past, Goes, HasWord, held_by, IfSome, IfSome_then, if◌then◌else◌, Invariant, is_store_to, IsNext, IsProper, IsShaped, IsWithin, IsWord, Item, kept_waiting, Legal, length-replicate, length-set, Line, MoveOn, ne_eqb, next_did, none-some, nothing_held, nothing_there, Ok, Op, Open, operation_of, operations, option_map, option_map_or, option_to_list, Order, Performs, Picture, picture_of, Protocol, queues_after, Refused, Reply, request_for, reset, Respond, Result, same_Some, Situation, slice_set, Step, stores, Takes, untouched, with_line, word_at, ◌==◌}
+use Rattle.snoop_model.proofs.Common.{Access, after_order, All, append-nil, Ask, BlockInvariant, CacheAction, CacheState, came_of, cases_Bool, cases_lt, Data, Did, is_some, missed_request, eq-eqb, Err, Extent, first_memory, flat, flat_words, get_or-replicate, get_or-set_other, get_or-set_same, get_or_past, Goes, HasWord, held_by, IfSome, IfSome_then, if◌then◌else◌, Invariant, is_store_to, IsNext, IsProper, IsShaped, IsWithin, IsWord, Item, keeps, kept_waiting, Legal, length-replicate, length-set, Line, MoveOn, ne_eqb, next_did, none-some, nothing_held, nothing_there, Ok, Op, Open, operation_of, operations, option_map, option_map_or, option_to_list, Order, Performs, Picture, picture_of, Protocol, queues_after, Refused, Reply, request_for, reset, Respond, Result, same_Some, Situation, slice_set, Step, stores, Takes, untouched, with_line, word_at, ◌==◌}
 use Rattle.snoop_trace.specs.declared.step.Op.TheVariants as op
 use Rattle.snoop_rules.specs.declared.names.CacheAction.TheVariants as action
 use Rattle.snoop_history.specs.declared.items.Item.TheVariants as item
@@ -212,6 +212,18 @@ nothing_proper = record { kept = refl; waiting = refl }
 pub nothing_waits : (waiting : Option Access) → option_map (λ access. request_for access.op) waiting ≡ None → waiting ≡ None
 nothing_waits None h = refl
 nothing_waits (Some access) h = cc
+
+-- where no words are kept
+pub nothing_kept : (kept : Option Data) → is_some kept ≡ false → kept ≡ None
+nothing_kept None h = refl
+nothing_kept (Some words) h = cc
+
+-- a line in I holds nothing
+pub idle_line : (line : Line) → IsProper line → line.state ≡ I → line ≡ nothing_held
+idle_line line proper idle =
+    let kept = nothing_kept line.kept (proper.kept ∙ ap keeps idle) in
+    let waiting = nothing_waits line.waiting (proper.waiting ∙ ap missed_request idle) in
+    λ i. record { state = idle i; kept = kept i; waiting = waiting i }
 
 -- where the block's value is at reset: with memory, and with each sharer under MSI
 first_claims : (p : Protocol) → (shared : Bool)

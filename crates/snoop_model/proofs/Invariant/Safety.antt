@@ -1,11 +1,11 @@
 -- What every machine keeps makes it safe, and its steps keep it.
-use Rattle.std.proofs.Common.{◌≡◌, ℕ, List, ◌<◌, ◌≤◌, Option, Some, None, refl, ap, sym, ◌∙◌, arith, inl, inr, ◌⊎◌, true}
-use Rattle.snoop_model.proofs.Common.{arrival_at_memory, Ask, asked, CacheAction, CacheCell, CacheState, Cell, cell_of, Extent, flat, flat_words, Goes, HasOpen, held_by, IfSome, Invariant, is_some, IsOpenByTable, IsProper, IsSenderLine, IsWellKept, Item, keeps, Line, MoveOn, nothing_held, Op, option_map, Order, Orders, Picture, picture_of, Protocol, Refused, Refuses, Reply, Request, reset, Respond, Result, RunBy, same_Some, Situation, state_of, Step, Takes, Waits, with_line, with_picture, word_at}
+use Rattle.std.proofs.Common.{◌≡◌, ◌≢◌, ℕ, List, ◌<◌, ◌≤◌, Option, Some, None, refl, ap, sym, ◌∙◌, arith, inl, inr, ◌⊎◌, true}
+use Rattle.snoop_model.proofs.Common.{arrival_at_memory, Ask, asked, CacheAction, CacheCell, CacheState, Cell, cell_of, Extent, flat, flat_words, Goes, HasOpen, held_by, IfSome, Invariant, is_some, IsOpenByTable, IsProper, IsSenderLine, IsWellKept, Item, keeps, Line, MoveOn, moves_to, nothing_held, PutM, Op, option_map, Order, Orders, Picture, picture_of, Protocol, Refused, Refuses, Reply, Request, reset, Respond, Result, RunBy, same_Some, Situation, state_of, Step, Takes, Waits, with_line, with_picture, word_at}
 use Rattle.snoop_trace.specs.declared.step.Op.TheVariants as op
 use Rattle.snoop_trace.specs.declared.protocol.Protocol.TheVariants.{Msi, Mesi}
 use Rattle.snoop_rules.specs.declared.names.CacheState.TheVariants as state
 use Rattle.snoop_rules.specs.declared.names.CacheAction.TheVariants as action
-use Rattle.snoop_model.specs.declared.replies.Reply.TheVariants.{Gone}
+use Rattle.snoop_model.specs.declared.replies.Reply.TheVariants.{Gone, Absent}
 use Rattle.snoop_model.specs.declared.replies.Refused.TheVariants.{Stalled}
 use Rattle.snoop_model.specs.Coherent.{IsCoherent}
 use Rattle.snoop_model.specs.Runs.Safe.{IsSafe}
@@ -17,7 +17,7 @@ use Rattle.snoop_model.proofs.Tables.SentBy.{sends_is}
 use Rattle.snoop_model.proofs.OneBlock.AfterMoves.{ask_line, respond_here}
 use Rattle.snoop_model.proofs.OneBlock.OfBlocks.{in_pictures, each_picture}
 use Rattle.snoop_model.proofs.Invariant.Coherence.{has_one_writer, kept_read, readers_current, data_current, memory_current, names_its_block, data_awaited, each_line, held_within, finds_rows, orders_follow_sender_table}
-use Rattle.snoop_model.proofs.Invariant.Runs.{reset_invariant, reset_open, nothing_proper, nothing_waits, goes_kept, word_flat, move_keeps}
+use Rattle.snoop_model.proofs.Invariant.Runs.{reset_invariant, reset_open, nothing_proper, idle_line, goes_kept, word_flat, move_keeps}
 use Rattle.snoop_model.proofs.Queues.Moves.{on_kept, starts_well}
 use Rattle.snoop_model.proofs.Runs.Along.{kept_along}
 use Rattle.snoop_model.proofs.Runs.GoOn.{moves_on}
@@ -60,31 +60,31 @@ module _ (s : Situation) (g : Invariant s) where
       let within = held_within s g core block (λ x. is_clean x.state ≡ true) (λ h. cc) is in
       (g.blocks block within.1).clean core within.0 is
 
-  -- an operation is stalled only where the core's request for the block waits or is open
+  -- an operation is stalled only where the core's request for the block waits, or is open and no PutM
   pub stall_waits : IsWellKept s → (core block word : ℕ) (asking : Op) (state : CacheState) → Refuses s (Ask core block word asking) (Stalled state)
-      → (request : Request) × (Waits s core block request ⊎ HasOpen s core block request)
+      → (request : Request) × (Waits s core block request ⊎ (HasOpen s core block request × (request ≢ PutM)))
   stall_waits kept core block word asking state stalled =
       elim (busy_cases (state_of s core block) (stall_busy s.protocol (state_of s core block) (asked asking) stalled.2.0 stalled.2.1)) [
         | inl waits ↦ (waits.0, inl waits.1)
-        | inr awaits ↦ (awaits.0, inr (kept.awaits core block awaits.0 awaits.1))
+        | inr awaits ↦ (awaits.0, inr ((data_awaited s g kept core block awaits.0).0 awaits.1))
       ]
 
-  -- an eviction that is answered Gone leaves nothing
-  pub gone_leaves : (core block word : ℕ) (new : Situation) → MoveOn block s (Ask core block word op.Evict) Gone new → held_by (picture_of new block) core ≡ nothing_held
-  gone_leaves core block word new m = elim m.moves [
-    | inl absent ↦ (let clash = absent.2 in cc)
-    | inr a ↦ ask_line s core block word op.Evict Gone new g m.within a ∙ left a.row.action a.row.next a.is_row a.held a.entry a.taken
+  -- an eviction that is answered Gone or Absent leaves nothing
+  pub gone_leaves : (core block word : ℕ) (answer : Reply) (new : Situation) → (answer ≡ Gone) ⊎ (answer ≡ Absent) → MoveOn block s (Ask core block word op.Evict) answer new
+      → held_by (picture_of new block) core ≡ nothing_held
+  gone_leaves core block word answer new leaves m = elim m.moves [
+    | inl absent ↦ rw absent.3 (idle_line (held_by (picture_of s block) core) (all_proper core block) absent.1)
+    | inr a ↦ ask_line s core block word op.Evict answer new g m.within a ∙ left a.row.action a.row.next a.is_row a.held a.entry a.taken
   ]
     where
       left : (act : CacheAction) (next : CacheState) → Cell s.protocol (state_of s core block) (asked op.Evict) act next → (held : Line) (entry : Option Item)
-          → Takes act next s.log core block word op.Evict (held_by (picture_of s block) core) held Gone entry → held ≡ nothing_held
-      left action.Hit next row held entry t = (let clash = t.1.1 in cc)
-      left (action.Issue request) next row held entry t = (let clash = t.1 in cc)
+          → Takes act next s.log core block word op.Evict (held_by (picture_of s block) core) held answer entry → held ≡ nothing_held
+      left action.Hit next row held entry t = absurd t.1.0.performed
+      left (action.Issue request) next row held entry t = elim leaves [ inl is ↦ (let clash = sym t.1 ∙ is in cc) | inr is ↦ (let clash = sym t.1 ∙ is in cc) ]
       left action.Drop next row held entry t =
           let old = held_by (picture_of s block) core in
-          let gone = drop_leaves s.protocol old.state next row in
-          let proper = rw gone at (IsProper-drop s.protocol old (asked op.Evict) next (all_proper core block) row) in
-          rw (t.0, gone, nothing_waits old.waiting proper.waiting) refl
+          let proper = IsProper-drop s.protocol old (asked op.Evict) next (all_proper core block) row in
+          rw t.0 (idle_line (moves_to next old) proper (drop_leaves s.protocol old.state next row))
       left _ next row held entry t = absurd t
 
   -- an Order is a line of the table
@@ -134,6 +134,7 @@ move_on_lines block old (Respond on) answer new g lines m =
 -- the invariant, open transactions on lines of the table, and queues and transactions as the states say make a situation coherent
 pub is_coherent : (s : Situation) → Invariant s → AreOnSenderLines s → IsWellKept s → IsCoherent s
 is_coherent s g on_lines well_kept = record {
+  shaped = g.shaped;
   one_writer = has_one_writer s g;
   legal = g.legal;
   logged = g.logged;
@@ -159,13 +160,12 @@ is_safe s keeps = record {
   coherent = is_coherent s keeps.inductive keeps.on_lines keeps.well_kept;
   finds_rows = finds_rows s keeps.inductive;
   kept_where_readable = λ core block. (all_proper s keeps.inductive core block).kept;
-  shaped = keeps.well_kept.shaped;
 }
 
 -- what is safe is well kept
 pub well_kept_in : (s : Situation) → IsSafe s → IsWellKept s
 well_kept_in s safe = record {
-  shaped = safe.shaped;
+  shaped = safe.coherent.shaped;
   queued = safe.coherent.queued;
   awaits = λ core block request awaits. ((safe.coherent.awaited core block request).0 awaits).0;
   operations = λ core block access waits. rw (← safe.coherent.waiting core block, waits) refl;

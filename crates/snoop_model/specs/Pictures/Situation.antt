@@ -1,6 +1,6 @@
 -- The machine as its callers see it.
 -- Source: this project's profile.
-use Rattle.std.specs.Prelude.{◌≡◌, ◌<◌, ℕ, List, [], Some, None, slice_get, slice_index_or, slice_set, replicate}
+use Rattle.std.specs.Prelude.{◌≡◌, ◌<◌, ℕ, List, [], Some, None, slice_get, slice_index_or, slice_set, replicate, length}
 use Rattle.snoop_trace.specs.Extent.{Extent}
 use Rattle.snoop_trace.specs.Words.{zero_words}
 use Rattle.snoop_trace.specs.declared.protocol.Protocol.{Protocol}
@@ -79,3 +79,9 @@ pub record IsHead (s : Situation) (core : ℕ) (request : Request) (block : ℕ)
   pub first : StandsFirst s core block
   pub waits : Waits s core block request
   pub within : block < s.shape.blocks
+
+-- there is a picture for each block, with a line for each core, and a queue for each core
+pub record IsShaped (s : Situation) : Type 0 where
+  pub pictures : length s.pictures ≡ s.shape.blocks
+  pub row : (block : ℕ) → block < s.shape.blocks → length (picture_of s block).caches ≡ s.shape.cores
+  pub queues : length s.queues ≡ s.shape.cores

@@ -7,16 +7,14 @@ use Rattle.snoop_model.specs.Pictures.Picture.{held_by}
 use Rattle.snoop_model.specs.Pictures.Situation.{Situation, picture_of, state_of}
 use Rattle.snoop_model.specs.Pictures.Proper.{keeps}
 use Rattle.snoop_model.specs.Moves.LookUps.{FindsRows}
-use Rattle.snoop_model.specs.Invariant.WellKept.{IsShaped}
 use Rattle.snoop_model.specs.Runs.Run.{EveryRun}
 
 -- no step of a run meets an impossible cell
 abbrev pub RowsAreFound : Type 0
 RowsAreFound = EveryRun (λ protocol shape steps outcomes s. (step : Step) → FindsRows s step)
 
--- the machine is coherent, no step meets an impossible cell, a line keeps words exactly in the states that may read, and the machine's lists are as long as the shape says
+-- the machine is coherent, no step meets an impossible cell, and a line keeps words exactly in the states that may read
 pub record IsSafe (s : Situation) : Type 0 where
   pub coherent : IsCoherent s
   pub finds_rows : (step : Step) → FindsRows s step
   pub kept_where_readable : (core block : ℕ) → is_some (held_by (picture_of s block) core).kept ≡ keeps (state_of s core block)
-  pub shaped : IsShaped s
