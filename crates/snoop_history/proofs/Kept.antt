@@ -1,23 +1,21 @@
 -- What a log's board says of its items.
 use Rattle.std.proofs.Common.{◌≡◌, ℕ, ◌^◌, ◌<◌, ◌≤◌, List, [], ◌∷◌, ◌++◌, length, Option, Some, None, arith, refl, sym, ap, ◌∙◌, map, get_or}
-use Rattle.std.specs.Prelude.{All, IfSome, slice_get, nat_lt, is_some, unwrap_or, ◌&&◌, if◌then◌else◌}
+use Rattle.std.specs.Prelude.{All, IfSome, slice_get, nat_lt, is_some, unwrap_or}
 use Rattle.std.specs.Option.{option_map}
 use Rattle.std.specs.List.{filter_map}
 use Rattle.std.proofs.lemmas.Bool.{ltb-true}
 use Rattle.std.proofs.lemmas.Option.{slice_get_read, slice_get-map, unwrap_or-slice_get}
 use Rattle.std.proofs.lemmas.List.{length-map, same_lists}
-use Rattle.snoop_history.specs.declared.items.Did.{Did}
 use Rattle.snoop_history.specs.declared.items.Item.{Item}
-use Rattle.snoop_history.specs.declared.items.Totals.{Totals}
 use Rattle.snoop_history.specs.declared.packed.Packed.{Packed}
-use Rattle.snoop_history.specs.History.{next_number, flat, last_of, IsNumbered}
+use Rattle.snoop_history.specs.History.{IsNumbered}
 use Rattle.snoop_history.specs.Within.{IsItemWithin, inside}
-use Rattle.snoop_history.specs.Totals.{totals_of, touched, capped, capped_totals}
+use Rattle.snoop_history.specs.Totals.{touched}
 use Rattle.snoop_history.specs.Journal.{Journal}
 use Rattle.snoop_history.specs.Board.{Tables, board_of}
 use Rattle.snoop_history.specs.Packed.{NumberFits, unpacked}
 use Rattle.snoop_history.specs.Kept.{IsTallied}
-use Rattle.snoop_history.proofs.Pushed.{next_number-few, next_number_le, totals-few}
+use Rattle.snoop_history.proofs.Pushed.{next_number_le}
 use Rattle.snoop_history.proofs.Legal.{listed-push}
 use Rattle.snoop_history.proofs.Boards.{inside_all, board-cores}
 use Rattle.snoop_history.proofs.Touching.{all_places, touched_within}
@@ -55,21 +53,8 @@ module _ {cores blocks words : ℕ} {items : List Item} {board : Tables} {order 
   pub within_all : All (IsItemWithin cores blocks words) items
   within_all = all_places (IsItemWithin cores blocks words) items kept.listed.within
 
-  whole : inside cores blocks words items ≡ items
-  whole = inside_all cores blocks words items within_all
-
-  pub kept-count : (core : ℕ) {answer : Option ℕ} → length items < 2 ^ 64 → answer ≡ (if nat_lt core cores then Some (capped (next_number (inside cores blocks words items) core)) else None) →
-      answer ≡ (if nat_lt core cores then Some (next_number items core) else None)
-  kept-count core few is = is ∙ rw (whole, next_number-few items core few)
-
-  pub kept-last : (core : ℕ) {answer : Option Did} → answer ≡ (if nat_lt core cores then last_of (inside cores blocks words items) core else None) → answer ≡ (if nat_lt core cores then last_of items core else None)
-  kept-last core is = is ∙ rw whole
-
-  pub kept-flat : (block word : ℕ) {answer : Option ℕ} → answer ≡ (if nat_lt block blocks && nat_lt word words then Some (flat (inside cores blocks words items) block word) else None) → answer ≡ (if nat_lt block blocks && nat_lt word words then Some (flat items block word) else None)
-  kept-flat block word is = is ∙ rw whole
-
-  pub kept-totals : {answer : Totals} → length items < 2 ^ 64 → answer ≡ capped_totals (totals_of items) → answer ≡ totals_of items
-  kept-totals few is = is ∙ totals-few items few
+  pub all_inside : inside cores blocks words items ≡ items
+  all_inside = inside_all cores blocks words items within_all
 
   pub kept-touched : {answer : List ℕ} → answer ≡ order → All (λ block. block < blocks) answer
   kept-touched is = rw (is ∙ kept.mentioned) (touched_within cores blocks words items within_all)

@@ -1,4 +1,4 @@
-use Rattle.std.proofs.Common.{◌≡◌, ◌∙◌, Some, None, sym, ap, ℕ, List}
+use Rattle.std.proofs.Common.{◌≡◌, ◌∙◌, Some, sym, ap, ℕ, List}
 use Rattle.std.specs.Prelude.{nat_eq}
 use Rattle.indexmap.specs.IndexSet.{insert_key}
 use Rattle.snoop_history.specs.History.{operation_of}
@@ -16,5 +16,5 @@ returns-in-Some-clause-order c items is =
 
 pub returns-in_default-clause-order : goal.returns-in_default-clause-order
 returns-in_default-clause-order c items is =
-    let performs : None ≡ operation_of c.args.item = sym (none_from_not_some _ c.in_default.not-Some) ∙ c.did.ensures in
+    let performs = sym (none_from_not_some _ c.in_default.not-Some) ∙ c.did.ensures in
     touched-add items c.args.item is c.block.ensures performs (ap (λ (m : Mentions). m.order) c.mention.ensures)
