@@ -1,11 +1,11 @@
 -- The board of a list with one item more.
-use Rattle.std.proofs.Common.{◌≡◌, ◌≢◌, ℕ, zero, suc, ◌+◌, ◌*◌, ◌<◌, ◌≤◌, Bool, inl, inr, true, false, ◌&&◌, List, [], ◌∷◌, ◌++◌, length, Option, Some, None, refl, sym, ◌∙◌, ap, arith, map, filter, fold, cond, append_assoc, zero-add}
+use Rattle.std.proofs.Common.{◌≡◌, ◌≢◌, ℕ, zero, suc, ◌+◌, ◌*◌, ◌<◌, Bool, inl, inr, true, false, ◌&&◌, List, [], ◌∷◌, ◌++◌, length, Option, Some, None, refl, sym, ◌∙◌, ap, arith, map, filter, fold, cond, append_assoc, zero-add}
 use Rattle.std.specs.Prelude.{All, ◌/◌, ◌%◌, replicate, option_to_list, slice_index, slice_set, slice_get, ◌==◌, nat_lt, if◌then◌else◌, option_and_then}
 use Rattle.std.specs.List.{range_with_len}
 use Rattle.std.specs.Option.{option_map_or, ForSome}
 use Rattle.std.proofs.Math.Nat.{div-add-mod, mul_comm}
 use Rattle.std.proofs.lemmas.Nat.{div-mul-add, mod-mul-add, mul-le}
-use Rattle.std.proofs.lemmas.Bool.{and_parts, cases_eq, cases_lt, eq-eqb, ne_eqb, eqb-true, ltb-true, lt-ltb, le-ltb, false_from_ne_true}
+use Rattle.std.proofs.lemmas.Bool.{and_parts, cases_Bool, cases_eq, cases_lt, eq-eqb, ne_eqb, eqb-true, ltb-true, lt-ltb, le-ltb, false_from_ne_true}
 use Rattle.std.proofs.lemmas.Bool.Decides.{nat_tests}
 use Rattle.std.proofs.lemmas.Option.{slice_get-get_or, slice_get_past}
 use Rattle.std.proofs.lemmas.List.{map-append, length-append, append-nil, length-set, get_or-set_same, get_or-set_other}
@@ -36,7 +36,7 @@ get-below : {A : Type 0} (f : ℕ → A) (n k : ℕ) → slice_get (for_each_bel
 get-below f n k =
     let long = length-map-range_with_len f 0 n in
     elim (cases_lt k n) [
-      | inl lt ↦ rw (lt-ltb k n lt) (slice_get-get_or (for_each_below n f) k (f k) (omega arith) ∙ ap Some (get_or-map-range_with_len f 0 n k k (f k) lt (zero-add k)))
+      | inl lt ↦ rw (lt-ltb k n lt, slice_get-get_or (for_each_below n f) k (f k) (omega arith), get_or-map-range_with_len f 0 n k k (f k) lt (zero-add k)) refl
       | inr le ↦ rw (le-ltb k n le) (slice_get_past (for_each_below n f) k (omega arith))
     ]
 
@@ -48,23 +48,22 @@ table-of f x a (suc n) same = rw (same a, table-of f x (a + 1) n same)
 -- a word's place is one of the places
 pub place-within : (blocks words block word : ℕ) → block < blocks → word < words → place_of words block word < blocks * words
 place-within blocks words block word b w =
-    let whole : (block + 1) * words ≤ blocks * words = mul-le (block + 1) words blocks words (omega (arith, b)) (omega arith) in
-    let split : (block + 1) * words ≡ block * words + words = omega arith in
-    omega (arith, whole, split, w)
+    let whole = mul-le (block + 1) words blocks words (omega arith) (omega arith) in
+    omega arith
 
 -- what stands at a word's place
 value-read : (f : ℕ → ℕ → ℕ) (blocks words block word : ℕ) →
     (if nat_lt block blocks && nat_lt word words then Some (slice_index (for_each_below (blocks * words) (λ place. f (place / words) (place % words))) (place_of words block word)) else None)
     ≡ (if nat_lt block blocks && nat_lt word words then Some (f block word) else None)
-value-read f blocks words block word = elim (cases_lt block blocks) [
-  | inl b ↦ elim (cases_lt word words) [
-    | inl w ↦
-        let place = place_of words block word in
-        rw (get_or-map-range_with_len (λ p. f (p / words) (p % words)) 0 (blocks * words) place place 0 (place-within blocks words block word b w) (zero-add place), div-mul-add block words word w, mod-mul-add block words word w)
-    | inr w ↦ rw (lt-ltb block blocks b, le-ltb word words w)
-  ]
-  | inr b ↦ rw (le-ltb block blocks b)
-]
+value-read f blocks words block word =
+    let place = place_of words block word in
+    elim (cases_Bool (nat_lt block blocks && nat_lt word words)) [
+      | inl here ↦
+          let (b, w) = and_parts _ _ here in
+          let inside = ltb-true word words w in
+          rw (here, get_or-map-range_with_len (λ p. f (p / words) (p % words)) 0 (blocks * words) place place 0 (place-within blocks words block word (ltb-true block blocks b) inside) (zero-add place), div-mul-add block words word inside, mod-mul-add block words word inside)
+      | inr beyond ↦ rw beyond
+    ]
 
 operations-one_if : (here : Bool) (entry : Item) → operations (cond here (entry ∷ []) []) ≡ option_to_list (if here then operation_of entry else None)
 operations-one_if true entry = operations-one entry
@@ -121,8 +120,7 @@ module _ (dids : List Did) (did : Did) where
       (if load then for_each_below (blocks * words) (value_at words dids) else slice_set (for_each_below (blocks * words) (value_at words dids)) (place_of words did.block did.word) did.value)
       ≡ for_each_below (blocks * words) (value_at words (dids ++ did ∷ []))
   values-after blocks words in_blocks in_words true e =
-      fill_by_all (value_at words (dids ++ did ∷ [])) (for_each_below (blocks * words) (value_at words dids)) (blocks * words) 0 (length-map-range_with_len (value_at words dids) 0 (blocks * words)) (λ place lt.
-      get_or-map-range_with_len (value_at words dids) 0 (blocks * words) place place 0 lt (zero-add place) ∙ sym (ap (λ l. last_or 0 (map (λ d. d.value) l)) (filter-none (is_store_to (place / words) (place % words)) (rw e))))
+      sym (λ i. for_each_below (blocks * words) (λ place. last_or 0 (map (λ d. d.value) (filter-none (is_store_to (place / words) (place % words)) (rw e) i))))
   values-after blocks words in_blocks in_words false e =
       set-below (value_at words dids) (value_at words (dids ++ did ∷ [])) (blocks * words) (place_of words did.block did.word) did.value (place-within blocks words did.block did.word in_blocks in_words)
       (rw (div-mul-add did.block words did.word in_words, mod-mul-add did.block words did.word in_words)

@@ -14,7 +14,7 @@ use Rattle.snoop_history.specs.Totals.{touched}
 use Rattle.snoop_history.specs.Journal.{Journal}
 use Rattle.snoop_history.specs.Board.{Tables, board_of}
 use Rattle.snoop_history.specs.Packed.{NumberFits, unpacked}
-use Rattle.snoop_history.specs.Kept.{IsTallied}
+use Rattle.snoop_history.specs.Kept.{IsKeptList, IsTallied}
 use Rattle.snoop_history.proofs.Pushed.{next_number_le}
 use Rattle.snoop_history.proofs.Legal.{listed-push}
 use Rattle.snoop_history.proofs.Boards.{inside_all, board-cores}
@@ -49,6 +49,12 @@ pub filter_map-map : {X Y Z : Type 0} (f : X → Y) (g : Y → Option Z) (xs : L
 filter_map-map f g [] = refl
 filter_map-map f g (x ∷ xs) = rw (filter_map-map f g xs)
 
+-- a log's board, the sizes of its shape read from it
+tallied_as : {cores blocks words : ℕ} {items : List Item} {board : Tables} {order : List ℕ} → cores ≤ 256 → blocks ≤ 65536 → words ≤ 64 → IsKeptList cores blocks words items
+    → board ≡ board_of cores blocks words items → order ≡ touched items → IsTallied (length board.counts) board.blocks board.words items board order
+tallied_as {cores} {blocks} {words} {items} few_cores few_blocks few_words listed tallied mentioned =
+    rw (tallied, board-cores cores blocks words items) (record { few_cores = few_cores; few_blocks = few_blocks; few_words = few_words; listed = listed; tallied = refl; mentioned = mentioned })
+
 module _ {cores blocks words : ℕ} {items : List Item} {board : Tables} {order : List ℕ} (kept : IsTallied cores blocks words items board order) where
   pub within_all : All (IsItemWithin cores blocks words) items
   within_all = all_places (IsItemWithin cores blocks words) items kept.listed.within
@@ -73,27 +79,13 @@ module _ {cores blocks words : ℕ} {items : List Item} {board : Tables} {order 
   pub kept-push : (entry : Item) (items' : List Item) (board' : Tables) (order' : List ℕ) → IsItemWithin cores blocks words entry → IsNumbered items entry →
       items' ≡ items ++ entry ∷ [] → board' ≡ board_of cores blocks words (items ++ entry ∷ []) → order' ≡ touched (items ++ entry ∷ []) → IsTallied (length board'.counts) board'.blocks board'.words items' board' order'
   kept-push entry items' board' order' lies numbered more tallied mentioned =
-      rw (more, tallied, board-cores cores blocks words (items ++ entry ∷ [])) (record {
-        few_cores = kept.few_cores;
-        few_blocks = kept.few_blocks;
-        few_words = kept.few_words;
-        listed = listed-push cores blocks words items entry kept.listed lies numbered;
-        tallied = refl;
-        mentioned = mentioned;
-      })
+      rw more (tallied_as kept.few_cores kept.few_blocks kept.few_words (listed-push cores blocks words items entry kept.listed lies numbered) tallied mentioned)
 
 -- an empty log
 pub kept-at_first : (cores blocks words : ℕ) (items : List Item) (board : Tables) (order : List ℕ) → cores ≤ 256 → blocks ≤ 65536 → words ≤ 64 → items ≡ [] → board ≡ board_of cores blocks words [] → order ≡ [] →
     IsTallied (length board.counts) board.blocks board.words items board order
 kept-at_first cores blocks words items board order few_cores few_blocks few_words none tallied mentioned =
-    rw (none, tallied, board-cores cores blocks words []) (record {
-      few_cores = few_cores;
-      few_blocks = few_blocks;
-      few_words = few_words;
-      listed = record { within = λ k entry at. cc; in_order = λ k entry at. cc };
-      tallied = refl;
-      mentioned = mentioned;
-    })
+    rw none (tallied_as few_cores few_blocks few_words (record { within = λ k entry at. cc; in_order = λ k entry at. cc }) tallied mentioned)
 
 -- two journals of equal parts
 pub same-journal : (j k : Journal) → j.cores ≡ k.cores → j.blocks ≡ k.blocks → j.words ≡ k.words → j.items ≡ k.items → j.room ≡ k.room → j ≡ k

@@ -1,7 +1,8 @@
 -- One more block among those that were mentioned.
 use Rattle.std.proofs.Common.{◌≡◌, ℕ, zero, suc, ◌+◌, ◌<◌, ◌≤◌, Bool, true, false, List, [], ◌∷◌, ◌++◌, length, Some, refl, sym, ◌∙◌, ap, arith, get_or, inl, inr}
-use Rattle.std.specs.Prelude.{replicate, slice_get, slice_set, nat_eq, ◌||◌}
+use Rattle.std.specs.Prelude.{replicate, slice_get, slice_set, nat_eq}
 use Rattle.std.specs.List.{list_any}
+use Rattle.std.proofs.Math.Bool.{or-false}
 use Rattle.std.proofs.lemmas.Bool.{cases_eq, eq-eqb, ne_eqb, or_right}
 use Rattle.std.proofs.lemmas.List.{length-append, length-set, length-replicate, get_or-replicate, get_or-set_same, get_or-set_other}
 use Rattle.std.proofs.lemmas.List.Folds.{list_any-append}
@@ -23,10 +24,6 @@ set-more (false ∷ ms) (suc i) at = set-more ms i at
 pub few-mentioned : (marks : List Bool) (order : List ℕ) → AreMarksOf marks order → length order ≤ length marks
 few-mentioned marks order kept = omega (arith, length-filter-le (λ (mark : Bool). mark) marks, kept.counted)
 
-or-false : (b : Bool) → (b || false) ≡ b
-or-false true = refl
-or-false false = refl
-
 -- a block that is not marked, and for which there is room
 module _ (marks : List Bool) (order : List ℕ) (kept : AreMarksOf marks order) (block : ℕ) (within : block < length marks) (free : slice_get marks block ≡ Some false) where
   pub unmarked : list_any (nat_eq block) order ≡ false
@@ -38,11 +35,11 @@ module _ (marks : List Bool) (order : List ℕ) (kept : AreMarksOf marks order) 
   mark-at : (other : ℕ) → other < length (slice_set marks block true) → slice_get (slice_set marks block true) other ≡ Some (list_any (nat_eq other) (order ++ block ∷ []))
   mark-at other inside =
       let same = length-set marks block true in
-      slice_get-get_or (slice_set marks block true) other false inside ∙ ap Some (rw (list_any-append (nat_eq other) order (block ∷ [])) (elim (cases_eq other block) [
-        | inl e ↦ rw (e, eq-eqb block block refl) (get_or-set_same marks block true false within ∙ sym (or_right (list_any (nat_eq block) order) true refl))
+      rw (slice_get-get_or (slice_set marks block true) other false inside, list_any-append (nat_eq other) order (block ∷ [])) (ap Some (elim (cases_eq other block) [
+        | inl e ↦ rw (e, eq-eqb block block refl, get_or-set_same marks block true false within, or_right (list_any (nat_eq block) order) true refl) refl
         | inr ne ↦
-            rw (ne_eqb other block ne)
-            (get_or-set_other marks block other true false ne ∙ get_or_from_slice_get marks other _ false (kept.marked other (omega arith)) ∙ sym (or-false (list_any (nat_eq other) order)))
+            rw (ne_eqb other block ne, get_or-set_other marks block other true false ne, or-false (list_any (nat_eq other) order))
+            (get_or_from_slice_get marks other _ false (kept.marked other (omega arith)))
       ]))
 
   pub inserted : insert_key nat_eq order block ≡ order ++ block ∷ []

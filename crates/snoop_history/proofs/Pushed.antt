@@ -73,9 +73,8 @@ length-filter-le test items = omega (arith, length-filter test items, count_by-l
 length-operations : (items : List Item) → length (operations items) ≤ length items
 length-operations [] = omega arith
 length-operations (item.Did did ∷ xs) = omega (arith, length-operations xs)
-length-operations (item.Sent sent ∷ xs) = omega (arith, length-operations xs)
-length-operations (item.Came came None ∷ xs) = omega (arith, length-operations xs)
 length-operations (item.Came came (Some did) ∷ xs) = omega (arith, length-operations xs)
+length-operations (_ ∷ xs) = omega (arith, length-operations xs)
 
 pub next_number_le : (items : List Item) (core : ℕ) → next_number items core ≤ length items
 next_number_le items core = omega (arith, length-filter-le (λ did. did.core == core) (operations items), length-operations items)

@@ -1,5 +1,5 @@
 -- The blocks that a list mentions, with one item more.
-use Rattle.std.proofs.Common.{◌≡◌, ℕ, Bool, true, false, not, ◌&&◌, List, [], ◌∷◌, ◌++◌, refl, map, filter, ◌<◌, eqb, append-nil, append_assoc}
+use Rattle.std.proofs.Common.{arith, get_or, ◌≡◌, ℕ, Bool, true, false, not, ◌&&◌, List, [], ◌∷◌, ◌++◌, refl, map, filter, ◌<◌, eqb, append-nil, append_assoc}
 use Rattle.std.specs.Prelude.{Option, Some, None, option_to_list, slice_get, suc, nat_lt, ◌==◌, nat_eq, All, if◌then◌else◌}
 use Rattle.std.specs.List.{list_any, flat_map}
 use Rattle.std.specs.Option.{ForSome}
@@ -7,8 +7,9 @@ use Rattle.std.proofs.lemmas.Grind.{flat_map-append}
 use Rattle.snoop_history.specs.History.{flat, operation_of}
 use Rattle.snoop_history.specs.Report.{blocks_text, totals_text, report_of}
 use Rattle.std.proofs.lemmas.Bool.{eqb-true, lt-ltb}
-use Rattle.std.proofs.lemmas.List.Elements.{filter-append, All-filter, All-nil, All-cons, All-head, All-tail, All-append}
+use Rattle.std.proofs.lemmas.List.Elements.{All-weaker, filter-append, All-filter, All-nil, All-cons, All-head, All-tail, All-append}
 use Rattle.std.proofs.lemmas.Map.Views.{any-filter_same}
+use Rattle.std.proofs.lemmas.Option.{slice_get-get_or}
 use Rattle.indexmap.specs.IndexSet.{insert_key}
 use Rattle.snoop_history.specs.declared.items.Did.{Did}
 use Rattle.snoop_history.specs.declared.items.Item.{Item}
@@ -67,23 +68,19 @@ blocks_within cores blocks words block None within lies = All-cons (λ b. b < bl
 blocks_within cores blocks words block (Some did) within lies =
     All-cons (λ b. b < blocks) block (did.block ∷ []) within (All-cons (λ b. b < blocks) did.block [] (lies did refl).1 (All-nil (λ b. b < blocks)))
 
-mentioned_within : (cores blocks words : ℕ) (items : List Item) → All (IsItemWithin cores blocks words) items → All (λ block. block < blocks) (flat_map mentioned items)
-mentioned_within cores blocks words [] all = All-nil (λ block. block < blocks)
-mentioned_within cores blocks words (x ∷ xs) all =
-    let first = All-head (IsItemWithin cores blocks words) x xs all in
-    All-append (λ block. block < blocks) (mentioned x) (flat_map mentioned xs)
-    (blocks_within cores blocks words (block_of x) (operation_of x) first.block first.operation)
-    (mentioned_within cores blocks words xs (All-tail (IsItemWithin cores blocks words) x xs all))
+all_flat_map : {A B : Type 0} (P : B → Type 0) (f : A → List B) (xs : List A) → All (λ x. All P (f x)) xs → All P (flat_map f xs)
+all_flat_map P f [] all = All-nil P
+all_flat_map P f (x ∷ xs) all = All-append P (f x) (flat_map f xs) (all 0 x (omega arith)) (all_flat_map P f xs (λ k d lt. all (suc k) d (omega arith)))
 
 -- the touched blocks of a list within a shape are within it
 pub touched_within : (cores blocks words : ℕ) (items : List Item) → All (IsItemWithin cores blocks words) items → All (λ block. block < blocks) (touched items)
 touched_within cores blocks words items all =
-    each_once-all (λ block. block < blocks) (flat_map mentioned items) (mentioned_within cores blocks words items all)
+    each_once-all (λ block. block < blocks) (flat_map mentioned items) (all_flat_map (λ block. block < blocks) mentioned items
+    (All-weaker (IsItemWithin cores blocks words) _ (λ x lies. blocks_within cores blocks words (block_of x) (operation_of x) lies.block lies.operation) items all))
 
 -- what holds of the element at each place holds of all
 pub all_places : (P : Item → Type 0) (items : List Item) → ((k : ℕ) (entry : Item) → slice_get items k ≡ Some entry → P entry) → All P items
-all_places P [] each = All-nil P
-all_places P (x ∷ xs) each = All-cons P x xs (each 0 x refl) (all_places P xs (λ k entry at. each (suc k) entry at))
+all_places P items each k d within = each k (get_or items k d) (slice_get-get_or items k d within)
 
 -- a flat value that was found
 pub flat_found : (blocks words : ℕ) (items : List Item) (block word : ℕ) {value : ℕ} {answer : Option ℕ} → block < blocks → word < words → answer ≡ (if nat_lt block blocks && nat_lt word words then Some (flat items block word) else None) → answer ≡ Some value → value ≡ flat items block word
