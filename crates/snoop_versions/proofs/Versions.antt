@@ -1,5 +1,5 @@
 -- Publishing and entering keep the rule of the versions.
-use Rattle.std.proofs.Common.{◌≡◌, ◌≢◌, ℕ, List, [], ◌∷◌, ◌++◌, map, Some, None, Bool, true, false, true≢false, refl, sym, ap, ◌∙◌, subst, ⊎_elim, append-nil, append_assoc}
+use Rattle.std.proofs.Common.{◌≡◌, ◌≢◌, ℕ, List, [], ◌∷◌, ◌++◌, map, Some, None, Bool, true, false, refl, sym, ap, ◌∙◌, ⊎_elim, append-nil, append_assoc}
 use Rattle.std.specs.Prelude.{All, option_to_list}
 use Rattle.std.proofs.lemmas.List.{map-append}
 use Rattle.std.proofs.lemmas.List.Elements.{All-nil}
@@ -33,6 +33,10 @@ newest_none : (list : List Item) → newest_of list ≡ None → list ≡ []
 newest_none [] e = refl
 newest_none (x ∷ xs) e = absurd (last_some x xs e)
 
+-- a reader that has entered nothing
+fresh_fits : (cores blocks words : ℕ) (list : List Item) (writer handle : ℕ) → Fits cores blocks words list writer handle newcomer
+fresh_fits cores blocks words list writer handle = record { begins = (list, refl); shape = λ e. cc; writes = λ e. cc }
+
 pub admits : Admits Kept newcomer
 admits x views k = record {
   cores = k.cores;
@@ -43,11 +47,8 @@ admits x views k = record {
   version = k.version;
   legal = k.legal;
   within = k.within;
-  each = λ j u e. ⊎_elim (λ was. k.each j u was) (λ (same : newcomer ≡ u). subst (Fits k.cores k.blocks k.words k.list k.writer j) same (fresh_fits k.cores k.blocks k.words k.list k.writer j)) (at_snoc views newcomer u j e);
+  each = λ j u e. ⊎_elim (λ was. k.each j u was) (λ (same : newcomer ≡ u). rw (← same) (fresh_fits k.cores k.blocks k.words k.list k.writer j)) (at_snoc views newcomer u j e);
 }
-  where
-    fresh_fits : (c b d : ℕ) (list : List Item) (writer j : ℕ) → Fits c b d list writer j newcomer
-    fresh_fits c b d list writer j = record { begins = (list, refl); shape = λ e. absurd (true≢false (sym e)); writes = λ e. absurd (true≢false (sym e)) }
 
 pub sees : (handle : ℕ) (v : View) → Turns Kept handle v (λ x. x) Sees
 sees handle v x views k at =
@@ -64,15 +65,12 @@ sees handle v x views k at =
         legal = k.legal;
         within = k.within;
         each = λ j u e. ⊎_elim
-            (λ (t : (j ≡ handle) × (w ≡ u)). subst (Fits k.cores k.blocks k.words k.list k.writer j) t.1 (seen_fits k.cores k.blocks k.words k.list k.writer j))
+            (λ (t : (j ≡ handle) × (w ≡ u)). rw (← t.1) (record { begins = ([], sym (append-nil k.list)); shape = λ e. (refl, refl, refl); writes = λ e. cc }))
             (λ (t : (j ≢ handle) × (get_elem? views j ≡ some u)). k.each j u t.1)
             (at_set views handle j w u e);
       },
       record { used = refl; version = k.version; legal = k.legal; within = k.within; begins = mine.begins; shape = λ e. (sym (mine.shape e).0, sym (mine.shape e).1, sym (mine.shape e).2) },
     )
-  where
-    seen_fits : (c b d : ℕ) (list : List Item) (writer j : ℕ) → Fits c b d list writer j (record { used = true; writes = false; cores = c; blocks = b; words = d; seen = list })
-    seen_fits c b d list writer j = record { begins = ([], sym (append-nil list)); shape = λ e. (refl, refl, refl); writes = λ e. absurd (true≢false (sym e)) }
 
 -- the writer's list is the published one
 same_list : (v : View) (x : Version) (c b d c' b' d' writer handle : ℕ) (now : List Item) → IsWriting v → x ≡ version_of c b d v.seen → x ≡ version_of c' b' d' now → Fits c' b' d' now writer handle v → (t : Bool) → v.writes ≡ t → now ≡ v.seen
@@ -102,11 +100,10 @@ adds handle v x next c b d entry shown is legal within grows views k at =
         list = k.list ++ entry ∷ [];
         writer = handle;
         version = grows ∙ ap (λ (y : Version). grown y entry) k.version ∙ sym (version_of-push k.cores k.blocks k.words k.list entry);
-        legal = subst Legal seen legal;
-        within = subst (All (IsItemWithin k.cores k.blocks k.words)) seen (subst (λ (n : ℕ). All (IsItemWithin k.cores k.blocks n) (v.seen ++ entry ∷ [])) shape.2 (subst (λ (n : ℕ). All (IsItemWithin k.cores n d) (v.seen ++ entry ∷ [])) shape.1 (subst (λ (n : ℕ). All (IsItemWithin n b d) (v.seen ++ entry ∷ [])) shape.0 within)));
+        legal = rw seen at legal;
+        within = rw (shape.0, shape.1, shape.2, seen) at within;
         each = λ j u e. ⊎_elim
-            (λ (t : (j ≡ handle) × (w ≡ u)). subst (Fits k.cores k.blocks k.words (k.list ++ entry ∷ []) handle j) t.1
-            (record { begins = ([], sym seen ∙ sym (append-nil (v.seen ++ entry ∷ []))); shape = λ e. (refl, refl, refl); writes = λ e. (t.0, seen, λ none. absurd (some_none (sym (newest_push k.list entry) ∙ none))) }))
+            (λ (t : (j ≡ handle) × (w ≡ u)). rw (← t.1) (record { begins = ([], sym seen ∙ sym (append-nil (v.seen ++ entry ∷ []))); shape = λ e. (refl, refl, refl); writes = λ e. (t.0, seen, λ none. let is = newest_push k.list entry in cc) }))
             (λ (t : (j ≢ handle) × (get_elem? views j ≡ some u)).
             let o = k.each j u t.1 in
             record {
@@ -118,22 +115,17 @@ adds handle v x next c b d entry shown is legal within grows views k at =
       },
       (refl, ap (λ (y : Version). v.seen ++ option_to_list y.newest) (sym grows)),
     )
-  where
-    some_none : Some entry ≡ None → ⊥
-    some_none e = cc
 
 -- the rule holds of the version of no items, which only its writer has
 pub opens : (x : Version) (c b d : ℕ) → x ≡ version_of c b d [] → Kept x (newcomer ∷ [])
-opens x c b d is = record { cores = c; blocks = b; words = d; list = []; writer = 0; version = is; legal = none_illegal; within = All-nil (IsItemWithin c b d); each = one }
-  where
-    none_illegal : Legal []
-    none_illegal k entry at = cc
-
-    fits : (j : ℕ) → Fits c b d [] 0 j newcomer
-    fits j = record { begins = ([], refl); shape = λ e. absurd (true≢false (sym e)); writes = λ e. absurd (true≢false (sym e)) }
-
-    at_none : (j : ℕ) (v : View) → get_elem? {A = View} [] j ≡ some v → ⊥
-    at_none j v e = cc
-
-    one : (j : ℕ) (v : View) → get_elem? (newcomer ∷ []) j ≡ some v → Fits c b d [] 0 j v
-    one j v e = ⊎_elim (λ (t : get_elem? {A = View} [] j ≡ some v). absurd (at_none j v t)) (λ (same : newcomer ≡ v). subst (Fits c b d [] 0 j) same (fits j)) (at_snoc [] newcomer v j e)
+opens x c b d is = admits x [] (record {
+  cores = c;
+  blocks = b;
+  words = d;
+  list = [];
+  writer = 0;
+  version = is;
+  legal = λ k entry at. cc;
+  within = All-nil (IsItemWithin c b d);
+  each = λ j u e. cc;
+})
