@@ -33,12 +33,10 @@ newest_none : (list : List Item) → newest_of list ≡ None → list ≡ []
 newest_none [] e = refl
 newest_none (x ∷ xs) e = absurd (last_some x xs e)
 
--- a reader that has entered nothing
-fresh_fits : (cores blocks words : ℕ) (list : List Item) (writer handle : ℕ) → Fits cores blocks words list writer handle newcomer
-fresh_fits cores blocks words list writer handle = record { begins = (list, refl); shape = λ e. cc; writes = λ e. cc }
-
-pub admits : Admits Kept newcomer
-admits x views k = record {
+-- the same version is published, and other handles fit it
+same_version : {x : Version} {views : List View} (k : Kept x views) (others : List View)
+    → ((j : ℕ) (u : View) → get_elem? others j ≡ some u → Fits k.cores k.blocks k.words k.list k.writer j u) → Kept x others
+same_version k others each = record {
   cores = k.cores;
   blocks = k.blocks;
   words = k.words;
@@ -47,28 +45,22 @@ admits x views k = record {
   version = k.version;
   legal = k.legal;
   within = k.within;
-  each = λ j u e. ⊎_elim (λ was. k.each j u was) (λ (same : newcomer ≡ u). rw (← same) (fresh_fits k.cores k.blocks k.words k.list k.writer j)) (at_snoc views newcomer u j e);
+  each = each;
 }
+
+pub admits : Admits Kept newcomer
+admits x views k = same_version k _ (λ j u e.
+    ⊎_elim (λ was. k.each j u was) (λ (same : newcomer ≡ u). rw (← same) (record { begins = (k.list, refl); shape = λ e. cc; writes = λ e. cc })) (at_snoc views newcomer u j e))
 
 pub sees : (handle : ℕ) (v : View) → Turns Kept handle v (λ x. x) Sees
 sees handle v x views k at =
     let mine = k.each handle v at in
     let w : View = record { used = true; writes = false; cores = k.cores; blocks = k.blocks; words = k.words; seen = k.list } in (
       w,
-      record {
-        cores = k.cores;
-        blocks = k.blocks;
-        words = k.words;
-        list = k.list;
-        writer = k.writer;
-        version = k.version;
-        legal = k.legal;
-        within = k.within;
-        each = λ j u e. ⊎_elim
-            (λ (t : (j ≡ handle) × (w ≡ u)). rw (← t.1) (record { begins = ([], sym (append-nil k.list)); shape = λ e. (refl, refl, refl); writes = λ e. cc }))
-            (λ (t : (j ≢ handle) × (get_elem? views j ≡ some u)). k.each j u t.1)
-            (at_set views handle j w u e);
-      },
+      same_version k _ (λ j u e. ⊎_elim
+          (λ (t : (j ≡ handle) × (w ≡ u)). rw (← t.1) (record { begins = ([], sym (append-nil k.list)); shape = λ e. (refl, refl, refl); writes = λ e. cc }))
+          (λ (t : (j ≢ handle) × (get_elem? views j ≡ some u)). k.each j u t.1)
+          (at_set views handle j w u e)),
       record { used = refl; version = k.version; legal = k.legal; within = k.within; begins = mine.begins; shape = λ e. (sym (mine.shape e).0, sym (mine.shape e).1, sym (mine.shape e).2) },
     )
 
