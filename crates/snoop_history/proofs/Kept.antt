@@ -1,19 +1,13 @@
 -- What a log's board says of its items.
 use Rattle.std.proofs.Common.{◌≡◌, ℕ, ◌^◌, ◌<◌, ◌≤◌, List, [], ◌∷◌, ◌++◌, length, Option, Some, None, arith, refl, sym, ap, ◌∙◌, map, get_or}
 use Rattle.std.specs.Prelude.{All, IfSome, slice_get, nat_lt, is_some, unwrap_or}
-use Rattle.std.specs.Option.{option_map}
-use Rattle.std.specs.List.{filter_map}
-use Rattle.std.proofs.lemmas.Bool.{ltb-true}
-use Rattle.std.proofs.lemmas.Option.{slice_get_read, slice_get-map, unwrap_or-slice_get}
-use Rattle.std.proofs.lemmas.List.{length-map, same_lists}
-use Rattle.snoop_history.specs.declared.items.Item.{Item}
+use Rattle.snoop_history.proofs.Common.{IsNumbered, Item, Journal, NumberFits, filter_map}
+use Rattle.snoop_history.proofs.Common.{length-map, ltb-true, option_map, same_lists, slice_get-map}
+use Rattle.snoop_history.proofs.Common.{slice_get_read, unpacked, unwrap_or-slice_get}
 use Rattle.snoop_history.specs.declared.packed.Packed.{Packed}
-use Rattle.snoop_history.specs.History.{IsNumbered}
 use Rattle.snoop_history.specs.Within.{IsItemWithin, inside}
 use Rattle.snoop_history.specs.Totals.{touched}
-use Rattle.snoop_history.specs.Journal.{Journal}
 use Rattle.snoop_history.specs.Board.{Tables, board_of}
-use Rattle.snoop_history.specs.Packed.{NumberFits, unpacked}
 use Rattle.snoop_history.specs.Kept.{IsKeptList, IsTallied}
 use Rattle.snoop_history.proofs.Pushed.{next_number_le}
 use Rattle.snoop_history.proofs.Legal.{listed-push}

@@ -1,13 +1,10 @@
 -- What a legal list and flat memory are after one more item.
 use Rattle.std.proofs.Common.{arith, ◌≡◌, ℕ, zero, suc, List, [], ◌∷◌, ◌++◌, take, Option, Some, None, ◌⊎◌, inl, inr, refl, ap, map}
 use Rattle.std.specs.Prelude.{slice_get, IfSome, filter, if◌then◌else◌, option_to_list}
-use Rattle.std.specs.Option.{option_map_or}
-use Rattle.std.proofs.lemmas.List.{map-append}
+use Rattle.snoop_history.proofs.Common.{Did, IsNext, IsNumbered, Item, Legal, flat, is_store_to}
+use Rattle.snoop_history.proofs.Common.{last_or, map-append, operation_of, option_map_or, stores}
 use Rattle.std.proofs.lemmas.List.Elements.{filter-append}
-use Rattle.snoop_history.specs.declared.items.Item.{Item}
-use Rattle.snoop_history.specs.declared.items.Did.{Did}
 use Rattle.snoop_history.proofs.Pushed.{last_or-append, operations-push}
-use Rattle.snoop_history.specs.History.{Legal, IsNext, flat, stores, operation_of, is_store_to, last_or, IsNumbered}
 use Rattle.snoop_history.specs.Within.{IsItemWithin}
 use Rattle.snoop_history.specs.Kept.{IsKeptList}
 

@@ -1,16 +1,13 @@
 -- One more item: the operations, counts, flat values and totals of the longer list.
 use Rattle.std.proofs.Common.{◌≡◌, ℕ, ◌+◌, ◌^◌, ◌<◌, ◌≤◌, Bool, true, false, not, ◌&&◌, List, [], ◌∷◌, ◌++◌, length, Option, Some, None, refl, ◌∙◌, ap, arith, map, filter, cond}
 use Rattle.std.specs.Prelude.{option_to_list, ◌==◌, is_some, is_none}
-use Rattle.std.proofs.lemmas.List.{map-append, length-append}
+use Rattle.snoop_history.proofs.Common.{Did, Item, Totals, answers_of, counted, last_of, last_or}
+use Rattle.snoop_history.proofs.Common.{length-append, map-append, next_number, operation_of}
+use Rattle.snoop_history.proofs.Common.{operations, tallied}
 use Rattle.std.proofs.lemmas.List.Elements.{filter-append, filter_map-append}
 use Rattle.std.proofs.lemmas.List.Sums.{length-filter, count_by-le-length}
-use Rattle.snoop_history.specs.declared.items.Totals.{Totals}
-use Rattle.snoop_history.specs.declared.items.Did.{Did}
-use Rattle.snoop_history.specs.declared.items.Item.{Item}
-use Rattle.snoop_history.specs.declared.items.Item.TheVariants as item
-use Rattle.snoop_history.specs.History.{operation_of, operations, answers_of, next_number, last_or, last_of}
 use Rattle.snoop_history.specs.Totals.{how_many, totals_of, capped, capped_totals, performed, ordered, responded, is_get_s, is_get_m, is_put_m, is_data, is_no_data, is_no_data_e}
-use Rattle.snoop_history.specs.Journal.{counted, tallied}
+use Rattle.snoop_history.specs.declared.items.Item.TheVariants as item
 
 pub operations-one : (entry : Item) → operations (entry ∷ []) ≡ option_to_list (operation_of entry)
 operations-one (item.Did did) = refl

@@ -1,21 +1,13 @@
 -- The blocks that a list mentions, with one item more.
 use Rattle.std.proofs.Common.{arith, get_or, ◌≡◌, ℕ, Bool, true, false, not, ◌&&◌, List, [], ◌∷◌, ◌++◌, refl, map, filter, ◌<◌, eqb, append-nil, append_assoc}
 use Rattle.std.specs.Prelude.{Option, Some, None, option_to_list, slice_get, suc, nat_lt, ◌==◌, nat_eq, All, if◌then◌else◌}
-use Rattle.std.specs.List.{list_any, flat_map}
-use Rattle.std.specs.Option.{ForSome}
-use Rattle.std.proofs.lemmas.Grind.{flat_map-append}
-use Rattle.snoop_history.specs.History.{flat, operation_of}
-use Rattle.snoop_history.specs.Report.{blocks_text, totals_text, report_of}
-use Rattle.std.proofs.lemmas.Bool.{eqb-true, lt-ltb}
+use Rattle.snoop_history.proofs.Common.{Did, ForSome, Item, Totals, blocks_text, eqb-true, flat}
+use Rattle.snoop_history.proofs.Common.{flat_map, flat_map-append, insert_key, list_any, lt-ltb}
+use Rattle.snoop_history.proofs.Common.{operation_of, report_of, slice_get-get_or, totals_text}
 use Rattle.std.proofs.lemmas.List.Elements.{All-weaker, filter-append, All-filter, All-nil, All-cons, All-head, All-tail, All-append}
 use Rattle.std.proofs.lemmas.Map.Views.{any-filter_same}
-use Rattle.std.proofs.lemmas.Option.{slice_get-get_or}
-use Rattle.indexmap.specs.IndexSet.{insert_key}
-use Rattle.snoop_history.specs.declared.items.Did.{Did}
-use Rattle.snoop_history.specs.declared.items.Item.{Item}
 use Rattle.snoop_history.specs.Within.{block_of, IsItemWithin}
 use Rattle.snoop_history.specs.Totals.{each_once, mentioned, touched, totals_of}
-use Rattle.snoop_history.specs.declared.items.Totals.{Totals}
 
 -- the numbers other than y
 abbrev pub but : ℕ → List ℕ → List ℕ

@@ -1,12 +1,8 @@
 use Rattle.std.proofs.Common.{◌≡◌, ◌∙◌, sym, refl, true, Some, None, ap, arith}
-use Rattle.std.proofs.lemmas.Bool.{and_parts, and_from}
-use Rattle.std.proofs.lemmas.Bool.Decides.{nat_tests}
-use Rattle.std.proofs.lemmas.Grind.{common_steps}
-use Rattle.snoop_history.specs.declared.items.Did.{Did}
+use Rattle.snoop_history.proofs.Common.{Did, Item, and_from, and_parts, common_steps, nat_tests}
 use Rattle.snoop_history.specs.declared.items.Came.{Came}
-use Rattle.snoop_history.specs.declared.items.Item.{Item}
-use Rattle.snoop_history.specs.declared.items.Item.TheVariants as item
 use Rattle.snoop_history.specs.contracts.items.ItemPartialEq.TheImpl.{eq-value}
+use Rattle.snoop_history.specs.declared.items.Item.TheVariants as item
 use Rattle.snoop_history.proofs.log.is_same.Goals as goal
 
 same-did : (a b : Did) → eq-value.it (item.Did a) (item.Did b) ≡ true → a ≡ b

@@ -1,9 +1,7 @@
 use Rattle.std.proofs.Common.{◌++◌, arith, codes, map}
+use Rattle.snoop_history.proofs.Common.{flat, flat_map_more, range_with_len}
 use Rattle.std.specs.Fmt.{decimal}
-use Rattle.std.specs.List.{range_with_len}
-use Rattle.std.proofs.lemmas.List.{flat_map_more}
 use Rattle.std.proofs.lemmas.List.FromFn.{map-range_with_len_more}
-use Rattle.snoop_history.specs.History.{flat}
 use Rattle.snoop_history.proofs.Touching.{flat_found}
 use Rattle.snoop_history.proofs.report.push_values.Goals as goal
 

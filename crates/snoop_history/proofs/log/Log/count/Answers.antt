@@ -1,6 +1,5 @@
 use Rattle.std.proofs.Common.{arith, map}
-use Rattle.std.proofs.lemmas.List.{length-map}
-use Rattle.snoop_history.specs.Packed.{unpacked}
+use Rattle.snoop_history.proofs.Common.{length-map, unpacked}
 use Rattle.snoop_history.proofs.Kept.{all_inside}
 use Rattle.snoop_history.proofs.Pushed.{next_number-few}
 use Rattle.snoop_history.proofs.log.Log.count.Goals as goal

@@ -1,8 +1,5 @@
-use Rattle.std.proofs.Common.{◌≡◌, ◌∙◌, sym, ap, length, Some}
-use Rattle.std.specs.Prelude.{slice_get, nat_lt}
-use Rattle.std.specs.Option.{option_map}
-use Rattle.std.proofs.lemmas.Option.{slice_get-map}
-use Rattle.snoop_history.specs.Packed.{unpacked}
+use Rattle.std.proofs.Common.{◌≡◌, ◌∙◌, sym, ap, length, Some, slice_get, nat_lt}
+use Rattle.snoop_history.proofs.Common.{option_map, slice_get-map, unpacked}
 use Rattle.snoop_history.proofs.Kept.{read-at}
 use Rattle.snoop_history.proofs.log.Log.item.Goals as goal
 

@@ -1,6 +1,5 @@
 use Rattle.std.proofs.Common.{[], ◌∙◌, map, sym, ap, arith}
-use Rattle.snoop_history.specs.Mentions.{Mentions}
-use Rattle.snoop_history.specs.Packed.{unpacked}
+use Rattle.snoop_history.proofs.Common.{Mentions, unpacked}
 use Rattle.snoop_history.proofs.Boards.{board-shape}
 use Rattle.snoop_history.proofs.Kept.{kept-at_first, same-journal}
 use Rattle.snoop_history.proofs.log.Log.new.Goals as goal

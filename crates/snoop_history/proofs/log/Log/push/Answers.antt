@@ -1,7 +1,5 @@
 use Rattle.std.proofs.Common.{◌≡◌, [], ◌∷◌, ◌++◌, map, sym, ap, ◌∙◌, arith, ◌<◌, ◌^◌, length}
-use Rattle.std.proofs.lemmas.List.{length-map, map-append}
-use Rattle.snoop_history.specs.Packed.{unpacked}
-use Rattle.snoop_history.specs.declared.items.Item.{Item}
+use Rattle.snoop_history.proofs.Common.{Item, length-map, map-append, unpacked}
 use Rattle.snoop_history.proofs.Boards.{board-shape}
 use Rattle.snoop_history.proofs.Kept.{kept-push, numbers_fit}
 use Rattle.snoop_history.proofs.log.Log.push.Goals as goal

@@ -1,6 +1,5 @@
 use Rattle.std.proofs.Common.{◌≡◌, ◌∙◌, ap, arith, length}
-use Rattle.std.specs.List.{each_same}
-use Rattle.indexmap.specs.IndexSet.{index_set_len, spare}
+use Rattle.snoop_history.proofs.Common.{each_same, index_set_len, spare}
 use Rattle.snoop_history.proofs.Marks.{few-mentioned, same-mentions}
 use Rattle.snoop_history.proofs.touched.TouchedBlocks.copy.Goals as goal
 

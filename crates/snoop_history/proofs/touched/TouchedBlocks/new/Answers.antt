@@ -1,6 +1,5 @@
-use Rattle.std.proofs.Common.{◌≡◌, ◌∙◌, ap, arith, false, length}
+use Rattle.std.proofs.Common.{◌≡◌, ◌∙◌, ap, arith, false, length, replicate}
 use Rattle.std.proofs.lemmas.List.{length-replicate}
-use Rattle.std.specs.Prelude.{replicate}
 use Rattle.snoop_history.proofs.Marks.{marks-at_first}
 use Rattle.snoop_history.proofs.touched.TouchedBlocks.new.Goals as goal
 
