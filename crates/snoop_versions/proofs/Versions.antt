@@ -1,20 +1,16 @@
 -- Publishing and entering keep the rule of the versions.
 use Rattle.std.proofs.Common.{◌≡◌, ◌≢◌, ℕ, List, [], ◌∷◌, ◌++◌, map, Some, None, Bool, true, false, refl, sym, ap, ◌∙◌, ⊎_elim, append-nil, append_assoc}
 use Rattle.std.specs.Prelude.{All, option_to_list}
+use Rattle.snoop_versions.proofs.Common.{Adds, Fits, IsItemWithin, IsWriting, Item, Kept, Legal}
+use Rattle.snoop_versions.proofs.Common.{Sees, Version, View, absorbed_board, grown, last_or}
+use Rattle.snoop_versions.proofs.Common.{newcomer, newest_of, same_shape, version_of}
 use Rattle.std.proofs.lemmas.List.{map-append}
 use Rattle.std.proofs.lemmas.List.Elements.{All-nil}
 use mathlib.Core.Option.{some}
 use lib.ListN.{get_elem?}
 use Rattle.left_right.specs.Register.{Admits, TurnsAt, Turns}
 use Rattle.atomic_table.proofs.Lists.{at_set, at_snoc}
-use Rattle.snoop_history.specs.declared.items.Item.{Item}
-use Rattle.snoop_history.specs.History.{Legal, last_or}
-use Rattle.snoop_history.specs.Within.{IsItemWithin}
-use Rattle.snoop_history.proofs.Boards.{absorbed_board, same_shape}
 use Rattle.snoop_history.proofs.Pushed.{last_or-append}
-use Rattle.snoop_versions.specs.declared.version.Version.{Version}
-use Rattle.snoop_versions.specs.declared.rule.View.{View}
-use Rattle.snoop_versions.specs.Rule.{newest_of, version_of, newcomer, Fits, Kept, Adds, Sees, IsWriting, grown}
 
 pub newest_push : (list : List Item) (entry : Item) → newest_of (list ++ entry ∷ []) ≡ Some entry
 newest_push list entry = ap (last_or None) (map-append Some list (entry ∷ [])) ∙ last_or-append None (map Some list) (Some entry ∷ [])
