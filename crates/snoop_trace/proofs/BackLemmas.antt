@@ -108,14 +108,10 @@ some_row shape s = refl
 abbrev heading_row : Heading → List (List ℕ)
 heading_row h = codes "V" ∷ codes "2" ∷ protocol_name h.protocol ∷ decimal h.cores ∷ decimal h.blocks ∷ decimal h.block_bytes ∷ decimal h.words ∷ []
 
-protocol_plain : (protocol : Protocol) → list_any (needs_byte default_writer) (protocol_name protocol) ≡ false
-protocol_plain Msi = refl
-protocol_plain Mesi = refl
-
-protocol_back : (protocol : Protocol) → protocol_named (protocol_name protocol) ≡ Some protocol
+protocol_read : (protocol : Protocol) → (list_any (needs_byte default_writer) (protocol_name protocol) ≡ false) × (protocol_named (protocol_name protocol) ≡ Some protocol)
 unfolding protocol_named
-protocol_back Msi = refl
-protocol_back Mesi = refl
+protocol_read Msi = (refl, refl)
+protocol_read Mesi = (refl, refl)
 
 -- a line that csv wrote is read as its fields
 line_read : (row : List (List ℕ)) (line rest : List ℕ) → row_text default_writer row ≡ line → read_back row ≡ row
@@ -132,7 +128,7 @@ module _ (shape : Extent) (limits : IsWithinLimits shape) where
   word_small : (block word : ℕ) → block < shape.blocks → word < shape.words → word_address shape block word < 2 ^ 64
   word_small block word h inside =
       let most = mul-le (block + 1) shape.block_bytes 65536 4096 (omega (arith, limits.blocks.1)) limits.block_bytes.1 in
-      omega (arith, address_before shape block word limits inside)
+      omega (arith, address_before shape limits block word inside)
 
   line_row : (s : Step) → IsReadableStep shape s → row_text default_writer (row_of shape s) ≡ step_text shape s ++ codes "\n"
   unfolding fields_text is_blank escaped
@@ -146,14 +142,14 @@ module _ (shape : Extent) (limits : IsWithinLimits shape) where
   block_back n block h = rw (mul-div_cancel block (power_some shape.block_bytes limits.block_bytes.0), lt-ltb block shape.blocks h) refl
 
   word_block_back : (n block word : ℕ) → block < shape.blocks → word < shape.words → block_in shape n (word_address shape block word) ≡ Ok block
-  word_block_back n block word h inside = rw ((address_back shape block word limits inside).0, lt-ltb block shape.blocks h) refl
+  word_block_back n block word h inside = rw ((address_back shape limits block word inside).0, lt-ltb block shape.blocks h) refl
 
   step_back : (n : ℕ) (s : Step) → IsReadableStep shape s → step_in shape n (row_of shape s) ≡ Ok s
   unfolding step_in ask row_by_letter without_value store order respond
   step_back n (Ask core block word Load) h =
-      rw (number_decimal core (core_small core h.0), number_decimal _ (word_small block word h.1 h.2), lt-ltb core shape.cores h.0, word_block_back n block word h.1 h.2, (address_back shape block word limits h.2).1) refl
+      rw (number_decimal core (core_small core h.0), number_decimal _ (word_small block word h.1 h.2), lt-ltb core shape.cores h.0, word_block_back n block word h.1 h.2, (address_back shape limits block word h.2).1) refl
   step_back n (Ask core block word (Store value)) h =
-      rw (number_decimal core (core_small core h.0), number_decimal _ (word_small block word h.1 h.2), number_decimal value h.3, lt-ltb core shape.cores h.0, word_block_back n block word h.1 h.2, (address_back shape block word limits h.2).1) refl
+      rw (number_decimal core (core_small core h.0), number_decimal _ (word_small block word h.1 h.2), number_decimal value h.3, lt-ltb core shape.cores h.0, word_block_back n block word h.1 h.2, (address_back shape limits block word h.2).1) refl
   step_back n (Ask core block word Evict) h =
       rw (number_decimal core (core_small core h.0), number_decimal _ (address_small block h.1), lt-ltb core shape.cores h.0, block_back n block h.1, h.2) refl
   step_back n (Order core) h = rw (number_decimal core (core_small core h), lt-ltb core shape.cores h) refl
@@ -177,12 +173,12 @@ module _ (shape : Extent) (limits : IsWithinLimits shape) where
   pub heading_written : (protocol : Protocol)
       → row_text record_writer (codes "V" ∷ codes "2" ∷ protocol_name protocol ∷ decimal shape.cores ∷ decimal shape.blocks ∷ decimal shape.block_bytes ∷ decimal shape.words ∷ []) ≡ heading_text (heading_for protocol shape) ++ codes "\n"
   unfolding fields_text is_blank
-  heading_written protocol = rw (protocol_plain protocol, plain _ small.0, plain _ small.1, plain _ small.2, plain _ small.3) (commas (codes "V") (codes "2" ∷ protocol_name protocol ∷ decimal shape.cores ∷ decimal shape.blocks ∷ decimal shape.block_bytes ∷ decimal shape.words ∷ []))
+  heading_written protocol = rw ((protocol_read protocol).0, plain _ small.0, plain _ small.1, plain _ small.2, plain _ small.3) (commas (codes "V") (codes "2" ∷ protocol_name protocol ∷ decimal shape.cores ∷ decimal shape.blocks ∷ decimal shape.block_bytes ∷ decimal shape.words ∷ []))
 
   -- the record of a heading says it
   heading_back : (protocol : Protocol) (n : ℕ) → heading_in n (heading_row (heading_for protocol shape)) ≡ Ok (heading_for protocol shape)
   unfolding heading_in version_in number
-  heading_back protocol n = rw (protocol_back protocol, number_decimal _ small.0, number_decimal _ small.1, number_decimal _ small.2, number_decimal _ small.3) refl
+  heading_back protocol n = rw ((protocol_read protocol).1, number_decimal _ small.0, number_decimal _ small.1, number_decimal _ small.2, number_decimal _ small.3) refl
 
   -- the records of a text of version 2 are the heading's, and then those of its steps
   heading_and_more : (protocol : Protocol) (steps : List Step) → records_of (text_of protocol shape steps) ≡ heading_row (heading_for protocol shape) ∷ records_left st.StartRecord (steps_text shape steps)
