@@ -61,9 +61,8 @@ none-set (suc n) = none-set n
 
 pub marks-at_first : (n : ℕ) (marks : List Bool) (order : List ℕ) → marks ≡ replicate n false → order ≡ [] → AreMarksOf marks order
 marks-at_first n marks order is none =
-    let many = length-replicate n false in
     rw (is, none) (record {
-      marked = λ block within. slice_get-get_or (replicate n false) block false within ∙ ap Some (get_or-replicate n block false false (omega arith));
+      marked = λ block within. slice_get-get_or (replicate n false) block false within ∙ ap Some (get_or-replicate n block false false (omega (arith, length-replicate n false)));
       counted = sym (none-set n);
     })
 

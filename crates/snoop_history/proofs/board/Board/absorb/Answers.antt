@@ -8,10 +8,9 @@ use Rattle.snoop_history.proofs.board.Board.absorb.Goals as goal
 pub write_value-requires : goal.write_value-requires
 write_value-requires c =
     let b = c.self.inside in
-    let did = c.in-Some.did in
-    let own : operation_within (length b.counts.items) b.blocks b.words c.args.item ≡ Some did = search rules in
-    let lies = operation_within-lies _ _ _ c.args.item did own in
-    rw c.self.invariant.1 (place-within b.blocks b.words did.block did.word lies.1 lies.2)
+    let own : operation_within (length b.counts.items) b.blocks b.words c.args.item ≡ Some c.in-Some.did = search rules in
+    let lies = operation_within-lies _ _ _ c.args.item _ own in
+    rw c.self.invariant.1 (place-within b.blocks b.words _ _ lies.1 lies.2)
 
 pub returns-in-Some : goal.returns-in-Some
 returns-in-Some c =

@@ -7,8 +7,6 @@ use Rattle.snoop_history.proofs.log.Log.new.Goals as goal
 pub invariant_of-result : goal.invariant_of-result
 invariant_of-result c =
     let shape = c.args.shape in
-    let few_cores = c.if-prove.false in
-    let same_cores = c.cores.ensures.value in
     record {
       kept = kept-at_first shape.cores shape.blocks shape.words _ _ _ (omega arith) (omega (arith, c.blocks-2.ensures.within)) (omega (arith, c.words.ensures.within.1))
           (ap (map unpacked) c.new.ensures.items) c.in_ok-new.ensures (ap (λ (m : Mentions). m.order) c.in_ok-new-2.ensures);
