@@ -8,7 +8,6 @@ pub mod CsvLemmas
 pub mod TextLemmas
 pub mod OutputLemmas
 pub mod GathersLemmas
-pub mod LineLemmas
 pub mod BackLemmas
 pub mod WithinLemmas
 pub mod AskedLemmas
