@@ -71,13 +71,9 @@ operations-inside-push : (cores blocks words : ℕ) (items : List Item) (entry :
 operations-inside-push cores blocks words items entry =
     rw (filter-append (is_within cores blocks words) items (entry ∷ []), filter_map-append operation_of (inside cores blocks words items) (filter (is_within cores blocks words) (entry ∷ [])), operations-one_if (is_within cores blocks words entry) entry)
 
--- the tables of a list of operations
-abbrev pub value_in : List Did → ℕ → ℕ → ℕ
-value_in dids block word = last_or 0 (map (λ did. did.value) (filter (is_store_to block word) dids))
-
--- the same by place
+-- the tables of a list of operations: values by place, counts and last operations by core
 abbrev pub value_at : ℕ → List Did → ℕ → ℕ
-value_at words dids place = value_in dids (place / words) (place % words)
+value_at words dids place = last_or 0 (map (λ did. did.value) (filter (is_store_to (place / words) (place % words)) dids))
 
 abbrev pub count_in : List Did → ℕ → ℕ
 count_in dids core = capped (length (filter (λ did. did.core == core) dids))
@@ -151,9 +147,6 @@ if_some : (here : Bool) (op : Option Did) (did : Did) → (if here then op else 
 if_some true op did e = (refl, e)
 if_some false op did e = cc
 
-lies-within : (cores blocks words : ℕ) (did : Did) → (nat_lt did.core cores && nat_lt did.block blocks && nat_lt did.word words) ≡ true → (did.core < cores) × (did.block < blocks) × (did.word < words)
-lies-within cores blocks words did e = grind (arith, nat_tests)
-
 -- an item that passes the test lies within the shape
 pub passes-within : (cores blocks words : ℕ) (entry : Item) → is_within cores blocks words entry ≡ true → IsItemWithin cores blocks words entry
 passes-within cores blocks words entry e =
@@ -164,7 +157,7 @@ passes-within cores blocks words entry e =
       core = ltb-true (core_of entry) cores core;
       block = ltb-true (block_of entry) blocks block;
       sender = λ core is. ltb-true core cores (rw is at sender);
-      operation = λ did is. lies-within cores blocks words did (rw is at operation);
+      operation = λ did is. let told = rw is at operation in grind (arith, nat_tests);
     }
 
 pub operation_within-lies : (cores blocks words : ℕ) (entry : Item) (did : Did) → operation_within cores blocks words entry ≡ Some did → (did.core < cores) × (did.block < blocks) × (did.word < words)
@@ -188,12 +181,9 @@ absorbed_board cores blocks words items entry =
     ∙ ap (λ (dids : List Did). board_with cores blocks words dids (capped_totals (totals_of (items ++ entry ∷ [])))) (sym (operations-inside-push cores blocks words items entry))))
 
 -- absorbing more items, one by one
-absorbed_on : (cores blocks words : ℕ) (past items : List Item) → fold absorbed (board_of cores blocks words past) items ≡ board_of cores blocks words (past ++ items)
+pub absorbed_on : (cores blocks words : ℕ) (past items : List Item) → fold absorbed (board_of cores blocks words past) items ≡ board_of cores blocks words (past ++ items)
 absorbed_on cores blocks words past [] = rw (append-nil past)
 absorbed_on cores blocks words past (x ∷ xs) = rw (absorbed_board cores blocks words past x, absorbed_on cores blocks words (past ++ x ∷ []) xs, append_assoc past (x ∷ []) xs)
-
-pub absorbed_all : (cores blocks words : ℕ) (items : List Item) → fold absorbed (board_of cores blocks words []) items ≡ board_of cores blocks words items
-absorbed_all cores blocks words items = absorbed_on cores blocks words [] items
 
 -- what a board's sizes say of the shape of its list
 pub board-shape : (cores blocks words : ℕ) (items : List Item) {board : Tables} → board ≡ board_of cores blocks words items → (length board.counts ≡ cores) × (board.blocks ≡ blocks) × (board.words ≡ words)

@@ -1,7 +1,7 @@
 -- What a log's board says of its items.
-use Rattle.std.proofs.Common.{◌≡◌, ℕ, ◌^◌, ◌<◌, ◌≤◌, List, [], ◌∷◌, ◌++◌, length, Option, Some, None, arith, refl, sym, ap, ◌∙◌, map, get_or}
+use Rattle.std.proofs.Common.{◌≡◌, ℕ, ◌<◌, ◌≤◌, List, [], ◌∷◌, length, Option, Some, None, arith, refl, sym, ap, ◌∙◌, map, get_or}
 use Rattle.std.specs.Prelude.{All, IfSome, slice_get, nat_lt, is_some, unwrap_or}
-use Rattle.snoop_history.proofs.Common.{IsNumbered, Item, Journal, NumberFits, filter_map}
+use Rattle.snoop_history.proofs.Common.{Item, filter_map}
 use Rattle.snoop_history.proofs.Common.{length-map, ltb-true, option_map, same_lists, slice_get-map}
 use Rattle.snoop_history.proofs.Common.{slice_get_read, unpacked, unwrap_or-slice_get}
 use Rattle.snoop_history.specs.declared.packed.Packed.{Packed}
@@ -9,14 +9,8 @@ use Rattle.snoop_history.specs.Within.{IsItemWithin, inside}
 use Rattle.snoop_history.specs.Totals.{touched}
 use Rattle.snoop_history.specs.Board.{Tables, board_of}
 use Rattle.snoop_history.specs.Kept.{IsKeptList, IsTallied}
-use Rattle.snoop_history.proofs.Pushed.{next_number_le}
-use Rattle.snoop_history.proofs.Legal.{listed-push}
 use Rattle.snoop_history.proofs.Boards.{inside_all, board-cores}
-use Rattle.snoop_history.proofs.Touching.{all_places, touched_within}
-
--- the number of an operation that may come next in a short list
-pub numbers_fit : (items : List Item) (entry : Item) → IsNumbered items entry → length items < 2 ^ 48 → NumberFits entry
-numbers_fit items entry numbered few did is = omega (arith, numbered did is, next_number_le items did.core, few)
+use Rattle.snoop_history.proofs.Touching.{all_places}
 
 -- what a `get` found, read by a function of it
 pub read-at : {A B : Type 0} (now : B → A) (xs : List A) (place : ℕ) (got : Option B) (x : A) → is_some got ≡ nat_lt place (length xs) → IfSome got (λ y. now y ≡ get_or xs place (now y)) →
@@ -44,7 +38,7 @@ filter_map-map f g [] = refl
 filter_map-map f g (x ∷ xs) = rw (filter_map-map f g xs)
 
 -- a log's board, the sizes of its shape read from it
-tallied_as : {cores blocks words : ℕ} {items : List Item} {board : Tables} {order : List ℕ} → cores ≤ 256 → blocks ≤ 65536 → words ≤ 64 → IsKeptList cores blocks words items
+pub tallied_as : {cores blocks words : ℕ} {items : List Item} {board : Tables} {order : List ℕ} → cores ≤ 256 → blocks ≤ 65536 → words ≤ 64 → IsKeptList cores blocks words items
     → board ≡ board_of cores blocks words items → order ≡ touched items → IsTallied (length board.counts) board.blocks board.words items board order
 tallied_as {cores} {blocks} {words} {items} few_cores few_blocks few_words listed tallied mentioned =
     rw (tallied, board-cores cores blocks words items) (record { few_cores = few_cores; few_blocks = few_blocks; few_words = few_words; listed = listed; tallied = refl; mentioned = mentioned })
@@ -56,9 +50,6 @@ module _ {cores blocks words : ℕ} {items : List Item} {board : Tables} {order 
   pub all_inside : inside cores blocks words items ≡ items
   all_inside = inside_all cores blocks words items within_all
 
-  pub kept-touched : {answer : List ℕ} → answer ≡ order → All (λ block. block < blocks) answer
-  kept-touched is = rw (is ∙ kept.mentioned) (touched_within cores blocks words items within_all)
-
   -- an item of the shape is one of the largest shape
   pub fits : (entry : Item) → IsItemWithin cores blocks words entry → IsItemWithin 256 65536 64 entry
   fits entry lies =
@@ -68,19 +59,3 @@ module _ {cores blocks words : ℕ} {items : List Item} {board : Tables} {order 
         sender = λ core is. omega (arith, lies.sender core is, kept.few_cores);
         operation = λ did is. let (core, block, word) = lies.operation did is in (omega (arith, kept.few_cores), omega (arith, kept.few_blocks), omega (arith, kept.few_words));
       }
-
-  -- a log with one item more
-  pub kept-push : (entry : Item) (items' : List Item) (board' : Tables) (order' : List ℕ) → IsItemWithin cores blocks words entry → IsNumbered items entry →
-      items' ≡ items ++ entry ∷ [] → board' ≡ board_of cores blocks words (items ++ entry ∷ []) → order' ≡ touched (items ++ entry ∷ []) → IsTallied (length board'.counts) board'.blocks board'.words items' board' order'
-  kept-push entry items' board' order' lies numbered more tallied mentioned =
-      rw more (tallied_as kept.few_cores kept.few_blocks kept.few_words (listed-push cores blocks words items entry kept.listed lies numbered) tallied mentioned)
-
--- an empty log
-pub kept-at_first : (cores blocks words : ℕ) (items : List Item) (board : Tables) (order : List ℕ) → cores ≤ 256 → blocks ≤ 65536 → words ≤ 64 → items ≡ [] → board ≡ board_of cores blocks words [] → order ≡ [] →
-    IsTallied (length board.counts) board.blocks board.words items board order
-kept-at_first cores blocks words items board order few_cores few_blocks few_words none tallied mentioned =
-    rw none (tallied_as few_cores few_blocks few_words (record { within = λ k entry at. cc; in_order = λ k entry at. cc }) tallied mentioned)
-
--- two journals of equal parts
-pub same-journal : (j k : Journal) → j.cores ≡ k.cores → j.blocks ≡ k.blocks → j.words ≡ k.words → j.items ≡ k.items → j.room ≡ k.room → j ≡ k
-same-journal j k cores blocks words items room = λ i. record { cores = cores i; blocks = blocks i; words = words i; items = items i; room = room i }

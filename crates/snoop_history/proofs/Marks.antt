@@ -1,5 +1,5 @@
 -- One more block among those that were mentioned.
-use Rattle.std.proofs.Common.{◌≡◌, ℕ, zero, suc, ◌+◌, ◌<◌, ◌≤◌, Bool, true, false, List, [], ◌∷◌, ◌++◌, length, Some, refl, sym, ◌∙◌, ap, arith, get_or, inl, inr}
+use Rattle.std.proofs.Common.{◌≡◌, ℕ, zero, suc, ◌+◌, ◌<◌, Bool, true, false, List, [], ◌∷◌, ◌++◌, length, Some, refl, sym, ◌∙◌, ap, arith, get_or, inl, inr}
 use Rattle.std.specs.Prelude.{replicate, slice_get, slice_set, nat_eq}
 use Rattle.snoop_history.proofs.Common.{Mentions, cases_eq, eq-eqb, get_or-replicate}
 use Rattle.snoop_history.proofs.Common.{get_or-set_other, get_or-set_same, get_or_from_slice_get}
@@ -18,10 +18,6 @@ set-more [] i at = cc
 set-more (m ∷ ms) zero at = let e : m ≡ false = cc in rw e (omega arith)
 set-more (true ∷ ms) (suc i) at = omega (arith, set-more ms i at)
 set-more (false ∷ ms) (suc i) at = set-more ms i at
-
--- no more blocks were mentioned than there are
-pub few-mentioned : (marks : List Bool) (order : List ℕ) → AreMarksOf marks order → length order ≤ length marks
-few-mentioned marks order kept = omega (arith, length-filter-le (λ (mark : Bool). mark) marks, kept.counted)
 
 -- a block that is not marked, and for which there is room
 module _ (marks : List Bool) (order : List ℕ) (kept : AreMarksOf marks order) (block : ℕ) (within : block < length marks) (free : slice_get marks block ≡ Some false) where
@@ -65,10 +61,6 @@ marks-at_first n marks order is none =
       marked = λ block within. slice_get-get_or (replicate n false) block false within ∙ ap Some (get_or-replicate n block false false (omega (arith, length-replicate n false)));
       counted = sym (none-set n);
     })
-
--- two mentions of equal parts
-pub same-mentions : (m n : Mentions) → m.blocks ≡ n.blocks → m.order ≡ n.order → m ≡ n
-same-mentions m n blocks order = λ i. record { blocks = blocks i; order = order i }
 
 -- what callers see of a block is so inside
 module _ (t : Inside) {seen : Mentions} (view_is : mentions t ≡ seen) {block : ℕ} (within : block < seen.blocks) where

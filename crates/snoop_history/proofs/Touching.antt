@@ -1,8 +1,8 @@
 -- The blocks that a list mentions, with one item more.
-use Rattle.std.proofs.Common.{arith, get_or, ◌≡◌, ℕ, Bool, true, false, not, ◌&&◌, List, [], ◌∷◌, ◌++◌, refl, map, filter, ◌<◌, eqb, append-nil, append_assoc}
-use Rattle.std.specs.Prelude.{Option, Some, None, option_to_list, slice_get, suc, nat_lt, ◌==◌, nat_eq, All, if◌then◌else◌}
-use Rattle.snoop_history.proofs.Common.{Did, ForSome, Item, Totals, blocks_text, eqb-true, flat}
-use Rattle.snoop_history.proofs.Common.{flat_map, flat_map-append, insert_key, list_any, lt-ltb}
+use Rattle.std.proofs.Common.{arith, get_or, ◌≡◌, ℕ, Bool, true, false, not, List, [], ◌∷◌, ◌++◌, refl, map, filter, ◌<◌, eqb, append-nil, append_assoc}
+use Rattle.std.specs.Prelude.{Option, Some, None, option_to_list, slice_get, suc, ◌==◌, nat_eq, All}
+use Rattle.snoop_history.proofs.Common.{Did, ForSome, Item, Totals, blocks_text, eqb-true}
+use Rattle.snoop_history.proofs.Common.{flat_map, flat_map-append, insert_key, list_any}
 use Rattle.snoop_history.proofs.Common.{operation_of, report_of, slice_get-get_or, totals_text}
 use Rattle.std.proofs.lemmas.List.Elements.{All-weaker, filter-append, All-filter, All-nil, All-cons, All-head, All-tail, All-append}
 use Rattle.std.proofs.lemmas.Map.Views.{any-filter_same}
@@ -73,11 +73,6 @@ touched_within cores blocks words items all =
 -- what holds of the element at each place holds of all
 pub all_places : (P : Item → Type 0) (items : List Item) → ((k : ℕ) (entry : Item) → slice_get items k ≡ Some entry → P entry) → All P items
 all_places P items each k d within = each k (get_or items k d) (slice_get-get_or items k d within)
-
--- a flat value that was found
-pub flat_found : (blocks words : ℕ) (items : List Item) (block word : ℕ) {value : ℕ} {answer : Option ℕ} → block < blocks → word < words → answer ≡ (if nat_lt block blocks && nat_lt word words then Some (flat items block word) else None) → answer ≡ Some value → value ≡ flat items block word
-flat_found blocks words items block word within in_words told found =
-    let some = rw (lt-ltb block blocks within, lt-ltb word words in_words) at told in cc
 
 -- the totals and then the blocks are the report
 pub report_joined : (words : ℕ) (items : List Item) (old : List ℕ) {blocks mid new : List ℕ} {totals : Totals} → totals ≡ totals_of items → blocks ≡ touched items → mid ≡ old ++ totals_text totals →

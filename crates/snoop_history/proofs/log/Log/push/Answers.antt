@@ -1,7 +1,9 @@
 use Rattle.std.proofs.Common.{◌≡◌, [], ◌∷◌, ◌++◌, map, sym, ap, ◌∙◌, arith, ◌<◌, ◌^◌, length}
+use Rattle.snoop_history.proofs.Pushed.{next_number_le}
+use Rattle.snoop_history.proofs.Legal.{listed-push}
 use Rattle.snoop_history.proofs.Common.{Item, length-map, map-append, unpacked}
 use Rattle.snoop_history.proofs.Boards.{board-shape}
-use Rattle.snoop_history.proofs.Kept.{kept-push, numbers_fit}
+use Rattle.snoop_history.proofs.Kept.{tallied_as}
 use Rattle.snoop_history.proofs.log.Log.push.Goals as goal
 
 pub invariant_of-self : goal.invariant_of-self
@@ -14,8 +16,9 @@ invariant_of-self c =
     let more : map unpacked c.push_reserved.new.self.items ≡ items ++ entry ∷ [] =
     ap (map unpacked) c.push_reserved.ensures.items ∙ (map-append unpacked l.items.items (c.new.result ∷ []) ∙ ap (λ (e : Item). items ++ e ∷ []) c.new.ensures) in
     let tallied = c.absorb.ensures.board _ _ _ items kept.tallied in
+    let listed = listed-push _ _ _ items entry kept.listed (rw view at c.requires.within) (rw view at c.requires.numbered) in
     record {
-      kept = kept-push kept entry _ _ _ (rw view at c.requires.within) (rw view at c.requires.numbered) more tallied (c.add.ensures.order items kept.mentioned);
+      kept = rw more (tallied_as kept.few_cores kept.few_blocks kept.few_words listed tallied (c.add.ensures.order items kept.mentioned));
       as_many = c.add.ensures.blocks ∙ (c.self.invariant.as_many ∙ sym (board-shape _ _ _ (items ++ entry ∷ []) tallied).1);
     }
 
@@ -25,4 +28,5 @@ new-requires-clause-number c =
     let view = sym c.self.view_is in
     let room = rw view at c.requires.room in
     let few : length items < 2 ^ 48 = omega (arith, length-map c.self.inside.items.items unpacked, c.self.inside.items.ok.0) in
-    numbers_fit items c.args.item (rw view at c.requires.numbered) few
+    let numbered = rw view at c.requires.numbered in
+    λ did is. omega (arith, numbered did is, next_number_le items did.core, few)

@@ -1,12 +1,12 @@
 use Rattle.std.proofs.Common.{◌≡◌, ◌∙◌, ap, arith, length}
 use Rattle.snoop_history.proofs.Common.{each_same, spare}
-use Rattle.snoop_history.proofs.Marks.{few-mentioned, same-mentions}
+use Rattle.snoop_history.proofs.Pushed.{length-filter-le}
 use Rattle.snoop_history.proofs.touched.TouchedBlocks.copy.Goals as goal
 
 pub overflow_sub-len : goal.overflow_sub-len
 overflow_sub-len c =
     let t = c.self.inside in
-    omega (arith, c.len.ensures, c.len-2.ensures.len, few-mentioned t.marks.items t.order.keys c.self.invariant.marks, ap length (each_same _ _ c.in_ok-order.ensures.cases))
+    omega (arith, c.len.ensures, c.len-2.ensures.len, length-filter-le (λ mark. mark) t.marks.items, c.self.invariant.marks.counted, ap length (each_same _ _ c.in_ok-order.ensures.cases))
 
 pub invariant_of-result : goal.invariant_of-result
 invariant_of-result c =
@@ -22,4 +22,5 @@ invariant_of-result c =
 pub returns : goal.returns
 returns c =
     let keys = ap (λ s. s.keys) c.order.view_is ∙ c.reserve.ensures.keys ∙ each_same _ _ c.in_ok-order.ensures.cases in
-    same-mentions _ _ (ap length (c.in_ok-from_slice.ensures.items ∙ c.deref.ensures.value)) keys ∙ c.self.view_is
+    let many = ap length (c.in_ok-from_slice.ensures.items ∙ c.deref.ensures.value) in
+    (λ i. record { blocks = many i; order = keys i }) ∙ c.self.view_is
