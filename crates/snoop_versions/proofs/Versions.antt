@@ -5,7 +5,6 @@ use Rattle.snoop_versions.proofs.Common.{Adds, Fits, IsItemWithin, IsWriting, It
 use Rattle.snoop_versions.proofs.Common.{Sees, Version, View, absorbed_board, grown, last_or}
 use Rattle.snoop_versions.proofs.Common.{newcomer, newest_of, same_shape, version_of}
 use Rattle.std.proofs.lemmas.List.{map-append}
-use Rattle.std.proofs.lemmas.List.Elements.{All-nil}
 use mathlib.Core.Option.{some}
 use lib.ListN.{get_elem?}
 use Rattle.left_right.specs.Register.{Admits, TurnsAt, Turns}
@@ -103,17 +102,3 @@ adds handle v x next c b d entry shown is legal within grows views k at =
       },
       (refl, ap (λ (y : Version). v.seen ++ option_to_list y.newest) (sym grows)),
     )
-
--- the rule holds of the version of no items, which only its writer has
-pub opens : (x : Version) (c b d : ℕ) → x ≡ version_of c b d [] → Kept x (newcomer ∷ [])
-opens x c b d is = admits x [] (record {
-  cores = c;
-  blocks = b;
-  words = d;
-  list = [];
-  writer = 0;
-  version = is;
-  legal = λ k entry at. cc;
-  within = All-nil (IsItemWithin c b d);
-  each = λ j u e. cc;
-})
