@@ -1,44 +1,32 @@
 -- What is written is read again.
 use Rattle.std.proofs.Common.{◌≡◌, ◌<◌, ℕ, ◌+◌, ◌^◌, List, [], ◌∷◌, ◌++◌, length, Some, true, false, refl, arith, append_assoc}
-use Rattle.std.specs.Prelude.{fold, nat_eq, codes, Ok, Err}
-use Rattle.std.specs.Char.{digit_value, is_digit}
-use Rattle.std.specs.Fmt.{decimal}
+use Rattle.std.specs.Prelude.{fold, nat_eq, codes, Ok, Err, map}
+use Rattle.snoop_trace.proofs.Common.{AllDigits, Evict, Extent, Heading, IsReadableStep}
+use Rattle.snoop_trace.proofs.Common.{IsWithinLimits, Load, Step, Store, address_of, and_right}
+use Rattle.snoop_trace.proofs.Common.{decimal, decimal_is_IsNumeral, digit_value, digits_value}
+use Rattle.snoop_trace.proofs.Common.{false_from_ne_true, is_digit, lt-ltb, mul-le, nat_tests}
+use Rattle.snoop_trace.proofs.Common.{record_writer, records_left, recursion_from_All, step_text}
+use Rattle.snoop_trace.proofs.Common.{steps_text, text_of, word_address}
 use Rattle.std.specs.List.{All, AllByRecursion, flat_map, list_all, list_any, starts_with}
-use Rattle.std.specs.Str.Parse.{AllDigits, digits_value}
-use Rattle.std.proofs.lemmas.Fmt.{decimal_is_IsNumeral}
 use Rattle.std.proofs.lemmas.Str.Parse.{digit_from_value}
-use Rattle.std.proofs.lemmas.Bool.Decides.{nat_tests}
-use Rattle.std.proofs.lemmas.Bool.{false_from_ne_true, lt-ltb}
 use Rattle.csv.specs.Writing.{default_writer, escaped, needs_byte, row_text, fields_text}
 use Rattle.csv.specs.Machine.{next_record}
-use Rattle.csv.specs.Reading.{default_config}
-use Rattle.csv.specs.declared.parser.State.TheVariants as st
+use Rattle.csv.specs.Reading.{default_config, strip_bom}
 use Rattle.csv.proofs.RoundTrip.{read-write}
-use Rattle.std.specs.Prelude.{map}
-use Rattle.std.proofs.lemmas.Bool.{and_right}
 use Rattle.std.proofs.Math.Nat.{mul-div_cancel}
-use Rattle.std.proofs.lemmas.List.Elements.{recursion_from_All}
-use Rattle.std.proofs.lemmas.Nat.{mul-le}
 use Rattle.csv.specs.Writing.{is_blank, read_back}
-use Rattle.csv.specs.Reading.{strip_bom}
 use Rattle.snoop_trace.specs.Grammar.{ask, row_by_letter, block_in, number, numeral, order, respond, step_in, store, without_value}
 use Rattle.snoop_trace.specs.Heading.{heading_as, heading_for, heading_in, heading_text, protocol_named, same_heading, same_protocol, version_in}
-use Rattle.snoop_trace.specs.Output.{IsReadableStep, address_of, step_text, steps_text, text_of, word_address}
-use Rattle.snoop_trace.specs.Progress.{records_left}
 use Rattle.snoop_trace.specs.Protocol.{protocol_name}
 use Rattle.snoop_trace.specs.Text.{entries_from, entries_in, records_of, steps_of}
 use Rattle.snoop_trace.specs.declared.fault.TextFault.TheVariants.{OtherShape}
-use Rattle.snoop_trace.specs.declared.heading.Heading.{Heading}
 use Rattle.snoop_trace.specs.declared.protocol.Protocol.{Protocol}
 use Rattle.snoop_trace.specs.declared.protocol.Protocol.TheVariants.{Msi, Mesi}
-use Rattle.snoop_trace.specs.Extent.{Extent, IsWithinLimits}
-use Rattle.snoop_trace.specs.Records.{record_writer}
-use Rattle.snoop_trace.specs.declared.step.Op.TheVariants.{Load, Store, Evict}
-use Rattle.snoop_trace.specs.declared.step.Step.{Step}
 use Rattle.snoop_trace.specs.declared.step.Step.TheVariants.{Ask, Order, Respond}
 use Rattle.snoop_trace.proofs.CsvLemmas.{records-ended, records_step}
 use Rattle.snoop_trace.proofs.PowerLemmas.{power_some}
 use Rattle.snoop_trace.proofs.WordPlaces.{address_back, address_before}
+use Rattle.csv.specs.declared.parser.State.TheVariants as st
 
 -- no digit calls for quotes
 digit_plain : (c : ℕ) → digit_value c < 10 → needs_byte default_writer c ≡ false

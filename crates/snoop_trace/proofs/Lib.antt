@@ -1,3 +1,4 @@
+pub mod Common
 pub mod PowerLemmas
 pub mod WordPlaces
 pub mod Padded

@@ -1,18 +1,12 @@
 -- What a writer holds after several writes.
 use Rattle.std.proofs.Common.{ℕ, ◌+◌, List, [], ◌++◌, length, take, drop, Option, Some, None, refl, sym, ◌∙◌, append_assoc, ◌≡◌, ◌≤◌, ap, arith}
 use Rattle.std.specs.Prelude.{Result, Ok, Err, OnErr, ◌-◌}
-use Rattle.std.specs.Io.KnownBytes.{Appends, Keeps}
+use Rattle.snoop_trace.proofs.Common.{Appends, AppendsFront, Extent, Keeps, Step, slice-end}
+use Rattle.snoop_trace.proofs.Common.{steps_text, take-append-drop}
 use Rattle.std.proofs.Math.Seq.{take-add}
-use Rattle.csv.proofs.WriteFacts.{appends-more, appends-none, slice-end}
-use Rattle.std.proofs.lemmas.List.{take-append-drop}
-use Rattle.snoop_trace.specs.Output.{AppendsFront, steps_text}
 use Rattle.std.specs.List.{slice_range}
 use Rattle.std.proofs.lemmas.List.Concat.{flat_map-append}
-use Rattle.snoop_trace.specs.Extent.{Extent}
-use Rattle.snoop_trace.specs.declared.step.Step.{Step}
-
-pub appends_more : (a b c : Option (List ℕ)) (x y : List ℕ) → Appends a b x → Appends b c y → Appends a c (x ++ y)
-appends_more = appends-more
+pub use Rattle.csv.proofs.WriteFacts.{appends-more as appends_more, appends-none as appends_none}
 
 appends_same : (a b c : Option (List ℕ)) (x : List ℕ) → Appends a b x → Keeps b c → Appends a c x
 appends_same None b c x p q = tt
@@ -30,9 +24,6 @@ took_more a b c text at n p q =
 pub stopped : (a b c : Option (List ℕ)) (text : List ℕ) (at : ℕ) → Appends a b (take at text) → Keeps b c → AppendsFront a c text
 stopped a b c text at p q =
     record { front = take at text; rest = drop at text; whole = sym (take-append-drop at text); appends = appends_same a b c (take at text) p q }
-
-pub appends_none : (a : Option (List ℕ)) → Appends a a []
-appends_none = appends-none
 
 -- nothing was written of a text
 pub appends_none_of : (a : Option (List ℕ)) (text : List ℕ) → AppendsFront a a text

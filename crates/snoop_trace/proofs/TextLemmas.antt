@@ -1,22 +1,18 @@
 -- How the records that were read so far stand in the whole text.
 use Rattle.std.proofs.Common.{◌≡◌, ℕ, ◌+◌, List, [], ◌∷◌, ◌++◌, Option, Some, None, true, false, refl, ◌∙◌, ap, append_assoc}
 use Rattle.std.specs.Prelude.{Bool, Result, Ok, Err, IfErr, IfSome, if◌then◌else◌}
-use Rattle.std.proofs.lemmas.List.{append-nil}
-use Rattle.std.proofs.lemmas.Result.{IfErr-at_err}
+use Rattle.snoop_trace.proofs.Common.{Heading, IfErr-at_err, State, TakesEntry, TakesRecord}
+use Rattle.snoop_trace.proofs.Common.{TextFault, append-nil, entries_after, records_left}
 use Rattle.csv.specs.Machine.{next_record}
 use Rattle.csv.specs.Reading.{Reached, ReadRecord, default_config, reader_config, reader_state, records, source_of}
-use Rattle.csv.specs.declared.parser.State.{State}
-use Rattle.csv.specs.declared.parser.State.TheVariants as st
 use Rattle.csv.specs.declared.reader.Reader.{Reader}
 use Rattle.csv.proofs.ReadFacts.{rows-end, rows-more}
 use Rattle.snoop_trace.specs.Grammar.{◌>>=◌, NamesRecord}
-use Rattle.snoop_trace.specs.Progress.{TakesRecord, TakesEntry, entries_after, records_left}
 use Rattle.snoop_trace.specs.Heading.{heading_as, is_heading}
 use Rattle.snoop_trace.specs.Text.{Gives, entries_from, entries_in}
-use Rattle.snoop_trace.specs.declared.heading.Heading.{Heading}
-use Rattle.snoop_trace.specs.declared.fault.TextFault.{TextFault}
-use Rattle.snoop_trace.specs.declared.fault.TextFault.TheVariants as fault
 use Rattle.snoop_trace.proofs.CsvLemmas.{records-ended, records_step}
+use Rattle.csv.specs.declared.parser.State.TheVariants as st
+use Rattle.snoop_trace.specs.declared.fault.TextFault.TheVariants as fault
 
 -- what a record says, by its number and its fields
 abbrev Says : Type 0 → Type 0

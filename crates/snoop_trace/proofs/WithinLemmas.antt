@@ -1,16 +1,10 @@
 -- What a record says as a row or as a step is within the shape.
 use Rattle.std.proofs.Common.{◌≡◌, ◌<◌, ◌/◌, ℕ, List, true, false, refl, arith, rules}
 use Rattle.std.specs.Prelude.{All, Bool, Result, Ok, Err, IfOk, if◌then◌else◌}
-use Rattle.std.proofs.lemmas.Bool.Decides.{nat_tests}
-use Rattle.std.proofs.lemmas.Result.{IfOk-at_ok, IfOk-weaker}
-use Rattle.std.proofs.lemmas.List.Elements.{All-weaker}
-use Rattle.snoop_trace.specs.Extent.{Extent, IsWithinLimits}
+use Rattle.snoop_trace.proofs.Common.{All-weaker, Extent, IfOk-at_ok, IfOk-weaker, IsSaid}
+use Rattle.snoop_trace.proofs.Common.{IsWithinLimits, Row, Step, TextFault, nat_tests}
 use Rattle.snoop_trace.proofs.WordPlaces.{asked_within}
 use Rattle.snoop_trace.specs.Grammar.{◌>>=◌, IsRowWithin, IsStepWithin, ask, row_by_letter, block_in, core_in, order, respond, row_in, step_in, store, without_value}
-use Rattle.snoop_trace.specs.Progress.{IsSaid}
-use Rattle.snoop_trace.specs.declared.fault.TextFault.{TextFault}
-use Rattle.snoop_trace.specs.declared.step.Row.{Row}
-use Rattle.snoop_trace.specs.declared.step.Step.{Step}
 
 -- a reading that goes on
 pub if_bind : {A B : Type 0} (r : Result A TextFault) (f : A → Result B TextFault) (P : B → Type 0) → ((x : A) → r ≡ Ok x → IfOk (f x) P) → IfOk (r >>= f) P

@@ -1,9 +1,7 @@
 use Rattle.std.proofs.Common.{◌≡◌, ◌+◌, ◌∷◌, ◌++◌, [], length, inr, refl, arith}
+use Rattle.snoop_trace.proofs.Common.{All-push, IsSaid, length-append}
 use Rattle.csv.specs.Reading.{reader_state, source_of}
-use Rattle.std.proofs.lemmas.List.{length-append}
-use Rattle.std.proofs.lemmas.List.Elements.{All-push}
 use Rattle.std.proofs.lemmas.Option.{IfSome_then}
-use Rattle.snoop_trace.specs.Progress.{IsSaid}
 use Rattle.snoop_trace.proofs.TextLemmas.{done, faulty, further}
 use Rattle.snoop_trace.proofs.text.take_entries.Goals as goal
 

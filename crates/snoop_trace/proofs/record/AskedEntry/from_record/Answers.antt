@@ -1,6 +1,5 @@
 use Rattle.std.proofs.Common.{arith}
-use Rattle.csv.specs.Records.{fields_of}
-use Rattle.std.proofs.lemmas.Grind.{common_steps}
+use Rattle.snoop_trace.proofs.Common.{common_steps, fields_of}
 use Rattle.snoop_trace.proofs.RecordLemmas.{names_asked}
 use Rattle.snoop_trace.proofs.record.AskedEntry.from_record.Goals as goal
 

@@ -1,6 +1,5 @@
 use Rattle.std.proofs.Common.{ℕ, ◌<◌, ◌^◌, ◌≤◌, length, ap, arith, length-append}
-use Rattle.std.specs.Fmt.{decimal}
-use Rattle.std.proofs.lemmas.Fmt.{length-decimal-le}
+use Rattle.snoop_trace.proofs.Common.{decimal, length-decimal-le}
 use Rattle.snoop_trace.proofs.streams.step_text.put_field.Goals as goal
 
 few : (n : ℕ) → n < 2 ^ 64 → length (decimal n) ≤ 20
