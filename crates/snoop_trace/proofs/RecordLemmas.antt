@@ -35,10 +35,6 @@ pub names_respond : (shape : Extent) (n : ℕ) (fs : List (List ℕ)) → IfErr 
 unfolding respond
 names_respond shape n fs = search names depth 12
 
-names_heading : (n : ℕ) (fs : List (List ℕ)) → IfErr (heading_in n fs) NamesRecord
-unfolding heading_in version_in
-names_heading n fs = search names depth 15
-
 pub names_heading_as : (asked : Heading) (n : ℕ) (fs : List (List ℕ)) → IfErr (heading_as asked n fs) NamesRecord
-unfolding heading_as
-names_heading_as asked n fs = search (names, names_heading)
+unfolding heading_as heading_in version_in
+names_heading_as asked n fs = search names depth 20

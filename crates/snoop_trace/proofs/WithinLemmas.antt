@@ -28,12 +28,9 @@ address_there : (shape : Extent) (n address block : ℕ) → block_in shape n ad
 address_there shape n address block e = grind (arith, nat_tests)
 
 -- the row's core is there
-core_of_asked : (shape : Extent) (n letter : ℕ) (fs : List (List ℕ)) → IfOk (row_by_letter shape n letter fs) (λ row. row.core < shape.cores)
-unfolding row_by_letter without_value store
-core_of_asked shape n letter fs = search (if_bind, if_if, core_there) depth 16
-
 pub core_of_row : (shape : Extent) (n letter : ℕ) (fs : List (List ℕ)) (row : Row) → row_by_letter shape n letter fs ≡ Ok row → row.core < shape.cores
-core_of_row shape n letter fs row e = IfOk-at_ok (λ (row : Row). row.core < shape.cores) e (core_of_asked shape n letter fs)
+unfolding row_by_letter without_value store
+core_of_row shape n letter fs row e = IfOk-at_ok (λ (row : Row). row.core < shape.cores) e (search (if_bind, if_if, core_there) depth 16)
 
 pub said_row : (shape : Extent) (n : ℕ) (fs : List (List ℕ)) → IfOk (row_in shape n fs) (IsRowWithin shape)
 unfolding row_in
