@@ -143,10 +143,6 @@ noted-board cores blocks words dids old new (Some did) within =
     let lies = within did refl in
     rw (values-after dids did blocks words lies.1 lies.2 did.load refl, counts-after dids did cores lies.0, lasts-after dids did cores lies.0)
 
-if_some : (here : Bool) (op : Option Did) (did : Did) → (if here then op else None) ≡ Some did → (here ≡ true) × (op ≡ Some did)
-if_some true op did e = (refl, e)
-if_some false op did e = cc
-
 -- an item that passes the test lies within the shape
 pub passes-within : (cores blocks words : ℕ) (entry : Item) → is_within cores blocks words entry ≡ true → IsItemWithin cores blocks words entry
 passes-within cores blocks words entry e =
@@ -161,9 +157,10 @@ passes-within cores blocks words entry e =
     }
 
 pub operation_within-lies : (cores blocks words : ℕ) (entry : Item) (did : Did) → operation_within cores blocks words entry ≡ Some did → (did.core < cores) × (did.block < blocks) × (did.word < words)
-operation_within-lies cores blocks words entry did is =
-    let (passes, performs) = if_some (is_within cores blocks words entry) (operation_of entry) did is in
-    (passes-within cores blocks words entry passes).operation did performs
+operation_within-lies cores blocks words entry did is = elim (cases_Bool (is_within cores blocks words entry)) [
+  | inl passes ↦ (passes-within cores blocks words entry passes).operation did (rw passes at is)
+  | inr beyond ↦ let none = rw beyond at is in cc
+]
 
 -- a board has a count for each core
 pub board-cores : (cores blocks words : ℕ) (items : List Item) → length (board_of cores blocks words items).counts ≡ cores

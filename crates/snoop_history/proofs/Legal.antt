@@ -18,14 +18,13 @@ slice_get-snoc (y ∷ ys) entry (suc k) x at =
     elim (slice_get-snoc ys entry k x at) [ inl p ↦ inl (p.0, ap (λ l. y ∷ l) p.1) | inr p ↦ inr (p.0, ap (λ l. y ∷ l) p.1) ]
 
 -- what holds of each item and those before it, of one item more and of fewer
-module _ (P : List Item → Item → Type 0) where
-  pub each-grows : (items : List Item) (entry : Item) → ((k : ℕ) (x : Item) → slice_get items k ≡ Some x → P (take k items) x) → P items entry
-      → (k : ℕ) (x : Item) → slice_get (items ++ entry ∷ []) k ≡ Some x → P (take k (items ++ entry ∷ [])) x
-  each-grows items entry each last k x at =
-      elim (slice_get-snoc items entry k x at) [
-        | inl p ↦ rw p.1 (each k x p.0)
-        | inr p ↦ rw (p.1, p.0) last
-      ]
+each-grows : (P : List Item → Item → Type 0) (items : List Item) (entry : Item) → ((k : ℕ) (x : Item) → slice_get items k ≡ Some x → P (take k items) x) → P items entry
+    → (k : ℕ) (x : Item) → slice_get (items ++ entry ∷ []) k ≡ Some x → P (take k (items ++ entry ∷ [])) x
+each-grows P items entry each last k x at =
+    elim (slice_get-snoc items entry k x at) [
+      | inl p ↦ rw p.1 (each k x p.0)
+      | inr p ↦ rw (p.1, p.0) last
+    ]
 
 -- a log's list with one item more
 pub listed-push : (cores blocks words : ℕ) (items : List Item) (entry : Item) → IsKeptList cores blocks words items → IsItemWithin cores blocks words entry → IsNumbered items entry → IsKeptList cores blocks words (items ++ entry ∷ [])

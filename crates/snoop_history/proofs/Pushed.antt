@@ -1,5 +1,5 @@
 -- One more item: the operations, counts, flat values and totals of the longer list.
-use Rattle.std.proofs.Common.{◌≡◌, ℕ, ◌+◌, ◌^◌, ◌<◌, ◌≤◌, Bool, true, false, not, ◌&&◌, List, [], ◌∷◌, ◌++◌, length, Option, Some, None, refl, ◌∙◌, ap, arith, map, filter, cond}
+use Rattle.std.proofs.Common.{◌≡◌, ℕ, ◌^◌, ◌<◌, ◌≤◌, Bool, not, ◌&&◌, List, [], ◌∷◌, ◌++◌, length, Option, Some, None, refl, ◌∙◌, ap, arith, map, filter}
 use Rattle.std.specs.Prelude.{option_to_list, ◌==◌, is_some, is_none}
 use Rattle.snoop_history.proofs.Common.{Did, Item, Totals, answers_of, counted, last_of, last_or}
 use Rattle.snoop_history.proofs.Common.{length-append, map-append, next_number, operation_of}
@@ -55,11 +55,7 @@ counts_by count =
 -- a capped count of a list with one more item
 how_many-capped : (test : Item → Bool) (items : List Item) (entry : Item) → counted (capped (how_many test items)) (test entry) ≡ capped (how_many test (items ++ entry ∷ []))
 how_many-capped test items entry =
-    rw (filter-append test items (entry ∷ []), length-append (filter test items) (filter test (entry ∷ []))) (go (how_many test items) (test entry))
-  where
-    go : (n : ℕ) (here : Bool) → counted (capped n) here ≡ capped (n + length (cond here (entry ∷ []) []))
-    go n true = omega arith
-    go n false = omega arith
+    rw (filter-append test items (entry ∷ []), length-append (filter test items) (filter test (entry ∷ []))) (grind arith)
 
 pub capped_totals-push : (items : List Item) (entry : Item) → tallied (capped_totals (totals_of items)) entry ≡ capped_totals (totals_of (items ++ entry ∷ []))
 capped_totals-push items entry = λ i. counts_by (λ test. how_many-capped test items entry i)

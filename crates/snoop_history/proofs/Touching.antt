@@ -1,5 +1,5 @@
 -- The blocks that a list mentions, with one item more.
-use Rattle.std.proofs.Common.{arith, get_or, ◌≡◌, ℕ, Bool, true, false, not, List, [], ◌∷◌, ◌++◌, refl, map, filter, ◌<◌, eqb, append-nil, append_assoc}
+use Rattle.std.proofs.Common.{sym, arith, get_or, ◌≡◌, ℕ, Bool, true, false, not, List, [], ◌∷◌, ◌++◌, refl, map, filter, ◌<◌, eqb, append-nil, append_assoc}
 use Rattle.std.specs.Prelude.{Option, Some, None, option_to_list, slice_get, suc, ◌==◌, nat_eq, All}
 use Rattle.snoop_history.proofs.Common.{Did, ForSome, Item, Totals, blocks_text, eqb-true}
 use Rattle.snoop_history.proofs.Common.{flat_map, flat_map-append, insert_key, list_any}
@@ -41,14 +41,12 @@ each_once-blocks xs block None = each_once-more xs block
 each_once-blocks xs block (Some did) =
     rw (← append_assoc xs (block ∷ []) (did.block ∷ []), each_once-more (xs ++ block ∷ []) did.block, each_once-more xs block)
 
-pub touched-more : (items : List Item) (entry : Item) → touched (items ++ entry ∷ []) ≡ with_operation (insert_key nat_eq (touched items) (block_of entry)) (operation_of entry)
-touched-more items entry =
-    rw (flat_map-append mentioned items (entry ∷ []), append-nil (mentioned entry)) (each_once-blocks (flat_map mentioned items) (block_of entry) (operation_of entry))
-
--- the same under other names
+-- the blocks that a list with one item more touches
 pub touched-add : (items : List Item) (entry : Item) {before after : List ℕ} {block : ℕ} {op : Option Did} → before ≡ touched items → block ≡ block_of entry → op ≡ operation_of entry →
     after ≡ with_operation (insert_key nat_eq before block) op → after ≡ touched (items ++ entry ∷ [])
-touched-add items entry was is performs added = rw (added, was, is, performs, touched-more items entry)
+touched-add items entry was is performs added =
+    rw (added, was, is, performs, flat_map-append mentioned items (entry ∷ []), append-nil (mentioned entry))
+    (sym (each_once-blocks (flat_map mentioned items) (block_of entry) (operation_of entry)))
 
 each_once-all : (P : ℕ → Type 0) (xs : List ℕ) → All P xs → All P (each_once xs)
 each_once-all P [] all = All-nil P
