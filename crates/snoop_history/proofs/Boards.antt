@@ -1,23 +1,19 @@
 -- The board of a list with one item more.
-use Rattle.std.proofs.Common.{◌≡◌, ◌≢◌, ℕ, zero, suc, ◌+◌, ◌*◌, ◌<◌, ◌≤◌, Bool, inl, inr, true, false, ◌&&◌, List, [], ◌∷◌, ◌++◌, length, Option, Some, None, refl, sym, ◌∙◌, ap, arith, map, filter, fold, cond, append_assoc, zero-add}
+use Rattle.std.proofs.Common.{◌≡◌, ◌≢◌, ℕ, zero, suc, ◌+◌, ◌*◌, ◌<◌, Bool, inl, inr, true, false, ◌&&◌, List, [], ◌∷◌, ◌++◌, length, Option, Some, None, refl, sym, ◌∙◌, ap, arith, map, filter, fold, cond, append_assoc, zero-add}
 use Rattle.std.specs.Prelude.{All, ◌/◌, ◌%◌, replicate, option_to_list, slice_index, slice_set, slice_get, ◌==◌, nat_lt, if◌then◌else◌, option_and_then}
-use Rattle.std.specs.List.{range_with_len}
-use Rattle.std.specs.Option.{option_map_or, ForSome}
+use Rattle.snoop_history.proofs.Common.{Did, ForSome, Item, Totals, and_parts, append-nil}
+use Rattle.snoop_history.proofs.Common.{cases_Bool, cases_eq, cases_lt, counted, eq-eqb, eqb-true}
+use Rattle.snoop_history.proofs.Common.{false_from_ne_true, flat, get_or-set_other, get_or-set_same}
+use Rattle.snoop_history.proofs.Common.{is_store_to, last_of, last_or, le-ltb, length-append}
+use Rattle.snoop_history.proofs.Common.{length-set, lt-ltb, ltb-true, map-append, nat_tests, ne_eqb}
+use Rattle.snoop_history.proofs.Common.{next_number, operation_of, operations, option_map_or}
+use Rattle.snoop_history.proofs.Common.{range_with_len, slice_get-get_or, slice_get_past, tallied}
 use Rattle.std.proofs.Math.Nat.{div-add-mod, mul_comm}
 use Rattle.std.proofs.lemmas.Nat.{div-mul-add, mod-mul-add, mul-le}
-use Rattle.std.proofs.lemmas.Bool.{and_parts, cases_eq, cases_lt, eq-eqb, ne_eqb, eqb-true, ltb-true, lt-ltb, le-ltb, false_from_ne_true}
-use Rattle.std.proofs.lemmas.Bool.Decides.{nat_tests}
-use Rattle.std.proofs.lemmas.Option.{slice_get-get_or, slice_get_past}
-use Rattle.std.proofs.lemmas.List.{map-append, length-append, append-nil, length-set, get_or-set_same, get_or-set_other}
 use Rattle.std.proofs.lemmas.List.FromFn.{fill_by_all, length-map-range_with_len, get_or-map-range_with_len}
 use Rattle.std.proofs.lemmas.List.Elements.{filter-append, filter_map-append, All-head, All-tail}
-use Rattle.snoop_history.specs.declared.items.Did.{Did}
-use Rattle.snoop_history.specs.declared.items.Item.{Item}
-use Rattle.snoop_history.specs.declared.items.Totals.{Totals}
-use Rattle.snoop_history.specs.History.{operation_of, operations, next_number, is_store_to, last_or, flat, last_of}
 use Rattle.snoop_history.specs.Within.{core_of, block_of, sender_of_response, IsItemWithin, is_within, inside}
 use Rattle.snoop_history.specs.Totals.{totals_of, capped, capped_totals}
-use Rattle.snoop_history.specs.Journal.{counted, tallied}
 use Rattle.snoop_history.specs.Board.{Tables, for_each_below, board_of, operation_within, noted, absorbed, place_of}
 use Rattle.snoop_history.proofs.Pushed.{operations-one, capped_totals-push, last_or-append}
 
@@ -36,7 +32,7 @@ get-below : {A : Type 0} (f : ℕ → A) (n k : ℕ) → slice_get (for_each_bel
 get-below f n k =
     let long = length-map-range_with_len f 0 n in
     elim (cases_lt k n) [
-      | inl lt ↦ rw (lt-ltb k n lt) (slice_get-get_or (for_each_below n f) k (f k) (omega arith) ∙ ap Some (get_or-map-range_with_len f 0 n k k (f k) lt (zero-add k)))
+      | inl lt ↦ rw (lt-ltb k n lt, slice_get-get_or (for_each_below n f) k (f k) (omega arith), get_or-map-range_with_len f 0 n k k (f k) lt (zero-add k)) refl
       | inr le ↦ rw (le-ltb k n le) (slice_get_past (for_each_below n f) k (omega arith))
     ]
 
@@ -48,23 +44,22 @@ table-of f x a (suc n) same = rw (same a, table-of f x (a + 1) n same)
 -- a word's place is one of the places
 pub place-within : (blocks words block word : ℕ) → block < blocks → word < words → place_of words block word < blocks * words
 place-within blocks words block word b w =
-    let whole : (block + 1) * words ≤ blocks * words = mul-le (block + 1) words blocks words (omega (arith, b)) (omega arith) in
-    let split : (block + 1) * words ≡ block * words + words = omega arith in
-    omega (arith, whole, split, w)
+    let whole = mul-le (block + 1) words blocks words (omega arith) (omega arith) in
+    omega arith
 
 -- what stands at a word's place
 value-read : (f : ℕ → ℕ → ℕ) (blocks words block word : ℕ) →
     (if nat_lt block blocks && nat_lt word words then Some (slice_index (for_each_below (blocks * words) (λ place. f (place / words) (place % words))) (place_of words block word)) else None)
     ≡ (if nat_lt block blocks && nat_lt word words then Some (f block word) else None)
-value-read f blocks words block word = elim (cases_lt block blocks) [
-  | inl b ↦ elim (cases_lt word words) [
-    | inl w ↦
-        let place = place_of words block word in
-        rw (get_or-map-range_with_len (λ p. f (p / words) (p % words)) 0 (blocks * words) place place 0 (place-within blocks words block word b w) (zero-add place), div-mul-add block words word w, mod-mul-add block words word w)
-    | inr w ↦ rw (lt-ltb block blocks b, le-ltb word words w)
-  ]
-  | inr b ↦ rw (le-ltb block blocks b)
-]
+value-read f blocks words block word =
+    let place = place_of words block word in
+    elim (cases_Bool (nat_lt block blocks && nat_lt word words)) [
+      | inl here ↦
+          let (b, w) = and_parts _ _ here in
+          let inside = ltb-true word words w in
+          rw (here, get_or-map-range_with_len (λ p. f (p / words) (p % words)) 0 (blocks * words) place place 0 (place-within blocks words block word (ltb-true block blocks b) inside) (zero-add place), div-mul-add block words word inside, mod-mul-add block words word inside)
+      | inr beyond ↦ rw beyond
+    ]
 
 operations-one_if : (here : Bool) (entry : Item) → operations (cond here (entry ∷ []) []) ≡ option_to_list (if here then operation_of entry else None)
 operations-one_if true entry = operations-one entry
@@ -76,13 +71,9 @@ operations-inside-push : (cores blocks words : ℕ) (items : List Item) (entry :
 operations-inside-push cores blocks words items entry =
     rw (filter-append (is_within cores blocks words) items (entry ∷ []), filter_map-append operation_of (inside cores blocks words items) (filter (is_within cores blocks words) (entry ∷ [])), operations-one_if (is_within cores blocks words entry) entry)
 
--- the tables of a list of operations
-abbrev pub value_in : List Did → ℕ → ℕ → ℕ
-value_in dids block word = last_or 0 (map (λ did. did.value) (filter (is_store_to block word) dids))
-
--- the same by place
+-- the tables of a list of operations: values by place, counts and last operations by core
 abbrev pub value_at : ℕ → List Did → ℕ → ℕ
-value_at words dids place = value_in dids (place / words) (place % words)
+value_at words dids place = last_or 0 (map (λ did. did.value) (filter (is_store_to (place / words) (place % words)) dids))
 
 abbrev pub count_in : List Did → ℕ → ℕ
 count_in dids core = capped (length (filter (λ did. did.core == core) dids))
@@ -121,8 +112,7 @@ module _ (dids : List Did) (did : Did) where
       (if load then for_each_below (blocks * words) (value_at words dids) else slice_set (for_each_below (blocks * words) (value_at words dids)) (place_of words did.block did.word) did.value)
       ≡ for_each_below (blocks * words) (value_at words (dids ++ did ∷ []))
   values-after blocks words in_blocks in_words true e =
-      fill_by_all (value_at words (dids ++ did ∷ [])) (for_each_below (blocks * words) (value_at words dids)) (blocks * words) 0 (length-map-range_with_len (value_at words dids) 0 (blocks * words)) (λ place lt.
-      get_or-map-range_with_len (value_at words dids) 0 (blocks * words) place place 0 lt (zero-add place) ∙ sym (ap (λ l. last_or 0 (map (λ d. d.value) l)) (filter-none (is_store_to (place / words) (place % words)) (rw e))))
+      sym (λ i. for_each_below (blocks * words) (λ place. last_or 0 (map (λ d. d.value) (filter-none (is_store_to (place / words) (place % words)) (rw e) i))))
   values-after blocks words in_blocks in_words false e =
       set-below (value_at words dids) (value_at words (dids ++ did ∷ [])) (blocks * words) (place_of words did.block did.word) did.value (place-within blocks words did.block did.word in_blocks in_words)
       (rw (div-mul-add did.block words did.word in_words, mod-mul-add did.block words did.word in_words)
@@ -153,13 +143,6 @@ noted-board cores blocks words dids old new (Some did) within =
     let lies = within did refl in
     rw (values-after dids did blocks words lies.1 lies.2 did.load refl, counts-after dids did cores lies.0, lasts-after dids did cores lies.0)
 
-if_some : (here : Bool) (op : Option Did) (did : Did) → (if here then op else None) ≡ Some did → (here ≡ true) × (op ≡ Some did)
-if_some true op did e = (refl, e)
-if_some false op did e = cc
-
-lies-within : (cores blocks words : ℕ) (did : Did) → (nat_lt did.core cores && nat_lt did.block blocks && nat_lt did.word words) ≡ true → (did.core < cores) × (did.block < blocks) × (did.word < words)
-lies-within cores blocks words did e = grind (arith, nat_tests)
-
 -- an item that passes the test lies within the shape
 pub passes-within : (cores blocks words : ℕ) (entry : Item) → is_within cores blocks words entry ≡ true → IsItemWithin cores blocks words entry
 passes-within cores blocks words entry e =
@@ -170,13 +153,14 @@ passes-within cores blocks words entry e =
       core = ltb-true (core_of entry) cores core;
       block = ltb-true (block_of entry) blocks block;
       sender = λ core is. ltb-true core cores (rw is at sender);
-      operation = λ did is. lies-within cores blocks words did (rw is at operation);
+      operation = λ did is. let told = rw is at operation in grind (arith, nat_tests);
     }
 
 pub operation_within-lies : (cores blocks words : ℕ) (entry : Item) (did : Did) → operation_within cores blocks words entry ≡ Some did → (did.core < cores) × (did.block < blocks) × (did.word < words)
-operation_within-lies cores blocks words entry did is =
-    let (passes, performs) = if_some (is_within cores blocks words entry) (operation_of entry) did is in
-    (passes-within cores blocks words entry passes).operation did performs
+operation_within-lies cores blocks words entry did is = elim (cases_Bool (is_within cores blocks words entry)) [
+  | inl passes ↦ (passes-within cores blocks words entry passes).operation did (rw passes at is)
+  | inr beyond ↦ let none = rw beyond at is in cc
+]
 
 -- a board has a count for each core
 pub board-cores : (cores blocks words : ℕ) (items : List Item) → length (board_of cores blocks words items).counts ≡ cores
@@ -194,12 +178,9 @@ absorbed_board cores blocks words items entry =
     ∙ ap (λ (dids : List Did). board_with cores blocks words dids (capped_totals (totals_of (items ++ entry ∷ [])))) (sym (operations-inside-push cores blocks words items entry))))
 
 -- absorbing more items, one by one
-absorbed_on : (cores blocks words : ℕ) (past items : List Item) → fold absorbed (board_of cores blocks words past) items ≡ board_of cores blocks words (past ++ items)
+pub absorbed_on : (cores blocks words : ℕ) (past items : List Item) → fold absorbed (board_of cores blocks words past) items ≡ board_of cores blocks words (past ++ items)
 absorbed_on cores blocks words past [] = rw (append-nil past)
 absorbed_on cores blocks words past (x ∷ xs) = rw (absorbed_board cores blocks words past x, absorbed_on cores blocks words (past ++ x ∷ []) xs, append_assoc past (x ∷ []) xs)
-
-pub absorbed_all : (cores blocks words : ℕ) (items : List Item) → fold absorbed (board_of cores blocks words []) items ≡ board_of cores blocks words items
-absorbed_all cores blocks words items = absorbed_on cores blocks words [] items
 
 -- what a board's sizes say of the shape of its list
 pub board-shape : (cores blocks words : ℕ) (items : List Item) {board : Tables} → board ≡ board_of cores blocks words items → (length board.counts ≡ cores) × (board.blocks ≡ blocks) × (board.words ≡ words)

@@ -1,30 +1,16 @@
 -- What a log's board says of its items.
-use Rattle.std.proofs.Common.{◌≡◌, ℕ, ◌^◌, ◌<◌, ◌≤◌, List, [], ◌∷◌, ◌++◌, length, Option, Some, None, arith, refl, sym, ap, ◌∙◌, map, get_or}
-use Rattle.std.specs.Prelude.{All, IfSome, slice_get, nat_lt, is_some, unwrap_or, ◌&&◌, if◌then◌else◌}
-use Rattle.std.specs.Option.{option_map}
-use Rattle.std.specs.List.{filter_map}
-use Rattle.std.proofs.lemmas.Bool.{ltb-true}
-use Rattle.std.proofs.lemmas.Option.{slice_get_read, slice_get-map, unwrap_or-slice_get}
-use Rattle.std.proofs.lemmas.List.{length-map, same_lists}
-use Rattle.snoop_history.specs.declared.items.Did.{Did}
-use Rattle.snoop_history.specs.declared.items.Item.{Item}
-use Rattle.snoop_history.specs.declared.items.Totals.{Totals}
+use Rattle.std.proofs.Common.{◌≡◌, ℕ, ◌<◌, ◌≤◌, List, [], ◌∷◌, length, Option, Some, None, arith, refl, sym, ap, ◌∙◌, map, get_or}
+use Rattle.std.specs.Prelude.{All, IfSome, slice_get, nat_lt, is_some, unwrap_or}
+use Rattle.snoop_history.proofs.Common.{Item, filter_map}
+use Rattle.snoop_history.proofs.Common.{length-map, ltb-true, option_map, same_lists, slice_get-map}
+use Rattle.snoop_history.proofs.Common.{slice_get_read, unpacked, unwrap_or-slice_get}
 use Rattle.snoop_history.specs.declared.packed.Packed.{Packed}
-use Rattle.snoop_history.specs.History.{next_number, flat, last_of, IsNumbered}
 use Rattle.snoop_history.specs.Within.{IsItemWithin, inside}
-use Rattle.snoop_history.specs.Totals.{totals_of, touched, capped, capped_totals}
-use Rattle.snoop_history.specs.Journal.{Journal}
+use Rattle.snoop_history.specs.Totals.{touched}
 use Rattle.snoop_history.specs.Board.{Tables, board_of}
-use Rattle.snoop_history.specs.Packed.{NumberFits, unpacked}
-use Rattle.snoop_history.specs.Kept.{IsTallied}
-use Rattle.snoop_history.proofs.Pushed.{next_number-few, next_number_le, totals-few}
-use Rattle.snoop_history.proofs.Legal.{listed-push}
+use Rattle.snoop_history.specs.Kept.{IsKeptList, IsTallied}
 use Rattle.snoop_history.proofs.Boards.{inside_all, board-cores}
-use Rattle.snoop_history.proofs.Touching.{all_places, touched_within}
-
--- the number of an operation that may come next in a short list
-pub numbers_fit : (items : List Item) (entry : Item) → IsNumbered items entry → length items < 2 ^ 48 → NumberFits entry
-numbers_fit items entry numbered few did is = omega (arith, numbered did is, next_number_le items did.core, few)
+use Rattle.snoop_history.proofs.Touching.{all_places}
 
 -- what a `get` found, read by a function of it
 pub read-at : {A B : Type 0} (now : B → A) (xs : List A) (place : ℕ) (got : Option B) (x : A) → is_some got ≡ nat_lt place (length xs) → IfSome got (λ y. now y ≡ get_or xs place (now y)) →
@@ -51,28 +37,18 @@ pub filter_map-map : {X Y Z : Type 0} (f : X → Y) (g : Y → Option Z) (xs : L
 filter_map-map f g [] = refl
 filter_map-map f g (x ∷ xs) = rw (filter_map-map f g xs)
 
+-- a log's board, the sizes of its shape read from it
+pub tallied_as : {cores blocks words : ℕ} {items : List Item} {board : Tables} {order : List ℕ} → cores ≤ 256 → blocks ≤ 65536 → words ≤ 64 → IsKeptList cores blocks words items
+    → board ≡ board_of cores blocks words items → order ≡ touched items → IsTallied (length board.counts) board.blocks board.words items board order
+tallied_as {cores} {blocks} {words} {items} few_cores few_blocks few_words listed tallied mentioned =
+    rw (tallied, board-cores cores blocks words items) (record { few_cores = few_cores; few_blocks = few_blocks; few_words = few_words; listed = listed; tallied = refl; mentioned = mentioned })
+
 module _ {cores blocks words : ℕ} {items : List Item} {board : Tables} {order : List ℕ} (kept : IsTallied cores blocks words items board order) where
   pub within_all : All (IsItemWithin cores blocks words) items
   within_all = all_places (IsItemWithin cores blocks words) items kept.listed.within
 
-  whole : inside cores blocks words items ≡ items
-  whole = inside_all cores blocks words items within_all
-
-  pub kept-count : (core : ℕ) {answer : Option ℕ} → length items < 2 ^ 64 → answer ≡ (if nat_lt core cores then Some (capped (next_number (inside cores blocks words items) core)) else None) →
-      answer ≡ (if nat_lt core cores then Some (next_number items core) else None)
-  kept-count core few is = is ∙ rw (whole, next_number-few items core few)
-
-  pub kept-last : (core : ℕ) {answer : Option Did} → answer ≡ (if nat_lt core cores then last_of (inside cores blocks words items) core else None) → answer ≡ (if nat_lt core cores then last_of items core else None)
-  kept-last core is = is ∙ rw whole
-
-  pub kept-flat : (block word : ℕ) {answer : Option ℕ} → answer ≡ (if nat_lt block blocks && nat_lt word words then Some (flat (inside cores blocks words items) block word) else None) → answer ≡ (if nat_lt block blocks && nat_lt word words then Some (flat items block word) else None)
-  kept-flat block word is = is ∙ rw whole
-
-  pub kept-totals : {answer : Totals} → length items < 2 ^ 64 → answer ≡ capped_totals (totals_of items) → answer ≡ totals_of items
-  kept-totals few is = is ∙ totals-few items few
-
-  pub kept-touched : {answer : List ℕ} → answer ≡ order → All (λ block. block < blocks) answer
-  kept-touched is = rw (is ∙ kept.mentioned) (touched_within cores blocks words items within_all)
+  pub all_inside : inside cores blocks words items ≡ items
+  all_inside = inside_all cores blocks words items within_all
 
   -- an item of the shape is one of the largest shape
   pub fits : (entry : Item) → IsItemWithin cores blocks words entry → IsItemWithin 256 65536 64 entry
@@ -83,33 +59,3 @@ module _ {cores blocks words : ℕ} {items : List Item} {board : Tables} {order 
         sender = λ core is. omega (arith, lies.sender core is, kept.few_cores);
         operation = λ did is. let (core, block, word) = lies.operation did is in (omega (arith, kept.few_cores), omega (arith, kept.few_blocks), omega (arith, kept.few_words));
       }
-
-  -- a log with one item more
-  pub kept-push : (entry : Item) (items' : List Item) (board' : Tables) (order' : List ℕ) → IsItemWithin cores blocks words entry → IsNumbered items entry →
-      items' ≡ items ++ entry ∷ [] → board' ≡ board_of cores blocks words (items ++ entry ∷ []) → order' ≡ touched (items ++ entry ∷ []) → IsTallied (length board'.counts) board'.blocks board'.words items' board' order'
-  kept-push entry items' board' order' lies numbered more tallied mentioned =
-      rw (more, tallied, board-cores cores blocks words (items ++ entry ∷ [])) (record {
-        few_cores = kept.few_cores;
-        few_blocks = kept.few_blocks;
-        few_words = kept.few_words;
-        listed = listed-push cores blocks words items entry kept.listed lies numbered;
-        tallied = refl;
-        mentioned = mentioned;
-      })
-
--- an empty log
-pub kept-at_first : (cores blocks words : ℕ) (items : List Item) (board : Tables) (order : List ℕ) → cores ≤ 256 → blocks ≤ 65536 → words ≤ 64 → items ≡ [] → board ≡ board_of cores blocks words [] → order ≡ [] →
-    IsTallied (length board.counts) board.blocks board.words items board order
-kept-at_first cores blocks words items board order few_cores few_blocks few_words none tallied mentioned =
-    rw (none, tallied, board-cores cores blocks words []) (record {
-      few_cores = few_cores;
-      few_blocks = few_blocks;
-      few_words = few_words;
-      listed = record { within = λ k entry at. cc; in_order = λ k entry at. cc };
-      tallied = refl;
-      mentioned = mentioned;
-    })
-
--- two journals of equal parts
-pub same-journal : (j k : Journal) → j.cores ≡ k.cores → j.blocks ≡ k.blocks → j.words ≡ k.words → j.items ≡ k.items → j.room ≡ k.room → j ≡ k
-same-journal j k cores blocks words items room = λ i. record { cores = cores i; blocks = blocks i; words = words i; items = items i; room = room i }

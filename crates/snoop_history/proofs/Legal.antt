@@ -1,13 +1,10 @@
 -- What a legal list and flat memory are after one more item.
-use Rattle.std.proofs.Common.{◌≡◌, ℕ, zero, suc, List, [], ◌∷◌, ◌++◌, take, Option, Some, None, ◌⊎◌, inl, inr, refl, ap, true, false, cond, map}
+use Rattle.std.proofs.Common.{arith, ◌≡◌, ℕ, zero, suc, List, [], ◌∷◌, ◌++◌, take, Option, Some, None, ◌⊎◌, inl, inr, refl, ap, map}
 use Rattle.std.specs.Prelude.{slice_get, IfSome, filter, if◌then◌else◌, option_to_list}
-use Rattle.std.specs.Option.{option_map_or}
-use Rattle.std.proofs.lemmas.List.{map-append}
+use Rattle.snoop_history.proofs.Common.{Did, IsNext, IsNumbered, Item, Legal, flat, is_store_to}
+use Rattle.snoop_history.proofs.Common.{last_or, map-append, operation_of, option_map_or, stores}
 use Rattle.std.proofs.lemmas.List.Elements.{filter-append}
-use Rattle.snoop_history.specs.declared.items.Item.{Item}
-use Rattle.snoop_history.specs.declared.items.Did.{Did}
 use Rattle.snoop_history.proofs.Pushed.{last_or-append, operations-push}
-use Rattle.snoop_history.specs.History.{Legal, IsNext, flat, stores, operations, operation_of, is_store_to, last_or, IsNumbered}
 use Rattle.snoop_history.specs.Within.{IsItemWithin}
 use Rattle.snoop_history.specs.Kept.{IsKeptList}
 
@@ -21,14 +18,13 @@ slice_get-snoc (y ∷ ys) entry (suc k) x at =
     elim (slice_get-snoc ys entry k x at) [ inl p ↦ inl (p.0, ap (λ l. y ∷ l) p.1) | inr p ↦ inr (p.0, ap (λ l. y ∷ l) p.1) ]
 
 -- what holds of each item and those before it, of one item more and of fewer
-module _ (P : List Item → Item → Type 0) where
-  pub each-grows : (items : List Item) (entry : Item) → ((k : ℕ) (x : Item) → slice_get items k ≡ Some x → P (take k items) x) → P items entry
-      → (k : ℕ) (x : Item) → slice_get (items ++ entry ∷ []) k ≡ Some x → P (take k (items ++ entry ∷ [])) x
-  each-grows items entry each last k x at =
-      elim (slice_get-snoc items entry k x at) [
-        | inl p ↦ rw p.1 (each k x p.0)
-        | inr p ↦ rw (p.1, p.0) last
-      ]
+each-grows : (P : List Item → Item → Type 0) (items : List Item) (entry : Item) → ((k : ℕ) (x : Item) → slice_get items k ≡ Some x → P (take k items) x) → P items entry
+    → (k : ℕ) (x : Item) → slice_get (items ++ entry ∷ []) k ≡ Some x → P (take k (items ++ entry ∷ [])) x
+each-grows P items entry each last k x at =
+    elim (slice_get-snoc items entry k x at) [
+      | inl p ↦ rw p.1 (each k x p.0)
+      | inr p ↦ rw (p.1, p.0) last
+    ]
 
 -- a log's list with one item more
 pub listed-push : (cores blocks words : ℕ) (items : List Item) (entry : Item) → IsKeptList cores blocks words items → IsItemWithin cores blocks words entry → IsNumbered items entry → IsKeptList cores blocks words (items ++ entry ∷ [])
@@ -57,15 +53,7 @@ legal-begins items rest legal k x at =
 flat-one : (before : ℕ) (block word : ℕ) (did : Option Did) →
     last_or before (map (λ d. d.value) (filter (is_store_to block word) (option_to_list did))) ≡ option_map_or (λ d. if is_store_to block word d then d.value else before) did before
 flat-one before block word None = refl
-flat-one before block word (Some d) =
-    elim (is_store_to block word d) as (λ b. last_or before (map (λ d. d.value) (cond b (d ∷ []) [])) ≡ (if b then d.value else before)) [ true ↦ refl | false ↦ refl ]
+flat-one before block word (Some d) = grind arith
 
 pub flat-grows : (items : List Item) (entry : Item) (block word : ℕ) → flat (items ++ entry ∷ []) block word ≡ stores entry block word (flat items block word)
-flat-grows items entry block word =
-    rw (
-      operations-push items entry,
-      filter-append (is_store_to block word) (operations items) (option_to_list (operation_of entry)),
-      map-append (λ d. d.value) (filter (is_store_to block word) (operations items)) (filter (is_store_to block word) (option_to_list (operation_of entry))),
-      last_or-append 0 (map (λ d. d.value) (filter (is_store_to block word) (operations items))) (map (λ d. d.value) (filter (is_store_to block word) (option_to_list (operation_of entry)))),
-    )
-    (flat-one (flat items block word) block word (operation_of entry))
+flat-grows items entry block word = rw (operations-push items entry) (simp (filter-append, map-append, last_or-append) (flat-one (flat items block word) block word (operation_of entry)))

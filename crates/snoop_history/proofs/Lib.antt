@@ -1,3 +1,4 @@
+pub mod Common
 pub mod Pushed
 pub mod Legal
 pub mod Boards

@@ -1,15 +1,15 @@
 -- One more block among those that were mentioned.
-use Rattle.std.proofs.Common.{◌≡◌, ℕ, zero, suc, ◌+◌, ◌<◌, ◌≤◌, Bool, true, false, List, [], ◌∷◌, ◌++◌, length, Some, refl, sym, ◌∙◌, ap, arith, get_or, inl, inr}
-use Rattle.std.specs.Prelude.{replicate, slice_get, slice_set, nat_eq, ◌||◌}
-use Rattle.std.specs.List.{list_any}
-use Rattle.std.proofs.lemmas.Bool.{cases_eq, eq-eqb, ne_eqb, or_right}
-use Rattle.std.proofs.lemmas.List.{length-append, length-set, length-replicate, get_or-replicate, get_or-set_same, get_or-set_other}
+use Rattle.std.proofs.Common.{◌≡◌, ℕ, zero, suc, ◌+◌, ◌<◌, Bool, true, false, List, [], ◌∷◌, ◌++◌, length, Some, refl, sym, ◌∙◌, ap, arith, get_or, inl, inr}
+use Rattle.std.specs.Prelude.{replicate, slice_get, slice_set, nat_eq}
+use Rattle.snoop_history.proofs.Common.{Mentions, cases_eq, eq-eqb, get_or-replicate}
+use Rattle.snoop_history.proofs.Common.{get_or-set_other, get_or-set_same, get_or_from_slice_get}
+use Rattle.snoop_history.proofs.Common.{insert_key, length-append, length-replicate, length-set}
+use Rattle.snoop_history.proofs.Common.{list_any, ne_eqb, or_right, slice_get-get_or}
+use Rattle.snoop_history.proofs.Common.{slice_get_read}
+use Rattle.std.proofs.Math.Bool.{or-false}
 use Rattle.std.proofs.lemmas.List.Folds.{list_any-append}
-use Rattle.std.proofs.lemmas.Option.{slice_get-get_or, slice_get_read, get_or_from_slice_get}
-use Rattle.indexmap.specs.IndexSet.{insert_key}
 use Rattle.snoop_history.specs.declared.touched.TouchedBlocks.TheInside.{Inside}
 use Rattle.snoop_history.specs.Marked.{set_marks, AreMarksOf, IsMarked, mentions}
-use Rattle.snoop_history.specs.Mentions.{Mentions}
 use Rattle.snoop_history.proofs.Pushed.{length-filter-le}
 
 -- a mark that is set is one more
@@ -18,14 +18,6 @@ set-more [] i at = cc
 set-more (m ∷ ms) zero at = let e : m ≡ false = cc in rw e (omega arith)
 set-more (true ∷ ms) (suc i) at = omega (arith, set-more ms i at)
 set-more (false ∷ ms) (suc i) at = set-more ms i at
-
--- no more blocks were mentioned than there are
-pub few-mentioned : (marks : List Bool) (order : List ℕ) → AreMarksOf marks order → length order ≤ length marks
-few-mentioned marks order kept = omega (arith, length-filter-le (λ (mark : Bool). mark) marks, kept.counted)
-
-or-false : (b : Bool) → (b || false) ≡ b
-or-false true = refl
-or-false false = refl
 
 -- a block that is not marked, and for which there is room
 module _ (marks : List Bool) (order : List ℕ) (kept : AreMarksOf marks order) (block : ℕ) (within : block < length marks) (free : slice_get marks block ≡ Some false) where
@@ -38,11 +30,11 @@ module _ (marks : List Bool) (order : List ℕ) (kept : AreMarksOf marks order) 
   mark-at : (other : ℕ) → other < length (slice_set marks block true) → slice_get (slice_set marks block true) other ≡ Some (list_any (nat_eq other) (order ++ block ∷ []))
   mark-at other inside =
       let same = length-set marks block true in
-      slice_get-get_or (slice_set marks block true) other false inside ∙ ap Some (rw (list_any-append (nat_eq other) order (block ∷ [])) (elim (cases_eq other block) [
-        | inl e ↦ rw (e, eq-eqb block block refl) (get_or-set_same marks block true false within ∙ sym (or_right (list_any (nat_eq block) order) true refl))
+      rw (slice_get-get_or (slice_set marks block true) other false inside, list_any-append (nat_eq other) order (block ∷ [])) (ap Some (elim (cases_eq other block) [
+        | inl e ↦ rw (e, eq-eqb block block refl, get_or-set_same marks block true false within, or_right (list_any (nat_eq block) order) true refl) refl
         | inr ne ↦
-            rw (ne_eqb other block ne)
-            (get_or-set_other marks block other true false ne ∙ get_or_from_slice_get marks other _ false (kept.marked other (omega arith)) ∙ sym (or-false (list_any (nat_eq other) order)))
+            rw (ne_eqb other block ne, get_or-set_other marks block other true false ne, or-false (list_any (nat_eq other) order))
+            (get_or_from_slice_get marks other _ false (kept.marked other (omega arith)))
       ]))
 
   pub inserted : insert_key nat_eq order block ≡ order ++ block ∷ []
@@ -65,15 +57,10 @@ none-set (suc n) = none-set n
 
 pub marks-at_first : (n : ℕ) (marks : List Bool) (order : List ℕ) → marks ≡ replicate n false → order ≡ [] → AreMarksOf marks order
 marks-at_first n marks order is none =
-    let many = length-replicate n false in
     rw (is, none) (record {
-      marked = λ block within. slice_get-get_or (replicate n false) block false within ∙ ap Some (get_or-replicate n block false false (omega arith));
+      marked = λ block within. slice_get-get_or (replicate n false) block false within ∙ ap Some (get_or-replicate n block false false (omega (arith, length-replicate n false)));
       counted = sym (none-set n);
     })
-
--- two mentions of equal parts
-pub same-mentions : (m n : Mentions) → m.blocks ≡ n.blocks → m.order ≡ n.order → m ≡ n
-same-mentions m n blocks order = λ i. record { blocks = blocks i; order = order i }
 
 -- what callers see of a block is so inside
 module _ (t : Inside) {seen : Mentions} (view_is : mentions t ≡ seen) {block : ℕ} (within : block < seen.blocks) where

@@ -1,16 +1,13 @@
 -- One more item: the operations, counts, flat values and totals of the longer list.
-use Rattle.std.proofs.Common.{◌≡◌, ℕ, ◌+◌, ◌^◌, ◌<◌, ◌≤◌, Bool, true, false, not, ◌&&◌, List, [], ◌∷◌, ◌++◌, length, Option, Some, None, refl, ◌∙◌, ap, arith, map, filter, cond}
+use Rattle.std.proofs.Common.{◌≡◌, ℕ, ◌^◌, ◌<◌, ◌≤◌, Bool, not, ◌&&◌, List, [], ◌∷◌, ◌++◌, length, Option, Some, None, refl, ◌∙◌, ap, arith, map, filter}
 use Rattle.std.specs.Prelude.{option_to_list, ◌==◌, is_some, is_none}
-use Rattle.std.proofs.lemmas.List.{map-append, length-append}
+use Rattle.snoop_history.proofs.Common.{Did, Item, Totals, answers_of, counted, last_of, last_or}
+use Rattle.snoop_history.proofs.Common.{length-append, map-append, next_number, operation_of}
+use Rattle.snoop_history.proofs.Common.{operations, tallied}
 use Rattle.std.proofs.lemmas.List.Elements.{filter-append, filter_map-append}
 use Rattle.std.proofs.lemmas.List.Sums.{length-filter, count_by-le-length}
-use Rattle.snoop_history.specs.declared.items.Totals.{Totals}
-use Rattle.snoop_history.specs.declared.items.Did.{Did}
-use Rattle.snoop_history.specs.declared.items.Item.{Item}
-use Rattle.snoop_history.specs.declared.items.Item.TheVariants as item
-use Rattle.snoop_history.specs.History.{operation_of, operations, answers_of, next_number, last_or, last_of}
 use Rattle.snoop_history.specs.Totals.{how_many, totals_of, capped, capped_totals, performed, ordered, responded, is_get_s, is_get_m, is_put_m, is_data, is_no_data, is_no_data_e}
-use Rattle.snoop_history.specs.Journal.{counted, tallied}
+use Rattle.snoop_history.specs.declared.items.Item.TheVariants as item
 
 pub operations-one : (entry : Item) → operations (entry ∷ []) ≡ option_to_list (operation_of entry)
 operations-one (item.Did did) = refl
@@ -58,11 +55,7 @@ counts_by count =
 -- a capped count of a list with one more item
 how_many-capped : (test : Item → Bool) (items : List Item) (entry : Item) → counted (capped (how_many test items)) (test entry) ≡ capped (how_many test (items ++ entry ∷ []))
 how_many-capped test items entry =
-    rw (filter-append test items (entry ∷ []), length-append (filter test items) (filter test (entry ∷ []))) (go (how_many test items) (test entry))
-  where
-    go : (n : ℕ) (here : Bool) → counted (capped n) here ≡ capped (n + length (cond here (entry ∷ []) []))
-    go n true = omega arith
-    go n false = omega arith
+    rw (filter-append test items (entry ∷ []), length-append (filter test items) (filter test (entry ∷ []))) (grind arith)
 
 pub capped_totals-push : (items : List Item) (entry : Item) → tallied (capped_totals (totals_of items)) entry ≡ capped_totals (totals_of (items ++ entry ∷ []))
 capped_totals-push items entry = λ i. counts_by (λ test. how_many-capped test items entry i)
@@ -73,9 +66,8 @@ length-filter-le test items = omega (arith, length-filter test items, count_by-l
 length-operations : (items : List Item) → length (operations items) ≤ length items
 length-operations [] = omega arith
 length-operations (item.Did did ∷ xs) = omega (arith, length-operations xs)
-length-operations (item.Sent sent ∷ xs) = omega (arith, length-operations xs)
-length-operations (item.Came came None ∷ xs) = omega (arith, length-operations xs)
 length-operations (item.Came came (Some did) ∷ xs) = omega (arith, length-operations xs)
+length-operations (_ ∷ xs) = omega (arith, length-operations xs)
 
 pub next_number_le : (items : List Item) (core : ℕ) → next_number items core ≤ length items
 next_number_le items core = omega (arith, length-filter-le (λ did. did.core == core) (operations items), length-operations items)

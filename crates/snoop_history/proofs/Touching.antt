@@ -1,20 +1,13 @@
 -- The blocks that a list mentions, with one item more.
-use Rattle.std.proofs.Common.{◌≡◌, ℕ, Bool, true, false, not, ◌&&◌, List, [], ◌∷◌, ◌++◌, refl, map, filter, ◌<◌, eqb, append-nil, append_assoc}
-use Rattle.std.specs.Prelude.{Option, Some, None, option_to_list, slice_get, suc, nat_lt, ◌==◌, nat_eq, All, if◌then◌else◌}
-use Rattle.std.specs.List.{list_any, flat_map}
-use Rattle.std.specs.Option.{ForSome}
-use Rattle.std.proofs.lemmas.Grind.{flat_map-append}
-use Rattle.snoop_history.specs.History.{flat, operation_of}
-use Rattle.snoop_history.specs.Report.{blocks_text, totals_text, report_of}
-use Rattle.std.proofs.lemmas.Bool.{eqb-true, lt-ltb}
-use Rattle.std.proofs.lemmas.List.Elements.{filter-append, All-filter, All-nil, All-cons, All-head, All-tail, All-append}
+use Rattle.std.proofs.Common.{sym, arith, get_or, ◌≡◌, ℕ, Bool, true, false, not, List, [], ◌∷◌, ◌++◌, refl, map, filter, ◌<◌, eqb, append-nil, append_assoc}
+use Rattle.std.specs.Prelude.{Option, Some, None, option_to_list, slice_get, suc, ◌==◌, nat_eq, All}
+use Rattle.snoop_history.proofs.Common.{Did, ForSome, Item, Totals, blocks_text, eqb-true}
+use Rattle.snoop_history.proofs.Common.{flat_map, flat_map-append, insert_key, list_any}
+use Rattle.snoop_history.proofs.Common.{operation_of, report_of, slice_get-get_or, totals_text}
+use Rattle.std.proofs.lemmas.List.Elements.{All-weaker, filter-append, All-filter, All-nil, All-cons, All-head, All-tail, All-append}
 use Rattle.std.proofs.lemmas.Map.Views.{any-filter_same}
-use Rattle.indexmap.specs.IndexSet.{insert_key}
-use Rattle.snoop_history.specs.declared.items.Did.{Did}
-use Rattle.snoop_history.specs.declared.items.Item.{Item}
 use Rattle.snoop_history.specs.Within.{block_of, IsItemWithin}
 use Rattle.snoop_history.specs.Totals.{each_once, mentioned, touched, totals_of}
-use Rattle.snoop_history.specs.declared.items.Totals.{Totals}
 
 -- the numbers other than y
 abbrev pub but : ℕ → List ℕ → List ℕ
@@ -48,14 +41,12 @@ each_once-blocks xs block None = each_once-more xs block
 each_once-blocks xs block (Some did) =
     rw (← append_assoc xs (block ∷ []) (did.block ∷ []), each_once-more (xs ++ block ∷ []) did.block, each_once-more xs block)
 
-pub touched-more : (items : List Item) (entry : Item) → touched (items ++ entry ∷ []) ≡ with_operation (insert_key nat_eq (touched items) (block_of entry)) (operation_of entry)
-touched-more items entry =
-    rw (flat_map-append mentioned items (entry ∷ []), append-nil (mentioned entry)) (each_once-blocks (flat_map mentioned items) (block_of entry) (operation_of entry))
-
--- the same under other names
+-- the blocks that a list with one item more touches
 pub touched-add : (items : List Item) (entry : Item) {before after : List ℕ} {block : ℕ} {op : Option Did} → before ≡ touched items → block ≡ block_of entry → op ≡ operation_of entry →
     after ≡ with_operation (insert_key nat_eq before block) op → after ≡ touched (items ++ entry ∷ [])
-touched-add items entry was is performs added = rw (added, was, is, performs, touched-more items entry)
+touched-add items entry was is performs added =
+    rw (added, was, is, performs, flat_map-append mentioned items (entry ∷ []), append-nil (mentioned entry))
+    (sym (each_once-blocks (flat_map mentioned items) (block_of entry) (operation_of entry)))
 
 each_once-all : (P : ℕ → Type 0) (xs : List ℕ) → All P xs → All P (each_once xs)
 each_once-all P [] all = All-nil P
@@ -67,28 +58,19 @@ blocks_within cores blocks words block None within lies = All-cons (λ b. b < bl
 blocks_within cores blocks words block (Some did) within lies =
     All-cons (λ b. b < blocks) block (did.block ∷ []) within (All-cons (λ b. b < blocks) did.block [] (lies did refl).1 (All-nil (λ b. b < blocks)))
 
-mentioned_within : (cores blocks words : ℕ) (items : List Item) → All (IsItemWithin cores blocks words) items → All (λ block. block < blocks) (flat_map mentioned items)
-mentioned_within cores blocks words [] all = All-nil (λ block. block < blocks)
-mentioned_within cores blocks words (x ∷ xs) all =
-    let first = All-head (IsItemWithin cores blocks words) x xs all in
-    All-append (λ block. block < blocks) (mentioned x) (flat_map mentioned xs)
-    (blocks_within cores blocks words (block_of x) (operation_of x) first.block first.operation)
-    (mentioned_within cores blocks words xs (All-tail (IsItemWithin cores blocks words) x xs all))
+all_flat_map : {A B : Type 0} (P : B → Type 0) (f : A → List B) (xs : List A) → All (λ x. All P (f x)) xs → All P (flat_map f xs)
+all_flat_map P f [] all = All-nil P
+all_flat_map P f (x ∷ xs) all = All-append P (f x) (flat_map f xs) (all 0 x (omega arith)) (all_flat_map P f xs (λ k d lt. all (suc k) d (omega arith)))
 
 -- the touched blocks of a list within a shape are within it
 pub touched_within : (cores blocks words : ℕ) (items : List Item) → All (IsItemWithin cores blocks words) items → All (λ block. block < blocks) (touched items)
 touched_within cores blocks words items all =
-    each_once-all (λ block. block < blocks) (flat_map mentioned items) (mentioned_within cores blocks words items all)
+    each_once-all (λ block. block < blocks) (flat_map mentioned items) (all_flat_map (λ block. block < blocks) mentioned items
+    (All-weaker (IsItemWithin cores blocks words) _ (λ x lies. blocks_within cores blocks words (block_of x) (operation_of x) lies.block lies.operation) items all))
 
 -- what holds of the element at each place holds of all
 pub all_places : (P : Item → Type 0) (items : List Item) → ((k : ℕ) (entry : Item) → slice_get items k ≡ Some entry → P entry) → All P items
-all_places P [] each = All-nil P
-all_places P (x ∷ xs) each = All-cons P x xs (each 0 x refl) (all_places P xs (λ k entry at. each (suc k) entry at))
-
--- a flat value that was found
-pub flat_found : (blocks words : ℕ) (items : List Item) (block word : ℕ) {value : ℕ} {answer : Option ℕ} → block < blocks → word < words → answer ≡ (if nat_lt block blocks && nat_lt word words then Some (flat items block word) else None) → answer ≡ Some value → value ≡ flat items block word
-flat_found blocks words items block word within in_words told found =
-    let some = rw (lt-ltb block blocks within, lt-ltb word words in_words) at told in cc
+all_places P items each k d within = each k (get_or items k d) (slice_get-get_or items k d within)
 
 -- the totals and then the blocks are the report
 pub report_joined : (words : ℕ) (items : List Item) (old : List ℕ) {blocks mid new : List ℕ} {totals : Totals} → totals ≡ totals_of items → blocks ≡ touched items → mid ≡ old ++ totals_text totals →

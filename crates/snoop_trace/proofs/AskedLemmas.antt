@@ -1,21 +1,16 @@
 -- What the rows of a text ask for is what was read of it.
 use Rattle.std.proofs.Common.{◌≡◌, ◌+◌, ℕ, List, [], ◌∷◌, map, refl, rules, sym, ◌∙◌}
 use Rattle.std.specs.Prelude.{All, Option, Some, None, Result, Ok, Err, IfOk, IfErr, IfSome}
-use Rattle.std.specs.Option.{ok_or}
-use Rattle.std.proofs.lemmas.Result.{IfOk-at_ok}
-use Rattle.std.proofs.lemmas.List.Elements.{All-head, All-tail, All-nil, All-cons}
+use Rattle.snoop_trace.proofs.Common.{All-cons, All-head, All-nil, All-tail, Extent, IfOk-at_ok}
+use Rattle.snoop_trace.proofs.Common.{IsSaid, IsWithinLimits, Row, TextFault, ok_or}
 use Rattle.snoop_trace.specs.Asked.{AreAsked, asked_in, asked_of, step_of}
-use Rattle.snoop_trace.specs.Extent.{Extent, IsWithinLimits}
 use Rattle.snoop_trace.specs.Grammar.{◌>>=◌, IsRowWithin, IsStepWithin, row_by_letter, block_in, letter_of, row_in}
-use Rattle.snoop_trace.specs.Progress.{IsSaid}
 use Rattle.snoop_trace.specs.Text.{Gives, entries_from, entries_in, records_of, rows_of}
-use Rattle.snoop_trace.specs.declared.fault.TextFault.{TextFault}
 use Rattle.snoop_trace.specs.declared.fault.TextFault.TheVariants.{BadKind, Read, NoMemory}
 use Rattle.snoop_trace.specs.declared.step.Asked.{Asked}
-use Rattle.snoop_trace.specs.declared.step.Row.{Row}
 use Rattle.snoop_trace.proofs.WithinLemmas.{block_is, block_there, core_of_row, if_bind, said_row}
+use Rattle.snoop_trace.proofs.TextLemmas.{bind_assoc, bind_ok}
 use Rattle.snoop_trace.proofs.WordPlaces.{asked_within as word_within}
-use Rattle.snoop_trace.proofs.TextLemmas.{bind_ok}
 
 -- what goes on after a reading gives the same, with what it says put in other words
 in_words : {A B C : Type 0} (r : Result A TextFault) (f : A → Result B TextFault) (g : A → Result C TextFault) (view : B → C)
@@ -35,13 +30,7 @@ one_asked shape n fs =
 all_asked : (shape : Extent) (n : ℕ) (rs : List (List (List ℕ))) → entries_from (asked_in shape) n rs ≡ (entries_from (row_in shape) n rs >>= λ rows. Ok (map (asked_of shape) rows))
 unfolding entries_from
 all_asked shape n [] = refl
-all_asked shape n (r ∷ rs) = rw (one_asked shape n r, all_asked shape (n + 1) rs) (go (row_in shape n r) (entries_from (row_in shape) (n + 1) rs))
-  where
-    go : (b : Result Row TextFault) (bs : Result (List Row) TextFault)
-        → ((b >>= λ row. Ok (asked_of shape row)) >>= λ entry. (bs >>= λ rows. Ok (map (asked_of shape) rows)) >>= λ entries. Ok (entry ∷ entries)) ≡ ((b >>= λ entry. bs >>= λ entries. Ok (entry ∷ entries)) >>= λ rows. Ok (map (asked_of shape) rows))
-    go (Err e) bs = refl
-    go (Ok row) (Err e) = refl
-    go (Ok row) (Ok rows) = refl
+all_asked shape n (r ∷ rs) = rw (one_asked shape n r, all_asked shape (n + 1) rs) (simp bind_assoc)
 
 -- the rows of a text are of the shape
 rows_within : (shape : Extent) (n : ℕ) (rs : List (List (List ℕ))) (rows : List Row) → entries_from (row_in shape) n rs ≡ Ok rows → All (IsRowWithin shape) rows

@@ -1,45 +1,32 @@
 -- What is written is read again.
-use Rattle.std.proofs.Common.{◌≡◌, ◌≤◌, ◌<◌, ℕ, ◌+◌, ◌*◌, ◌^◌, List, [], ◌∷◌, ◌++◌, length, Some, true, false, refl, ◌∙◌, ap, arith, append_assoc, subst}
-use Rattle.std.specs.Prelude.{◌&&◌, nat_eq, codes, Ok, Err}
-use Rattle.std.specs.Char.{digit_value, is_digit}
-use Rattle.std.specs.Fmt.{decimal}
-use Rattle.std.specs.List.{All, AllByRecursion, list_all, list_any, starts_with}
-use Rattle.std.specs.Str.Parse.{AllDigits, digits_value}
-use Rattle.std.proofs.lemmas.Fmt.{decimal_is_IsNumeral}
+use Rattle.std.proofs.Common.{◌≡◌, ◌<◌, ℕ, ◌+◌, ◌^◌, List, [], ◌∷◌, ◌++◌, length, Some, true, false, refl, arith, append_assoc}
+use Rattle.std.specs.Prelude.{fold, nat_eq, codes, Ok, Err, map}
+use Rattle.snoop_trace.proofs.Common.{AllDigits, Evict, Extent, Heading, IsReadableStep}
+use Rattle.snoop_trace.proofs.Common.{IsWithinLimits, Load, Step, Store, address_of, and_right}
+use Rattle.snoop_trace.proofs.Common.{decimal, decimal_is_IsNumeral, digit_value, digits_value}
+use Rattle.snoop_trace.proofs.Common.{false_from_ne_true, is_digit, lt-ltb, mul-le, nat_tests}
+use Rattle.snoop_trace.proofs.Common.{record_writer, records_left, recursion_from_All, step_text}
+use Rattle.snoop_trace.proofs.Common.{steps_text, text_of, word_address}
+use Rattle.std.specs.List.{All, AllByRecursion, flat_map, list_all, list_any, starts_with}
 use Rattle.std.proofs.lemmas.Str.Parse.{digit_from_value}
-use Rattle.std.proofs.lemmas.Bool.Decides.{nat_tests}
-use Rattle.std.proofs.lemmas.Bool.{and_parts, eq-eqb, eqb-true, false_from_ne_true, lt-ltb, ne_eqb}
 use Rattle.csv.specs.Writing.{default_writer, escaped, needs_byte, row_text, fields_text}
-use Rattle.csv.specs.Machine.{Read, next_record}
-use Rattle.csv.specs.Reading.{default_config}
-use Rattle.csv.specs.declared.parser.State.TheVariants as st
+use Rattle.csv.specs.Machine.{next_record}
+use Rattle.csv.specs.Reading.{default_config, strip_bom}
 use Rattle.csv.proofs.RoundTrip.{read-write}
-use Rattle.std.specs.Prelude.{map}
-use Rattle.std.proofs.lemmas.Bool.{and_left, and_right}
 use Rattle.std.proofs.Math.Nat.{mul-div_cancel}
-use Rattle.std.proofs.lemmas.List.{append-nil}
-use Rattle.std.proofs.lemmas.List.Elements.{recursion_from_All}
-use Rattle.std.proofs.lemmas.Nat.{mul-le}
 use Rattle.csv.specs.Writing.{is_blank, read_back}
-use Rattle.csv.specs.Reading.{strip_bom}
 use Rattle.snoop_trace.specs.Grammar.{ask, row_by_letter, block_in, number, numeral, order, respond, step_in, store, without_value}
 use Rattle.snoop_trace.specs.Heading.{heading_as, heading_for, heading_in, heading_text, protocol_named, same_heading, same_protocol, version_in}
-use Rattle.snoop_trace.specs.Output.{IsReadableStep, address_of, step_text, steps_text, text_of, word_address}
-use Rattle.snoop_trace.specs.Progress.{records_left}
 use Rattle.snoop_trace.specs.Protocol.{protocol_name}
 use Rattle.snoop_trace.specs.Text.{entries_from, entries_in, records_of, steps_of}
 use Rattle.snoop_trace.specs.declared.fault.TextFault.TheVariants.{OtherShape}
-use Rattle.snoop_trace.specs.declared.heading.Heading.{Heading}
 use Rattle.snoop_trace.specs.declared.protocol.Protocol.{Protocol}
 use Rattle.snoop_trace.specs.declared.protocol.Protocol.TheVariants.{Msi, Mesi}
-use Rattle.snoop_trace.specs.Extent.{Extent, IsWithinLimits}
-use Rattle.snoop_trace.specs.Records.{record_writer}
-use Rattle.snoop_trace.specs.declared.step.Op.TheVariants.{Load, Store, Evict}
-use Rattle.snoop_trace.specs.declared.step.Step.{Step}
 use Rattle.snoop_trace.specs.declared.step.Step.TheVariants.{Ask, Order, Respond}
 use Rattle.snoop_trace.proofs.CsvLemmas.{records-ended, records_step}
 use Rattle.snoop_trace.proofs.PowerLemmas.{power_some}
 use Rattle.snoop_trace.proofs.WordPlaces.{address_back, address_before}
+use Rattle.csv.specs.declared.parser.State.TheVariants as st
 
 -- no digit calls for quotes
 digit_plain : (c : ℕ) → digit_value c < 10 → needs_byte default_writer c ≡ false
@@ -57,10 +44,7 @@ digits_all (c ∷ ds) h = rw (lt-ltb (digit_value c) 10 h.0, digits_all ds h.1) 
 no_hex : (ds : List ℕ) → AllDigits 10 ds → starts_with nat_eq ds (codes "0x") ≡ false
 no_hex [] h = refl
 no_hex (c ∷ []) h = and_right (nat_eq 48 c) false refl
-no_hex (c ∷ d ∷ ds) h =
-    let r = digit_from_value d h.1.0 in
-    let x : nat_eq 120 d ≡ false = ne_eqb 120 d (λ e. omega (arith, r)) in
-    and_right (nat_eq 48 c) (nat_eq 120 d && starts_with nat_eq ds []) (and_left (nat_eq 120 d) (starts_with nat_eq ds []) x)
+no_hex (c ∷ d ∷ ds) h = let r = digit_from_value d h.1.0 in grind (arith, nat_tests)
 
 numeral_digits : (ds : List ℕ) (n : ℕ) → 0 < length ds → AllDigits 10 ds → digits_value 10 ds ≡ n → n < 2 ^ 64 → numeral 10 ds ≡ Some n
 numeral_digits [] n some h v small = absurd (omega arith)
@@ -76,34 +60,25 @@ plain : (n : ℕ) → n < 2 ^ 64 → list_any (needs_byte default_writer) (decim
 plain n h = digits_plain (decimal n) (decimal_is_IsNumeral n h).0.1
 
 -- where the commas stand: in a row's text on the left, in a step's or a heading's on the right
-two_parts : (k : ℕ) (a : List ℕ) → k ∷ ((44 ∷ (a ++ [])) ++ (10 ∷ [])) ≡ ((k ∷ 44 ∷ []) ++ a) ++ (10 ∷ [])
-two_parts k a = simp append-nil refl
-
-three_parts : (k : ℕ) (a b : List ℕ) → k ∷ ((44 ∷ (a ++ (44 ∷ (b ++ [])))) ++ (10 ∷ [])) ≡ (((k ∷ 44 ∷ []) ++ a ++ (44 ∷ [])) ++ b) ++ (10 ∷ [])
-three_parts k a b = simp (append_assoc, append-nil) refl
-
-four_parts : (k : ℕ) (a b c : List ℕ) → k ∷ ((44 ∷ (a ++ (44 ∷ (b ++ (44 ∷ (c ++ [])))))) ++ (10 ∷ [])) ≡ (((((k ∷ 44 ∷ []) ++ a ++ (44 ∷ [])) ++ b) ++ (44 ∷ [])) ++ c) ++ (10 ∷ [])
-four_parts k a b c = simp (append_assoc, append-nil) refl
-
-seven_parts : (p c b s w : List ℕ)
-    → 86 ∷ ((44 ∷ 50 ∷ (44 ∷ (p ++ (44 ∷ (c ++ (44 ∷ (b ++ (44 ∷ (s ++ (44 ∷ (w ++ []))))))))))) ++ (10 ∷ []))
-    ≡ (((((((((86 ∷ 44 ∷ 50 ∷ 44 ∷ []) ++ p) ++ (44 ∷ [])) ++ c) ++ (44 ∷ [])) ++ b) ++ (44 ∷ [])) ++ s) ++ (44 ∷ [])) ++ w ++ (10 ∷ [])
-seven_parts p c b s w = simp (append_assoc, append-nil) refl
+commas : (text : List ℕ) (fields : List (List ℕ))
+    → text ++ (flat_map (λ f. 44 ∷ f) fields ++ (10 ∷ [])) ≡ fold (λ t f. (t ++ (44 ∷ [])) ++ f) text fields ++ (10 ∷ [])
+commas text [] = refl
+commas text (f ∷ fs) = let next = commas ((text ++ (44 ∷ [])) ++ f) fs in rw (← next) (simp append_assoc)
 
 -- what csv writes of a record with a letter and so many numbers
 module _ (letter a : ℕ) (e : needs_byte default_writer letter ≡ false) (h : a < 2 ^ 64) where
   pub one_written : row_text record_writer ((letter ∷ []) ∷ decimal a ∷ []) ≡ ((letter ∷ 44 ∷ []) ++ decimal a) ++ (10 ∷ [])
   unfolding fields_text is_blank
-  one_written = rw (e, plain a h) (two_parts letter (decimal a))
+  one_written = rw (e, plain a h) (commas (letter ∷ []) (decimal a ∷ []))
 
   pub two_written : (b : ℕ) → b < 2 ^ 64 → row_text record_writer ((letter ∷ []) ∷ decimal a ∷ decimal b ∷ []) ≡ (((letter ∷ 44 ∷ []) ++ decimal a ++ (44 ∷ [])) ++ decimal b) ++ (10 ∷ [])
   unfolding fields_text is_blank
-  two_written b i = rw (e, plain a h, plain b i) (three_parts letter (decimal a) (decimal b))
+  two_written b i = rw (e, plain a h, plain b i) (commas (letter ∷ []) (decimal a ∷ decimal b ∷ []))
 
   pub three_written : (b c : ℕ) → b < 2 ^ 64 → c < 2 ^ 64
       → row_text record_writer ((letter ∷ []) ∷ decimal a ∷ decimal b ∷ decimal c ∷ []) ≡ (((((letter ∷ 44 ∷ []) ++ decimal a ++ (44 ∷ [])) ++ decimal b) ++ (44 ∷ [])) ++ decimal c) ++ (10 ∷ [])
   unfolding fields_text is_blank
-  three_written b c i j = rw (e, plain a h, plain b i, plain c j) (four_parts letter (decimal a) (decimal b) (decimal c))
+  three_written b c i j = rw (e, plain a h, plain b i, plain c j) (commas (letter ∷ []) (decimal a ∷ decimal b ∷ decimal c ∷ []))
 
 -- the fields of a step
 abbrev row_of : Extent → Step → List (List ℕ)
@@ -121,29 +96,27 @@ some_row shape s = refl
 abbrev heading_row : Heading → List (List ℕ)
 heading_row h = codes "V" ∷ codes "2" ∷ protocol_name h.protocol ∷ decimal h.cores ∷ decimal h.blocks ∷ decimal h.block_bytes ∷ decimal h.words ∷ []
 
-protocol_plain : (protocol : Protocol) → list_any (needs_byte default_writer) (protocol_name protocol) ≡ false
-protocol_plain Msi = refl
-protocol_plain Mesi = refl
-
-protocol_back : (protocol : Protocol) → protocol_named (protocol_name protocol) ≡ Some protocol
+protocol_read : (protocol : Protocol) → (list_any (needs_byte default_writer) (protocol_name protocol) ≡ false) × (protocol_named (protocol_name protocol) ≡ Some protocol)
 unfolding protocol_named
-protocol_back Msi = refl
-protocol_back Mesi = refl
+protocol_read Msi = (refl, refl)
+protocol_read Mesi = (refl, refl)
+
+-- a line that csv wrote is read as its fields
+line_read : (row : List (List ℕ)) (line rest : List ℕ) → row_text default_writer row ≡ line → read_back row ≡ row
+    → records_left st.StartRecord (line ++ rest) ≡ row ∷ records_left st.StartRecord rest
+line_read row line rest is same = records_step default_config st.StartRecord (line ++ rest) (row, st.StartRecord, rest) (rw (is, same) at (read-write row rest))
 
 module _ (shape : Extent) (limits : IsWithinLimits shape) where
   core_small : (core : ℕ) → core < shape.cores → core < 2 ^ 64
-  core_small core h = omega (arith, limits.cores.1)
+  core_small core h = omega arith
 
   address_small : (block : ℕ) → block < shape.blocks → address_of shape block < 2 ^ 64
-  address_small block h =
-      let most : block * shape.block_bytes ≤ 65536 * 4096 = mul-le block shape.block_bytes 65536 4096 (omega (arith, limits.blocks.1)) limits.block_bytes.1 in
-      omega arith
+  address_small block h = let most = mul-le block shape.block_bytes 65536 4096 (omega arith) limits.block_bytes.1 in omega arith
 
   word_small : (block word : ℕ) → block < shape.blocks → word < shape.words → word_address shape block word < 2 ^ 64
   word_small block word h inside =
-      let most : (block + 1) * shape.block_bytes ≤ 65536 * 4096 = mul-le (block + 1) shape.block_bytes 65536 4096 (omega (arith, h, limits.blocks.1)) limits.block_bytes.1 in
-      let grow : (block + 1) * shape.block_bytes ≡ block * shape.block_bytes + shape.block_bytes = omega arith in
-      omega (arith, most, grow, address_before shape block word limits inside)
+      let most = mul-le (block + 1) shape.block_bytes 65536 4096 (omega (arith, limits.blocks.1)) limits.block_bytes.1 in
+      omega (arith, address_before shape limits block word inside)
 
   line_row : (s : Step) → IsReadableStep shape s → row_text default_writer (row_of shape s) ≡ step_text shape s ++ codes "\n"
   unfolding fields_text is_blank escaped
@@ -157,14 +130,14 @@ module _ (shape : Extent) (limits : IsWithinLimits shape) where
   block_back n block h = rw (mul-div_cancel block (power_some shape.block_bytes limits.block_bytes.0), lt-ltb block shape.blocks h) refl
 
   word_block_back : (n block word : ℕ) → block < shape.blocks → word < shape.words → block_in shape n (word_address shape block word) ≡ Ok block
-  word_block_back n block word h inside = rw ((address_back shape block word limits inside).0, lt-ltb block shape.blocks h) refl
+  word_block_back n block word h inside = rw ((address_back shape limits block word inside).0, lt-ltb block shape.blocks h) refl
 
   step_back : (n : ℕ) (s : Step) → IsReadableStep shape s → step_in shape n (row_of shape s) ≡ Ok s
   unfolding step_in ask row_by_letter without_value store order respond
   step_back n (Ask core block word Load) h =
-      rw (number_decimal core (core_small core h.0), number_decimal _ (word_small block word h.1 h.2), lt-ltb core shape.cores h.0, word_block_back n block word h.1 h.2, (address_back shape block word limits h.2).1) refl
+      rw (number_decimal core (core_small core h.0), number_decimal _ (word_small block word h.1 h.2), lt-ltb core shape.cores h.0, word_block_back n block word h.1 h.2, (address_back shape limits block word h.2).1) refl
   step_back n (Ask core block word (Store value)) h =
-      rw (number_decimal core (core_small core h.0), number_decimal _ (word_small block word h.1 h.2), number_decimal value h.3, lt-ltb core shape.cores h.0, word_block_back n block word h.1 h.2, (address_back shape block word limits h.2).1) refl
+      rw (number_decimal core (core_small core h.0), number_decimal _ (word_small block word h.1 h.2), number_decimal value h.3, lt-ltb core shape.cores h.0, word_block_back n block word h.1 h.2, (address_back shape limits block word h.2).1) refl
   step_back n (Ask core block word Evict) h =
       rw (number_decimal core (core_small core h.0), number_decimal _ (address_small block h.1), lt-ltb core shape.cores h.0, block_back n block h.1, h.2) refl
   step_back n (Order core) h = rw (number_decimal core (core_small core h), lt-ltb core shape.cores h) refl
@@ -179,66 +152,38 @@ module _ (shape : Extent) (limits : IsWithinLimits shape) where
   steps_rows : (steps : List Step) → AllByRecursion (IsReadableStep shape) steps → records_left st.StartRecord (steps_text shape steps) ≡ map (row_of shape) steps
   unfolding next_record
   steps_rows [] h = records-ended default_config _ st.StartRecord [] refl
-  steps_rows (s ∷ steps) h =
-      let read = rw (line_row s h.0, some_row shape s) at (read-write (row_of shape s) (steps_text shape steps)) in
-      records_step default_config st.StartRecord (steps_text shape (s ∷ steps)) (row_of shape s, st.StartRecord, steps_text shape steps) read ∙ ap (λ (rows : List (List (List ℕ))). row_of shape s ∷ rows) (steps_rows steps h.1)
+  steps_rows (s ∷ steps) h = rw (line_read (row_of shape s) _ (steps_text shape steps) (line_row s h.0) (some_row shape s), steps_rows steps h.1) refl
+
+  small : (shape.cores < 2 ^ 64) × (shape.blocks < 2 ^ 64) × (shape.block_bytes < 2 ^ 64) × (shape.words < 2 ^ 64)
+  small = omega arith
 
   -- what csv writes of a heading
   pub heading_written : (protocol : Protocol)
       → row_text record_writer (codes "V" ∷ codes "2" ∷ protocol_name protocol ∷ decimal shape.cores ∷ decimal shape.blocks ∷ decimal shape.block_bytes ∷ decimal shape.words ∷ []) ≡ heading_text (heading_for protocol shape) ++ codes "\n"
   unfolding fields_text is_blank
-  heading_written protocol =
-      let one = plain shape.cores (omega (arith, limits.cores.1)) in
-      let two = plain shape.blocks (omega (arith, limits.blocks.1)) in
-      let three = plain shape.block_bytes (omega (arith, limits.block_bytes.1)) in
-      let four = plain shape.words (omega (arith, limits.words.1)) in
-      rw (protocol_plain protocol, one, two, three, four) (seven_parts (protocol_name protocol) (decimal shape.cores) (decimal shape.blocks) (decimal shape.block_bytes) (decimal shape.words))
-
-  heading_line : (protocol : Protocol) → row_text default_writer (heading_row (heading_for protocol shape)) ≡ heading_text (heading_for protocol shape) ++ codes "\n"
-  unfolding fields_text is_blank escaped
-  heading_line protocol = heading_written protocol
+  heading_written protocol = rw ((protocol_read protocol).0, plain _ small.0, plain _ small.1, plain _ small.2, plain _ small.3) (commas (codes "V") (codes "2" ∷ protocol_name protocol ∷ decimal shape.cores ∷ decimal shape.blocks ∷ decimal shape.block_bytes ∷ decimal shape.words ∷ []))
 
   -- the record of a heading says it
   heading_back : (protocol : Protocol) (n : ℕ) → heading_in n (heading_row (heading_for protocol shape)) ≡ Ok (heading_for protocol shape)
   unfolding heading_in version_in number
-  heading_back protocol n =
-      let one = number_decimal shape.cores (omega (arith, limits.cores.1)) in
-      let two = number_decimal shape.blocks (omega (arith, limits.blocks.1)) in
-      let three = number_decimal shape.block_bytes (omega (arith, limits.block_bytes.1)) in
-      let four = number_decimal shape.words (omega (arith, limits.words.1)) in
-      rw (protocol_back protocol, one, two, three, four) refl
+  heading_back protocol n = rw ((protocol_read protocol).1, number_decimal _ small.0, number_decimal _ small.1, number_decimal _ small.2, number_decimal _ small.3) refl
 
   -- the records of a text of version 2 are the heading's, and then those of its steps
   heading_and_more : (protocol : Protocol) (steps : List Step) → records_of (text_of protocol shape steps) ≡ heading_row (heading_for protocol shape) ∷ records_left st.StartRecord (steps_text shape steps)
-  unfolding strip_bom
-  heading_and_more protocol steps =
-      let read : Read = (heading_row (heading_for protocol shape), st.StartRecord, steps_text shape steps) in
-      let Reads : List ℕ → Type 0 = λ line. next_record default_config st.StartRecord [] [] (line ++ steps_text shape steps) ≡ Some read in
-      records_step default_config st.StartRecord (text_of protocol shape steps) read (subst Reads (heading_line protocol) (read-write read.0 (steps_text shape steps)))
+  unfolding strip_bom fields_text is_blank escaped
+  heading_and_more protocol steps = line_read (heading_row (heading_for protocol shape)) _ (steps_text shape steps) (heading_written protocol) refl
 
 protocol_is : (a b : Protocol) → same_protocol a b ≡ true → b ≡ a
 protocol_is Msi Msi h = refl
 protocol_is Mesi Mesi h = refl
 protocol_is _ _ h = cc
 
-protocol_itself : (protocol : Protocol) → same_protocol protocol protocol ≡ true
-protocol_itself Msi = refl
-protocol_itself Mesi = refl
-
 same_as_itself : (heading : Heading) → same_heading heading heading ≡ true
-same_as_itself h = rw (protocol_itself h.protocol, eq-eqb h.cores h.cores refl, eq-eqb h.blocks h.blocks refl, eq-eqb h.block_bytes h.block_bytes refl, eq-eqb h.words h.words refl) refl
-
-extent_is : (a b : Extent) → a.cores ≡ b.cores → a.blocks ≡ b.blocks → a.block_bytes ≡ b.block_bytes → a.words ≡ b.words → b ≡ a
-extent_is a b cores blocks block_bytes words = rw (cores, blocks, block_bytes, words) refl
+same_as_itself h = grind (arith, nat_tests)
 
 -- headings that say the same are those of the same protocol and shape
 heading_is : (protocol other : Protocol) (shape extent : Extent) → same_heading (heading_for protocol shape) (heading_for other extent) ≡ true → (other ≡ protocol) × (extent ≡ shape)
-heading_is protocol other shape extent same =
-    let (name, numbers) = and_parts _ _ same in
-    let (one, later) = and_parts _ _ numbers in
-    let (two, last) = and_parts _ _ later in
-    let (three, four) = and_parts _ _ last in
-    (protocol_is protocol other name, extent_is shape extent (eqb-true _ _ one) (eqb-true _ _ two) (eqb-true _ _ three) (eqb-true _ _ four))
+heading_is protocol other shape extent same = grind (arith, nat_tests, protocol_is)
 
 -- steps within the shape are read from their text
 pub all_read_again : (protocol : Protocol) (shape : Extent) (steps : List Step) → IsWithinLimits shape → All (IsReadableStep shape) steps

@@ -1,3 +1,4 @@
+pub mod Common
 pub mod PowerLemmas
 pub mod WordPlaces
 pub mod Padded
@@ -8,7 +9,6 @@ pub mod CsvLemmas
 pub mod TextLemmas
 pub mod OutputLemmas
 pub mod GathersLemmas
-pub mod LineLemmas
 pub mod BackLemmas
 pub mod WithinLemmas
 pub mod AskedLemmas

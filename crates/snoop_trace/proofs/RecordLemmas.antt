@@ -1,11 +1,8 @@
 -- What is refused in a record names that record.
 use Rattle.std.specs.Prelude.{Result, Ok, Err, IfErr, Bool, true, false, ℕ, List, Option, Some, None, if◌then◌else◌}
-use Rattle.std.specs.Option.{ok_or}
-use Rattle.snoop_trace.specs.Extent.{Extent}
+use Rattle.snoop_trace.proofs.Common.{Extent, Heading, TextFault, ok_or}
 use Rattle.snoop_trace.specs.Grammar.{◌>>=◌, NamesRecord, ask, row_by_letter, order, respond, store, without_value}
 use Rattle.snoop_trace.specs.Heading.{heading_as, heading_in, version_in}
-use Rattle.snoop_trace.specs.declared.heading.Heading.{Heading}
-use Rattle.snoop_trace.specs.declared.fault.TextFault.{TextFault}
 
 -- a reading whose faults name a record
 names_bind : {A B : Type 0} (r : Result A TextFault) (f : A → Result B TextFault) → IfErr r NamesRecord → ((x : A) → IfErr (f x) NamesRecord) → IfErr (r >>= f) NamesRecord
@@ -38,10 +35,6 @@ pub names_respond : (shape : Extent) (n : ℕ) (fs : List (List ℕ)) → IfErr 
 unfolding respond
 names_respond shape n fs = search names depth 12
 
-names_heading : (n : ℕ) (fs : List (List ℕ)) → IfErr (heading_in n fs) NamesRecord
-unfolding heading_in version_in
-names_heading n fs = search names depth 15
-
 pub names_heading_as : (asked : Heading) (n : ℕ) (fs : List (List ℕ)) → IfErr (heading_as asked n fs) NamesRecord
-unfolding heading_as
-names_heading_as asked n fs = search (names, names_heading)
+unfolding heading_as heading_in version_in
+names_heading_as asked n fs = search names depth 20

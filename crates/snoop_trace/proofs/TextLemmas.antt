@@ -1,22 +1,18 @@
 -- How the records that were read so far stand in the whole text.
-use Rattle.std.proofs.Common.{◌≡◌, ℕ, ◌+◌, List, [], ◌∷◌, ◌++◌, Option, Some, None, true, false, refl, sym, ◌∙◌, ap, append_assoc, subst}
+use Rattle.std.proofs.Common.{◌≡◌, ℕ, ◌+◌, List, [], ◌∷◌, ◌++◌, Option, Some, None, true, false, refl, ◌∙◌, ap, append_assoc}
 use Rattle.std.specs.Prelude.{Bool, Result, Ok, Err, IfErr, IfSome, if◌then◌else◌}
-use Rattle.std.proofs.lemmas.List.{append-nil}
-use Rattle.std.proofs.lemmas.Result.{IfErr-at_err}
+use Rattle.snoop_trace.proofs.Common.{Heading, IfErr-at_err, State, TakesEntry, TakesRecord}
+use Rattle.snoop_trace.proofs.Common.{TextFault, append-nil, entries_after, records_left}
 use Rattle.csv.specs.Machine.{next_record}
 use Rattle.csv.specs.Reading.{Reached, ReadRecord, default_config, reader_config, reader_state, records, source_of}
-use Rattle.csv.specs.declared.parser.State.{State}
-use Rattle.csv.specs.declared.parser.State.TheVariants as st
 use Rattle.csv.specs.declared.reader.Reader.{Reader}
 use Rattle.csv.proofs.ReadFacts.{rows-end, rows-more}
 use Rattle.snoop_trace.specs.Grammar.{◌>>=◌, NamesRecord}
-use Rattle.snoop_trace.specs.Progress.{TakesRecord, TakesEntry, entries_after, records_left}
 use Rattle.snoop_trace.specs.Heading.{heading_as, is_heading}
 use Rattle.snoop_trace.specs.Text.{Gives, entries_from, entries_in}
-use Rattle.snoop_trace.specs.declared.heading.Heading.{Heading}
-use Rattle.snoop_trace.specs.declared.fault.TextFault.{TextFault}
-use Rattle.snoop_trace.specs.declared.fault.TextFault.TheVariants as fault
 use Rattle.snoop_trace.proofs.CsvLemmas.{records-ended, records_step}
+use Rattle.csv.specs.declared.parser.State.TheVariants as st
+use Rattle.snoop_trace.specs.declared.fault.TextFault.TheVariants as fault
 
 -- what a record says, by its number and its fields
 abbrev Says : Type 0 → Type 0
@@ -26,6 +22,19 @@ Says A = ℕ → List (List ℕ) → Result A TextFault
 pub bind_ok : {A B : Type 0} (r : Result A TextFault) (f : A → Result B TextFault) (y : B) → (r >>= f) ≡ Ok y → (x : A) × (r ≡ Ok x) × (f x ≡ Ok y)
 bind_ok (Ok x) f y h = (x, refl, h)
 bind_ok (Err e) f y h = cc
+
+-- readings that go on
+pub bind_assoc : {A B C : Type 0} (r : Result A TextFault) (f : A → Result B TextFault) (g : B → Result C TextFault) → ((r >>= f) >>= g) ≡ (r >>= λ x. f x >>= g)
+bind_assoc (Ok x) f g = refl
+bind_assoc (Err e) f g = refl
+
+bind_ends : {A : Type 0} (r : Result A TextFault) → (r >>= λ x. Ok x) ≡ r
+bind_ends (Ok x) = refl
+bind_ends (Err e) = refl
+
+bind_if : {A B : Type 0} (b : Bool) (r q : Result A TextFault) (f : A → Result B TextFault) → ((if b then r else q) >>= f) ≡ (if b then (r >>= f) else (q >>= f))
+bind_if true r q f = refl
+bind_if false r q f = refl
 
 pub if_some : {X : Type 0} (o : Option X) (P : X → Type 0) → ((x : X) → o ≡ Some x → P x) → IfSome o P
 if_some None P f = tt
@@ -41,11 +50,7 @@ gives_fault view named said is = is
 after_entry : {A : Type 0} (says : Says A) (before : List A) (n : ℕ) (row : List (List ℕ)) (rows : List (List (List ℕ))) (entry : A)
     → says n row ≡ Ok entry → entries_after says before n (row ∷ rows) ≡ entries_after says (before ++ (entry ∷ [])) (n + 1) rows
 unfolding entries_from
-after_entry {A} says before n row rows entry is = rw is (go (entries_from says (n + 1) rows))
-  where
-    go : (r : Result (List A) TextFault) → ((r >>= λ entries. Ok (entry ∷ entries)) >>= λ more. Ok (before ++ more)) ≡ (r >>= λ more. Ok ((before ++ (entry ∷ [])) ++ more))
-    go (Ok more) = rw append_assoc refl
-    go (Err e) = refl
+after_entry says before n row rows entry is = rw is (simp (bind_assoc, append_assoc))
 
 -- what is said in all is what was said so far, and then what the records say that are left
 pub record SoFar {A : Type 0} (says : Says A) (said : Result (List A) TextFault) (s : State) (left : Option (List ℕ)) (entries : List A) (n : ℕ) : Type 0 where
@@ -77,23 +82,11 @@ module _ {A : Type 0} (says : Says A) (said : Result (List A) TextFault) (s : St
 abbrev pub first_says : {A : Type 0} → Says A → Heading → List (List ℕ) → Result (List A) TextFault
 first_says says asked f = if is_heading f then (heading_as asked 1 f >>= λ heading. Ok []) else (says 1 f >>= λ entry. Ok (entry ∷ []))
 
-none_before : {A : Type 0} (r : Result (List A) TextFault) → (r >>= λ more. Ok ([] ++ more)) ≡ r
-none_before (Ok xs) = refl
-none_before (Err e) = refl
-
 -- a text says what its first record does, and then what those say that are left
 in_first : {A : Type 0} (says : Says A) (asked : Heading) (f : List (List ℕ)) (rest : List (List (List ℕ)))
     → entries_in says (Some asked) (f ∷ rest) ≡ (first_says says asked f >>= λ before. entries_after says before 2 rest)
 unfolding entries_in entries_from
-in_first {A} says asked f rest = go (is_heading f) (heading_as asked 1 f) (says 1 f)
-  where
-    go : (b : Bool) (h : Result Heading TextFault) (e : Result A TextFault)
-        → (if b then (h >>= λ heading. entries_from says 2 rest) else (e >>= λ entry. entries_from says 2 rest >>= λ entries. Ok (entry ∷ entries)))
-        ≡ ((if b then (h >>= λ heading. Ok []) else (e >>= λ entry. Ok (entry ∷ []))) >>= λ before. entries_after says before 2 rest)
-    go true (Ok h) e = sym (none_before (entries_from says 2 rest))
-    go true (Err x) e = refl
-    go false h (Ok e) = refl
-    go false h (Err x) = refl
+in_first says asked f rest = simp (bind_if, bind_assoc) (rw (bind_ends (entries_from says 2 rest)))
 
 module _ {R : Type 0} (rem : R → Option (List ℕ)) (a b : Reader R) (f : List (List ℕ)) where
   -- a record that was read
@@ -111,13 +104,9 @@ module _ {R : Type 0} (rem : R → Option (List ℕ)) (a b : Reader R) (f : List
     took_entry entry e = if_some (source_of rem a) _ (λ xs at. let (ys, next, left) = took xs config r at in (f, ys, next, left, e))
 
     pub took_fault : (named : TextFault) → says f ≡ Err named → TakesEntry rem says a (Err named) b
-    took_fault named e = if_some (source_of rem a) _ (λ xs at. let (ys, next, left) = took xs config r at in go named xs ys next e)
-      where
-        go : (named : TextFault) (xs ys : List ℕ) → next_record default_config (reader_state a) [] [] xs ≡ Some (f, reader_state b, ys) → says f ≡ Err named
-            → TakesRecord says (reader_state a) xs (Err named) (reader_state b) (source_of rem b)
-        go fault.Read xs ys next e = tt
-        go fault.NoMemory xs ys next e = tt
-        go named xs ys next e = ((f, reader_state b, ys), next, e)
+    took_fault fault.Read e = if_some (source_of rem a) _ (λ xs at. tt)
+    took_fault fault.NoMemory e = if_some (source_of rem a) _ (λ xs at. tt)
+    took_fault named e = if_some (source_of rem a) _ (λ xs at. let (ys, next, left) = took xs config r at in ((f, reader_state b, ys), next, e))
 
   module _ {A : Type 0} (says : Says A) (asked : Heading) (heading : Option Heading) (some : heading ≡ Some asked) (config : reader_config a ≡ default_config) (begins : reader_state a ≡ st.StartRecord) where
     -- the text has no record
@@ -126,23 +115,22 @@ module _ {R : Type 0} (rem : R → Option (List ℕ)) (a b : Reader R) (f : List
     none_read entries r none =
         if_some (source_of rem a) _ (λ xs at. rw (some, none, records-ended default_config _ st.StartRecord xs (rw begins at (rows-end rem a b f default_config xs config at r))) refl)
 
-    -- the first record of a text, and those that are left
-    first_read : ReadRecord rem a b true f → (xs : List ℕ) → source_of rem a ≡ Some xs
-        → (ys : List ℕ) × (entries_in says heading (records default_config xs) ≡ (first_says says asked f >>= λ before. entries_after says before 2 (records_left (reader_state b) ys))) × (source_of rem b ≡ Some ys)
-    first_read r xs at =
-        let (ys, next, left) = took xs config r at in
-        let step = records_step default_config st.StartRecord xs (f, reader_state b, ys) (subst (λ (s : State). next_record default_config s [] [] xs ≡ Some (f, reader_state b, ys)) begins next) in
-        (ys, rw (some, step) (in_first says asked f (records_left (reader_state b) ys)), left)
-
     module _ {X : Type 0} (view : X → List A) (answer : Result X TextFault) (r : ReadRecord rem a b true f) where
+      -- the first record of a text, and those that are left
+      first_read : ((ys : List ℕ) → source_of rem b ≡ Some ys → Gives view answer (first_says says asked f >>= λ before. entries_after says before 2 (records_left (reader_state b) ys)))
+          → IfSome (source_of rem a) (λ xs. Gives view answer (entries_in says heading (records default_config xs)))
+      first_read gives = if_some (source_of rem a) _ (λ xs at.
+          let (ys, next, left) = took xs config r at in
+          rw (some, records_step default_config st.StartRecord xs (f, reader_state b, ys) (simp begins at next), in_first says asked f (records_left (reader_state b) ys)) (gives ys left))
+
       pub first_refused : (named : TextFault) → answer ≡ Err named → first_says says asked f ≡ Err named
           → IfSome (source_of rem a) (λ xs. Gives view answer (entries_in says heading (records default_config xs)))
-      first_refused named is refused = if_some (source_of rem a) _ (λ xs at. let (ys, same, left) = first_read r xs at in rw (same, is) (gives_fault view named _ (rw refused refl)))
+      first_refused named is refused = first_read (λ ys left. rw is (gives_fault view named _ (rw refused refl)))
 
       pub first_taken : (before : List A) → first_says says asked f ≡ Ok before
           → IfSome (source_of rem b) (λ ys. Gives view answer (entries_after says before 2 (records_left (reader_state b) ys)))
           → IfSome (source_of rem a) (λ xs. Gives view answer (entries_in says heading (records default_config xs)))
-      first_taken before is later = if_some (source_of rem a) _ (λ xs at. let (ys, same, left) = first_read r xs at in rw (same, is) (rw left at later))
+      first_taken before is later = first_read (λ ys left. rw is (rw left at later))
 
 -- no heading is asked for
 pub no_heading : {A X : Type 0} (says : Says A) (heading : Option Heading) (view : X → List A) (answer : Result X TextFault) (before : List A) (s : State) (o : Option (List ℕ))
@@ -151,7 +139,7 @@ pub no_heading : {A X : Type 0} (says : Says A) (heading : Option Heading) (view
     → IfSome o (λ xs. Gives view answer (entries_in says heading (records default_config xs)))
 unfolding entries_in
 no_heading says heading view answer before s None absent begins none read = tt
-no_heading says heading view answer before s (Some xs) absent begins none read = rw absent (rw (none_before (entries_from says 1 (records default_config xs))) at (rw (begins, none) at read))
+no_heading says heading view answer before s (Some xs) absent begins none read = rw absent (rw (bind_ends (entries_from says 1 (records default_config xs))) at (rw (begins, none) at read))
 
 -- a fault that names a record is no failed read
 pub not_failed : {X Y : Type 0} (said : Result Y TextFault) (answer : Result X TextFault) (named : TextFault) → said ≡ Err named → IfErr said NamesRecord → answer ≡ Err named → answer ≡ Err fault.Read → ⊥

@@ -1,16 +1,10 @@
 -- What a record says as a row or as a step is within the shape.
 use Rattle.std.proofs.Common.{◌≡◌, ◌<◌, ◌/◌, ℕ, List, true, false, refl, arith, rules}
 use Rattle.std.specs.Prelude.{All, Bool, Result, Ok, Err, IfOk, if◌then◌else◌}
-use Rattle.std.proofs.lemmas.Bool.Decides.{nat_tests}
-use Rattle.std.proofs.lemmas.Result.{IfOk-at_ok, IfOk-weaker}
-use Rattle.std.proofs.lemmas.List.Elements.{All-weaker}
-use Rattle.snoop_trace.specs.Extent.{Extent, IsWithinLimits}
+use Rattle.snoop_trace.proofs.Common.{All-weaker, Extent, IfOk-at_ok, IfOk-weaker, IsSaid}
+use Rattle.snoop_trace.proofs.Common.{IsWithinLimits, Row, Step, TextFault, nat_tests}
 use Rattle.snoop_trace.proofs.WordPlaces.{asked_within}
 use Rattle.snoop_trace.specs.Grammar.{◌>>=◌, IsRowWithin, IsStepWithin, ask, row_by_letter, block_in, core_in, order, respond, row_in, step_in, store, without_value}
-use Rattle.snoop_trace.specs.Progress.{IsSaid}
-use Rattle.snoop_trace.specs.declared.fault.TextFault.{TextFault}
-use Rattle.snoop_trace.specs.declared.step.Row.{Row}
-use Rattle.snoop_trace.specs.declared.step.Step.{Step}
 
 -- a reading that goes on
 pub if_bind : {A B : Type 0} (r : Result A TextFault) (f : A → Result B TextFault) (P : B → Type 0) → ((x : A) → r ≡ Ok x → IfOk (f x) P) → IfOk (r >>= f) P
@@ -34,12 +28,9 @@ address_there : (shape : Extent) (n address block : ℕ) → block_in shape n ad
 address_there shape n address block e = grind (arith, nat_tests)
 
 -- the row's core is there
-core_of_asked : (shape : Extent) (n letter : ℕ) (fs : List (List ℕ)) → IfOk (row_by_letter shape n letter fs) (λ row. row.core < shape.cores)
-unfolding row_by_letter without_value store
-core_of_asked shape n letter fs = search (if_bind, if_if, core_there) depth 16
-
 pub core_of_row : (shape : Extent) (n letter : ℕ) (fs : List (List ℕ)) (row : Row) → row_by_letter shape n letter fs ≡ Ok row → row.core < shape.cores
-core_of_row shape n letter fs row e = IfOk-at_ok (λ (row : Row). row.core < shape.cores) e (core_of_asked shape n letter fs)
+unfolding row_by_letter without_value store
+core_of_row shape n letter fs row e = IfOk-at_ok (λ (row : Row). row.core < shape.cores) e (search (if_bind, if_if, core_there) depth 16)
 
 pub said_row : (shape : Extent) (n : ℕ) (fs : List (List ℕ)) → IfOk (row_in shape n fs) (IsRowWithin shape)
 unfolding row_in

@@ -1,16 +1,12 @@
 -- Where the words of a block stand.
-use Rattle.std.proofs.Common.{◌≡◌, ◌≤◌, ◌<◌, ℕ, ◌+◌, ◌-◌, ◌*◌, ◌/◌, ◌%◌, ◌^◌, ◌⊎◌, sym, ap, ◌∙◌, subst, arith, inl, inr, suc, refl}
+use Rattle.std.proofs.Common.{◌≡◌, ◌≤◌, ◌<◌, ℕ, ◌+◌, ◌-◌, ◌*◌, ◌/◌, ◌%◌, ◌^◌, sym, ap, ◌∙◌, subst, arith, inl, inr, suc, refl}
+use Rattle.snoop_trace.proofs.Common.{Evict, Extent, HasWord, IsWithinLimits, cases_lt, div-mul-add}
+use Rattle.snoop_trace.proofs.Common.{pow-add, pow_pos, word_address}
 use Rattle.std.specs.Int.{IsPowerOfTwo}
 use Rattle.std.proofs.Math.Nat.{pow-suc, mul-div_cancel, mul-div_cancel_left, div-lt_iff_lt-mul, mod-lt, mod-eq_of_lt, mul-lt-mul_of_pos_right, mul-add-mod_self_right}
 use Rattle.std.proofs.Math.Pow.{pow_mono}
-use Rattle.std.proofs.lemmas.Bool.{cases_lt}
-use Rattle.std.proofs.lemmas.Nat.{pow_pos, pow-add, div-mul-add}
-use Rattle.snoop_trace.specs.Extent.{Extent, IsWithinLimits}
 use Rattle.snoop_trace.specs.declared.step.Op.{Op}
-use Rattle.snoop_trace.specs.declared.step.Op.TheVariants.{Evict}
 use Rattle.snoop_trace.specs.Grammar.{word_asked, word_in_block}
-use Rattle.snoop_trace.specs.Output.{word_address}
-use Rattle.snoop_trace.specs.Words.{HasWord}
 use Rattle.snoop_trace.proofs.PowerLemmas.{power_some}
 
 -- a power of two goes into a greater one
@@ -24,55 +20,40 @@ goes_into w b (i, e) (j, f) le = elim (cases_lt j i) [
       (2 ^ (j - i), (pow_pos (j - i), rw (f, e, ← pow-add 2 i (j - i), whole) refl))
 ]
 
-module _ (shape : Extent) (some : IsPowerOfTwo shape.words) (bytes : IsPowerOfTwo shape.block_bytes) (le : shape.words ≤ shape.block_bytes) where
+module _ (shape : Extent) (limits : IsWithinLimits shape) where
   -- the bytes of a word
   word_bytes : (0 < shape.block_bytes / shape.words) × (shape.block_bytes ≡ shape.words * (shape.block_bytes / shape.words))
   word_bytes =
-      let (k, is) = goes_into shape.words shape.block_bytes some bytes le in
-      let size : shape.block_bytes / shape.words ≡ k = ap (λ (n : ℕ). n / shape.words) is.1 ∙ mul-div_cancel_left k (power_some shape.words some) in
+      let fit : shape.words ≤ shape.block_bytes = omega (arith, power_some shape.block_bytes limits.block_bytes.0) in
+      let (k, is) = goes_into shape.words shape.block_bytes limits.words.0 limits.block_bytes.0 fit in
+      let size : shape.block_bytes / shape.words ≡ k = ap (λ (n : ℕ). n / shape.words) is.1 ∙ mul-div_cancel_left k (power_some shape.words limits.words.0) in
       rw size is
 
   -- the word of an address is one that the block has
   pub word_within : (address : ℕ) → word_in_block shape address < shape.words
-  word_within address = (div-lt_iff_lt-mul word_bytes.0).1 (subst (λ (n : ℕ). address % shape.block_bytes < n) word_bytes.1 (mod-lt address (power_some shape.block_bytes bytes)))
+  word_within address = (div-lt_iff_lt-mul word_bytes.0).1 (subst (λ (n : ℕ). address % shape.block_bytes < n) word_bytes.1 (mod-lt address (power_some shape.block_bytes limits.block_bytes.0)))
 
   module _ (block word : ℕ) (inside : word < shape.words) where
     -- a word begins within its block
     word_starts : word * (shape.block_bytes / shape.words) < shape.block_bytes
     word_starts = subst (λ (n : ℕ). word * (shape.block_bytes / shape.words) < n) (sym word_bytes.1) (mul-lt-mul_of_pos_right inside word_bytes.0)
 
-    -- the address of a word is in its block
-    block_back : word_address shape block word / shape.block_bytes ≡ block
-    block_back = div-mul-add block shape.block_bytes (word * (shape.block_bytes / shape.words)) word_starts
-
-    -- the address of a word is that word's
-    word_back : word_in_block shape (word_address shape block word) ≡ word
-    word_back =
+    -- a word's address is read as its block and its word, and lies before the end of its block
+    pub address_back : (word_address shape block word / shape.block_bytes ≡ block) × (word_in_block shape (word_address shape block word) ≡ word)
+    address_back =
         let size = shape.block_bytes / shape.words in
-        ap (λ (n : ℕ). n / size) (mul-add-mod_self_right block shape.block_bytes (word * size) ∙ mod-eq_of_lt word_starts) ∙ mul-div_cancel word word_bytes.0
+        let word_back = mul-add-mod_self_right block shape.block_bytes (word * size) ∙ mod-eq_of_lt word_starts in
+        (div-mul-add block shape.block_bytes (word * size) word_starts, ap (λ (n : ℕ). n / size) word_back ∙ mul-div_cancel word word_bytes.0)
 
--- there are no more words than bytes
-pub words_fit : (words bytes : ℕ) → IsPowerOfTwo bytes → (words ≡ 1) ⊎ (8 * words ≤ bytes) → words ≤ bytes
-words_fit words bytes power (inl one) = omega (arith, one, power_some bytes power)
-words_fit words bytes power (inr less) = omega (arith, less)
+    pub address_before : word_address shape block word < block * shape.block_bytes + shape.block_bytes
+    address_before = omega (arith, word_starts)
 
 -- the word that is asked for is one that the block has
 pub asked_within : (shape : Extent) (address : ℕ) (op : Op) → IsWithinLimits shape → word_asked shape address op < shape.words
 asked_within shape address Evict limits = power_some shape.words limits.words.0
-asked_within shape address op limits = word_within shape limits.words.0 limits.block_bytes.0 (words_fit shape.words shape.block_bytes limits.block_bytes.0 limits.words.2) address
+asked_within shape address op limits = word_within shape limits address
 
 -- an operation may be of the word that is asked for: no word that a block has lies past the places
 pub word_there : (shape : Extent) (address : ℕ) (op : Op) → IsWithinLimits shape → HasWord shape (word_asked shape address op) op
 word_there shape address Evict limits = tt
 word_there shape address op limits = let few = asked_within shape address op limits in (few, omega (arith, few, limits.words.1))
-
--- a word's address is read as its block and its word, and lies before the end of its block
-module _ (shape : Extent) (block word : ℕ) (limits : IsWithinLimits shape) (inside : word < shape.words) where
-  fit : shape.words ≤ shape.block_bytes
-  fit = words_fit shape.words shape.block_bytes limits.block_bytes.0 limits.words.2
-
-  pub address_back : (word_address shape block word / shape.block_bytes ≡ block) × (word_in_block shape (word_address shape block word) ≡ word)
-  address_back = (block_back shape limits.words.0 limits.block_bytes.0 fit block word inside, word_back shape limits.words.0 limits.block_bytes.0 fit block word inside)
-
-  pub address_before : word_address shape block word < block * shape.block_bytes + shape.block_bytes
-  address_before = omega (arith, word_starts shape limits.words.0 limits.block_bytes.0 fit block word inside)

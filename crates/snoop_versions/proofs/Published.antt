@@ -1,12 +1,8 @@
 -- What holds of a writer after it has appended or published an item.
 use Rattle.std.proofs.Common.{◌≡◌, ℕ, ◌<◌, ◌≤◌, List, [], ◌∷◌, ◌++◌, length, fold, true, true≢false, refl, sym, ap, ◌∙◌, arith}
 use Rattle.std.specs.Prelude.{All, Result, Ok, Err, IsOk, MatchResult, option_to_list}
-use Rattle.snoop_history.specs.declared.items.Item.{Item}
-use Rattle.snoop_history.specs.History.{Legal}
-use Rattle.snoop_history.specs.Within.{IsItemWithin}
-use Rattle.snoop_versions.specs.declared.version.Version.{Version}
-use Rattle.snoop_versions.specs.declared.rule.View.{View}
-use Rattle.snoop_versions.specs.Rule.{version_of, grown, IsPublishing}
+use Rattle.snoop_versions.proofs.Common.{IsItemWithin, IsPublishing, Item, Legal, Version, View}
+use Rattle.snoop_versions.proofs.Common.{grown, version_of}
 use Rattle.snoop_versions.proofs.Versions.{version_of-push}
 
 -- after an append to nothing at most one item is ready

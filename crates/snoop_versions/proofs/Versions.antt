@@ -1,20 +1,15 @@
 -- Publishing and entering keep the rule of the versions.
-use Rattle.std.proofs.Common.{◌≡◌, ◌≢◌, ℕ, List, [], ◌∷◌, ◌++◌, map, Some, None, Bool, true, false, true≢false, refl, sym, ap, ◌∙◌, subst, ⊎_elim, append-nil, append_assoc}
+use Rattle.std.proofs.Common.{◌≡◌, ◌≢◌, ℕ, List, [], ◌∷◌, ◌++◌, map, Some, None, Bool, true, false, refl, sym, ap, ◌∙◌, ⊎_elim, append-nil, append_assoc}
 use Rattle.std.specs.Prelude.{All, option_to_list}
+use Rattle.snoop_versions.proofs.Common.{Adds, Fits, IsItemWithin, IsWriting, Item, Kept, Legal}
+use Rattle.snoop_versions.proofs.Common.{Sees, Version, View, absorbed_board, grown, last_or}
+use Rattle.snoop_versions.proofs.Common.{newcomer, newest_of, same_shape, version_of}
 use Rattle.std.proofs.lemmas.List.{map-append}
-use Rattle.std.proofs.lemmas.List.Elements.{All-nil}
 use mathlib.Core.Option.{some}
 use lib.ListN.{get_elem?}
 use Rattle.left_right.specs.Register.{Admits, TurnsAt, Turns}
 use Rattle.atomic_table.proofs.Lists.{at_set, at_snoc}
-use Rattle.snoop_history.specs.declared.items.Item.{Item}
-use Rattle.snoop_history.specs.History.{Legal, last_or}
-use Rattle.snoop_history.specs.Within.{IsItemWithin}
-use Rattle.snoop_history.proofs.Boards.{absorbed_board, same_shape}
 use Rattle.snoop_history.proofs.Pushed.{last_or-append}
-use Rattle.snoop_versions.specs.declared.version.Version.{Version}
-use Rattle.snoop_versions.specs.declared.rule.View.{View}
-use Rattle.snoop_versions.specs.Rule.{newest_of, version_of, newcomer, Fits, Kept, Adds, Sees, IsWriting, grown}
 
 pub newest_push : (list : List Item) (entry : Item) → newest_of (list ++ entry ∷ []) ≡ Some entry
 newest_push list entry = ap (last_or None) (map-append Some list (entry ∷ [])) ∙ last_or-append None (map Some list) (Some entry ∷ [])
@@ -33,8 +28,10 @@ newest_none : (list : List Item) → newest_of list ≡ None → list ≡ []
 newest_none [] e = refl
 newest_none (x ∷ xs) e = absurd (last_some x xs e)
 
-pub admits : Admits Kept newcomer
-admits x views k = record {
+-- the same version is published, and other handles fit it
+same_version : {x : Version} {views : List View} (k : Kept x views) (others : List View)
+    → ((j : ℕ) (u : View) → get_elem? others j ≡ some u → Fits k.cores k.blocks k.words k.list k.writer j u) → Kept x others
+same_version k others each = record {
   cores = k.cores;
   blocks = k.blocks;
   words = k.words;
@@ -43,36 +40,24 @@ admits x views k = record {
   version = k.version;
   legal = k.legal;
   within = k.within;
-  each = λ j u e. ⊎_elim (λ was. k.each j u was) (λ (same : newcomer ≡ u). subst (Fits k.cores k.blocks k.words k.list k.writer j) same (fresh_fits k.cores k.blocks k.words k.list k.writer j)) (at_snoc views newcomer u j e);
+  each = each;
 }
-  where
-    fresh_fits : (c b d : ℕ) (list : List Item) (writer j : ℕ) → Fits c b d list writer j newcomer
-    fresh_fits c b d list writer j = record { begins = (list, refl); shape = λ e. absurd (true≢false (sym e)); writes = λ e. absurd (true≢false (sym e)) }
+
+pub admits : Admits Kept newcomer
+admits x views k = same_version k _ (λ j u e.
+    ⊎_elim (λ was. k.each j u was) (λ (same : newcomer ≡ u). rw (← same) (record { begins = (k.list, refl); shape = λ e. cc; writes = λ e. cc })) (at_snoc views newcomer u j e))
 
 pub sees : (handle : ℕ) (v : View) → Turns Kept handle v (λ x. x) Sees
 sees handle v x views k at =
     let mine = k.each handle v at in
     let w : View = record { used = true; writes = false; cores = k.cores; blocks = k.blocks; words = k.words; seen = k.list } in (
       w,
-      record {
-        cores = k.cores;
-        blocks = k.blocks;
-        words = k.words;
-        list = k.list;
-        writer = k.writer;
-        version = k.version;
-        legal = k.legal;
-        within = k.within;
-        each = λ j u e. ⊎_elim
-            (λ (t : (j ≡ handle) × (w ≡ u)). subst (Fits k.cores k.blocks k.words k.list k.writer j) t.1 (seen_fits k.cores k.blocks k.words k.list k.writer j))
-            (λ (t : (j ≢ handle) × (get_elem? views j ≡ some u)). k.each j u t.1)
-            (at_set views handle j w u e);
-      },
+      same_version k _ (λ j u e. ⊎_elim
+          (λ (t : (j ≡ handle) × (w ≡ u)). rw (← t.1) (record { begins = ([], sym (append-nil k.list)); shape = λ e. (refl, refl, refl); writes = λ e. cc }))
+          (λ (t : (j ≢ handle) × (get_elem? views j ≡ some u)). k.each j u t.1)
+          (at_set views handle j w u e)),
       record { used = refl; version = k.version; legal = k.legal; within = k.within; begins = mine.begins; shape = λ e. (sym (mine.shape e).0, sym (mine.shape e).1, sym (mine.shape e).2) },
     )
-  where
-    seen_fits : (c b d : ℕ) (list : List Item) (writer j : ℕ) → Fits c b d list writer j (record { used = true; writes = false; cores = c; blocks = b; words = d; seen = list })
-    seen_fits c b d list writer j = record { begins = ([], sym (append-nil list)); shape = λ e. (refl, refl, refl); writes = λ e. absurd (true≢false (sym e)) }
 
 -- the writer's list is the published one
 same_list : (v : View) (x : Version) (c b d c' b' d' writer handle : ℕ) (now : List Item) → IsWriting v → x ≡ version_of c b d v.seen → x ≡ version_of c' b' d' now → Fits c' b' d' now writer handle v → (t : Bool) → v.writes ≡ t → now ≡ v.seen
@@ -102,11 +87,10 @@ adds handle v x next c b d entry shown is legal within grows views k at =
         list = k.list ++ entry ∷ [];
         writer = handle;
         version = grows ∙ ap (λ (y : Version). grown y entry) k.version ∙ sym (version_of-push k.cores k.blocks k.words k.list entry);
-        legal = subst Legal seen legal;
-        within = subst (All (IsItemWithin k.cores k.blocks k.words)) seen (subst (λ (n : ℕ). All (IsItemWithin k.cores k.blocks n) (v.seen ++ entry ∷ [])) shape.2 (subst (λ (n : ℕ). All (IsItemWithin k.cores n d) (v.seen ++ entry ∷ [])) shape.1 (subst (λ (n : ℕ). All (IsItemWithin n b d) (v.seen ++ entry ∷ [])) shape.0 within)));
+        legal = rw seen at legal;
+        within = rw (shape.0, shape.1, shape.2, seen) at within;
         each = λ j u e. ⊎_elim
-            (λ (t : (j ≡ handle) × (w ≡ u)). subst (Fits k.cores k.blocks k.words (k.list ++ entry ∷ []) handle j) t.1
-            (record { begins = ([], sym seen ∙ sym (append-nil (v.seen ++ entry ∷ []))); shape = λ e. (refl, refl, refl); writes = λ e. (t.0, seen, λ none. absurd (some_none (sym (newest_push k.list entry) ∙ none))) }))
+            (λ (t : (j ≡ handle) × (w ≡ u)). rw (← t.1) (record { begins = ([], sym seen ∙ sym (append-nil (v.seen ++ entry ∷ []))); shape = λ e. (refl, refl, refl); writes = λ e. (t.0, seen, λ none. let is = newest_push k.list entry in cc) }))
             (λ (t : (j ≢ handle) × (get_elem? views j ≡ some u)).
             let o = k.each j u t.1 in
             record {
@@ -118,22 +102,3 @@ adds handle v x next c b d entry shown is legal within grows views k at =
       },
       (refl, ap (λ (y : Version). v.seen ++ option_to_list y.newest) (sym grows)),
     )
-  where
-    some_none : Some entry ≡ None → ⊥
-    some_none e = cc
-
--- the rule holds of the version of no items, which only its writer has
-pub opens : (x : Version) (c b d : ℕ) → x ≡ version_of c b d [] → Kept x (newcomer ∷ [])
-opens x c b d is = record { cores = c; blocks = b; words = d; list = []; writer = 0; version = is; legal = none_illegal; within = All-nil (IsItemWithin c b d); each = one }
-  where
-    none_illegal : Legal []
-    none_illegal k entry at = cc
-
-    fits : (j : ℕ) → Fits c b d [] 0 j newcomer
-    fits j = record { begins = ([], refl); shape = λ e. absurd (true≢false (sym e)); writes = λ e. absurd (true≢false (sym e)) }
-
-    at_none : (j : ℕ) (v : View) → get_elem? {A = View} [] j ≡ some v → ⊥
-    at_none j v e = cc
-
-    one : (j : ℕ) (v : View) → get_elem? (newcomer ∷ []) j ≡ some v → Fits c b d [] 0 j v
-    one j v e = ⊎_elim (λ (t : get_elem? {A = View} [] j ≡ some v). absurd (at_none j v t)) (λ (same : newcomer ≡ v). subst (Fits c b d [] 0 j) same (fits j)) (at_snoc [] newcomer v j e)

@@ -1,8 +1,6 @@
 use Rattle.std.proofs.Common.{map}
-use Rattle.std.specs.List.{range_with_len}
+use Rattle.snoop_history.proofs.Common.{block_text, flat, range_with_len}
 use Rattle.snoop_rules.proofs.TextLemmas.{piece_more}
-use Rattle.snoop_history.specs.History.{flat}
-use Rattle.snoop_history.specs.Report.{block_text}
 use Rattle.snoop_history.proofs.report.push_blocks.Goals as goal
 
 pub loop-block-preserved : goal.loop-block-preserved

@@ -1,7 +1,5 @@
 use Rattle.std.proofs.Common.{◌≡◌, ◌++◌, map}
-use Rattle.std.specs.List.{range_with_len}
-use Rattle.snoop_history.specs.History.{flat}
-use Rattle.snoop_history.specs.Report.{values_text}
+use Rattle.snoop_history.proofs.Common.{flat, range_with_len, values_text}
 use Rattle.snoop_history.proofs.report.push_values.Given as goal
 
 abbrev pub invariant-loop-word : goal.invariant-loop-word

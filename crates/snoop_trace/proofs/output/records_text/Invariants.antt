@@ -1,8 +1,6 @@
-use Rattle.std.proofs.Common.{◌≡◌, take}
-use Rattle.std.specs.Prelude.{Some}
+use Rattle.std.proofs.Common.{◌≡◌, take, Some}
+use Rattle.snoop_trace.proofs.Common.{IsReady, steps_text}
 use Rattle.csv.specs.Writing.{text_written}
-use Rattle.snoop_trace.specs.Output.{steps_text}
-use Rattle.snoop_trace.specs.Records.{IsReady}
 use Rattle.snoop_trace.proofs.output.records_text.Given as goal
 
 -- the records so far were written

@@ -1,6 +1,5 @@
 use Rattle.std.proofs.Common.{arith}
-use Rattle.snoop_trace.proofs.LineLemmas.{batch_cut, batch_more, batch_stop}
-use Rattle.snoop_trace.proofs.OutputLemmas.{on_err}
+use Rattle.snoop_trace.proofs.OutputLemmas.{batch_cut, batch_more, batch_stop, on_err}
 use Rattle.snoop_trace.proofs.output.write_records.Goals as goal
 
 pub returns-in_err-text-clause-front : goal.returns-in_err-text-clause-front

@@ -1,7 +1,5 @@
-use Rattle.std.proofs.Common.{◌≡◌, ◌≤◌, length, take, Some, false}
-use Rattle.std.specs.Prelude.{◌-◌}
-use Rattle.std.specs.Io.KnownBytes.{Appends}
-use Rattle.snoop_trace.specs.Output.{steps_text}
+use Rattle.std.proofs.Common.{◌≡◌, ◌≤◌, length, take, Some, false, ◌-◌}
+use Rattle.snoop_trace.proofs.Common.{Appends, steps_text}
 use Rattle.snoop_trace.proofs.output.write_records.Given as goal
 
 -- the first records were written, and no write has failed

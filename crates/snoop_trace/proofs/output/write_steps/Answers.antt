@@ -1,5 +1,4 @@
-use Rattle.std.proofs.lemmas.Result.{on_err_weaker, on_ok_weaker}
-use Rattle.snoop_trace.specs.Output.{steps_text, text_of}
+use Rattle.snoop_trace.proofs.Common.{on_err_weaker, on_ok_weaker, steps_text, text_of}
 use Rattle.snoop_trace.proofs.OutputLemmas.{appends_more, appends_none_of, front_after, front_cut, on_err}
 use Rattle.snoop_trace.proofs.output.write_steps.Goals as goal
 

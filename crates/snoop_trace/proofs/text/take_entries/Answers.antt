@@ -1,9 +1,7 @@
-use Rattle.std.proofs.Common.{◌≡◌, ◌+◌, ◌∷◌, ◌++◌, [], length, inr, refl, arith}
+use Rattle.std.proofs.Common.{◌∷◌, [], inr, refl, arith}
+use Rattle.snoop_trace.proofs.Common.{All-push, IsSaid, length-append}
 use Rattle.csv.specs.Reading.{reader_state, source_of}
-use Rattle.std.proofs.lemmas.List.{length-append}
-use Rattle.std.proofs.lemmas.List.Elements.{All-push}
 use Rattle.std.proofs.lemmas.Option.{IfSome_then}
-use Rattle.snoop_trace.specs.Progress.{IsSaid}
 use Rattle.snoop_trace.proofs.TextLemmas.{done, faulty, further}
 use Rattle.snoop_trace.proofs.text.take_entries.Goals as goal
 
@@ -19,15 +17,12 @@ returns-in-Err-clause-read g c =
 
 pub loop-i-preserved : goal.loop-i-preserved
 loop-i-preserved g c =
-    let takes = rw (c.in-Ok-Some.is, c.in-Ok-Some.field-0-is) at c.next_entry.ensures.takes in
-    let plain = rw (c.in-Ok-Some.is, c.in-Ok-Some.field-0-is) at c.next_entry.ensures.plain in
-    let said = rw (c.in-Ok-Some.is, c.in-Ok-Some.field-0-is) at c.next_entry.ensures.said in
+    let told = rw (c.in-Ok-Some.is, c.in-Ok-Some.field-0-is) at c.next_entry.ensures in
     let items = c.in_ok-append-in-Ok-Some.ensures.items in
-    let longer : length (g.C.Entries.listed c.loop-i.entries ++ (c.in-Ok-Some.entry ∷ [])) ≡ length (g.C.Entries.listed c.loop-i.entries) + 1 = length-append (g.C.Entries.listed c.loop-i.entries) (c.in-Ok-Some.entry ∷ []) in
-    let counted = c.loop-i.invariant.4 in (
-      plain refl,
-      IfSome_then (source_of g.R.Read.remaining c.args.text.now) c.loop-i.invariant.1 (λ xs far. rw items (further _ _ _ _ _ _ far _ _ c.in-Ok-Some.entry takes)),
-      rw items (All-push (IsSaid (g.E.Entry.says c.args.shape)) (g.C.Entries.listed c.loop-i.entries) c.in-Ok-Some.entry c.loop-i.invariant.2 said),
+    let longer = length-append (g.C.Entries.listed c.loop-i.entries) (c.in-Ok-Some.entry ∷ []) in (
+      told.plain refl,
+      IfSome_then (source_of g.R.Read.remaining c.args.text.now) c.loop-i.invariant.1 (λ xs far. rw items (further _ _ _ _ _ _ far _ _ c.in-Ok-Some.entry told.takes)),
+      rw items (All-push (IsSaid (g.E.Entry.says c.args.shape)) (g.C.Entries.listed c.loop-i.entries) c.in-Ok-Some.entry c.loop-i.invariant.2 told.said),
       inr c.in_ok-append-in-Ok-Some.ensures.bounded,
-      rw (items, longer) (omega arith),
+      rw items (omega (arith, longer, c.loop-i.invariant.4)),
     )

@@ -1,4 +1,4 @@
-use Rattle.std.specs.Prelude.{◌≡◌, ◌⊎◌, ◌+◌, ◌<◌, ◌^◌, length, All, IfSome}
+use Rattle.std.proofs.Common.{◌≡◌, ◌⊎◌, ◌+◌, ◌<◌, ◌^◌, length, All, IfSome}
 use Rattle.csv.specs.Reading.{reader_state, source_of}
 use Rattle.snoop_trace.proofs.TextLemmas.{SoFar}
 use Rattle.snoop_trace.specs.Progress.{IsPlain, IsSaid, entries_after, records_left}

@@ -1,6 +1,5 @@
 use Rattle.std.proofs.Common.{◌∙◌, ap, fold, drop}
-use Rattle.snoop_versions.specs.Knows.{knows}
-use Rattle.snoop_versions.specs.Rule.{grown}
+use Rattle.snoop_versions.proofs.Common.{grown, knows}
 use Rattle.snoop_versions.proofs.Versions.{adds}
 use Rattle.snoop_versions.proofs.Published.{ok_side, one_ready, list_grows, publishes_on}
 use Rattle.snoop_versions.proofs.publish.publish.Goals as goal

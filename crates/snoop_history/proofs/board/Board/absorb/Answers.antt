@@ -1,7 +1,6 @@
 use Rattle.std.proofs.Common.{rules, ◌≡◌, ◌∙◌, ◌<◌, arith, ap, length, Some, true}
 use Rattle.std.specs.Prelude.{slice_index, slice_set}
-use Rattle.std.proofs.lemmas.List.{get_or_read}
-use Rattle.snoop_history.specs.Journal.{counted}
+use Rattle.snoop_history.proofs.Common.{counted, get_or_read}
 use Rattle.snoop_history.specs.Board.{Tables, operation_within, absorbed}
 use Rattle.snoop_history.proofs.Boards.{board_after, absorbed_as, operation_within-lies, place-within}
 use Rattle.snoop_history.proofs.board.Board.absorb.Goals as goal
@@ -9,10 +8,9 @@ use Rattle.snoop_history.proofs.board.Board.absorb.Goals as goal
 pub write_value-requires : goal.write_value-requires
 write_value-requires c =
     let b = c.self.inside in
-    let did = c.in-Some.did in
-    let own : operation_within (length b.counts.items) b.blocks b.words c.args.item ≡ Some did = search rules in
-    let lies = operation_within-lies _ _ _ c.args.item did own in
-    rw c.self.invariant.1 (place-within b.blocks b.words did.block did.word lies.1 lies.2)
+    let own : operation_within (length b.counts.items) b.blocks b.words c.args.item ≡ Some c.in-Some.did = search rules in
+    let lies = operation_within-lies _ _ _ c.args.item _ own in
+    rw c.self.invariant.1 (place-within b.blocks b.words _ _ lies.1 lies.2)
 
 pub returns-in-Some : goal.returns-in-Some
 returns-in-Some c =

@@ -1,15 +1,8 @@
-use Rattle.std.proofs.Common.{◌≡◌, ◌∙◌, ap, rules, filter}
-use Rattle.std.specs.Prelude.{◌==◌, List}
-use Rattle.std.specs.List.{filter_map}
-use Rattle.std.proofs.lemmas.Iterator.{YieldsList-from_slice}
+use Rattle.std.proofs.Common.{◌≡◌, ◌∙◌, ap, rules, filter, ◌==◌, List}
+use Rattle.snoop_history.proofs.Common.{Did, IfOk-at_ok, Journal, YieldsList-from_slice, answers_of}
+use Rattle.snoop_history.proofs.Common.{filter_map, items_from_collect, operation_of, unpacked}
 use Rattle.std.proofs.lemmas.Iterator.Consumers.{YieldsList-from_filter_map, YieldsList-from_filter}
-use Rattle.std.proofs.lemmas.Iterator.{items_from_collect}
-use Rattle.std.proofs.lemmas.Result.{IfOk-at_ok}
 use borrow.Author.Tests.{tests}
-use Rattle.snoop_history.specs.declared.items.Did.{Did}
-use Rattle.snoop_history.specs.Journal.{Journal}
-use Rattle.snoop_history.specs.History.{operation_of, answers_of}
-use Rattle.snoop_history.specs.Packed.{unpacked}
 use Rattle.snoop_history.proofs.Kept.{filter_map-map}
 use Rattle.snoop_history.proofs.log.Log.answers.Goals as goal
 

@@ -1,7 +1,5 @@
 use Rattle.std.proofs.Common.{◌≡◌, ◌∙◌, sym, ap, arith, map, length, Some, refl, inl, inr}
-use Rattle.std.proofs.lemmas.Bool.{cases_eq}
-use Rattle.snoop_history.specs.Journal.{Journal}
-use Rattle.snoop_history.specs.Packed.{unpacked}
+use Rattle.snoop_history.proofs.Common.{Journal, cases_eq, unpacked}
 use Rattle.snoop_history.proofs.Kept.{same-places, items-at}
 use Rattle.snoop_history.proofs.log.Log.has_items_of.Goals as goal
 

@@ -1,5 +1,4 @@
-use Rattle.std.proofs.Common.{◌≡◌, ◌<◌, ℕ, map}
-use Rattle.std.specs.Prelude.{slice_get}
+use Rattle.std.proofs.Common.{◌≡◌, ◌<◌, ℕ, map, slice_get}
 use Rattle.snoop_history.specs.Packed.{unpacked}
 use Rattle.snoop_history.proofs.log.Log.has_items_of.Given as goal
 

@@ -1,11 +1,5 @@
-use Rattle.std.proofs.Common.{◌≡◌, ◌∙◌, sym, ap, subst, take, length, Some}
-use Rattle.std.specs.Prelude.{slice_get, nat_lt}
-use Rattle.std.specs.Option.{option_map}
-use Rattle.std.proofs.lemmas.Option.{slice_get-map}
-use Rattle.snoop_history.specs.Journal.{Journal}
-use Rattle.snoop_history.specs.Packed.{unpacked}
-use Rattle.snoop_history.specs.Within.{IsItemWithin}
-use Rattle.snoop_history.specs.History.{IsNumbered}
+use Rattle.std.proofs.Common.{◌≡◌, ◌∙◌, sym, ap, length, Some, slice_get, nat_lt}
+use Rattle.snoop_history.proofs.Common.{option_map, slice_get-map, unpacked}
 use Rattle.snoop_history.proofs.Kept.{read-at}
 use Rattle.snoop_history.proofs.log.Log.item.Goals as goal
 
@@ -16,7 +10,5 @@ returns c =
     let there : slice_get l.items.items place ≡ Some c.in_ok-packed.packed =
     read-at (λ p. p.now) l.items.items place c.get.result _ (c.get.ensures.lookup.0 ∙ ap (λ xs. nat_lt place (length xs)) c.deref.ensures.value) (rw c.deref.ensures.value at c.get.ensures.lookup.1) (sym c.copied.ensures ∙ c.in_ok-packed.was) in
     let item = rw (← c.unpack.ensures) at (slice_get-map unpacked l.items.items place ∙ ap (option_map unpacked) there) in
-    let P : Journal → Type 0 = λ j. IsItemWithin j.cores j.blocks j.words c.unpack.result in
-    let Q : Journal → Type 0 = λ j. IsNumbered (take place j.items) c.unpack.result in
     let listed = c.self.invariant.kept.listed in
-    record { value = sym item ∙ ap (λ (j : Journal). slice_get j.items place) c.self.view_is; within = subst P c.self.view_is (listed.within place _ item); numbered = subst Q c.self.view_is (listed.in_order place _ item) }
+    rw (← c.self.view_is) (record { value = sym item; within = listed.within place _ item; numbered = listed.in_order place _ item })

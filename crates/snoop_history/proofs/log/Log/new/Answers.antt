@@ -1,22 +1,20 @@
-use Rattle.std.proofs.Common.{[], ◌∙◌, map, sym, ap, arith}
-use Rattle.snoop_history.specs.Mentions.{Mentions}
-use Rattle.snoop_history.specs.Packed.{unpacked}
+use Rattle.std.proofs.Common.{◌≡◌, ◌-◌, ◌^◌, min, vec_capacity, vec_len, [], ◌∙◌, map, sym, ap, arith}
+use Rattle.snoop_history.proofs.Common.{Mentions, unpacked}
 use Rattle.snoop_history.proofs.Boards.{board-shape}
-use Rattle.snoop_history.proofs.Kept.{kept-at_first, same-journal}
+use Rattle.snoop_history.proofs.Kept.{tallied_as}
 use Rattle.snoop_history.proofs.log.Log.new.Goals as goal
 
 pub invariant_of-result : goal.invariant_of-result
 invariant_of-result c =
-    let shape = c.args.shape in
-    let few_cores = c.if-prove.false in
-    let same_cores = c.cores.ensures.value in
     record {
-      kept = kept-at_first shape.cores shape.blocks shape.words _ _ _ (omega arith) (omega (arith, c.blocks-2.ensures.within)) (omega (arith, c.words.ensures.within.1))
-          (ap (map unpacked) c.new.ensures.items) c.in_ok-new.ensures (ap (λ (m : Mentions). m.order) c.in_ok-new-2.ensures);
+      kept = rw (ap (map unpacked) c.new.ensures.items)
+          (tallied_as (omega arith) (omega (arith, c.blocks-2.ensures.within)) (omega (arith, c.words.ensures.within.1)) (record { within = λ k entry at. cc; in_order = λ k entry at. cc }) c.in_ok-new.ensures (ap (λ (m : Mentions). m.order) c.in_ok-new-2.ensures));
       as_many = ap (λ (m : Mentions). m.blocks) c.in_ok-new-2.ensures ∙ (c.blocks-2.ensures.value ∙ sym (board-shape _ _ _ [] c.in_ok-new.ensures).1);
     }
 
 pub returns : goal.returns
 returns c =
+    let room : min (vec_capacity c.new.result) (2 ^ 48) - vec_len c.new.result ≡ 0 = omega (arith, c.new.ensures.len, c.new.ensures.capacity) in
     let (cores, blocks, words) = board-shape _ _ _ [] c.in_ok-new.ensures in
-    same-journal _ _ cores blocks words (ap (map unpacked) c.new.ensures.items) (omega (arith, c.new.ensures.len, c.new.ensures.capacity))
+    let items = ap (map unpacked) c.new.ensures.items in
+    λ i. record { cores = cores i; blocks = blocks i; words = words i; items = items i; room = room i }

@@ -1,12 +1,9 @@
-use Rattle.std.proofs.Common.{◌≡◌, [], ◌∷◌, ◌++◌, map, sym, ap, ◌∙◌, subst, arith, ◌<◌, ◌^◌, length}
-use Rattle.std.proofs.lemmas.List.{length-map, map-append}
-use Rattle.snoop_history.specs.Journal.{Journal}
-use Rattle.snoop_history.specs.Packed.{unpacked}
-use Rattle.snoop_history.specs.History.{IsNumbered}
-use Rattle.snoop_history.specs.Within.{IsItemWithin}
-use Rattle.snoop_history.specs.declared.items.Item.{Item}
+use Rattle.std.proofs.Common.{◌≡◌, [], ◌∷◌, ◌++◌, map, sym, ap, ◌∙◌, arith, ◌<◌, ◌^◌, length}
+use Rattle.snoop_history.proofs.Pushed.{next_number_le}
+use Rattle.snoop_history.proofs.Legal.{listed-push}
+use Rattle.snoop_history.proofs.Common.{Item, length-map, map-append, unpacked}
 use Rattle.snoop_history.proofs.Boards.{board-shape}
-use Rattle.snoop_history.proofs.Kept.{kept-push, numbers_fit}
+use Rattle.snoop_history.proofs.Kept.{tallied_as}
 use Rattle.snoop_history.proofs.log.Log.push.Goals as goal
 
 pub invariant_of-self : goal.invariant_of-self
@@ -15,21 +12,21 @@ invariant_of-self c =
     let items = map unpacked l.items.items in
     let entry = c.args.item in
     let kept = c.self.invariant.kept in
-    let P : Journal → Type 0 = λ j. IsItemWithin j.cores j.blocks j.words entry in
-    let Q : Journal → Type 0 = λ j. IsNumbered j.items entry in
+    let view = sym c.self.view_is in
     let more : map unpacked c.push_reserved.new.self.items ≡ items ++ entry ∷ [] =
     ap (map unpacked) c.push_reserved.ensures.items ∙ (map-append unpacked l.items.items (c.new.result ∷ []) ∙ ap (λ (e : Item). items ++ e ∷ []) c.new.ensures) in
     let tallied = c.absorb.ensures.board _ _ _ items kept.tallied in
+    let listed = listed-push _ _ _ items entry kept.listed (rw view at c.requires.within) (rw view at c.requires.numbered) in
     record {
-      kept = kept-push kept entry _ _ _ (subst P (sym c.self.view_is) c.requires.within) (subst Q (sym c.self.view_is) c.requires.numbered) more tallied (c.add.ensures.order items kept.mentioned);
+      kept = rw more (tallied_as kept.few_cores kept.few_blocks kept.few_words listed tallied (c.add.ensures.order items kept.mentioned));
       as_many = c.add.ensures.blocks ∙ (c.self.invariant.as_many ∙ sym (board-shape _ _ _ (items ++ entry ∷ []) tallied).1);
     }
 
 pub new-requires-clause-number : goal.new-requires-clause-number
 new-requires-clause-number c =
     let items = map unpacked c.self.inside.items.items in
-    let Q : Journal → Type 0 = λ j. IsNumbered j.items c.args.item in
-    let R : Journal → Type 0 = λ j. 0 < j.room in
-    let room = subst R (sym c.self.view_is) c.requires.room in
-    let few : length items < 2 ^ 48 = omega (arith, room, length-map c.self.inside.items.items unpacked, c.self.inside.items.ok.0) in
-    numbers_fit items c.args.item (subst Q (sym c.self.view_is) c.requires.numbered) few
+    let view = sym c.self.view_is in
+    let room = rw view at c.requires.room in
+    let few : length items < 2 ^ 48 = omega (arith, length-map c.self.inside.items.items unpacked, c.self.inside.items.ok.0) in
+    let numbered = rw view at c.requires.numbered in
+    λ did is. omega (arith, numbered did is, next_number_le items did.core, few)

@@ -1,10 +1,9 @@
-use Rattle.std.proofs.Common.{◌<◌, subst}
-use Rattle.std.specs.Prelude.{All}
-use Rattle.snoop_history.specs.Journal.{Journal}
-use Rattle.snoop_history.proofs.Kept.{kept-touched}
+use Rattle.std.proofs.Common.{◌∙◌}
+use Rattle.snoop_history.proofs.Kept.{within_all}
+use Rattle.snoop_history.proofs.Touching.{touched_within}
 use Rattle.snoop_history.proofs.log.Log.touched.Goals as goal
 
 pub returns-clause-within : goal.returns-clause-within
 returns-clause-within c =
-    let P : Journal → Type 0 = λ j. All (λ block. block < j.blocks) c.as_slice.result.now in
-    subst P c.self.view_is (kept-touched c.self.invariant.kept c.as_slice.ensures)
+    let kept = c.self.invariant.kept in
+    rw (← c.self.view_is, c.as_slice.ensures ∙ kept.mentioned) (touched_within _ _ _ _ (within_all kept))

@@ -1,12 +1,9 @@
-use Rattle.std.proofs.Common.{refl}
+use Rattle.std.proofs.Common.{ap}
+use Rattle.snoop_history.specs.History.{operation_of}
 use Rattle.snoop_history.proofs.packed.Packed.new.Goals as goal
 
 pub of_operation-requires-in-Did-clause-word : goal.of_operation-requires-in-Did-clause-word
-of_operation-requires-in-Did-clause-word c =
-    let lies = rw c.in-Did.is at c.requires.within.operation in
-    (lies c.in-Did.did refl).2
+of_operation-requires-in-Did-clause-word c = (c.requires.within.operation c.in-Did.did (ap operation_of c.in-Did.is)).2
 
 pub of_operation-requires-in-Did-clause-number : goal.of_operation-requires-in-Did-clause-number
-of_operation-requires-in-Did-clause-number c =
-    let fits = rw c.in-Did.is at c.requires.number in
-    fits c.in-Did.did refl
+of_operation-requires-in-Did-clause-number c = c.requires.number c.in-Did.did (ap operation_of c.in-Did.is)

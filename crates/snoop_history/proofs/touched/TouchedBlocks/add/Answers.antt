@@ -1,8 +1,5 @@
-use Rattle.std.proofs.Common.{◌≡◌, ◌∙◌, Some, None, sym, ap, ℕ, List}
-use Rattle.std.specs.Prelude.{nat_eq}
-use Rattle.indexmap.specs.IndexSet.{insert_key}
-use Rattle.snoop_history.specs.History.{operation_of}
-use Rattle.snoop_history.specs.Mentions.{Mentions}
+use Rattle.std.proofs.Common.{◌≡◌, ◌∙◌, Some, sym, ap, ℕ, List, nat_eq}
+use Rattle.snoop_history.proofs.Common.{Mentions, insert_key, operation_of}
 use Rattle.snoop_history.proofs.Pushed.{none_from_not_some}
 use Rattle.snoop_history.proofs.Touching.{touched-add}
 use Rattle.snoop_history.proofs.touched.TouchedBlocks.add.Goals as goal
@@ -16,5 +13,5 @@ returns-in-Some-clause-order c items is =
 
 pub returns-in_default-clause-order : goal.returns-in_default-clause-order
 returns-in_default-clause-order c items is =
-    let performs : None ≡ operation_of c.args.item = sym (none_from_not_some _ c.in_default.not-Some) ∙ c.did.ensures in
+    let performs = sym (none_from_not_some _ c.in_default.not-Some) ∙ c.did.ensures in
     touched-add items c.args.item is c.block.ensures performs (ap (λ (m : Mentions). m.order) c.mention.ensures)

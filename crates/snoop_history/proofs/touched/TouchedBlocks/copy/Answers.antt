@@ -1,13 +1,12 @@
 use Rattle.std.proofs.Common.{◌≡◌, ◌∙◌, ap, arith, length}
-use Rattle.std.specs.List.{each_same}
-use Rattle.indexmap.specs.IndexSet.{index_set_len, spare}
-use Rattle.snoop_history.proofs.Marks.{few-mentioned, same-mentions}
+use Rattle.snoop_history.proofs.Common.{each_same, spare}
+use Rattle.snoop_history.proofs.Pushed.{length-filter-le}
 use Rattle.snoop_history.proofs.touched.TouchedBlocks.copy.Goals as goal
 
 pub overflow_sub-len : goal.overflow_sub-len
 overflow_sub-len c =
     let t = c.self.inside in
-    omega (arith, c.len.ensures, c.len-2.ensures.len, few-mentioned t.marks.items t.order.keys c.self.invariant.marks, ap length (each_same _ _ c.in_ok-order.ensures.cases))
+    omega (arith, c.len.ensures, c.len-2.ensures.len, length-filter-le (λ mark. mark) t.marks.items, c.self.invariant.marks.counted, ap length (each_same _ _ c.in_ok-order.ensures.cases))
 
 pub invariant_of-result : goal.invariant_of-result
 invariant_of-result c =
@@ -15,16 +14,13 @@ invariant_of-result c =
     let clone = each_same _ _ c.in_ok-order.ensures.cases in
     let keys = ap (λ s. s.keys) c.order.view_is ∙ c.reserve.ensures.keys ∙ clone in
     let marks : c.in_ok-from_slice.field-0.items ≡ t.marks.items = c.in_ok-from_slice.ensures.items ∙ c.deref.ensures.value in
-    let long_keys = ap length keys in
-    let long_clone = ap length clone in
     let long_marks = ap length marks in
-    let few = few-mentioned t.marks.items t.order.keys c.self.invariant.marks in
     let view_spare = ap spare c.order.view_is in
-    let view_len = ap index_set_len c.order.view_is in
     let room = c.in_ok-reserve.ensures.ok in
-    record { marks = rw (marks, keys) c.self.invariant.marks; room = omega (arith, c.len.ensures, c.len-2.ensures.len, t.marks.ok.0) }
+    record { marks = rw (marks, keys) c.self.invariant.marks; room = omega (arith, ap length keys, ap length clone, c.len.ensures, c.len-2.ensures.len, t.marks.ok.0) }
 
 pub returns : goal.returns
 returns c =
     let keys = ap (λ s. s.keys) c.order.view_is ∙ c.reserve.ensures.keys ∙ each_same _ _ c.in_ok-order.ensures.cases in
-    same-mentions _ _ (ap length (c.in_ok-from_slice.ensures.items ∙ c.deref.ensures.value)) keys ∙ c.self.view_is
+    let many = ap length (c.in_ok-from_slice.ensures.items ∙ c.deref.ensures.value) in
+    (λ i. record { blocks = many i; order = keys i }) ∙ c.self.view_is

@@ -1,6 +1,5 @@
-use Rattle.std.proofs.Common.{◌≡◌, ◌∙◌, ap, arith, false, length}
+use Rattle.std.proofs.Common.{◌≡◌, ap, arith, false, length, replicate}
 use Rattle.std.proofs.lemmas.List.{length-replicate}
-use Rattle.std.specs.Prelude.{replicate}
 use Rattle.snoop_history.proofs.Marks.{marks-at_first}
 use Rattle.snoop_history.proofs.touched.TouchedBlocks.new.Goals as goal
 
@@ -8,6 +7,5 @@ pub invariant_of-result : goal.invariant_of-result
 invariant_of-result c =
     let blocks = c.args.blocks in
     let marks : c.in_ok-vec.field-0.items ≡ replicate blocks false = c.in_ok-vec.ensures.items_if_clones_equal (λ y h. h) in
-    let many : length c.in_ok-vec.field-0.items ≡ blocks = ap length marks ∙ length-replicate blocks false in
     let room = c.in_ok-with_capacity.ensures.spare in
-    record { marks = marks-at_first blocks _ _ marks c.in_ok-with_capacity.ensures.empty; room = omega arith }
+    record { marks = marks-at_first blocks _ _ marks c.in_ok-with_capacity.ensures.empty; room = omega (arith, ap length marks, length-replicate blocks false) }
