@@ -1,11 +1,7 @@
 -- The bits of a set of cores.
 use Rattle.std.proofs.Common.{◌≡◌, ◌≢◌, ℕ, ◌+◌, ◌-◌, ◌*◌, ◌/◌, ◌%◌, ◌^◌, ◌<◌, ◌≤◌, List, length, get_or, true, false, refl, arith, inl, inr, w64}
-use Rattle.std.specs.Prelude.{slice_set, ◌==◌}
-use Rattle.std.specs.Int.{bit_at, trailing_zeros}
-use Rattle.std.proofs.lemmas.Bool.{cases_eq, cases_lt}
-use Rattle.std.proofs.lemmas.List.{get_or-set_same, get_or-set_other, get_or_past}
-use Rattle.std.proofs.lemmas.Nat.{shr-shr}
-use Rattle.std.proofs.lemmas.Nat.Bits.{bit_at-zero, bit_at_above, bit_at-trailing_zeros}
+use Rattle.std.{specs.{Prelude.{slice_set, ◌==◌}, Int.{bit_at, trailing_zeros}}, proofs.lemmas.{Bool.{cases_eq, cases_lt}, Nat.shr-shr}}
+use Rattle.std.proofs.lemmas.{List.{get_or-set_same, get_or-set_other, get_or_past}, Nat.Bits.{bit_at-zero, bit_at_above, bit_at-trailing_zeros}}
 use Rattle.snoop_blocks.specs.CoreSet.{has, LacksUpTo}
 
 -- a core beyond the words is in no set

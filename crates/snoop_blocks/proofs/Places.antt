@@ -1,10 +1,7 @@
 -- The places of a table: at first, and after one write.
 use Rattle.std.proofs.Common.{◌≡◌, ◌≢◌, ◌<◌, ◌≤◌, ◌+◌, ◌-◌, ◌^◌, ℕ, zero, suc, List, [], ◌∷◌, ◌++◌, length, replicate, slice_get, slice_index_or, slice_set, Some, refl, sym, ◌∙◌, ap, arith}
-use Rattle.std.proofs.lemmas.Bool.{cases_eq, cases_lt}
-use Rattle.std.proofs.lemmas.Grind.{common_steps, elements}
-use Rattle.std.proofs.lemmas.Option.{slice_get-get_or, slice_get-map}
+use Rattle.std.proofs.{lemmas.{Bool.{cases_eq, cases_lt}, Grind.{common_steps, elements}, Option.{slice_get-get_or, slice_get-map}}, Math.ListN.get_or-map}
 use Rattle.std.proofs.lemmas.List.{ext_get_or, get_or_read, get_or_past, get_or_push, get_or_append_left, get_or-replicate, get_or-set_same, get_or-set_other, length-set, length-map, map-set, set-get_or, length-replicate, length_push}
-use Rattle.std.proofs.Math.ListN.{get_or-map}
 use Rattle.snoop_blocks.specs.Places.{value_at, seen, changed_at, unwritten, ArePlaces}
 
 -- at first no block is written

@@ -3,8 +3,7 @@
 -- in the order of issue, and transactions are atomic, one at a time for each block.
 use Rattle.std.specs.Prelude.{◌≡◌, ℕ, ◌+◌, ◌<◌, List, [], drop, All, Option, Some, None, slice_get, slice_set, slice_index_or}
 use Rattle.snoop_trace.specs.Words.{Data}
-use Rattle.snoop_rules.specs.declared.names.Request.{Request}
-use Rattle.snoop_rules.specs.declared.names.Payload.{Payload}
+use Rattle.snoop_rules.specs.declared.names.{Request.Request, Payload.Payload}
 use Rattle.snoop_bus.specs.declared.bus.Open as declared
 
 -- one core's requests with their blocks, in order of issue, and for how many more there is room

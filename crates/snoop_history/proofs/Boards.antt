@@ -1,19 +1,14 @@
 -- The board of a list with one item more.
 use Rattle.std.proofs.Common.{◌≡◌, ◌≢◌, ℕ, zero, suc, ◌+◌, ◌*◌, ◌<◌, Bool, inl, inr, true, false, ◌&&◌, List, [], ◌∷◌, ◌++◌, length, Option, Some, None, refl, sym, ◌∙◌, ap, arith, map, filter, fold, cond, append_assoc, zero-add}
 use Rattle.std.specs.Prelude.{All, ◌/◌, ◌%◌, replicate, option_to_list, slice_index, slice_set, slice_get, ◌==◌, nat_lt, if◌then◌else◌, option_and_then}
-use Rattle.snoop_history.proofs.Common.{Did, ForSome, Item, Totals, and_parts, append-nil}
-use Rattle.snoop_history.proofs.Common.{cases_Bool, cases_eq, cases_lt, counted, eq-eqb, eqb-true}
-use Rattle.snoop_history.proofs.Common.{false_from_ne_true, flat, get_or-set_other, get_or-set_same}
-use Rattle.snoop_history.proofs.Common.{is_store_to, last_of, last_or, le-ltb, length-append}
-use Rattle.snoop_history.proofs.Common.{length-set, lt-ltb, ltb-true, map-append, nat_tests, ne_eqb}
-use Rattle.snoop_history.proofs.Common.{next_number, operation_of, operations, option_map_or}
-use Rattle.snoop_history.proofs.Common.{range_with_len, slice_get-get_or, slice_get_past, tallied}
-use Rattle.std.proofs.Math.Nat.{div-add-mod, mul_comm}
-use Rattle.std.proofs.lemmas.Nat.{div-mul-add, mod-mul-add, mul-le}
+use Rattle.snoop_history.proofs.Common.{Did, ForSome, Item, Totals, and_parts, append-nil, cases_Bool, cases_eq, cases_lt, counted, eq-eqb, eqb-true}
+use Rattle.snoop_history.proofs.Common.{false_from_ne_true, flat, get_or-set_other, get_or-set_same, is_store_to, last_of, last_or, le-ltb, length-append}
+use Rattle.snoop_history.proofs.Common.{length-set, lt-ltb, ltb-true, map-append, nat_tests, ne_eqb, next_number, operation_of, operations, option_map_or}
+use Rattle.snoop_history.{proofs.Common.{range_with_len, slice_get-get_or, slice_get_past, tallied}, specs.Totals.{totals_of, capped, capped_totals}}
+use Rattle.std.proofs.{Math.Nat.{div-add-mod, mul_comm}, lemmas.Nat.{div-mul-add, mod-mul-add, mul-le}}
 use Rattle.std.proofs.lemmas.List.FromFn.{fill_by_all, length-map-range_with_len, get_or-map-range_with_len}
 use Rattle.std.proofs.lemmas.List.Elements.{filter-append, filter_map-append, All-head, All-tail}
 use Rattle.snoop_history.specs.Within.{core_of, block_of, sender_of_response, IsItemWithin, is_within, inside}
-use Rattle.snoop_history.specs.Totals.{totals_of, capped, capped_totals}
 use Rattle.snoop_history.specs.Board.{Tables, for_each_below, board_of, operation_within, noted, absorbed, place_of}
 use Rattle.snoop_history.proofs.Pushed.{operations-one, capped_totals-push, last_or-append}
 

@@ -1,16 +1,9 @@
 -- What a log's board says of its items.
 use Rattle.std.proofs.Common.{◌≡◌, ℕ, ◌<◌, ◌≤◌, List, [], ◌∷◌, length, Option, Some, None, arith, refl, sym, ap, ◌∙◌, map, get_or}
 use Rattle.std.specs.Prelude.{All, IfSome, slice_get, nat_lt, is_some, unwrap_or}
-use Rattle.snoop_history.proofs.Common.{Item, filter_map}
-use Rattle.snoop_history.proofs.Common.{length-map, ltb-true, option_map, same_lists, slice_get-map}
-use Rattle.snoop_history.proofs.Common.{slice_get_read, unpacked, unwrap_or-slice_get}
-use Rattle.snoop_history.specs.declared.packed.Packed.{Packed}
-use Rattle.snoop_history.specs.Within.{IsItemWithin, inside}
-use Rattle.snoop_history.specs.Totals.{touched}
-use Rattle.snoop_history.specs.Board.{Tables, board_of}
-use Rattle.snoop_history.specs.Kept.{IsKeptList, IsTallied}
-use Rattle.snoop_history.proofs.Boards.{inside_all, board-cores}
-use Rattle.snoop_history.proofs.Touching.{all_places}
+use Rattle.snoop_history.{proofs.Common.{Item, filter_map, length-map, ltb-true, option_map, same_lists, slice_get-map}, specs.declared.packed.Packed.Packed}
+use Rattle.snoop_history.{proofs.Common.{slice_get_read, unpacked, unwrap_or-slice_get}, specs.{Within.{IsItemWithin, inside}, Totals.touched}}
+use Rattle.snoop_history.{specs.{Board.{Tables, board_of}, Kept.{IsKeptList, IsTallied}}, proofs.{Boards.{inside_all, board-cores}, Touching.all_places}}
 
 -- what a `get` found, read by a function of it
 pub read-at : {A B : Type 0} (now : B → A) (xs : List A) (place : ℕ) (got : Option B) (x : A) → is_some got ≡ nat_lt place (length xs) → IfSome got (λ y. now y ≡ get_or xs place (now y)) →

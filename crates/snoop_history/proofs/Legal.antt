@@ -1,12 +1,8 @@
 -- What a legal list and flat memory are after one more item.
 use Rattle.std.proofs.Common.{arith, ◌≡◌, ℕ, zero, suc, List, [], ◌∷◌, ◌++◌, take, Option, Some, None, ◌⊎◌, inl, inr, refl, ap, map}
-use Rattle.std.specs.Prelude.{slice_get, IfSome, filter, if◌then◌else◌, option_to_list}
-use Rattle.snoop_history.proofs.Common.{Did, IsNext, IsNumbered, Item, Legal, flat, is_store_to}
-use Rattle.snoop_history.proofs.Common.{last_or, map-append, operation_of, option_map_or, stores}
-use Rattle.std.proofs.lemmas.List.Elements.{filter-append}
-use Rattle.snoop_history.proofs.Pushed.{last_or-append, operations-push}
-use Rattle.snoop_history.specs.Within.{IsItemWithin}
-use Rattle.snoop_history.specs.Kept.{IsKeptList}
+use Rattle.std.{specs.Prelude.{slice_get, IfSome, filter, if◌then◌else◌, option_to_list}, proofs.lemmas.List.Elements.filter-append}
+use Rattle.snoop_history.proofs.Common.{Did, IsNext, IsNumbered, Item, Legal, flat, is_store_to, last_or, map-append, operation_of, option_map_or, stores}
+use Rattle.snoop_history.{proofs.Pushed.{last_or-append, operations-push}, specs.{Within.IsItemWithin, Kept.IsKeptList}}
 
 -- an element of a list with one more at its end: an earlier one, or the new one
 slice_get-snoc : {A : Type 0} (items : List A) (entry : A) (k : ℕ) (x : A) → slice_get (items ++ entry ∷ []) k ≡ Some x →

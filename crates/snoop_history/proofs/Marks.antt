@@ -1,15 +1,9 @@
 -- One more block among those that were mentioned.
 use Rattle.std.proofs.Common.{◌≡◌, ℕ, zero, suc, ◌+◌, ◌<◌, Bool, true, false, List, [], ◌∷◌, ◌++◌, length, Some, refl, sym, ◌∙◌, ap, arith, get_or, inl, inr}
-use Rattle.std.specs.Prelude.{replicate, slice_get, slice_set, nat_eq}
-use Rattle.snoop_history.proofs.Common.{Mentions, cases_eq, eq-eqb, get_or-replicate}
-use Rattle.snoop_history.proofs.Common.{get_or-set_other, get_or-set_same, get_or_from_slice_get}
-use Rattle.snoop_history.proofs.Common.{insert_key, length-append, length-replicate, length-set}
-use Rattle.snoop_history.proofs.Common.{list_any, ne_eqb, or_right, slice_get-get_or}
-use Rattle.snoop_history.proofs.Common.{slice_get_read}
-use Rattle.std.proofs.Math.Bool.{or-false}
-use Rattle.std.proofs.lemmas.List.Folds.{list_any-append}
-use Rattle.snoop_history.specs.declared.touched.TouchedBlocks.TheInside.{Inside}
-use Rattle.snoop_history.specs.Marked.{set_marks, AreMarksOf, IsMarked, mentions}
+use Rattle.std.{specs.Prelude.{replicate, slice_get, slice_set, nat_eq}, proofs.{Math.Bool.or-false, lemmas.List.Folds.list_any-append}}
+use Rattle.snoop_history.proofs.Common.{Mentions, cases_eq, eq-eqb, get_or-replicate, get_or-set_other, get_or-set_same, get_or_from_slice_get, slice_get_read}
+use Rattle.snoop_history.proofs.Common.{insert_key, length-append, length-replicate, length-set, list_any, ne_eqb, or_right, slice_get-get_or}
+use Rattle.snoop_history.specs.{declared.touched.TouchedBlocks.TheInside.Inside, Marked.{set_marks, AreMarksOf, IsMarked, mentions}}
 use Rattle.snoop_history.proofs.Pushed.{length-filter-le}
 
 -- a mark that is set is one more

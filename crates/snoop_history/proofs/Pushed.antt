@@ -1,10 +1,8 @@
 -- One more item: the operations, counts, flat values and totals of the longer list.
 use Rattle.std.proofs.Common.{◌≡◌, ℕ, ◌^◌, ◌<◌, ◌≤◌, Bool, not, ◌&&◌, List, [], ◌∷◌, ◌++◌, length, Option, Some, None, refl, ◌∙◌, ap, arith, map, filter}
-use Rattle.std.specs.Prelude.{option_to_list, ◌==◌, is_some, is_none}
-use Rattle.snoop_history.proofs.Common.{Did, Item, Totals, answers_of, counted, last_of, last_or}
-use Rattle.snoop_history.proofs.Common.{length-append, map-append, next_number, operation_of}
+use Rattle.std.{specs.Prelude.{option_to_list, ◌==◌, is_some, is_none}, proofs.lemmas.List.Elements.{filter-append, filter_map-append}}
+use Rattle.snoop_history.proofs.Common.{Did, Item, Totals, answers_of, counted, last_of, last_or, length-append, map-append, next_number, operation_of}
 use Rattle.snoop_history.proofs.Common.{operations, tallied}
-use Rattle.std.proofs.lemmas.List.Elements.{filter-append, filter_map-append}
 use Rattle.std.proofs.lemmas.List.Sums.{length-filter, count_by-le-length}
 use Rattle.snoop_history.specs.Totals.{how_many, totals_of, capped, capped_totals, performed, ordered, responded, is_get_s, is_get_m, is_put_m, is_data, is_no_data, is_no_data_e}
 use Rattle.snoop_history.specs.declared.items.Item.TheVariants as item

@@ -1,12 +1,9 @@
 -- The blocks that a list mentions, with one item more.
 use Rattle.std.proofs.Common.{sym, arith, get_or, ◌≡◌, ℕ, Bool, true, false, not, List, [], ◌∷◌, ◌++◌, refl, map, filter, ◌<◌, eqb, append-nil, append_assoc}
-use Rattle.std.specs.Prelude.{Option, Some, None, option_to_list, slice_get, suc, ◌==◌, nat_eq, All}
-use Rattle.snoop_history.proofs.Common.{Did, ForSome, Item, Totals, blocks_text, eqb-true}
-use Rattle.snoop_history.proofs.Common.{flat_map, flat_map-append, insert_key, list_any}
-use Rattle.snoop_history.proofs.Common.{operation_of, report_of, slice_get-get_or, totals_text}
+use Rattle.std.{specs.Prelude.{Option, Some, None, option_to_list, slice_get, suc, ◌==◌, nat_eq, All}, proofs.lemmas.Map.Views.any-filter_same}
+use Rattle.snoop_history.proofs.Common.{Did, ForSome, Item, Totals, blocks_text, eqb-true, flat_map, flat_map-append, insert_key, list_any}
+use Rattle.snoop_history.{proofs.Common.{operation_of, report_of, slice_get-get_or, totals_text}, specs.Within.{block_of, IsItemWithin}}
 use Rattle.std.proofs.lemmas.List.Elements.{All-weaker, filter-append, All-filter, All-nil, All-cons, All-head, All-tail, All-append}
-use Rattle.std.proofs.lemmas.Map.Views.{any-filter_same}
-use Rattle.snoop_history.specs.Within.{block_of, IsItemWithin}
 use Rattle.snoop_history.specs.Totals.{each_once, mentioned, touched, totals_of}
 
 -- the numbers other than y

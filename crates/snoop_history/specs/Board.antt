@@ -1,14 +1,8 @@
 -- What a board shows: the tables of the items that it has absorbed.
 -- Source: this project's profile.
-use Rattle.std.specs.Prelude.{ℕ, ◌+◌, ◌*◌, ◌/◌, ◌%◌, true, List, length, map, Option, Some, None, slice_index, slice_set, if◌then◌else◌}
-use Rattle.std.specs.List.{range_with_len}
-use Rattle.snoop_history.specs.declared.items.Did.{Did}
-use Rattle.snoop_history.specs.declared.items.Item.{Item}
-use Rattle.snoop_history.specs.declared.items.Totals.{Totals}
-use Rattle.snoop_history.specs.History.{operation_of, next_number, flat, last_of}
-use Rattle.snoop_history.specs.Within.{is_within, inside}
-use Rattle.snoop_history.specs.Journal.{counted, tallied}
-use Rattle.snoop_history.specs.Totals.{totals_of, capped, capped_totals}
+use Rattle.std.specs.{Prelude.{ℕ, ◌+◌, ◌*◌, ◌/◌, ◌%◌, true, List, length, map, Option, Some, None, slice_index, slice_set, if◌then◌else◌}, List.range_with_len}
+use Rattle.snoop_history.specs.{declared.items.{Did.Did, Item.Item, Totals.Totals}, History.{operation_of, next_number, flat, last_of}}
+use Rattle.snoop_history.specs.{Within.{is_within, inside}, Journal.{counted, tallied}, Totals.{totals_of, capped, capped_totals}}
 
 -- how many blocks there are, and how many words a block; values by word, those of block 0 first; counts and last operations by core; and totals
 pub record Tables : Type 0 where

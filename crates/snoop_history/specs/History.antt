@@ -1,11 +1,9 @@
 -- What a list of items says: its operations, flat memory, and when it is legal.
 -- Source: the data value invariant of "A Primer on Memory Consistency and Cache Coherence", 2nd edition, put as flat memory; numbers and items are this project's profile.
 use Rattle.std.specs.Prelude.{◌≡◌, ℕ, Bool, not, ◌&&◌, ◌==◌, List, [], ◌∷◌, map, length, filter, filter_map, take, Option, Some, None, slice_get, IfSome, IsTrue, if◌then◌else◌}
-use Rattle.std.specs.List.{range_with_len}
-use Rattle.std.specs.Option.{option_map_or, ForSome}
+use Rattle.std.specs.{List.range_with_len, Option.{option_map_or, ForSome}}
 use Rattle.snoop_trace.specs.Words.{Data, word_places}
-use Rattle.snoop_history.specs.declared.items.Did.{Did}
-use Rattle.snoop_history.specs.declared.items.Item.{Item}
+use Rattle.snoop_history.specs.declared.items.{Did.Did, Item.Item}
 use Rattle.snoop_history.specs.declared.items.Item.TheVariants as item
 
 -- the operation that an item performed, if any

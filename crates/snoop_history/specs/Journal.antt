@@ -1,8 +1,7 @@
 -- What callers see of a log, and how it counts on.
 -- Source: this project's profile.
 use Rattle.std.specs.Prelude.{ℕ, ◌+◌, Bool, not, ◌&&◌, is_some, is_none, List, if◌then◌else◌}
-use Rattle.snoop_history.specs.declared.items.Item.{Item}
-use Rattle.snoop_history.specs.declared.items.Totals.{Totals}
+use Rattle.snoop_history.specs.declared.items.{Item.Item, Totals.Totals}
 use Rattle.snoop_history.specs.Totals.{capped, performed, ordered, responded, is_get_s, is_get_m, is_put_m, is_data, is_no_data, is_no_data_e}
 
 -- the shape, the items in order, and for how many more there is room

@@ -1,14 +1,8 @@
 -- What a log keeps.
 -- Source: this project's profile.
 use Rattle.std.specs.Prelude.{◌≡◌, ℕ, ◌≤◌, ◌-◌, ◌^◌, min, List, length, map, take, Some, slice_get, vec_len, vec_capacity}
-use Rattle.snoop_history.specs.declared.items.Item.{Item}
-use Rattle.snoop_history.specs.declared.log.Log.TheInside.{Inside}
-use Rattle.snoop_history.specs.History.{IsNumbered}
-use Rattle.snoop_history.specs.Totals.{touched}
-use Rattle.snoop_history.specs.Journal.{Journal}
-use Rattle.snoop_history.specs.Within.{IsItemWithin}
-use Rattle.snoop_history.specs.Packed.{unpacked}
-use Rattle.snoop_history.specs.Board.{Tables, board_of}
+use Rattle.snoop_history.specs.{declared.{items.Item.Item, log.Log.TheInside.Inside}, History.IsNumbered, Totals.touched, Journal.Journal, Within.IsItemWithin}
+use Rattle.snoop_history.specs.{Packed.unpacked, Board.{Tables, board_of}}
 
 -- a log as callers see it: it has room up to its list's capacity, and for 2 ^ 48 items at most
 abbrev pub journal : Inside → Journal

@@ -1,21 +1,11 @@
 -- The items that a log's packed items stand for.
 -- Source: this project's profile.
-use Rattle.std.specs.Prelude.{◌+◌, ◌*◌, ◌^◌, ◌<◌, Bool, true, false, Some, None, if◌then◌else◌}
-use Rattle.std.specs.Option.{ForSome}
-use Rattle.snoop_rules.specs.declared.names.Request.{Request}
-use Rattle.snoop_rules.specs.declared.names.Request.TheVariants.{GetS, GetM, PutM}
-use Rattle.snoop_rules.specs.declared.names.Payload.{Payload}
-use Rattle.snoop_rules.specs.declared.names.Payload.TheVariants.{Data, DataE, NoData, NoDataE}
-use Rattle.snoop_history.specs.declared.items.Did.{Did}
-use Rattle.snoop_history.specs.declared.items.Sent.{Sent}
-use Rattle.snoop_history.specs.declared.items.Came.{Came}
-use Rattle.snoop_history.specs.declared.items.Item.{Item}
+use Rattle.std.specs.{Prelude.{◌+◌, ◌*◌, ◌^◌, ◌<◌, Bool, true, false, Some, None, if◌then◌else◌}, Option.ForSome}
+use Rattle.snoop_rules.specs.declared.names.{Request.{Request, TheVariants.{GetS, GetM, PutM}}, Payload.{Payload, TheVariants.{Data, DataE, NoData, NoDataE}}}
+use Rattle.snoop_history.specs.declared.{items.{Did.Did, Sent.Sent, Came.Came, Item.Item}, packed.{Kind.Kind, Message.Message, Packed.Packed}}
 use Rattle.snoop_history.specs.declared.items.Item.TheVariants as item
-use Rattle.snoop_history.specs.declared.packed.Kind.{Kind}
 use Rattle.snoop_history.specs.declared.packed.Kind.TheVariants as kind
-use Rattle.snoop_history.specs.declared.packed.Message.{Message}
 use Rattle.snoop_history.specs.declared.packed.Message.TheVariants as message
-use Rattle.snoop_history.specs.declared.packed.Packed.{Packed}
 use Rattle.snoop_history.specs.History.{operation_of}
 
 -- the operation was a load

@@ -1,12 +1,7 @@
 -- The report of a list of items.
 -- Source: this project's profile.
-use Rattle.std.specs.Prelude.{ℕ, map, List, ◌++◌, codes}
-use Rattle.std.specs.Fmt.{decimal}
-use Rattle.std.specs.List.{flat_map, range_with_len}
-use Rattle.snoop_history.specs.declared.items.Item.{Item}
-use Rattle.snoop_history.specs.declared.items.Totals.{Totals}
-use Rattle.snoop_history.specs.History.{flat}
-use Rattle.snoop_history.specs.Totals.{totals_of, touched}
+use Rattle.std.specs.{Prelude.{ℕ, map, List, ◌++◌, codes}, Fmt.decimal, List.{flat_map, range_with_len}}
+use Rattle.snoop_history.specs.{declared.items.{Item.Item, Totals.Totals}, History.flat, Totals.{totals_of, touched}}
 
 -- the performed loads, and how many of them were hits
 abbrev pub loads_text : Totals → List ℕ

@@ -1,10 +1,8 @@
 -- Which core and block an item is of, and which items lie within a shape.
 -- Source: this project's profile.
-use Rattle.std.specs.Prelude.{ℕ, ◌<◌, Bool, true, ◌&&◌, List, Option, None, filter, nat_lt}
-use Rattle.std.specs.Option.{option_map_or, ForSome}
-use Rattle.snoop_history.specs.declared.items.Item.{Item}
+use Rattle.std.specs.{Prelude.{ℕ, ◌<◌, Bool, true, ◌&&◌, List, Option, None, filter, nat_lt}, Option.{option_map_or, ForSome}}
+use Rattle.snoop_history.specs.{declared.items.Item.Item, History.operation_of}
 use Rattle.snoop_history.specs.declared.items.Item.TheVariants as item
-use Rattle.snoop_history.specs.History.{operation_of}
 
 -- the core that an item is of: it performed, requested or was answered
 abbrev pub core_of : Item → ℕ

@@ -1,13 +1,10 @@
 -- Each record of a text has its line.
 use Rattle.std.proofs.Common.{◌≡◌, ℕ, ◌+◌, ◌<◌, List, [], ◌∷◌, length, length-append, Option, Some, None, true, false, refl, arith, inl, inr}
-use Rattle.std.specs.Prelude.{zero, suc, Bool, slice_get, if◌then◌else◌}
-use Rattle.std.proofs.lemmas.Bool.{cases_Bool}
-use Rattle.csv.specs.Machine.{Read, ends_at_end, field_after, fields_after, is_end, next_record, step}
+use Rattle.std.{specs.Prelude.{zero, suc, Bool, slice_get, if◌then◌else◌}, proofs.lemmas.Bool.cases_Bool}
+use Rattle.csv.specs.{Machine.{Read, ends_at_end, field_after, fields_after, is_end, next_record, step}, declared.parser.State.State}
 use Rattle.csv.specs.Reading.{default_config, records_from, records_next, strip_bom}
-use Rattle.csv.specs.declared.parser.State.{State}
 use Rattle.csv.specs.declared.parser.State.TheVariants as st
-use Rattle.snoop_trace.proofs.CsvLemmas.{record-shorter}
-use Rattle.snoop_trace.specs.Text.{records_of}
+use Rattle.snoop_trace.{proofs.CsvLemmas.record-shorter, specs.Text.records_of}
 use Rattle.snoop_lint.specs.Lines.{begins_record, ends_line, lines_from, record_lines}
 
 -- no state of a comment

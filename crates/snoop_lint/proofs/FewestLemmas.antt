@@ -1,22 +1,11 @@
 -- The fewest cores and blocks with which a text is taken that has no other faults.
-use Rattle.std.proofs.Common.{◌≡◌, ℕ, ◌+◌, ◌≤◌, ◌++◌, List, [], ◌∷◌, Option, true, false, refl, sym, ap, ◌∙◌, arith}
-use Rattle.std.specs.Prelude.{◌&&◌, ◌||◌, fold, max, nat_lt, option_to_list}
-use Rattle.std.specs.List.{list_all, list_any}
-use Rattle.std.specs.Option.{is_none}
-use Rattle.std.proofs.Math.Nat.{zero-div}
-use Rattle.std.proofs.lemmas.Bool.Decides.{nat_tests}
+use Rattle.std.{proofs.Common.{◌≡◌, ℕ, ◌+◌, ◌≤◌, ◌++◌, List, [], ◌∷◌, Option, true, false, refl, sym, ap, ◌∙◌, arith}, specs.List.{list_all, list_any}}
+use Rattle.std.{specs.{Prelude.{◌&&◌, ◌||◌, fold, max, nat_lt, option_to_list}, Option.is_none}, proofs.{Math.Nat.zero-div, lemmas.Bool.Decides.nat_tests}}
 use Rattle.csv.specs.Records.{field_at}
-use Rattle.snoop_trace.specs.Extent.{Extent}
-use Rattle.snoop_trace.specs.Grammar.{ask, order, respond, row_by_letter, row_in, step_in, store, without_value}
-use Rattle.snoop_trace.specs.Text.{records_of}
-use Rattle.snoop_trace.specs.declared.fault.TextFault.{TextFault}
-use Rattle.snoop_trace.specs.declared.protocol.Protocol.{Protocol}
-use Rattle.snoop_lint.specs.declared.form.Form.{Form}
-use Rattle.snoop_lint.specs.declared.form.Form.TheVariants.{Steps, Rows}
-use Rattle.snoop_lint.specs.Fewest.{AreFewest, resized}
-use Rattle.snoop_lint.specs.Fields.{address_named, core_named}
-use Rattle.snoop_lint.specs.Findings.{Finding, fault_at, findings, findings_from, first_fault, heads, refusal}
-use Rattle.snoop_lint.specs.Summary.{can_be_taken}
+use Rattle.snoop_trace.specs.{Extent.Extent, Grammar.{ask, order, respond, row_by_letter, row_in, step_in, store, without_value}, Text.records_of}
+use Rattle.snoop_trace.specs.declared.{fault.TextFault.TextFault, protocol.Protocol.Protocol}
+use Rattle.snoop_lint.specs.{declared.form.Form.{Form, TheVariants.{Steps, Rows}}, Fewest.{AreFewest, resized}, Fields.{address_named, core_named}}
+use Rattle.snoop_lint.specs.{Findings.{Finding, fault_at, findings, findings_from, first_fault, heads, refusal}, Summary.can_be_taken}
 use Rattle.snoop_lint.specs.Tallies.{block_named, greatest, has_heading, is_other, tally_of}
 use Rattle.snoop_lint.proofs.FindingLemmas.{Fields, first_is_refusal, found_at, is_beyond, no_later_heading}
 

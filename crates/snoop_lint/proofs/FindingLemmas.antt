@@ -1,18 +1,10 @@
 -- The faulty records of a text, and the fault by which it is refused.
 use Rattle.std.proofs.Common.{◌≡◌, ℕ, ◌+◌, ◌≤◌, ◌++◌, List, [], ◌∷◌, length, Option, Some, false, refl, sym, arith, append_assoc, append-nil}
-use Rattle.std.specs.Prelude.{Bool, Result, not, option_map, option_to_list}
-use Rattle.std.specs.Result.{result_err}
-use Rattle.std.proofs.lemmas.Bool.Decides.{nat_tests}
-use Rattle.snoop_trace.specs.Extent.{Extent}
-use Rattle.snoop_trace.specs.Grammar.{row_in, step_in}
-use Rattle.snoop_trace.specs.Heading.{heading_for}
-use Rattle.snoop_trace.specs.Text.{entries_from, entries_in, records_of}
-use Rattle.snoop_trace.specs.declared.fault.TextFault.{TextFault}
-use Rattle.snoop_trace.specs.declared.protocol.Protocol.{Protocol}
-use Rattle.snoop_lint.specs.declared.form.Form.{Form}
-use Rattle.snoop_lint.specs.declared.form.Form.TheVariants.{Steps, Rows}
+use Rattle.std.{specs.{Prelude.{Bool, Result, not, option_map, option_to_list}, Result.result_err}, proofs.lemmas.Bool.Decides.nat_tests}
+use Rattle.snoop_trace.specs.{Extent.Extent, Grammar.{row_in, step_in}, Heading.heading_for, Text.{entries_from, entries_in, records_of}}
+use Rattle.snoop_trace.specs.declared.{fault.TextFault.TextFault, protocol.Protocol.Protocol}
+use Rattle.snoop_lint.specs.{declared.form.Form.{Form, TheVariants.{Steps, Rows}}, Tallies.is_limit}
 use Rattle.snoop_lint.specs.Findings.{Finding, fault_at, finding, findings, findings_from, first_fault, heads, refusal}
-use Rattle.snoop_lint.specs.Tallies.{is_limit}
 
 abbrev pub Fields : Type 0
 Fields = List (List ℕ)

@@ -1,11 +1,8 @@
 -- The first hint of some fields, field by field.
-use Rattle.std.proofs.Common.{◌≡◌, ℕ, ◌+◌, ◌<◌, List, [], ◌∷◌, arith, cond, drop, get_or, length, refl}
-use Rattle.std.specs.Prelude.{zero, suc, ◌==◌}
-use Rattle.std.proofs.lemmas.Bool.Decides.{nat_tests}
-use Rattle.std.proofs.lemmas.List.{at_drop_more}
+use Rattle.std.{proofs.Common.{◌≡◌, ℕ, ◌+◌, ◌<◌, List, [], ◌∷◌, arith, cond, drop, get_or, length, refl}, specs.Prelude.{zero, suc, ◌==◌}}
+use Rattle.std.proofs.lemmas.{Bool.Decides.nat_tests, List.at_drop_more}
 use Rattle.csv.specs.Records.{field_at}
-use Rattle.snoop_lint.specs.Fields.{field}
-use Rattle.snoop_lint.specs.Hints.{field_hint, fields_hint}
+use Rattle.snoop_lint.specs.{Fields.field, Hints.{field_hint, fields_hint}}
 
 field_is : (fields : List (List ℕ)) (i : ℕ) → get_or fields i [] ≡ field fields i
 unfolding field_at

@@ -1,12 +1,7 @@
 -- The lines on which records begin, one byte further.
-use Rattle.std.proofs.Common.{◌≡◌, ℕ, ◌+◌, ◌<◌, ◌≤◌, ◌++◌, List, [], ◌∷◌, append-nil, append_assoc, arith, drop, get_or, length}
-use Rattle.std.specs.Prelude.{slice_get, if◌then◌else◌}
-use Rattle.std.proofs.lemmas.Grind.{common_steps}
-use Rattle.std.proofs.lemmas.Option.{gets}
-use Rattle.std.proofs.lemmas.List.{at_drop_all, at_drop_more}
-use Rattle.csv.specs.Machine.{step}
-use Rattle.csv.specs.Reading.{default_config}
-use Rattle.csv.specs.declared.parser.State.{State}
+use Rattle.std.proofs.{Common.{◌≡◌, ℕ, ◌+◌, ◌<◌, ◌≤◌, ◌++◌, List, [], ◌∷◌, append-nil, append_assoc, arith, drop, get_or, length}, lemmas.Grind.common_steps}
+use Rattle.std.{specs.Prelude.{slice_get, if◌then◌else◌}, proofs.lemmas.{Option.gets, List.{at_drop_all, at_drop_more}}}
+use Rattle.csv.specs.{Machine.step, Reading.default_config, declared.parser.State.State}
 use Rattle.snoop_lint.specs.Lines.{begins_record, ends_line, lines_from}
 
 -- one byte more

@@ -1,31 +1,15 @@
 -- What was appended and counted of the records that were read so far.
 use Rattle.std.proofs.Common.{◌≡◌, ℕ, ◌+◌, ◌≤◌, ◌++◌, List, [], ◌∷◌, length, length-append, take, Option, Some, true, false, refl, sym, ap, ◌∙◌, arith, append_assoc, append-nil}
-use Rattle.std.specs.Prelude.{◌||◌, Ok, is_some, nat_lt, option_to_list, if◌then◌else◌}
-use Rattle.std.specs.List.{flat_map, list_any}
-use Rattle.std.specs.Option.{option_map_or}
-use Rattle.std.proofs.Math.Bool.{or-false}
-use Rattle.std.proofs.Math.Seq.{take-nil}
-use Rattle.std.proofs.lemmas.Bool.Decides.{nat_tests}
-use Rattle.std.proofs.lemmas.Grind.{common_steps}
-use Rattle.std.proofs.lemmas.List.{length_push}
-use Rattle.std.proofs.lemmas.List.Folds.{list_any-append}
+use Rattle.std.specs.{Prelude.{◌||◌, Ok, is_some, nat_lt, option_to_list, if◌then◌else◌}, List.{flat_map, list_any}, Option.option_map_or}
+use Rattle.std.proofs.{Math.{Bool.or-false, Seq.take-nil}, lemmas.{Bool.Decides.nat_tests, Grind.common_steps, List.{length_push, Folds.list_any-append}}}
 use Rattle.std.proofs.lemmas.List.Sums.{fold_push}
-use Rattle.csv.specs.Reading.{ReadRecord, default_config, reader_config, reader_state, records, source_of}
+use Rattle.csv.specs.{Reading.{ReadRecord, default_config, reader_config, reader_state, records, source_of}, declared.reader.Reader.Reader}
 use Rattle.csv.specs.declared.parser.State.TheVariants as st
-use Rattle.csv.specs.declared.reader.Reader.{Reader}
 use Rattle.csv.proofs.ReadFacts.{rows-end}
-use Rattle.snoop_trace.specs.Extent.{Extent}
-use Rattle.snoop_trace.specs.Progress.{records_left}
-use Rattle.snoop_trace.specs.declared.fault.TextFault.{TextFault}
-use Rattle.snoop_trace.specs.declared.protocol.Protocol.{Protocol}
-use Rattle.snoop_trace.proofs.CsvLemmas.{records-ended, records_step}
-use Rattle.snoop_trace.proofs.TextLemmas.{took_entry}
-use Rattle.snoop_lint.specs.declared.form.Form.{Form}
-use Rattle.snoop_lint.specs.declared.tally.Tally.{Tally}
-use Rattle.snoop_lint.specs.Findings.{Finding, fault_at, finding, findings, findings_from, heads}
-use Rattle.snoop_lint.specs.Linted.{first_lines, line_at}
-use Rattle.snoop_lint.specs.Looked.{line_if_room}
-use Rattle.snoop_lint.specs.Tallies.{has_heading, is_other, one_more, tally_of}
+use Rattle.snoop_trace.specs.{Extent.Extent, Progress.records_left, declared.{fault.TextFault.TextFault, protocol.Protocol.Protocol}}
+use Rattle.snoop_trace.proofs.{CsvLemmas.{records-ended, records_step}, TextLemmas.took_entry}
+use Rattle.snoop_lint.specs.{declared.{form.Form.Form, tally.Tally.Tally}, Findings.{Finding, fault_at, finding, findings, findings_from, heads}}
+use Rattle.snoop_lint.specs.{Linted.{first_lines, line_at}, Looked.line_if_room, Tallies.{has_heading, is_other, one_more, tally_of}}
 use Rattle.snoop_lint.proofs.FindingLemmas.{Fields, findings_more, found_at, is_beyond}
 
 -- what is counted of a record that has this fault, if any

@@ -1,17 +1,10 @@
 -- What is said of a faulty record.
 -- Source: this project's profile.
 use Rattle.std.specs.Prelude.{ℕ, ◌+◌, ◌-◌, ◌*◌, ◌/◌, ◌==◌, ◌&&◌, not, Bool, List, [], ◌++◌, codes, length, nat_lt, if◌then◌else◌}
-use Rattle.snoop_trace.specs.Extent.{Extent}
-use Rattle.snoop_trace.specs.Protocol.{protocol_name}
-use Rattle.snoop_trace.specs.declared.fault.TextFault.{TextFault}
+use Rattle.snoop_trace.specs.{Extent.Extent, Protocol.protocol_name, declared.{fault.TextFault.TextFault, protocol.Protocol.Protocol}}
 use Rattle.snoop_trace.specs.declared.fault.TextFault.TheVariants.{BadKind, BadFields, BadNumber, NoCore, NoBlock, Read, NoMemory, OtherShape, BadVersion}
-use Rattle.snoop_trace.specs.declared.protocol.Protocol.{Protocol}
-use Rattle.snoop_lint.specs.declared.form.Form.{Form}
-use Rattle.snoop_lint.specs.declared.form.Form.TheVariants.{Steps, Rows}
-use Rattle.snoop_lint.specs.Fields.{address_named, core_named, field, is_number, letter, number_at}
-use Rattle.snoop_lint.specs.Findings.{Finding, heads}
-use Rattle.snoop_lint.specs.Hints.{begins_record, fields_hint, is_empty, kind_hint, number_hint, or_else}
-use Rattle.snoop_lint.specs.Shown.{labelled, shown}
+use Rattle.snoop_lint.specs.{declared.form.Form.{Form, TheVariants.{Steps, Rows}}, Fields.{address_named, core_named, field, is_number, letter, number_at}}
+use Rattle.snoop_lint.specs.{Findings.{Finding, heads}, Hints.{begins_record, fields_hint, is_empty, kind_hint, number_hint, or_else}, Shown.{labelled, shown}}
 
 -- the kinds of record that a text may have
 abbrev pub kinds : Form → List ℕ

@@ -1,10 +1,8 @@
 -- The fewest cores and blocks with which a text is taken.
 -- Source: this project's profile.
 use Rattle.std.specs.Prelude.{◌≡◌, ℕ, ◌≤◌, List, None}
-use Rattle.snoop_trace.specs.Extent.{Extent}
-use Rattle.snoop_trace.specs.declared.protocol.Protocol.{Protocol}
-use Rattle.snoop_lint.specs.declared.form.Form.{Form}
-use Rattle.snoop_lint.specs.Findings.{refusal}
+use Rattle.snoop_trace.specs.{Extent.Extent, declared.protocol.Protocol.Protocol}
+use Rattle.snoop_lint.specs.{declared.form.Form.Form, Findings.refusal}
 
 -- a shape with so many cores and blocks, of the same size
 abbrev pub resized : Extent → ℕ → ℕ → Extent

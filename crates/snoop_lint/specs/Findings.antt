@@ -1,15 +1,9 @@
 -- Which records of a text are faulty.
 -- Source: this project's profile.
-use Rattle.std.specs.Prelude.{ℕ, ◌+◌, Bool, false, List, [], ◌∷◌, ◌++◌, ◌==◌, ◌&&◌, Option, Some, None, option_map, option_to_list}
-use Rattle.std.specs.Result.{result_err}
-use Rattle.snoop_trace.specs.Extent.{Extent}
-use Rattle.snoop_trace.specs.Faults.{row_fault, step_fault}
-use Rattle.snoop_trace.specs.Heading.{is_heading}
-use Rattle.snoop_trace.specs.Text.{rows_of, steps_of}
-use Rattle.snoop_trace.specs.declared.fault.TextFault.{TextFault}
+use Rattle.std.specs.{Prelude.{ℕ, ◌+◌, Bool, false, List, [], ◌∷◌, ◌++◌, ◌==◌, ◌&&◌, Option, Some, None, option_map, option_to_list}, Result.result_err}
+use Rattle.snoop_trace.specs.{Extent.Extent, Faults.{row_fault, step_fault}, Heading.is_heading, Text.{rows_of, steps_of}, declared.fault.TextFault.TextFault}
 use Rattle.snoop_trace.specs.declared.protocol.Protocol.{Protocol}
-use Rattle.snoop_lint.specs.declared.form.Form.{Form}
-use Rattle.snoop_lint.specs.declared.form.Form.TheVariants.{Steps, Rows}
+use Rattle.snoop_lint.specs.declared.form.Form.{Form, TheVariants.{Steps, Rows}}
 
 -- the fault by which reading refuses a text, if it does
 abbrev pub refusal : Form → Protocol → Extent → List ℕ → Option TextFault

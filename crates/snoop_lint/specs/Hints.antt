@@ -1,11 +1,8 @@
 -- What may be behind a fault, as the field looks.
 -- Source: this project's profile.
 use Rattle.std.specs.Prelude.{ℕ, ◌-◌, ◌==◌, ◌&&◌, ◌||◌, not, Bool, true, false, List, [], ◌∷◌, codes, drop, length, nat_eq, nat_lt, if◌then◌else◌}
-use Rattle.std.specs.Char.{is_digit}
-use Rattle.std.specs.List.{ends_with, list_all, list_any, starts_with}
-use Rattle.std.specs.Str.{str_eq_ignore_ascii_case}
-use Rattle.snoop_lint.specs.declared.form.Form.{Form}
-use Rattle.snoop_lint.specs.declared.form.Form.TheVariants.{Steps, Rows}
+use Rattle.std.specs.{Char.is_digit, List.{ends_with, list_all, list_any, starts_with}, Str.str_eq_ignore_ascii_case}
+use Rattle.snoop_lint.specs.declared.form.Form.{Form, TheVariants.{Steps, Rows}}
 
 -- a field is one of these letters alone
 abbrev pub is_letter_of : List ℕ → List ℕ → Bool

@@ -1,9 +1,7 @@
 -- On which lines of a text its records begin.
 -- Source: this project's profile, over the state machine of the crate csv.
 use Rattle.std.specs.Prelude.{ℕ, ◌+◌, ◌-◌, ◌==◌, ◌&&◌, ◌||◌, not, Bool, true, false, List, [], ◌∷◌, ◌++◌, Option, Some, None, slice_get, slice_index_or, if◌then◌else◌}
-use Rattle.csv.specs.Machine.{step}
-use Rattle.csv.specs.Reading.{default_config, strip_bom}
-use Rattle.csv.specs.declared.parser.State.{State}
+use Rattle.csv.specs.{Machine.step, Reading.{default_config, strip_bom}, declared.parser.State.State}
 use Rattle.csv.specs.declared.parser.State.TheVariants as st
 
 -- a line ends at a line feed (10), and at a carriage return (13) that no line feed follows

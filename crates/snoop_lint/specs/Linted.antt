@@ -1,20 +1,9 @@
 -- What is written of a text.
 -- Source: this project's profile.
-use Rattle.std.specs.Prelude.{◌≡◌, ℕ, List, ◌++◌, take, Option, Result, Ok, Err, IfSome}
-use Rattle.std.specs.Io.KnownBytes.{Appends}
-use Rattle.std.specs.List.{flat_map}
-use Rattle.snoop_trace.specs.Extent.{Extent}
-use Rattle.snoop_trace.specs.Output.{AppendsFront}
-use Rattle.snoop_trace.specs.Text.{records_of}
-use Rattle.snoop_trace.specs.declared.protocol.Protocol.{Protocol}
-use Rattle.snoop_lint.specs.declared.fault.LintFault.{LintFault}
-use Rattle.snoop_lint.specs.declared.fault.LintFault.TheVariants.{Read, NoMemory, Write}
-use Rattle.snoop_lint.specs.declared.form.Form.{Form}
-use Rattle.snoop_lint.specs.Explained.{finding_line}
-use Rattle.snoop_lint.specs.Findings.{Finding, findings}
-use Rattle.snoop_lint.specs.Lines.{line_of, record_lines}
-use Rattle.snoop_lint.specs.Summary.{summary}
-use Rattle.snoop_lint.specs.Tallies.{tally_of}
+use Rattle.std.specs.{Prelude.{◌≡◌, ℕ, List, ◌++◌, take, Option, Result, Ok, Err, IfSome}, Io.KnownBytes.Appends, List.flat_map}
+use Rattle.snoop_trace.specs.{Extent.Extent, Output.AppendsFront, Text.records_of, declared.protocol.Protocol.Protocol}
+use Rattle.snoop_lint.specs.{declared.{fault.LintFault.{LintFault, TheVariants.{Read, NoMemory, Write}}, form.Form.Form}, Explained.finding_line}
+use Rattle.snoop_lint.specs.{Findings.{Finding, findings}, Lines.{line_of, record_lines}, Summary.summary, Tallies.tally_of}
 
 -- the line of a faulty record, on the line of the text that it has among these
 abbrev pub line_at : Form → Protocol → Extent → List ℕ → Finding → List ℕ

@@ -1,12 +1,8 @@
 -- How the lines of a text's faulty records grow by one record.
 -- Source: this project's profile.
-use Rattle.std.specs.Prelude.{ℕ, List, [], nat_lt, if◌then◌else◌}
-use Rattle.std.specs.Option.{option_map_or}
-use Rattle.snoop_trace.specs.Extent.{Extent}
-use Rattle.snoop_trace.specs.declared.protocol.Protocol.{Protocol}
-use Rattle.snoop_lint.specs.declared.form.Form.{Form}
-use Rattle.snoop_lint.specs.Findings.{fault_at, finding}
-use Rattle.snoop_lint.specs.Linted.{line_at}
+use Rattle.std.specs.{Prelude.{ℕ, List, [], nat_lt, if◌then◌else◌}, Option.option_map_or}
+use Rattle.snoop_trace.specs.{Extent.Extent, declared.protocol.Protocol.Protocol}
+use Rattle.snoop_lint.specs.{declared.form.Form.Form, Findings.{fault_at, finding}, Linted.line_at}
 
 -- the line of record n, if it is faulty and there are fewer faulty records before it than lines are wanted
 abbrev pub line_if_room : Form → ℕ → Protocol → Extent → List ℕ → ℕ → ℕ → List (List ℕ) → List ℕ

@@ -1,9 +1,7 @@
 -- How a field of a text is shown.
 -- Source: this project's profile.
-use Rattle.std.specs.Prelude.{ℕ, ◌-◌, ◌/◌, ◌%◌, ◌==◌, ◌&&◌, List, [], ◌∷◌, ◌++◌, codes, length, min, not, take, nat_lt, if◌then◌else◌}
-use Rattle.std.specs.Char.{digit_char}
-use Rattle.std.specs.Fmt.{decimal}
-use Rattle.std.specs.List.{flat_map, prefix_len}
+use Rattle.std.specs.{Prelude.{ℕ, ◌-◌, ◌/◌, ◌%◌, ◌==◌, ◌&&◌, List, [], ◌∷◌, ◌++◌, codes, length, min, not, take, nat_lt, if◌then◌else◌}, Char.digit_char}
+use Rattle.std.specs.{Fmt.decimal, List.{flat_map, prefix_len}}
 use Rattle.snoop_lint.specs.Hints.{is_line_end}
 
 -- a byte as it is shown: printable ASCII as itself, a backslash twice, any other in hexadecimal

@@ -1,10 +1,7 @@
 -- What is said of a whole text.
 -- Source: this project's profile.
 use Rattle.std.specs.Prelude.{ℕ, ◌+◌, ◌==◌, ◌&&◌, ◌||◌, not, Bool, List, [], ◌++◌, codes, nat_lt, if◌then◌else◌}
-use Rattle.snoop_lint.specs.declared.form.Form.{Form}
-use Rattle.snoop_lint.specs.declared.form.Form.TheVariants.{Steps, Rows}
-use Rattle.snoop_lint.specs.Shown.{counted, labelled}
-use Rattle.snoop_lint.specs.declared.tally.Tally.{Tally}
+use Rattle.snoop_lint.specs.{declared.{form.Form.{Form, TheVariants.{Steps, Rows}}, tally.Tally.Tally}, Shown.{counted, labelled}}
 
 -- how many faults there are
 unfoldable pub fault_count : ℕ → List ℕ

@@ -1,16 +1,9 @@
 -- What is counted of the records of a text.
 -- Source: this project's profile.
 use Rattle.std.specs.Prelude.{ℕ, ◌+◌, ◌/◌, ◌||◌, max, not, Bool, true, false, List, [], ◌∷◌, codes, fold, length, Option, is_some, if◌then◌else◌}
-use Rattle.std.specs.List.{list_any}
-use Rattle.std.specs.Option.{option_map_or}
-use Rattle.snoop_trace.specs.Extent.{Extent}
-use Rattle.snoop_trace.specs.declared.fault.TextFault.{TextFault}
-use Rattle.snoop_trace.specs.declared.fault.TextFault.TheVariants.{NoCore, NoBlock}
-use Rattle.snoop_trace.specs.declared.protocol.Protocol.{Protocol}
-use Rattle.snoop_lint.specs.declared.form.Form.{Form}
-use Rattle.snoop_lint.specs.declared.tally.Tally.{Tally}
-use Rattle.snoop_lint.specs.Fields.{address_named, core_named, field}
-use Rattle.snoop_lint.specs.Findings.{Finding, findings, heads}
+use Rattle.std.specs.{List.list_any, Option.option_map_or}
+use Rattle.snoop_trace.specs.{Extent.Extent, declared.{fault.TextFault.{TextFault, TheVariants.{NoCore, NoBlock}}, protocol.Protocol.Protocol}}
+use Rattle.snoop_lint.specs.{declared.{form.Form.Form, tally.Tally.Tally}, Fields.{address_named, core_named, field}, Findings.{Finding, findings, heads}}
 use Rattle.snoop_lint.specs.Hints.{is_letter_of}
 
 -- a fault that more cores or more blocks would mend

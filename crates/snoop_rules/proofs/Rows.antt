@@ -1,12 +1,7 @@
 -- What each row of the cache table passes, any one passes: tests that a computation decides.
-use Rattle.std.proofs.Common.{◌≡◌, Bool, true}
-use Rattle.std.specs.Option.{option_map_or}
+use Rattle.std.{proofs.Common.{◌≡◌, Bool, true}, specs.Option.option_map_or}
 use Rattle.snoop_trace.specs.declared.protocol.Protocol.{Protocol}
-use Rattle.snoop_rules.specs.declared.names.CacheState.{CacheState}
-use Rattle.snoop_rules.specs.declared.names.CacheEvent.{CacheEvent}
-use Rattle.snoop_rules.specs.declared.names.CacheAction.{CacheAction}
-use Rattle.snoop_rules.specs.declared.names.CacheCell.{CacheCell}
-use Rattle.snoop_rules.specs.Cell.{Cell, cell_of}
+use Rattle.snoop_rules.specs.{declared.names.{CacheState.CacheState, CacheEvent.CacheEvent, CacheAction.CacheAction, CacheCell.CacheCell}, Cell.{Cell, cell_of}}
 use Rattle.snoop_rules.proofs.Every.{all_protocols, all_protocols-at, all_states, all_states-at, all_events, all_events-at}
 
 -- a test of each row; a pair that has none has nothing to pass

@@ -1,9 +1,6 @@
 -- A text that grows piece by piece, over a list.
-use Rattle.std.proofs.Common.{◌≡◌, ℕ, ◌+◌, ◌<◌, ◌≤◌, Bool, List, ◌++◌, length, take, get_or, cond, arith}
-use Rattle.std.specs.List.{filter, flat_map}
-use Rattle.std.proofs.lemmas.List.{append-nil, append_assoc, take_all, take_more}
-use Rattle.std.proofs.lemmas.List.Elements.{filter_more}
-use Rattle.std.proofs.lemmas.Grind.{flat_map-append}
+use Rattle.std.{proofs.Common.{◌≡◌, ℕ, ◌+◌, ◌<◌, ◌≤◌, Bool, List, ◌++◌, length, take, get_or, cond, arith}, specs.List.{filter, flat_map}}
+use Rattle.std.proofs.lemmas.{List.{append-nil, append_assoc, take_all, take_more, Elements.filter_more}, Grind.flat_map-append}
 
 -- the piece of the next element comes after the pieces so far
 pub piece_more : {X : Type 0} (f : X → List ℕ) (xs : List X) (i : ℕ) (d : X) (before now next : List ℕ) → i < length xs

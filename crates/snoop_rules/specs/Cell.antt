@@ -2,16 +2,11 @@
 -- Source: "A Primer on Memory Consistency and Cache Coherence", 2nd edition, chapter 7 (MSI and MESI over an atomic bus).
 -- The eviction from E, with EI_A and NoDataE, is this project's profile.
 use Rattle.std.specs.Prelude.{◌≡◌, Option, Some, None}
-use Rattle.snoop_trace.specs.declared.protocol.Protocol.{Protocol}
-use Rattle.snoop_trace.specs.declared.protocol.Protocol.TheVariants.{Mesi}
-use Rattle.snoop_rules.specs.declared.names.CacheState.{CacheState}
-use Rattle.snoop_rules.specs.declared.names.CacheState.TheVariants.{I, IsAd, IsD, ImAd, ImD, S, SmAd, SmD, E, M, EiA, MiA, IiA}
-use Rattle.snoop_rules.specs.declared.names.CacheEvent.{CacheEvent}
+use Rattle.snoop_trace.specs.declared.protocol.Protocol.{Protocol, TheVariants.Mesi}
+use Rattle.snoop_rules.specs.declared.names.CacheState.{CacheState, TheVariants.{I, IsAd, IsD, ImAd, ImD, S, SmAd, SmD, E, M, EiA, MiA, IiA}}
+use Rattle.snoop_rules.specs.declared.names.{CacheEvent.CacheEvent, CacheAction.CacheAction, CacheCell.CacheCell, Request.TheVariants.{GetS, GetM, PutM}}
 use Rattle.snoop_rules.specs.declared.names.CacheEvent.TheVariants.{Load, Store, Evict, OwnGetS, OwnGetM, OwnPutM, OtherGetS, OtherGetM, OtherPutM, Data, DataE}
-use Rattle.snoop_rules.specs.declared.names.CacheAction.{CacheAction}
 use Rattle.snoop_rules.specs.declared.names.CacheAction.TheVariants.{None as Nothing, Hit, Stall, Issue, Drop, FillLoad, FillStore, Send}
-use Rattle.snoop_rules.specs.declared.names.CacheCell.{CacheCell}
-use Rattle.snoop_rules.specs.declared.names.Request.TheVariants.{GetS, GetM, PutM}
 use Rattle.snoop_rules.specs.declared.names.Payload.TheVariants as payload
 use Rattle.snoop_rules.specs.declared.names.Target.TheVariants.{Requestor, Memory, Both}
 

@@ -1,20 +1,10 @@
 -- The text of a table as a matrix: a line for each of the protocol's states, and a field for each of its events.
 -- Source: the text's form is this project's profile.
-use Rattle.std.specs.Prelude.{ℕ, Bool, List, [], ◌++◌, codes, filter, is_some}
-use Rattle.std.specs.List.{flat_map, list_any}
-use Rattle.std.specs.Option.{option_map_or}
+use Rattle.std.specs.{Prelude.{ℕ, Bool, List, [], ◌++◌, codes, filter, is_some}, List.{flat_map, list_any}, Option.option_map_or}
 use Rattle.snoop_trace.specs.declared.protocol.Protocol.{Protocol}
-use Rattle.snoop_rules.specs.declared.names.CacheState.{CacheState}
-use Rattle.snoop_rules.specs.declared.names.CacheEvent.{CacheEvent}
-use Rattle.snoop_rules.specs.declared.names.CacheCell.{CacheCell}
-use Rattle.snoop_rules.specs.declared.names.MemState.{MemState}
-use Rattle.snoop_rules.specs.declared.names.MemEvent.{MemEvent}
-use Rattle.snoop_rules.specs.declared.names.MemCell.{MemCell}
-use Rattle.snoop_rules.specs.declared.table_text.Which.{Which}
-use Rattle.snoop_rules.specs.declared.table_text.Which.TheVariants.{Cache, Memory}
+use Rattle.snoop_rules.specs.declared.names.{CacheState.CacheState, CacheEvent.CacheEvent, CacheCell.CacheCell, MemState.MemState, MemEvent.MemEvent}
+use Rattle.snoop_rules.specs.{declared.{names.MemCell.MemCell, table_text.Which.{Which, TheVariants.{Cache, Memory}}}, Cell.cell_of, MemoryCell.memory_cell_of}
 use Rattle.snoop_rules.specs.Names.{state_name, event_name, action_text, memory_state_name, memory_event_name, memory_action_text}
-use Rattle.snoop_rules.specs.Cell.{cell_of}
-use Rattle.snoop_rules.specs.MemoryCell.{memory_cell_of}
 use Rattle.snoop_rules.specs.TableOrder.{cache_states, cache_events, memory_states, memory_events}
 
 -- the cache table has a row for the pair

@@ -2,15 +2,10 @@
 -- Source: MSI's of "A Primer on Memory Consistency and Cache Coherence", 2nd edition, chapter 7;
 -- MESI's states and rows are this project's profile.
 use Rattle.std.specs.Prelude.{◌≡◌, Option, Some, None}
-use Rattle.snoop_trace.specs.declared.protocol.Protocol.{Protocol}
-use Rattle.snoop_trace.specs.declared.protocol.Protocol.TheVariants.{Msi, Mesi}
-use Rattle.snoop_rules.specs.declared.names.MemState.{MemState}
-use Rattle.snoop_rules.specs.declared.names.MemState.TheVariants.{IorS, M, IorSD, MD, I, S, EorM, ID, SD, EorMD}
-use Rattle.snoop_rules.specs.declared.names.MemEvent.{MemEvent}
-use Rattle.snoop_rules.specs.declared.names.MemEvent.TheVariants.{GetS, GetM, PutM, Data, NoData, NoDataE}
-use Rattle.snoop_rules.specs.declared.names.MemAction.{MemAction}
+use Rattle.snoop_trace.specs.declared.protocol.Protocol.{Protocol, TheVariants.{Msi, Mesi}}
+use Rattle.snoop_rules.specs.declared.names.{MemState.{MemState, TheVariants.{IorS, M, IorSD, MD, I, S, EorM, ID, SD, EorMD}}, MemEvent.MemEvent}
+use Rattle.snoop_rules.specs.declared.names.{MemEvent.TheVariants.{GetS, GetM, PutM, Data, NoData, NoDataE}, MemAction.MemAction, MemCell.MemCell}
 use Rattle.snoop_rules.specs.declared.names.MemAction.TheVariants.{None as Nothing, Send, Write}
-use Rattle.snoop_rules.specs.declared.names.MemCell.{MemCell}
 use Rattle.snoop_rules.specs.declared.names.Payload.TheVariants as payload
 
 -- the row of a pair of memory's state and event: what is done, and the next state

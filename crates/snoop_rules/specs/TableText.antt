@@ -1,20 +1,10 @@
 -- The text of a table: a line for each row, in the order of the states and, within a state, of the events.
 -- Source: the line's form is this project's profile.
-use Rattle.std.specs.Prelude.{ℕ, List, [], ◌++◌, codes}
-use Rattle.std.specs.List.{flat_map}
-use Rattle.std.specs.Option.{option_map_or}
+use Rattle.std.specs.{Prelude.{ℕ, List, [], ◌++◌, codes}, List.flat_map, Option.option_map_or}
 use Rattle.snoop_trace.specs.declared.protocol.Protocol.{Protocol}
-use Rattle.snoop_rules.specs.declared.names.CacheState.{CacheState}
-use Rattle.snoop_rules.specs.declared.names.CacheEvent.{CacheEvent}
-use Rattle.snoop_rules.specs.declared.names.CacheCell.{CacheCell}
-use Rattle.snoop_rules.specs.declared.names.MemState.{MemState}
-use Rattle.snoop_rules.specs.declared.names.MemEvent.{MemEvent}
-use Rattle.snoop_rules.specs.declared.names.MemCell.{MemCell}
-use Rattle.snoop_rules.specs.declared.table_text.Which.{Which}
-use Rattle.snoop_rules.specs.declared.table_text.Which.TheVariants.{Cache, Memory}
+use Rattle.snoop_rules.specs.declared.names.{CacheState.CacheState, CacheEvent.CacheEvent, CacheCell.CacheCell, MemState.MemState, MemEvent.MemEvent}
+use Rattle.snoop_rules.specs.{declared.{names.MemCell.MemCell, table_text.Which.{Which, TheVariants.{Cache, Memory}}}, Cell.cell_of, MemoryCell.memory_cell_of}
 use Rattle.snoop_rules.specs.Names.{state_name, event_name, action_text, memory_state_name, memory_event_name, memory_action_text}
-use Rattle.snoop_rules.specs.Cell.{cell_of}
-use Rattle.snoop_rules.specs.MemoryCell.{memory_cell_of}
 use Rattle.snoop_rules.specs.TableOrder.{cache_states, cache_events, memory_states, memory_events}
 
 -- one line: state, event, action, next state

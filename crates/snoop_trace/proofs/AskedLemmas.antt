@@ -1,15 +1,11 @@
 -- What the rows of a text ask for is what was read of it.
 use Rattle.std.proofs.Common.{◌≡◌, ◌+◌, ℕ, List, [], ◌∷◌, map, refl, rules, sym, ◌∙◌}
 use Rattle.std.specs.Prelude.{All, Option, Some, None, Result, Ok, Err, IfOk, IfErr, IfSome}
-use Rattle.snoop_trace.proofs.Common.{All-cons, All-head, All-nil, All-tail, Extent, IfOk-at_ok}
-use Rattle.snoop_trace.proofs.Common.{IsSaid, IsWithinLimits, Row, TextFault, ok_or}
-use Rattle.snoop_trace.specs.Asked.{AreAsked, asked_in, asked_of, step_of}
-use Rattle.snoop_trace.specs.Grammar.{◌>>=◌, IsRowWithin, IsStepWithin, row_by_letter, block_in, letter_of, row_in}
-use Rattle.snoop_trace.specs.Text.{Gives, entries_from, entries_in, records_of, rows_of}
-use Rattle.snoop_trace.specs.declared.fault.TextFault.TheVariants.{BadKind, Read, NoMemory}
-use Rattle.snoop_trace.specs.declared.step.Asked.{Asked}
+use Rattle.snoop_trace.proofs.Common.{All-cons, All-head, All-nil, All-tail, Extent, IfOk-at_ok, IsSaid, IsWithinLimits, Row, TextFault, ok_or}
+use Rattle.snoop_trace.specs.{Asked.{AreAsked, asked_in, asked_of, step_of}, Text.{Gives, entries_from, entries_in, records_of, rows_of}}
+use Rattle.snoop_trace.specs.{Grammar.{◌>>=◌, IsRowWithin, IsStepWithin, row_by_letter, block_in, letter_of, row_in}, declared.step.Asked.Asked}
+use Rattle.snoop_trace.{specs.declared.fault.TextFault.TheVariants.{BadKind, Read, NoMemory}, proofs.TextLemmas.{bind_assoc, bind_ok}}
 use Rattle.snoop_trace.proofs.WithinLemmas.{block_is, block_there, core_of_row, if_bind, said_row}
-use Rattle.snoop_trace.proofs.TextLemmas.{bind_assoc, bind_ok}
 use Rattle.snoop_trace.proofs.WordPlaces.{asked_within as word_within}
 
 -- what goes on after a reading gives the same, with what it says put in other words

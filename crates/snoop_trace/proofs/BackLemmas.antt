@@ -1,31 +1,17 @@
 -- What is written is read again.
-use Rattle.std.proofs.Common.{◌≡◌, ◌<◌, ℕ, ◌+◌, ◌^◌, List, [], ◌∷◌, ◌++◌, length, Some, true, false, refl, arith, append_assoc}
-use Rattle.std.specs.Prelude.{fold, nat_eq, codes, Ok, Err, map}
-use Rattle.snoop_trace.proofs.Common.{AllDigits, Evict, Extent, Heading, IsReadableStep}
-use Rattle.snoop_trace.proofs.Common.{IsWithinLimits, Load, Step, Store, address_of, and_right}
-use Rattle.snoop_trace.proofs.Common.{decimal, decimal_is_IsNumeral, digit_value, digits_value}
-use Rattle.snoop_trace.proofs.Common.{false_from_ne_true, is_digit, lt-ltb, mul-le, nat_tests}
-use Rattle.snoop_trace.proofs.Common.{record_writer, records_left, recursion_from_All, step_text}
-use Rattle.snoop_trace.proofs.Common.{steps_text, text_of, word_address}
-use Rattle.std.specs.List.{All, AllByRecursion, flat_map, list_all, list_any, starts_with}
+use Rattle.std.proofs.{Common.{◌≡◌, ◌<◌, ℕ, ◌+◌, ◌^◌, List, [], ◌∷◌, ◌++◌, length, Some, true, false, refl, arith, append_assoc}, Math.Nat.mul-div_cancel}
+use Rattle.std.specs.{Prelude.{fold, nat_eq, codes, Ok, Err, map}, List.{All, AllByRecursion, flat_map, list_all, list_any, starts_with}}
+use Rattle.snoop_trace.proofs.Common.{AllDigits, Evict, Extent, Heading, IsReadableStep, IsWithinLimits, Load, Step, Store, address_of, and_right}
+use Rattle.snoop_trace.proofs.Common.{decimal, decimal_is_IsNumeral, digit_value, digits_value, false_from_ne_true, is_digit, lt-ltb, mul-le, nat_tests}
+use Rattle.snoop_trace.proofs.{Common.{record_writer, records_left, recursion_from_All, step_text, steps_text, text_of, word_address}, PowerLemmas.power_some}
 use Rattle.std.proofs.lemmas.Str.Parse.{digit_from_value}
-use Rattle.csv.specs.Writing.{default_writer, escaped, needs_byte, row_text, fields_text}
-use Rattle.csv.specs.Machine.{next_record}
-use Rattle.csv.specs.Reading.{default_config, strip_bom}
-use Rattle.csv.proofs.RoundTrip.{read-write}
-use Rattle.std.proofs.Math.Nat.{mul-div_cancel}
-use Rattle.csv.specs.Writing.{is_blank, read_back}
-use Rattle.snoop_trace.specs.Grammar.{ask, row_by_letter, block_in, number, numeral, order, respond, step_in, store, without_value}
+use Rattle.csv.specs.{Writing.{default_writer, escaped, needs_byte, row_text, fields_text}, Machine.next_record, Reading.{default_config, strip_bom}}
+use Rattle.csv.{proofs.RoundTrip.read-write, specs.Writing.{is_blank, read_back}}
+use Rattle.snoop_trace.specs.{Grammar.{ask, row_by_letter, block_in, number, numeral, order, respond, step_in, store, without_value}, Protocol.protocol_name}
 use Rattle.snoop_trace.specs.Heading.{heading_as, heading_for, heading_in, heading_text, protocol_named, same_heading, same_protocol, version_in}
-use Rattle.snoop_trace.specs.Protocol.{protocol_name}
-use Rattle.snoop_trace.specs.Text.{entries_from, entries_in, records_of, steps_of}
-use Rattle.snoop_trace.specs.declared.fault.TextFault.TheVariants.{OtherShape}
-use Rattle.snoop_trace.specs.declared.protocol.Protocol.{Protocol}
-use Rattle.snoop_trace.specs.declared.protocol.Protocol.TheVariants.{Msi, Mesi}
-use Rattle.snoop_trace.specs.declared.step.Step.TheVariants.{Ask, Order, Respond}
-use Rattle.snoop_trace.proofs.CsvLemmas.{records-ended, records_step}
-use Rattle.snoop_trace.proofs.PowerLemmas.{power_some}
-use Rattle.snoop_trace.proofs.WordPlaces.{address_back, address_before}
+use Rattle.snoop_trace.specs.{Text.{entries_from, entries_in, records_of, steps_of}, declared.fault.TextFault.TheVariants.OtherShape}
+use Rattle.snoop_trace.specs.declared.{protocol.Protocol.{Protocol, TheVariants.{Msi, Mesi}}, step.Step.TheVariants.{Ask, Order, Respond}}
+use Rattle.snoop_trace.proofs.{CsvLemmas.{records-ended, records_step}, WordPlaces.{address_back, address_before}}
 use Rattle.csv.specs.declared.parser.State.TheVariants as st
 
 -- no digit calls for quotes

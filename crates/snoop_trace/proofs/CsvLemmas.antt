@@ -2,10 +2,8 @@
 use Rattle.std.proofs.Common.{◌≡◌, ◌≤◌, ◌<◌, ℕ, ◌+◌, List, [], ◌∷◌, length, Option, Some, None, true, false, refl, arith, inl, inr, add-one}
 use Rattle.std.specs.Prelude.{zero, suc}
 use Rattle.snoop_trace.proofs.Common.{State, cases_Bool}
-use Rattle.csv.specs.Machine.{Read, in_field, next_record, step, is_end, ends_at_end, fields_after, field_after, after_end}
-use Rattle.csv.specs.Reading.{records_from, records_next}
-use Rattle.csv.specs.declared.parser.Config.{Config}
-use Rattle.csv.specs.declared.parser.Terminator.{Terminator}
+use Rattle.csv.specs.{Machine.{Read, in_field, next_record, step, is_end, ends_at_end, fields_after, field_after, after_end}, declared.parser.Config.Config}
+use Rattle.csv.specs.{Reading.{records_from, records_next}, declared.parser.Terminator.Terminator}
 use Rattle.csv.specs.declared.parser.State.TheVariants as st
 use Rattle.csv.specs.declared.parser.Terminator.TheVariants as term
 

@@ -1,8 +1,7 @@
 -- The fields of a record, by their number.
 use Rattle.std.proofs.Common.{◌≡◌, ℕ, List, [], ◌∷◌, length, get_or, Some, None, ap, arith, refl}
 use Rattle.csv.specs.Records.{field_at}
-use Rattle.snoop_trace.specs.Grammar.{letter_of, one_of, three_of, two_of}
-use Rattle.snoop_trace.specs.Heading.{five_of, version_field}
+use Rattle.snoop_trace.specs.{Grammar.{letter_of, one_of, three_of, two_of}, Heading.{five_of, version_field}}
 pub use Rattle.csv.proofs.RecordFacts.{field-there as field_there}
 
 pub one_at : (fs : List (List ℕ)) → length fs ≡ 2 → field_at fs 1 ≡ one_of fs

@@ -1,7 +1,6 @@
 -- What a writer holds, and then a chunk: how the text that they make grows, moves and is cut.
 use Rattle.std.proofs.Common.{◌≡◌, ℕ, List, [], ◌++◌, Option, sym, append_assoc}
-use Rattle.snoop_trace.proofs.Common.{Appends, AppendsFront, Gathers, Spills}
-use Rattle.snoop_trace.proofs.OutputLemmas.{appends_more, appends_none, front_after, front_cut}
+use Rattle.snoop_trace.proofs.{Common.{Appends, AppendsFront, Gathers, Spills}, OutputLemmas.{appends_more, appends_none, front_after, front_cut}}
 
 -- nothing was gathered yet
 pub gathers_none : (a : Option (List ℕ)) (chunk : List ℕ) → chunk ≡ [] → Gathers a a chunk []

@@ -1,8 +1,7 @@
 -- What is refused in a record names that record.
 use Rattle.std.specs.Prelude.{Result, Ok, Err, IfErr, Bool, true, false, ℕ, List, Option, Some, None, if◌then◌else◌}
-use Rattle.snoop_trace.proofs.Common.{Extent, Heading, TextFault, ok_or}
+use Rattle.snoop_trace.{proofs.Common.{Extent, Heading, TextFault, ok_or}, specs.Heading.{heading_as, heading_in, version_in}}
 use Rattle.snoop_trace.specs.Grammar.{◌>>=◌, NamesRecord, ask, row_by_letter, order, respond, store, without_value}
-use Rattle.snoop_trace.specs.Heading.{heading_as, heading_in, version_in}
 
 -- a reading whose faults name a record
 names_bind : {A B : Type 0} (r : Result A TextFault) (f : A → Result B TextFault) → IfErr r NamesRecord → ((x : A) → IfErr (f x) NamesRecord) → IfErr (r >>= f) NamesRecord

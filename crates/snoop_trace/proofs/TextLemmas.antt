@@ -1,15 +1,10 @@
 -- How the records that were read so far stand in the whole text.
 use Rattle.std.proofs.Common.{◌≡◌, ℕ, ◌+◌, List, [], ◌∷◌, ◌++◌, Option, Some, None, true, false, refl, ◌∙◌, ap, append_assoc}
 use Rattle.std.specs.Prelude.{Bool, Result, Ok, Err, IfErr, IfSome, if◌then◌else◌}
-use Rattle.snoop_trace.proofs.Common.{Heading, IfErr-at_err, State, TakesEntry, TakesRecord}
-use Rattle.snoop_trace.proofs.Common.{TextFault, append-nil, entries_after, records_left}
-use Rattle.csv.specs.Machine.{next_record}
-use Rattle.csv.specs.Reading.{Reached, ReadRecord, default_config, reader_config, reader_state, records, source_of}
-use Rattle.csv.specs.declared.reader.Reader.{Reader}
-use Rattle.csv.proofs.ReadFacts.{rows-end, rows-more}
-use Rattle.snoop_trace.specs.Grammar.{◌>>=◌, NamesRecord}
-use Rattle.snoop_trace.specs.Heading.{heading_as, is_heading}
-use Rattle.snoop_trace.specs.Text.{Gives, entries_from, entries_in}
+use Rattle.snoop_trace.proofs.Common.{Heading, IfErr-at_err, State, TakesEntry, TakesRecord, TextFault, append-nil, entries_after, records_left}
+use Rattle.csv.specs.{Machine.next_record, Reading.{Reached, ReadRecord, default_config, reader_config, reader_state, records, source_of}}
+use Rattle.csv.{specs.declared.reader.Reader.Reader, proofs.ReadFacts.{rows-end, rows-more}}
+use Rattle.snoop_trace.specs.{Grammar.{◌>>=◌, NamesRecord}, Heading.{heading_as, is_heading}, Text.{Gives, entries_from, entries_in}}
 use Rattle.snoop_trace.proofs.CsvLemmas.{records-ended, records_step}
 use Rattle.csv.specs.declared.parser.State.TheVariants as st
 use Rattle.snoop_trace.specs.declared.fault.TextFault.TheVariants as fault

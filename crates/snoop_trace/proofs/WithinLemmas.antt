@@ -1,8 +1,6 @@
 -- What a record says as a row or as a step is within the shape.
-use Rattle.std.proofs.Common.{◌≡◌, ◌<◌, ◌/◌, ℕ, List, true, false, refl, arith, rules}
-use Rattle.std.specs.Prelude.{All, Bool, Result, Ok, Err, IfOk, if◌then◌else◌}
-use Rattle.snoop_trace.proofs.Common.{All-weaker, Extent, IfOk-at_ok, IfOk-weaker, IsSaid}
-use Rattle.snoop_trace.proofs.Common.{IsWithinLimits, Row, Step, TextFault, nat_tests}
+use Rattle.std.{proofs.Common.{◌≡◌, ◌<◌, ◌/◌, ℕ, List, true, false, refl, arith, rules}, specs.Prelude.{All, Bool, Result, Ok, Err, IfOk, if◌then◌else◌}}
+use Rattle.snoop_trace.proofs.Common.{All-weaker, Extent, IfOk-at_ok, IfOk-weaker, IsSaid, IsWithinLimits, Row, Step, TextFault, nat_tests}
 use Rattle.snoop_trace.proofs.WordPlaces.{asked_within}
 use Rattle.snoop_trace.specs.Grammar.{◌>>=◌, IsRowWithin, IsStepWithin, ask, row_by_letter, block_in, core_in, order, respond, row_in, step_in, store, without_value}
 

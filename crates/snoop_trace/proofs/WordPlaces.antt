@@ -1,13 +1,9 @@
 -- Where the words of a block stand.
-use Rattle.std.proofs.Common.{◌≡◌, ◌≤◌, ◌<◌, ℕ, ◌+◌, ◌-◌, ◌*◌, ◌/◌, ◌%◌, ◌^◌, sym, ap, ◌∙◌, subst, arith, inl, inr, suc, refl}
-use Rattle.snoop_trace.proofs.Common.{Evict, Extent, HasWord, IsWithinLimits, cases_lt, div-mul-add}
-use Rattle.snoop_trace.proofs.Common.{pow-add, pow_pos, word_address}
-use Rattle.std.specs.Int.{IsPowerOfTwo}
+use Rattle.std.{proofs.Common.{◌≡◌, ◌≤◌, ◌<◌, ℕ, ◌+◌, ◌-◌, ◌*◌, ◌/◌, ◌%◌, ◌^◌, sym, ap, ◌∙◌, subst, arith, inl, inr, suc, refl}, specs.Int.IsPowerOfTwo}
+use Rattle.snoop_trace.proofs.{Common.{Evict, Extent, HasWord, IsWithinLimits, cases_lt, div-mul-add, pow-add, pow_pos, word_address}, PowerLemmas.power_some}
 use Rattle.std.proofs.Math.Nat.{pow-suc, mul-div_cancel, mul-div_cancel_left, div-lt_iff_lt-mul, mod-lt, mod-eq_of_lt, mul-lt-mul_of_pos_right, mul-add-mod_self_right}
 use Rattle.std.proofs.Math.Pow.{pow_mono}
-use Rattle.snoop_trace.specs.declared.step.Op.{Op}
-use Rattle.snoop_trace.specs.Grammar.{word_asked, word_in_block}
-use Rattle.snoop_trace.proofs.PowerLemmas.{power_some}
+use Rattle.snoop_trace.specs.{declared.step.Op.Op, Grammar.{word_asked, word_in_block}}
 
 -- a power of two goes into a greater one
 goes_into : (w b : ℕ) → IsPowerOfTwo w → IsPowerOfTwo b → w ≤ b → (k : ℕ) × ((0 < k) × (b ≡ w * k))

@@ -1,16 +1,8 @@
 -- What the rows of a text ask for.
 -- Source: this project's profile.
-use Rattle.std.specs.Prelude.{◌≡◌, ℕ, ◌/◌, List, map, All, IfSome, Option, Result, Ok}
-use Rattle.std.specs.Option.{ok_or}
-use Rattle.snoop_trace.specs.Extent.{Extent}
-use Rattle.snoop_trace.specs.Grammar.{◌>>=◌, IsRowWithin, row_by_letter, block_in, letter_of, word_asked}
-use Rattle.snoop_trace.specs.Text.{rows_of}
-use Rattle.snoop_trace.specs.declared.fault.TextFault.{TextFault}
-use Rattle.snoop_trace.specs.declared.fault.TextFault.TheVariants.{BadKind}
-use Rattle.snoop_trace.specs.declared.step.Asked.{Asked}
-use Rattle.snoop_trace.specs.declared.step.Row.{Row}
-use Rattle.snoop_trace.specs.declared.step.Step.{Step}
-use Rattle.snoop_trace.specs.declared.step.Step.TheVariants.{Ask}
+use Rattle.std.specs.{Prelude.{◌≡◌, ℕ, ◌/◌, List, map, All, IfSome, Option, Result, Ok}, Option.ok_or}
+use Rattle.snoop_trace.specs.{Extent.Extent, Grammar.{◌>>=◌, IsRowWithin, row_by_letter, block_in, letter_of, word_asked}, Text.rows_of, declared.step.Row.Row}
+use Rattle.snoop_trace.specs.declared.{fault.TextFault.{TextFault, TheVariants.BadKind}, step.{Asked.Asked, Step.{Step, TheVariants.Ask}}}
 
 -- what a row asks for: the work of its core on the block and the word of its address
 abbrev pub asked_of : Extent → Row → Asked

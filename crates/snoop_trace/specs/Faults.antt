@@ -1,11 +1,7 @@
 -- Why one record of a text is refused, where no record before it is.
 -- Source: this project's profile.
-use Rattle.std.specs.Prelude.{ℕ, ◌==◌, ◌&&◌, List, Option, if◌then◌else◌}
-use Rattle.std.specs.Result.{result_err}
-use Rattle.snoop_trace.specs.Extent.{Extent}
-use Rattle.snoop_trace.specs.Grammar.{row_in, step_in}
-use Rattle.snoop_trace.specs.Heading.{heading_as, heading_for, is_heading}
-use Rattle.snoop_trace.specs.declared.fault.TextFault.{TextFault}
+use Rattle.std.specs.{Prelude.{ℕ, ◌==◌, ◌&&◌, List, Option, if◌then◌else◌}, Result.result_err}
+use Rattle.snoop_trace.specs.{Extent.Extent, Grammar.{row_in, step_in}, Heading.{heading_as, heading_for, is_heading}, declared.fault.TextFault.TextFault}
 use Rattle.snoop_trace.specs.declared.protocol.Protocol.{Protocol}
 
 -- why record n of a text of steps is refused; record 1 may be a heading

@@ -1,17 +1,9 @@
 -- How one record of a text is read: its numbers, its fields, and the first fault.
 -- Source: this project's profile.
 use Rattle.std.specs.Prelude.{ℕ, ◌<◌, ◌/◌, ◌%◌, ◌^◌, ◌&&◌, List, [], ◌∷◌, drop, nat_lt, nat_eq, ◌==◌, codes, Option, Some, None, Result, Ok, Err, if◌then◌else◌}
-use Rattle.std.specs.Char.{is_digit}
-use Rattle.std.specs.List.{list_all, starts_with}
-use Rattle.std.specs.Option.{ok_or}
-use Rattle.std.specs.Str.Parse.{digits_value}
-use Rattle.snoop_trace.specs.declared.fault.TextFault.{TextFault}
+use Rattle.std.specs.{Char.is_digit, List.{list_all, starts_with}, Option.ok_or, Str.Parse.digits_value}
+use Rattle.snoop_trace.specs.{declared.{fault.TextFault.TextFault, step.{Op.{Op, TheVariants.{Load, Store, Evict}}, Row.Row, Step.Step}}, Extent.Extent}
 use Rattle.snoop_trace.specs.declared.fault.TextFault.TheVariants.{BadKind, BadFields, BadNumber, NoCore, NoBlock, Read, NoMemory, OtherShape, BadVersion}
-use Rattle.snoop_trace.specs.Extent.{Extent}
-use Rattle.snoop_trace.specs.declared.step.Op.{Op}
-use Rattle.snoop_trace.specs.declared.step.Op.TheVariants.{Load, Store, Evict}
-use Rattle.snoop_trace.specs.declared.step.Row.{Row}
-use Rattle.snoop_trace.specs.declared.step.Step.{Step}
 use Rattle.snoop_trace.specs.declared.step.Step.TheVariants.{Ask, Order, Respond}
 
 -- one or more digits of the base, of a value up to 2^64 - 1

@@ -1,16 +1,9 @@
 -- The first record of a text of steps of version 2: the protocol and the shape that the steps are for.
 -- Source: this project's profile.
 use Rattle.std.specs.Prelude.{ℕ, ◌&&◌, List, [], ◌∷◌, Bool, true, false, nat_eq, ◌==◌, codes, Option, Some, None, Result, Ok, Err, if◌then◌else◌, ◌++◌}
-use Rattle.std.specs.Cmp.Lexicographic.{pointwise}
-use Rattle.std.specs.Fmt.{decimal}
-use Rattle.std.specs.Option.{ok_or}
-use Rattle.snoop_trace.specs.Extent.{Extent}
-use Rattle.snoop_trace.specs.Grammar.{◌>>=◌, number_in}
-use Rattle.snoop_trace.specs.Protocol.{protocol_name}
-use Rattle.snoop_trace.specs.declared.fault.TextFault.{TextFault}
-use Rattle.snoop_trace.specs.declared.fault.TextFault.TheVariants.{BadKind, BadFields, BadVersion, OtherShape}
-use Rattle.snoop_trace.specs.declared.heading.Heading.{Heading}
-use Rattle.snoop_trace.specs.declared.protocol.Protocol.{Protocol}
+use Rattle.std.specs.{Cmp.Lexicographic.pointwise, Fmt.decimal, Option.ok_or}
+use Rattle.snoop_trace.specs.{Extent.Extent, Grammar.{◌>>=◌, number_in}, Protocol.protocol_name, declared.{fault.TextFault.TextFault, heading.Heading.Heading}}
+use Rattle.snoop_trace.specs.declared.{fault.TextFault.TheVariants.{BadKind, BadFields, BadVersion, OtherShape}, protocol.Protocol.Protocol}
 use Rattle.snoop_trace.specs.declared.protocol.Protocol.TheVariants.{Msi, Mesi}
 
 -- a heading begins with the letter V, which is 86

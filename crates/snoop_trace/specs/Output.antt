@@ -1,15 +1,9 @@
 -- What is written: the text of steps, and what a writer holds after a write.
 -- Source: this project's profile.
-use Rattle.std.specs.Prelude.{◌<◌, ◌≡◌, ℕ, ◌+◌, ◌*◌, ◌/◌, ◌^◌, Bool, true, false, List, ◌++◌, codes, Option, Some}
-use Rattle.std.specs.Fmt.{decimal}
-use Rattle.std.specs.Io.KnownBytes.{Appends}
+use Rattle.std.specs.{Prelude.{◌<◌, ◌≡◌, ℕ, ◌+◌, ◌*◌, ◌/◌, ◌^◌, Bool, true, false, List, ◌++◌, codes, Option, Some}, Fmt.decimal, Io.KnownBytes.Appends}
 use Rattle.std.specs.List.{flat_map}
-use Rattle.snoop_trace.specs.Extent.{Extent}
-use Rattle.snoop_trace.specs.Heading.{heading_for, heading_text}
-use Rattle.snoop_trace.specs.declared.protocol.Protocol.{Protocol}
-use Rattle.snoop_trace.specs.declared.step.Op.TheVariants.{Load, Store, Evict}
-use Rattle.snoop_trace.specs.declared.step.Step.{Step}
-use Rattle.snoop_trace.specs.declared.step.Step.TheVariants.{Ask, Order, Respond}
+use Rattle.snoop_trace.specs.{Extent.Extent, Heading.{heading_for, heading_text}, declared.{protocol.Protocol.Protocol, step.Step.Step}}
+use Rattle.snoop_trace.specs.declared.step.{Op.TheVariants.{Load, Store, Evict}, Step.TheVariants.{Ask, Order, Respond}}
 
 -- the first address of a block
 abbrev pub address_of : Extent → ℕ → ℕ

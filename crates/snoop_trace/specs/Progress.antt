@@ -2,14 +2,10 @@
 -- Source: this project's profile, over the records of the crate csv.
 use Rattle.std.specs.Prelude.{◌≡◌, ℕ, ◌+◌, List, [], ◌++◌, length, Option, Some, None, Result, Ok, Err, IfSome}
 use Rattle.csv.specs.Machine.{Read as Record, next_record}
-use Rattle.csv.specs.Reading.{Ready, default_config, records_from, reader_config, reader_state, reader_trim, source_of}
-use Rattle.csv.specs.declared.parser.State.{State}
+use Rattle.csv.specs.{Reading.{Ready, default_config, records_from, reader_config, reader_state, reader_trim, source_of}, declared.parser.State.State}
 use Rattle.csv.specs.declared.reader.Reader.{Reader}
 use Rattle.csv.specs.declared.reader.Trim.TheVariants as trim
-use Rattle.snoop_trace.specs.Grammar.{◌>>=◌}
-use Rattle.snoop_trace.specs.Text.{entries_from}
-use Rattle.snoop_trace.specs.declared.fault.TextFault.{TextFault}
-use Rattle.snoop_trace.specs.declared.fault.TextFault.TheVariants.{Read, NoMemory}
+use Rattle.snoop_trace.specs.{Grammar.{◌>>=◌}, Text.entries_from, declared.fault.TextFault.{TextFault, TheVariants.{Read, NoMemory}}}
 
 -- a reader of records with no header row, that trims nothing
 pub record IsPlain {R : Type 0} (r : Reader R) : Type 0 where

@@ -1,8 +1,7 @@
 -- What the protocols are called where they are printed.
 -- Source: "A Primer on Memory Consistency and Cache Coherence", 2nd edition, chapter 7.
 use Rattle.std.specs.Prelude.{ℕ, List, codes}
-use Rattle.snoop_trace.specs.declared.protocol.Protocol.{Protocol}
-use Rattle.snoop_trace.specs.declared.protocol.Protocol.TheVariants.{Msi, Mesi}
+use Rattle.snoop_trace.specs.declared.protocol.Protocol.{Protocol, TheVariants.{Msi, Mesi}}
 
 -- a protocol's name
 abbrev pub protocol_name : Protocol → List ℕ

@@ -1,9 +1,7 @@
 -- The writer of records.
 -- Source: this project's profile, over the writer of the crate csv.
-use Rattle.std.specs.Prelude.{◌≡◌, ℕ, List, Some, Vec, false, true}
-use Rattle.std.specs.Io.KnownBytes.{Appends}
-use Rattle.csv.specs.Writing.{default_writer, fields_written, has_written, text_written, with_flexible, writer_setup}
-use Rattle.csv.specs.declared.writer.Writer.{Writer}
+use Rattle.std.specs.{Prelude.{◌≡◌, ℕ, List, Some, Vec, false, true}, Io.KnownBytes.Appends}
+use Rattle.csv.specs.{Writing.{default_writer, fields_written, has_written, text_written, with_flexible, writer_setup}, declared.writer.Writer.Writer}
 use Rattle.csv.specs.declared.writer.WriterBuilder.{WriterBuilder}
 
 -- csv's defaults, but for records that may have more or fewer fields than the one before

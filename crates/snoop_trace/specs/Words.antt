@@ -1,9 +1,7 @@
 -- The words of a block.
 -- Source: this project's profile.
-use Rattle.std.specs.Prelude.{◌≡◌, ◌<◌, ◌≤◌, ◌-◌, ◌++◌, ⊤, ℕ, List, length, replicate, slice_index_or, take}
-use Rattle.std.proofs.Math.Seq.{take-append_seam}
-use Rattle.snoop_trace.specs.Extent.{Extent}
-use Rattle.snoop_trace.specs.declared.step.Op.{Op}
+use Rattle.std.{specs.Prelude.{◌≡◌, ◌<◌, ◌≤◌, ◌-◌, ◌++◌, ⊤, ℕ, List, length, replicate, slice_index_or, take}, proofs.Math.Seq.take-append_seam}
+use Rattle.snoop_trace.specs.{Extent.Extent, declared.step.Op.Op}
 use Rattle.snoop_trace.specs.declared.step.Op.TheVariants as op
 
 -- what a block holds: the values of its words, in as many places as a block may have words

@@ -1,6 +1,5 @@
 use Rattle.std.proofs.Common.{◌≡◌, ◌∙◌, sym, refl, true, Some, None, ap, arith}
-use Rattle.snoop_history.proofs.Common.{Did, Item, and_from, and_parts, common_steps, nat_tests}
-use Rattle.snoop_history.specs.declared.items.Came.{Came}
+use Rattle.snoop_history.{proofs.Common.{Did, Item, and_from, and_parts, common_steps, nat_tests}, specs.declared.items.Came.Came}
 use Rattle.snoop_history.specs.contracts.items.ItemPartialEq.TheImpl.{eq-value}
 use Rattle.snoop_history.specs.declared.items.Item.TheVariants as item
 use Rattle.snoop_history.proofs.log.is_same.Goals as goal

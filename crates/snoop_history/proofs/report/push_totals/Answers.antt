@@ -1,5 +1,4 @@
-use Rattle.std.proofs.Common.{◌≡◌, ◌++◌, List, ℕ, refl, append_assoc}
-use Rattle.std.proofs.lemmas.Result.{on_ok_weaker}
+use Rattle.std.proofs.{Common.{◌≡◌, ◌++◌, List, ℕ, refl, append_assoc}, lemmas.Result.on_ok_weaker}
 use Rattle.snoop_history.specs.Report.{loads_text, stores_text, requests_text, sources_text, writebacks_text}
 use Rattle.snoop_history.proofs.report.push_totals.Goals as goal
 

@@ -1,7 +1,5 @@
-use Rattle.std.proofs.Common.{◌≡◌, ◌<◌, ◌++◌, arith, codes, map}
+use Rattle.std.{proofs.{Common.{◌≡◌, ◌<◌, ◌++◌, arith, codes, map}, lemmas.List.FromFn.map-range_with_len_more}, specs.Fmt.decimal}
 use Rattle.snoop_history.proofs.Common.{flat, flat_map_more, lt-ltb, range_with_len}
-use Rattle.std.specs.Fmt.{decimal}
-use Rattle.std.proofs.lemmas.List.FromFn.{map-range_with_len_more}
 use Rattle.snoop_history.proofs.report.push_values.Goals as goal
 
 pub loop-word-preserved : goal.loop-word-preserved

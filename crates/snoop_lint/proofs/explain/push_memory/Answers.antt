@@ -1,5 +1,4 @@
-use Rattle.std.proofs.Common.{append_assoc, rules}
-use Rattle.std.proofs.lemmas.Result.{IfOk-equal}
+use Rattle.std.proofs.{Common.{append_assoc, rules}, lemmas.Result.IfOk-equal}
 use Rattle.snoop_lint.specs.Explained.{memory}
 use Rattle.snoop_lint.proofs.explain.push_memory.Goals as goal
 

@@ -1,5 +1,4 @@
-use Rattle.std.proofs.Common.{append_assoc}
-use Rattle.std.proofs.lemmas.Result.{IfOk-equal}
+use Rattle.std.proofs.{Common.append_assoc, lemmas.Result.IfOk-equal}
 use Rattle.snoop_lint.specs.Explained.{no_number}
 use Rattle.snoop_lint.proofs.explain.push_no_number.Goals as goal
 

@@ -1,6 +1,4 @@
-use Rattle.std.proofs.Common.{◌≡◌, take, true}
-use Rattle.std.specs.Char.{is_digit}
-use Rattle.std.specs.List.{list_all}
+use Rattle.std.{proofs.Common.{◌≡◌, take, true}, specs.{Char.is_digit, List.list_all}}
 use Rattle.snoop_lint.proofs.hints.all_digits.Given as goal
 
 abbrev pub invariant-loop-byte : goal.invariant-loop-byte

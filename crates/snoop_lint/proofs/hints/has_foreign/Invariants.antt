@@ -1,5 +1,4 @@
-use Rattle.std.proofs.Common.{◌≡◌, take, false}
-use Rattle.std.specs.List.{list_any}
+use Rattle.std.{proofs.Common.{◌≡◌, take, false}, specs.List.list_any}
 use Rattle.snoop_lint.specs.Hints.{is_foreign}
 use Rattle.snoop_lint.proofs.hints.has_foreign.Given as goal
 

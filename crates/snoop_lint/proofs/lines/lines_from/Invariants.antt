@@ -1,7 +1,6 @@
 use Rattle.std.proofs.Common.{◌≡◌, ◌≤◌, ◌+◌, ◌++◌, drop}
 use Rattle.csv.specs.declared.parser.State.TheVariants as st
-use Rattle.snoop_lint.specs.Lines.{lines_from}
-use Rattle.snoop_lint.specs.Places.{state_at_place}
+use Rattle.snoop_lint.specs.{Lines.lines_from, Places.state_at_place}
 use Rattle.snoop_lint.proofs.lines.lines_from.Given as goal
 
 -- the lines so far, and then those of what is left

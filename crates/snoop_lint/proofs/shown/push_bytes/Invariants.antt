@@ -1,5 +1,4 @@
-use Rattle.std.proofs.Common.{◌≡◌, ◌++◌, take}
-use Rattle.std.specs.List.{flat_map}
+use Rattle.std.{proofs.Common.{◌≡◌, ◌++◌, take}, specs.List.flat_map}
 use Rattle.snoop_lint.specs.Shown.{shown_byte}
 use Rattle.snoop_lint.proofs.shown.push_bytes.Given as goal
 

@@ -1,5 +1,4 @@
-use Rattle.std.proofs.Common.{append_assoc, sym, ◌∙◌}
-use Rattle.std.proofs.lemmas.Result.{IfOk-equal}
+use Rattle.std.proofs.{Common.{append_assoc, sym, ◌∙◌}, lemmas.Result.IfOk-equal}
 use Rattle.snoop_lint.specs.Summary.{needs_line}
 use Rattle.snoop_lint.proofs.summary.push_needs_line.Goals as goal
 

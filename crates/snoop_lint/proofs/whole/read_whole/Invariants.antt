@@ -1,6 +1,4 @@
-use Rattle.std.proofs.Common.{◌≡◌, Some}
-use Rattle.std.specs.Prelude.{false}
-use Rattle.std.specs.Io.KnownBytes.{Consumes}
+use Rattle.std.{proofs.Common.{◌≡◌, Some}, specs.{Prelude.false, Io.KnownBytes.Consumes}}
 use Rattle.snoop_lint.proofs.whole.read_whole.Given as goal
 
 -- what was read stands in the text, and no read has failed

@@ -1,6 +1,5 @@
 use Rattle.std.proofs.Common.{◌≡◌, ◌<◌, ◌^◌, drop}
-use Rattle.snoop_trace.proofs.NumeralLemmas.{numeral_after}
-use Rattle.snoop_trace.specs.Grammar.{numeral}
+use Rattle.snoop_trace.{proofs.NumeralLemmas.numeral_after, specs.Grammar.numeral}
 use Rattle.snoop_trace.proofs.record.decimal.Given as goal
 
 abbrev pub invariant-loop-byte : goal.invariant-loop-byte

@@ -1,8 +1,6 @@
-use Rattle.std.proofs.Common.{◌∷◌, [], inr, refl, arith}
-use Rattle.snoop_trace.proofs.Common.{All-push, IsSaid, length-append}
+use Rattle.std.proofs.{Common.{◌∷◌, [], inr, refl, arith}, lemmas.Option.IfSome_then}
+use Rattle.snoop_trace.proofs.{Common.{All-push, IsSaid, length-append}, TextLemmas.{done, faulty, further}}
 use Rattle.csv.specs.Reading.{reader_state, source_of}
-use Rattle.std.proofs.lemmas.Option.{IfSome_then}
-use Rattle.snoop_trace.proofs.TextLemmas.{done, faulty, further}
 use Rattle.snoop_trace.proofs.text.take_entries.Goals as goal
 
 pub returns-in-Ok-None-clause-read : goal.returns-in-Ok-None-clause-read

@@ -1,7 +1,6 @@
 use Rattle.std.proofs.Common.{◌≡◌, ◌⊎◌, ◌+◌, ◌<◌, ◌^◌, length, All, IfSome}
 use Rattle.csv.specs.Reading.{reader_state, source_of}
-use Rattle.snoop_trace.proofs.TextLemmas.{SoFar}
-use Rattle.snoop_trace.specs.Progress.{IsPlain, IsSaid, entries_after, records_left}
+use Rattle.snoop_trace.{proofs.TextLemmas.SoFar, specs.Progress.{IsPlain, IsSaid, entries_after, records_left}}
 use Rattle.snoop_trace.proofs.text.take_entries.Given as goal
 
 -- the records so far gave the entries so far, and the reader stands after them

@@ -1,9 +1,7 @@
 use Rattle.std.proofs.Common.{refl, sym, ◌∙◌}
-use Rattle.snoop_trace.proofs.Common.{err_from_is_err_and, fields_of}
+use Rattle.snoop_trace.{proofs.{Common.{err_from_is_err_and, fields_of}, RecordLemmas.names_heading_as}, specs.Heading.heading_as}
 use Rattle.csv.specs.Reading.{reader_state, source_of}
-use Rattle.snoop_trace.proofs.RecordLemmas.{names_heading_as}
 use Rattle.snoop_trace.proofs.TextLemmas.{first_refused, first_taken, no_heading, none_read, not_failed}
-use Rattle.snoop_trace.specs.Heading.{heading_as}
 use Rattle.snoop_trace.proofs.text.take_text.Goals.{then-is_begun+in_ok-read, else-is_begun+in_ok-from_record+in_ok-append}
 use Rattle.snoop_trace.proofs.text.take_text.Goals as goal
 

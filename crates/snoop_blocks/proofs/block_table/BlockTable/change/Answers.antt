@@ -1,5 +1,4 @@
-use Rattle.std.proofs.Common.{◌≡◌, arith}
-use Rattle.std.specs.Prelude.{slice_index_or}
+use Rattle.std.{proofs.Common.{◌≡◌, arith}, specs.Prelude.slice_index_or}
 use Rattle.snoop_blocks.proofs.Places.{seen-change}
 use Rattle.snoop_blocks.proofs.block_table.BlockTable.change.Goals as goal
 

@@ -1,7 +1,5 @@
-use Rattle.std.proofs.Common.{refl, ◌/◌, ◌%◌}
-use Rattle.std.proofs.lemmas.Nat.Bits.{bit_at-zero}
-use Rattle.snoop_blocks.specs.CoreSet.{has}
-use Rattle.snoop_blocks.proofs.Places.{zero_at}
+use Rattle.std.proofs.{Common.{refl, ◌/◌, ◌%◌}, lemmas.Nat.Bits.bit_at-zero}
+use Rattle.snoop_blocks.{specs.CoreSet.has, proofs.Places.zero_at}
 use Rattle.snoop_blocks.proofs.core_set.CoreSet.empty.Goals as goal
 
 pub returns : goal.returns

@@ -1,7 +1,5 @@
-use Rattle.std.proofs.Common.{refl}
-use Rattle.std.proofs.lemmas.Bool.{le-ltb}
-use Rattle.snoop_blocks.specs.CoreSet.{has}
-use Rattle.snoop_blocks.proofs.CoreSets.{has_past}
+use Rattle.std.proofs.{Common.refl, lemmas.Bool.le-ltb}
+use Rattle.snoop_blocks.{specs.CoreSet.has, proofs.CoreSets.has_past}
 use Rattle.snoop_blocks.proofs.core_set.CoreSet.has.Goals as goal
 
 pub returns-then-core-lt256 : goal.returns-then-core-lt256

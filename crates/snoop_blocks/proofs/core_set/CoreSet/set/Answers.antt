@@ -1,10 +1,7 @@
-use Rattle.std.proofs.Common.{ℕ, ◌<◌, ◌/◌, ◌%◌, ◌^◌, ◌*◌, refl, arith, w64}
-use Rattle.std.specs.Prelude.{slice_index_or, bit_and, bit_or}
-use Rattle.std.specs.Int.{bit_not}
+use Rattle.std.{proofs.Common.{ℕ, ◌<◌, ◌/◌, ◌%◌, ◌^◌, ◌*◌, refl, arith, w64}, specs.{Prelude.{slice_index_or, bit_and, bit_or}, Int.bit_not}}
 use Rattle.std.proofs.lemmas.Nat.Bits.{bit_at_set_same, bit_at_set_other, bit_at_clear_same, bit_at_clear_other}
-use Rattle.snoop_blocks.proofs.CoreSets.{has-set_here, has-set_other}
+use Rattle.snoop_blocks.proofs.{CoreSets.{has-set_here, has-set_other}, core_set.CoreSet.set.Goals.{then-is_member, else-is_member}}
 use Rattle.snoop_blocks.proofs.core_set.CoreSet.set.Goals as goal
-use Rattle.snoop_blocks.proofs.core_set.CoreSet.set.Goals.{then-is_member, else-is_member}
 
 pub returns : goal.returns
 returns c =

@@ -1,6 +1,4 @@
-use Rattle.std.proofs.Common.{arith, [], ◌≡◌}
-use Rattle.std.proofs.lemmas.Grind.{common_steps}
-use Rattle.std.proofs.lemmas.List.Elements.{All-push}
+use Rattle.std.proofs.{Common.{arith, [], ◌≡◌}, lemmas.{Grind.common_steps, List.Elements.All-push}}
 use Rattle.snoop_bus.proofs.Within.{AreBlocksWithin-empty}
 use Rattle.snoop_bus.proofs.bus.Bus.new.Goals as goal
 

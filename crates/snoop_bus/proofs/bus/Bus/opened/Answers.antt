@@ -1,10 +1,6 @@
-use Rattle.std.proofs.Common.{◌≡◌, ◌∙◌, None, sym, ap}
-use Rattle.std.specs.Prelude.{option_copied, unwrap_or}
-use Rattle.std.proofs.lemmas.Option.{unwrap_or-slice_get}
-use Rattle.snoop_bus.specs.Traffic.{TrafficOf, transaction_on}
-use Rattle.snoop_bus.proofs.bus.Bus.opened.Given.{Over}
+use Rattle.std.{proofs.{Common.{◌≡◌, ◌∙◌, None, sym, ap}, lemmas.Option.unwrap_or-slice_get}, specs.Prelude.{option_copied, unwrap_or}}
+use Rattle.snoop_bus.{specs.Traffic.{TrafficOf, transaction_on}, proofs.bus.Bus.opened.{Given.Over, Goals.After-get_ref}}
 use Rattle.snoop_bus.proofs.bus.Bus.opened.Goals as goal
-use Rattle.snoop_bus.proofs.bus.Bus.opened.Goals.{After-get_ref}
 
 -- what stands in the table is what callers see
 shown : (g : Over) (c : After-get_ref g) → unwrap_or (option_copied c.get_ref.result) None ≡ transaction_on c.args.self.now c.args.block

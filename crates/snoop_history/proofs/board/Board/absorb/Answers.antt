@@ -1,7 +1,5 @@
-use Rattle.std.proofs.Common.{rules, ◌≡◌, ◌∙◌, ◌<◌, arith, ap, length, Some, true}
-use Rattle.std.specs.Prelude.{slice_index, slice_set}
-use Rattle.snoop_history.proofs.Common.{counted, get_or_read}
-use Rattle.snoop_history.specs.Board.{Tables, operation_within, absorbed}
+use Rattle.std.{proofs.Common.{rules, ◌≡◌, ◌∙◌, ◌<◌, arith, ap, length, Some, true}, specs.Prelude.{slice_index, slice_set}}
+use Rattle.snoop_history.{proofs.Common.{counted, get_or_read}, specs.Board.{Tables, operation_within, absorbed}}
 use Rattle.snoop_history.proofs.Boards.{board_after, absorbed_as, operation_within-lies, place-within}
 use Rattle.snoop_history.proofs.board.Board.absorb.Goals as goal
 

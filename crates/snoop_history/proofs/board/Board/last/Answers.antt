@@ -1,5 +1,4 @@
-use Rattle.std.proofs.Common.{arith}
-use Rattle.std.proofs.lemmas.Grind.{elements}
+use Rattle.std.proofs.{Common.arith, lemmas.Grind.elements}
 use Rattle.snoop_history.proofs.Boards.{board_last}
 use Rattle.snoop_history.proofs.board.Board.last.Goals as goal
 

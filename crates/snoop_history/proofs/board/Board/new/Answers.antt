@@ -1,6 +1,5 @@
 use Rattle.std.proofs.Common.{◌≡◌, ◌*◌, [], None, refl, ap, ◌∙◌, rules, replicate}
-use Rattle.snoop_history.specs.Board.{board_of}
-use Rattle.snoop_history.proofs.Boards.{table-of, same_tables, value_at, count_in, last_in}
+use Rattle.snoop_history.{specs.Board.board_of, proofs.Boards.{table-of, same_tables, value_at, count_in, last_in}}
 use Rattle.snoop_history.proofs.board.Board.new.Goals as goal
 
 pub returns : goal.returns

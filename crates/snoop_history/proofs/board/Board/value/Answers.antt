@@ -1,5 +1,4 @@
-use Rattle.std.proofs.Common.{Some, ap}
-use Rattle.std.proofs.lemmas.Bool.{lt-ltb}
+use Rattle.std.proofs.{Common.{Some, ap}, lemmas.Bool.lt-ltb}
 use Rattle.snoop_history.proofs.Boards.{board_value}
 use Rattle.snoop_history.proofs.board.Board.value.Goals as goal
 

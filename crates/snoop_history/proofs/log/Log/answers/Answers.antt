@@ -1,7 +1,5 @@
-use Rattle.std.proofs.Common.{◌≡◌, ◌∙◌, ap, rules, filter, ◌==◌, List}
-use Rattle.snoop_history.proofs.Common.{Did, IfOk-at_ok, Journal, YieldsList-from_slice, answers_of}
-use Rattle.snoop_history.proofs.Common.{filter_map, items_from_collect, operation_of, unpacked}
-use Rattle.std.proofs.lemmas.Iterator.Consumers.{YieldsList-from_filter_map, YieldsList-from_filter}
+use Rattle.std.proofs.{Common.{◌≡◌, ◌∙◌, ap, rules, filter, ◌==◌, List}, lemmas.Iterator.Consumers.{YieldsList-from_filter_map, YieldsList-from_filter}}
+use Rattle.snoop_history.proofs.Common.{Did, IfOk-at_ok, Journal, YieldsList-from_slice, answers_of, filter_map, items_from_collect, operation_of, unpacked}
 use borrow.Author.Tests.{tests}
 use Rattle.snoop_history.proofs.Kept.{filter_map-map}
 use Rattle.snoop_history.proofs.log.Log.answers.Goals as goal

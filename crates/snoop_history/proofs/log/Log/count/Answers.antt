@@ -1,7 +1,5 @@
 use Rattle.std.proofs.Common.{arith, map}
-use Rattle.snoop_history.proofs.Common.{length-map, unpacked}
-use Rattle.snoop_history.proofs.Kept.{all_inside}
-use Rattle.snoop_history.proofs.Pushed.{next_number-few}
+use Rattle.snoop_history.proofs.{Common.{length-map, unpacked}, Kept.all_inside, Pushed.next_number-few}
 use Rattle.snoop_history.proofs.log.Log.count.Goals as goal
 
 pub returns : goal.returns

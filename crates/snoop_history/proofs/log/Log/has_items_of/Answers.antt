@@ -1,6 +1,5 @@
 use Rattle.std.proofs.Common.{◌≡◌, ◌∙◌, sym, ap, arith, map, length, Some, refl, inl, inr}
-use Rattle.snoop_history.proofs.Common.{Journal, cases_eq, unpacked}
-use Rattle.snoop_history.proofs.Kept.{same-places, items-at}
+use Rattle.snoop_history.proofs.{Common.{Journal, cases_eq, unpacked}, Kept.{same-places, items-at}}
 use Rattle.snoop_history.proofs.log.Log.has_items_of.Goals as goal
 
 pub returns : goal.returns

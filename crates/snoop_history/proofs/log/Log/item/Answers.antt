@@ -1,6 +1,5 @@
 use Rattle.std.proofs.Common.{◌≡◌, ◌∙◌, sym, ap, length, Some, slice_get, nat_lt}
-use Rattle.snoop_history.proofs.Common.{option_map, slice_get-map, unpacked}
-use Rattle.snoop_history.proofs.Kept.{read-at}
+use Rattle.snoop_history.proofs.{Common.{option_map, slice_get-map, unpacked}, Kept.read-at}
 use Rattle.snoop_history.proofs.log.Log.item.Goals as goal
 
 pub returns : goal.returns

@@ -1,7 +1,5 @@
 use Rattle.std.proofs.Common.{◌≡◌, ◌-◌, ◌^◌, min, vec_capacity, vec_len, [], ◌∙◌, map, sym, ap, arith}
-use Rattle.snoop_history.proofs.Common.{Mentions, unpacked}
-use Rattle.snoop_history.proofs.Boards.{board-shape}
-use Rattle.snoop_history.proofs.Kept.{tallied_as}
+use Rattle.snoop_history.proofs.{Common.{Mentions, unpacked}, Boards.board-shape, Kept.tallied_as}
 use Rattle.snoop_history.proofs.log.Log.new.Goals as goal
 
 pub invariant_of-result : goal.invariant_of-result

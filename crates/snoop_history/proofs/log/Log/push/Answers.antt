@@ -1,9 +1,5 @@
 use Rattle.std.proofs.Common.{◌≡◌, [], ◌∷◌, ◌++◌, map, sym, ap, ◌∙◌, arith, ◌<◌, ◌^◌, length}
-use Rattle.snoop_history.proofs.Pushed.{next_number_le}
-use Rattle.snoop_history.proofs.Legal.{listed-push}
-use Rattle.snoop_history.proofs.Common.{Item, length-map, map-append, unpacked}
-use Rattle.snoop_history.proofs.Boards.{board-shape}
-use Rattle.snoop_history.proofs.Kept.{tallied_as}
+use Rattle.snoop_history.proofs.{Pushed.next_number_le, Legal.listed-push, Common.{Item, length-map, map-append, unpacked}, Boards.board-shape, Kept.tallied_as}
 use Rattle.snoop_history.proofs.log.Log.push.Goals as goal
 
 pub invariant_of-self : goal.invariant_of-self

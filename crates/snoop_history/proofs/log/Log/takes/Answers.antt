@@ -1,7 +1,5 @@
 use Rattle.std.proofs.Common.{rules, ◌≡◌, ◌∙◌, sym, true}
-use Rattle.snoop_history.specs.History.{IsNumbered}
-use Rattle.snoop_history.specs.Within.{is_within}
-use Rattle.snoop_history.proofs.Boards.{passes-within}
+use Rattle.snoop_history.{specs.{History.IsNumbered, Within.is_within}, proofs.Boards.passes-within}
 use Rattle.snoop_history.proofs.log.Log.takes.Goals as goal
 
 pub returns-then-numbered-clause-sound : goal.returns-then-numbered-clause-sound

@@ -1,6 +1,5 @@
 use Rattle.std.proofs.Common.{arith, map, ◌∙◌}
-use Rattle.snoop_history.proofs.Common.{length-map, unpacked}
-use Rattle.snoop_history.proofs.Pushed.{totals-few}
+use Rattle.snoop_history.proofs.{Common.{length-map, unpacked}, Pushed.totals-few}
 use Rattle.snoop_history.proofs.log.Log.totals.Goals as goal
 
 pub returns : goal.returns

@@ -1,6 +1,5 @@
 use Rattle.std.proofs.Common.{◌∙◌}
-use Rattle.snoop_history.proofs.Kept.{within_all}
-use Rattle.snoop_history.proofs.Touching.{touched_within}
+use Rattle.snoop_history.proofs.{Kept.within_all, Touching.touched_within}
 use Rattle.snoop_history.proofs.log.Log.touched.Goals as goal
 
 pub returns-clause-within : goal.returns-clause-within

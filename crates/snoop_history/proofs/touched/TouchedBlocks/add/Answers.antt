@@ -1,7 +1,5 @@
 use Rattle.std.proofs.Common.{◌≡◌, ◌∙◌, Some, sym, ap, ℕ, List, nat_eq}
-use Rattle.snoop_history.proofs.Common.{Mentions, insert_key, operation_of}
-use Rattle.snoop_history.proofs.Pushed.{none_from_not_some}
-use Rattle.snoop_history.proofs.Touching.{touched-add}
+use Rattle.snoop_history.proofs.{Common.{Mentions, insert_key, operation_of}, Pushed.none_from_not_some, Touching.touched-add}
 use Rattle.snoop_history.proofs.touched.TouchedBlocks.add.Goals as goal
 
 pub returns-in-Some-clause-order : goal.returns-in-Some-clause-order

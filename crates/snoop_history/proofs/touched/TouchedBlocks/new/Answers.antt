@@ -1,5 +1,4 @@
-use Rattle.std.proofs.Common.{◌≡◌, ap, arith, false, length, replicate}
-use Rattle.std.proofs.lemmas.List.{length-replicate}
+use Rattle.std.proofs.{Common.{◌≡◌, ap, arith, false, length, replicate}, lemmas.List.length-replicate}
 use Rattle.snoop_history.proofs.Marks.{marks-at_first}
 use Rattle.snoop_history.proofs.touched.TouchedBlocks.new.Goals as goal
 

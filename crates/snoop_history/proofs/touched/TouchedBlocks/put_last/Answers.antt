@@ -1,5 +1,4 @@
-use Rattle.std.proofs.Common.{◌≡◌, ◌∙◌, [], true, false, length, arith, ap, subst, length-set, length-append}
-use Rattle.std.specs.Prelude.{◌∷◌, IsOk}
+use Rattle.std.{proofs.Common.{◌≡◌, ◌∙◌, [], true, false, length, arith, ap, subst, length-set, length-append}, specs.Prelude.{◌∷◌, IsOk}}
 use Rattle.snoop_history.proofs.Marks.{inserted, room-left, marks-after, is_inside, is_free}
 use Rattle.snoop_history.proofs.touched.TouchedBlocks.put_last.Goals as goal
 

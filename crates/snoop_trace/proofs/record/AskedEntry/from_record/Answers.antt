@@ -1,6 +1,5 @@
 use Rattle.std.proofs.Common.{arith}
-use Rattle.snoop_trace.proofs.Common.{common_steps, fields_of}
-use Rattle.snoop_trace.proofs.RecordLemmas.{names_asked}
+use Rattle.snoop_trace.proofs.{Common.{common_steps, fields_of}, RecordLemmas.names_asked}
 use Rattle.snoop_trace.proofs.record.AskedEntry.from_record.Goals as goal
 
 pub returns-in_err-row-clause-fault : goal.returns-in_err-row-clause-fault

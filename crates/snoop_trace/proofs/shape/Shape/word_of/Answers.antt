@@ -1,5 +1,4 @@
-use Rattle.snoop_trace.specs.Shape.{extent}
-use Rattle.snoop_trace.proofs.WordPlaces.{word_within}
+use Rattle.snoop_trace.{specs.Shape.extent, proofs.WordPlaces.word_within}
 use Rattle.snoop_trace.proofs.shape.Shape.word_of.Goals as goal
 
 pub returns-clause-within : goal.returns-clause-within

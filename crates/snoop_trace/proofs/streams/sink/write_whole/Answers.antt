@@ -1,6 +1,5 @@
 use Rattle.std.proofs.Common.{length, drop, arith, ◌≤◌}
-use Rattle.snoop_trace.proofs.Common.{length-drop, slice-end}
-use Rattle.snoop_trace.proofs.OutputLemmas.{stopped, took_more}
+use Rattle.snoop_trace.proofs.{Common.{length-drop, slice-end}, OutputLemmas.{stopped, took_more}}
 use Rattle.snoop_trace.proofs.streams.sink.write_whole.Goals as goal
 
 pub loop-at-preserved : goal.loop-at-preserved

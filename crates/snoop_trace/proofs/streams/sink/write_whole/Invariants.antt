@@ -1,5 +1,4 @@
-use Rattle.std.proofs.Common.{◌≡◌, ◌≤◌, length, take, Some, false, ◌-◌}
-use Rattle.std.specs.Io.KnownBytes.{Appends}
+use Rattle.std.{proofs.Common.{◌≡◌, ◌≤◌, length, take, Some, false, ◌-◌}, specs.Io.KnownBytes.Appends}
 use Rattle.snoop_trace.proofs.streams.sink.write_whole.Given as goal
 
 -- the front was written, and no write has failed

@@ -1,5 +1,4 @@
-use Rattle.std.proofs.Common.{ℕ, List, ◌++◌, ap, ◌∙◌}
-use Rattle.std.proofs.lemmas.List.{drop-replicate}
+use Rattle.std.proofs.{Common.{ℕ, List, ◌++◌, ap, ◌∙◌}, lemmas.List.drop-replicate}
 use Rattle.snoop_trace.proofs.words.FewBlock.to_words.Goals as goal
 
 -- the words that the block has, and behind them the zeros that were there

@@ -1,5 +1,4 @@
-use Rattle.std.proofs.Common.{length, ap, arith}
-use Rattle.std.proofs.lemmas.Fmt.{decimal_digit}
+use Rattle.std.proofs.{Common.{length, ap, arith}, lemmas.Fmt.decimal_digit}
 use Rattle.snoop_trace.proofs.streams.step_text.Back.put_decimal.Goals as goal
 
 pub put-requires : goal.put-requires
