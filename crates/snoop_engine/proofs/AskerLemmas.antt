@@ -1,23 +1,13 @@
 -- Only an Ask moves its core out of I.
-use Rattle.std.proofs.Common.{◌≡◌, ◌⊎◌, ℕ, ◌≤◌, Bool, true, false, List, [], length, Some, None, Option, refl, sym, ap, ◌∙◌, inl, inr, arith, ◌==◌, ◌&&◌, ◌%◌, Ok, nat_lt, slice_get, slice_index_or, slice_set, if◌then◌else◌}
-use Rattle.snoop_engine.proofs.Common.{option_map_or, cases_lt, get_or_past, Protocol, Msi, Mesi, Op, Step, Ask, Order, Respond, CacheCell, CacheEvent, CacheState, I, Request, GetS}
-use Rattle.snoop_engine.proofs.Common.{PutM, arrival, seen_by, Did, Open, Situation, picture_of, state_of, Reply, Line, Picture, held_at, held_by, nothing_held}
-use Rattle.snoop_engine.proofs.Common.{ArrivesFor, FillsRequestor, IsAbsent, Asks, Orders, Responds, GoesFirst}
-use Rattle.std.proofs.lemmas.Bool.{le-ltb}
+use Rattle.snoop_engine.proofs.Common.{◌≡◌, ◌⊎◌, ℕ, ◌≤◌, Bool, true, false, List, [], length, Some, None, Option, refl, sym, ap, ◌∙◌, inl, inr, arith, ◌==◌, ◌&&◌, ◌%◌, Ok, nat_lt, slice_get, slice_index_or, slice_set}
+use Rattle.snoop_engine.proofs.Common.{if◌then◌else◌, option_map_or, cases_lt, get_or_past, Protocol, Msi, Mesi, Op, Step, Ask, Order, Respond, CacheCell, CacheEvent, CacheState, I, Request, GetS, PutM, arrival, seen_by, Did}
+use Rattle.snoop_engine.proofs.Common.{Open, Situation, picture_of, state_of, Reply, Line, Picture, held_at, held_by, nothing_held, ArrivesFor, FillsRequestor, IsAbsent, Asks, Orders, Responds, GoesFirst, le-ltb, cell_of, other}
+use Rattle.snoop_engine.proofs.Common.{own, nothing_there, with_line, get_or_from_slice_get, unwrap_or-slice_get, AreAskers, AreOthersInI, of_holder, unless_i, Taken, Core}
 use Rattle.snoop_rules.specs.declared.names.Payload.{Payload}
 use Rattle.snoop_rules.specs.declared.names.Payload.TheVariants.{Data}
-use Rattle.snoop_rules.specs.Cell.{cell_of}
-use Rattle.snoop_rules.specs.Takers.{other, own}
 use Rattle.snoop_blocks.specs.CoreSet.{Puts, has, set_of}
-use Rattle.snoop_model.specs.Pictures.Situation.{nothing_there}
-use Rattle.snoop_model.specs.Pictures.Picture.{with_line}
 use Rattle.snoop_model.proofs.Lists.Writes.{set_cases}
 use Rattle.std.proofs.lemmas.Nat.Bits.{bit_at-zero}
-use Rattle.std.proofs.lemmas.Option.{get_or_from_slice_get, unwrap_or-slice_get}
-use Rattle.snoop_engine.specs.Askers.{AreAskers, AreOthersInI}
-use Rattle.snoop_engine.specs.Taken.{of_holder, unless_i}
-use Rattle.snoop_engine.specs.declared.taken.Taken.{Taken}
-use Rattle.snoop_engine.specs.declared.taken.Taken.TheVariants.{Core}
 use Rattle.snoop_engine.proofs.TakenLemmas.{same_shape}
 
 -- a request that a core in I sees leaves it there

@@ -1,8 +1,5 @@
 -- Steps that all ask, and what they ask for.
-use Rattle.std.proofs.Common.{◌≡◌, ◌<◌, ◌^◌, List, [], ◌∷◌, ◌++◌, length, map, refl, sym, ◌∙◌, ap, Result, Ok, Err, OnOk, OnErr}
-use Rattle.snoop_engine.proofs.Common.{length-map, map-append, Asked, Step, Ask}
-use Rattle.snoop_trace.specs.Asked.{step_of}
-use Rattle.snoop_engine.specs.Todo.{asked_by}
+use Rattle.snoop_engine.proofs.Common.{◌≡◌, ◌<◌, ◌^◌, List, [], ◌∷◌, ◌++◌, length, map, refl, sym, ◌∙◌, ap, Result, Ok, Err, OnOk, OnErr, length-map, map-append, Asked, Step, Ask, step_of, asked_by}
 
 -- one more Ask asks for one thing more
 pub asked_more : (old new : List Step) (asked : Asked) → new ≡ old ++ step_of asked ∷ [] → asked_by new ≡ asked_by old ++ asked ∷ []

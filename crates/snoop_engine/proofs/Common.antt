@@ -1,21 +1,29 @@
--- The names of the crates below, and of std, that proofs of the engine use most, passed on from one place.
-pub use Rattle.std.proofs.lemmas.Bool.{cases_eq, cases_lt}
+-- The names of the crates below, of std and of the contracts that proofs of the engine use most, passed on from one place.
+pub use Rattle.std.proofs.Common.{◌≡◌, List, [], ◌∷◌, ◌++◌, refl, ap, ◌∙◌, Result, Ok, Err, ◌≢◌, ℕ, zero, suc, ◌+◌, ◌*◌, ◌<◌, length, sym, arith, ◌^◌, map, OnOk, OnErr, ◌/◌, Bool, true, false, cond, Option, Some, None, ◌==◌}
+pub use Rattle.std.proofs.Common.{IfNone, IfSome, lt-ltb, subst, ◌≤◌, append-nil, filter, inl, inr, flat_map, length-append, drop, slice_index_or, ◌⊎◌, ◌&&◌, ◌%◌, nat_lt, slice_get, slice_set, if◌then◌else◌, take, Contains}
+pub use Rattle.std.proofs.Common.{append_assoc, IsErrAnd, get_or, set, replicate, IsSome, is_some, option_map, All, IsOk, count_by, not, option_to_list, ◌||◌, IsSomeAnd, MatchBool, is_none, eqb, rules, decimal, codes, ◌-◌, max}
+pub use Rattle.std.proofs.Common.{vec_capacity}
+pub use Rattle.std.proofs.lemmas.Bool.{cases_eq, cases_lt, eq-eqb, ne_eqb, le-ltb, cases_Bool, and_left, and_parts}
 pub use Rattle.std.proofs.lemmas.Bool.Decides.{nat_tests}
 pub use Rattle.std.proofs.lemmas.Grind.{common_steps}
-pub use Rattle.std.proofs.lemmas.List.{flat_map_more, get_or_default, get_or_past, length-map, length_push, map-append, take_more}
-pub use Rattle.std.proofs.lemmas.List.Elements.{All-append, All-cons, All-head, All-nil, All-push, All-tail, Contains-append_cases, Contains-append_left, Contains-append_right, Contains-push}
-pub use Rattle.std.proofs.lemmas.List.Sums.{sum_by-cons}
-pub use Rattle.std.proofs.lemmas.Option.{same_Some}
+pub use Rattle.std.proofs.lemmas.List.{flat_map_more, get_or_default, get_or_past, length-map, length_push, map-append, take_more, map-id, length-drop, take-append-drop, length-replicate, length-set, get_or-replicate}
+pub use Rattle.std.proofs.lemmas.List.{get_or-set_other, get_or-set_same, take_all}
+pub use Rattle.std.proofs.lemmas.List.Elements.{All-append, All-cons, All-head, All-nil, All-push, All-tail, Contains-append_cases, Contains-append_left, Contains-append_right, Contains-push, All-take, All-drop, filter-append}
+pub use Rattle.std.proofs.lemmas.List.Elements.{All-map, All-filter, All-weaker}
+pub use Rattle.std.proofs.lemmas.List.Sums.{sum_by-cons, sum_by-set}
+pub use Rattle.std.proofs.lemmas.Option.{same_Some, get_or_from_slice_get, unwrap_or-slice_get}
 pub use Rattle.std.proofs.lemmas.Result.{on_ok_weaker}
 pub use Rattle.std.specs.Io.KnownBytes.{Appends}
-pub use Rattle.std.specs.List.{range_with_len}
+pub use Rattle.std.specs.List.{range_with_len, position_or_len, cons_option}
 pub use Rattle.std.specs.Option.{option_map_or}
-pub use Rattle.snoop_trace.proofs.GathersLemmas.{gathers_cut, gathers_done, gathers_more, gathers_spilled, gathers_stop}
-pub use Rattle.snoop_trace.proofs.OutputLemmas.{appends_none_of, on_err}
-pub use Rattle.snoop_trace.specs.Extent.{Extent}
-pub use Rattle.snoop_trace.specs.Grammar.{IsRowWithin, word_asked}
+pub use Rattle.snoop_trace.proofs.GathersLemmas.{gathers_cut, gathers_done, gathers_more, gathers_spilled, gathers_stop, gathers_none}
+pub use Rattle.snoop_trace.proofs.OutputLemmas.{appends_none_of, on_err, appends_none, appends_more, front_after}
+pub use Rattle.snoop_trace.proofs.WordPlaces.{word_there, asked_within}
+pub use Rattle.snoop_trace.specs.Asked.{step_of, asked_of}
+pub use Rattle.snoop_trace.specs.Extent.{Extent, IsWithinLimits}
+pub use Rattle.snoop_trace.specs.Grammar.{IsRowWithin, word_asked, block_at}
 pub use Rattle.snoop_trace.specs.Output.{AppendsFront, Gathers, Spills}
-pub use Rattle.snoop_trace.specs.Words.{word_at}
+pub use Rattle.snoop_trace.specs.Words.{word_at, HasWord}
 pub use Rattle.snoop_trace.specs.declared.fault.WriteFault.{WriteFault}
 pub use Rattle.snoop_trace.specs.declared.protocol.Protocol.{Protocol}
 pub use Rattle.snoop_trace.specs.declared.protocol.Protocol.TheVariants.{Mesi, Msi}
@@ -26,8 +34,9 @@ pub use Rattle.snoop_trace.specs.declared.step.Step.{Step}
 pub use Rattle.snoop_trace.specs.declared.step.Step.TheVariants.{Ask, Order, Respond}
 pub use Rattle.snoop_trace.specs.declared.step.Work.{Work}
 pub use Rattle.snoop_rules.proofs.TextLemmas.{piece_more, pieces_all}
+pub use Rattle.snoop_rules.specs.Cell.{cell_of, Cell}
 pub use Rattle.snoop_rules.specs.TableOrder.{cache_events, cache_states, memory_events, memory_states}
-pub use Rattle.snoop_rules.specs.Takers.{arrival, arrival_at_memory, asked, at_memory, seen_by, takes_payload}
+pub use Rattle.snoop_rules.specs.Takers.{arrival, arrival_at_memory, asked, at_memory, seen_by, takes_payload, other, own}
 pub use Rattle.snoop_rules.specs.Waits.{waiting_request}
 pub use Rattle.snoop_rules.specs.declared.names.CacheCell.{CacheCell}
 pub use Rattle.snoop_rules.specs.declared.names.CacheEvent.{CacheEvent}
@@ -44,15 +53,44 @@ pub use Rattle.snoop_bus.specs.Traffic.{Open}
 pub use Rattle.snoop_model.proofs.Turns.Laws.{turn_rule}
 pub use Rattle.snoop_model.specs.Invariant.Invariant.{Invariant}
 pub use Rattle.snoop_model.specs.Moves.LookUps.{ConsultsCache, ConsultsMemory}
-pub use Rattle.snoop_model.specs.Moves.Move.{ArrivesFor, Asks, FillsRequestor, FirstMove, IsAbsent, IsWithin, Orders, Responds, TakesFirst}
+pub use Rattle.snoop_model.specs.Moves.Move.{ArrivesFor, Asks, FillsRequestor, FirstMove, IsAbsent, IsWithin, Orders, Responds, TakesFirst, Settles, Takes}
 pub use Rattle.snoop_model.specs.Pictures.Lines.{Line}
-pub use Rattle.snoop_model.specs.Pictures.Picture.{Picture, held_at, held_by, nothing_held}
+pub use Rattle.snoop_model.specs.Pictures.Picture.{Picture, held_at, held_by, nothing_held, with_line}
 pub use Rattle.snoop_model.specs.Pictures.Proper.{keeps}
-pub use Rattle.snoop_model.specs.Pictures.Situation.{Situation, picture_of, reset, state_of}
+pub use Rattle.snoop_model.specs.Pictures.Situation.{Situation, picture_of, reset, state_of, nothing_there, untouched}
 pub use Rattle.snoop_model.specs.Runs.Run.{FirstRunFrom, GoesFirst, RunsGoOn, TheRun}
 pub use Rattle.snoop_model.specs.Turns.Quiet.{IsQuiet}
-pub use Rattle.snoop_model.specs.Turns.Serving.{IsUnderWay, steps_paid}
-pub use Rattle.snoop_model.specs.Turns.Turn.{turn_of}
+pub use Rattle.snoop_model.specs.Turns.Serving.{IsUnderWay, steps_paid, IsServing, has_transaction, steps_owed}
+pub use Rattle.snoop_model.specs.Turns.Turn.{turn_of, step_under_way}
 pub use Rattle.snoop_model.specs.declared.replies.Refused.{Refused}
-pub use Rattle.snoop_model.specs.declared.replies.Refused.TheVariants.{BusTaken}
+pub use Rattle.snoop_model.specs.declared.replies.Refused.TheVariants.{BusTaken, Stalled, NothingWaiting, NoTransaction}
 pub use Rattle.snoop_model.specs.declared.replies.Reply.{Reply}
+pub use Rattle.snoop_engine.specs.Askers.{AreAskers, AreOthersInI}
+pub use Rattle.snoop_engine.specs.Chosen.{Chosen, is_shown, is_chosen, is_in_range}
+pub use Rattle.snoop_engine.specs.Counts.{takes_memory_row, takes_row, all_lines, counts_text, frames_counts_text, memory_count_at, cache_count_at}
+pub use Rattle.snoop_engine.specs.Courses.{CanEnd, LeadsToEndWith, Leading, LeadsOn}
+pub use Rattle.snoop_engine.specs.Fault.{fault_of_write}
+pub use Rattle.snoop_engine.specs.Frames.{Frame, FramesAreTheRun, FramesFrom, outcomes_of, steps_of, AreFrames}
+pub use Rattle.snoop_engine.specs.InOrder.{InOrder, IsInOrder, TakesUpNext, row_under_way, EndsInOrder, FollowsInOrder, remaining_in_order, FindsInOrder, LeadsToRest}
+pub use Rattle.snoop_engine.specs.Inputs.{GivesSteps, StepsServe, StepsServeSerially}
+pub use Rattle.snoop_engine.specs.Journey.{IsAtTheEnd, IsAtTheStart}
+pub use Rattle.snoop_engine.specs.Numbered.{Numbered, numbered_from, led_to}
+pub use Rattle.snoop_engine.specs.Packed.{step_by, step_of_head, steps_in, stored_by, stored_in, worded_by, worded_in, largest, values_of, words_of}
+pub use Rattle.snoop_engine.specs.Round.{Progress, TakesUp, remaining, IsEnabled, IsFit, IsIdle, IsWorkWithin, Advances, IsOver, Finds, IsTodoWithin, IsUnasked}
+pub use Rattle.snoop_engine.specs.Serial.{ask_for, is_ask, ServesSerially, all_asks}
+pub use Rattle.snoop_engine.specs.Served.{ask_of, Serves, asks_of}
+pub use Rattle.snoop_engine.specs.States.{kept_at, kept_text, place_text, value_text, header_text, shown_text, states_text, step_fields, taken_text, memory_value_at}
+pub use Rattle.snoop_engine.specs.Taken.{of_holder, unless_i, lines_of_step, state_at, event_asked, of_ask, of_core, of_memory, of_request, of_requestor, of_respond, of_waiting_memory, taken_by, of_arrival, of_arrival_at_memory}
+pub use Rattle.snoop_engine.specs.Taken.{refused_by}
+pub use Rattle.snoop_engine.specs.Tallies.{Tallies, core_place, memory_place, counts_in, memory_counts_in}
+pub use Rattle.snoop_engine.specs.Todo.{Todo, todo_of, left_in, asked_by, lanes_under_way, block_of_work, IsAskedWithin, nothing_to_do, work_of, works_by, works_of}
+pub use Rattle.snoop_engine.specs.TrueLines.{DoesNothing, FitsStep, HasAllLines, ShowsRows, HasTakenRows}
+pub use Rattle.snoop_engine.specs.UnderWay.{ServesOnly, nothing, only}
+pub use Rattle.snoop_engine.specs.Views.{shown, view_text, IsNextSeen, block_of_step, frame_seen}
+pub use Rattle.snoop_engine.specs.Widths.{most_stored, stored}
+pub use Rattle.snoop_engine.specs.Words.{spaced}
+pub use Rattle.snoop_engine.specs.declared.fault.SimFault.{SimFault}
+pub use Rattle.snoop_engine.specs.declared.input.Input.TheVariants.{Rows, SerialRows, Steps}
+pub use Rattle.snoop_engine.specs.declared.seen.Seen.{Seen}
+pub use Rattle.snoop_engine.specs.declared.taken.Taken.{Taken}
+pub use Rattle.snoop_engine.specs.declared.taken.Taken.TheVariants.{Core, Memory, Nobody}

@@ -1,11 +1,5 @@
 -- The counts of frames, as a view writes them.
-use Rattle.std.proofs.Common.{◌≡◌, ℕ, List, [], ◌∷◌, ◌++◌}
-use Rattle.snoop_engine.proofs.Common.{flat_map_more, Protocol, Situation}
-use Rattle.snoop_engine.specs.Counts.{all_lines, counts_text, frames_counts_text}
-use Rattle.snoop_engine.specs.Frames.{Frame}
-use Rattle.snoop_engine.specs.Taken.{lines_of_step}
-use Rattle.snoop_engine.specs.Tallies.{Tallies, counts_in, memory_counts_in}
-use Rattle.snoop_engine.specs.Views.{view_text}
+use Rattle.snoop_engine.proofs.Common.{◌≡◌, ℕ, List, [], ◌∷◌, ◌++◌, flat_map_more, Protocol, Situation, all_lines, counts_text, frames_counts_text, Frame, lines_of_step, Tallies, counts_in, memory_counts_in, view_text}
 use Rattle.snoop_engine.proofs.ViewLemmas.{quiet_view}
 
 -- the lines of one frame more

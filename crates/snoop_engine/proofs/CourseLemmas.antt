@@ -1,20 +1,10 @@
 -- Courses, step by step, and the rows that they serve.
-use Rattle.std.proofs.Common.{◌≡◌, ◌==◌, ℕ, ◌+◌, ◌*◌, ◌<◌, true, cond, Option, Some, None, List, [], ◌∷◌, ◌++◌, length, length-append, map, refl, sym, ◌∙◌, ap, arith, append_assoc, append-nil, inl, inr, Result, Ok, IsOk, IfNone, option_to_list}
-use Rattle.snoop_engine.proofs.Common.{length-map, map-append, All-cons, All-nil, Extent, Row, Step, Ask, Work, Protocol, Reply, Refused, Picture, Situation, reset}
-use Rattle.snoop_engine.proofs.Common.{FirstMove, GoesFirst, TheRun, IsQuiet, steps_paid, turn_rule}
-use Rattle.std.specs.List.{cons_option}
-use Rattle.std.proofs.lemmas.Bool.{cases_Bool}
+use Rattle.snoop_engine.proofs.Common.{◌≡◌, ◌==◌, ℕ, ◌+◌, ◌*◌, ◌<◌, true, cond, Option, Some, None, List, [], ◌∷◌, ◌++◌, length, length-append, map, refl, sym, ◌∙◌, ap, arith, append_assoc, append-nil, inl, inr, Result, Ok, IsOk}
+use Rattle.snoop_engine.proofs.Common.{IfNone, option_to_list, length-map, map-append, All-cons, All-nil, Extent, Row, Step, Ask, Work, Protocol, Reply, Refused, Picture, Situation, reset, FirstMove, GoesFirst, TheRun, IsQuiet}
+use Rattle.snoop_engine.proofs.Common.{steps_paid, turn_rule, cons_option, cases_Bool, untouched, has_transaction, steps_owed, CanEnd, LeadsToEndWith, Leading, LeadsOn, EndsInOrder, FindsInOrder, FollowsInOrder, InOrder}
+use Rattle.snoop_engine.proofs.Common.{LeadsToRest, remaining_in_order, StepsServe, StepsServeSerially, IsAtTheEnd, IsAtTheStart, Finds, Advances, Progress, ServesSerially, all_asks, ask_for, is_ask, Serves, ask_of, asks_of}
+use Rattle.snoop_engine.proofs.Common.{work_of, works_of}
 use Rattle.std.proofs.lemmas.List.Folds.{sum_by-replicate}
-use Rattle.snoop_model.specs.Pictures.Situation.{untouched}
-use Rattle.snoop_model.specs.Turns.Serving.{has_transaction, steps_owed}
-use Rattle.snoop_engine.specs.Courses.{CanEnd, LeadsToEndWith, Leading, LeadsOn}
-use Rattle.snoop_engine.specs.InOrder.{EndsInOrder, FindsInOrder, FollowsInOrder, InOrder, LeadsToRest, remaining_in_order}
-use Rattle.snoop_engine.specs.Inputs.{StepsServe, StepsServeSerially}
-use Rattle.snoop_engine.specs.Journey.{IsAtTheEnd, IsAtTheStart}
-use Rattle.snoop_engine.specs.Round.{Finds, Advances, Progress}
-use Rattle.snoop_engine.specs.Serial.{ServesSerially, all_asks, ask_for, is_ask}
-use Rattle.snoop_engine.specs.Served.{Serves, ask_of, asks_of}
-use Rattle.snoop_engine.specs.Todo.{work_of, works_of}
 use Rattle.snoop_engine.proofs.Fewer.{leaves_fewer}
 use Rattle.snoop_engine.proofs.TakenLemmas.{run_more, same_shape}
 

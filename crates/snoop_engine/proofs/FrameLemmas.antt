@@ -1,7 +1,5 @@
 -- Frames: as a run, and one after another.
-use Rattle.std.proofs.Common.{◌≡◌, List, [], ◌∷◌, ◌++◌, refl, ap, ◌∙◌, Result}
-use Rattle.snoop_engine.proofs.Common.{Step, Reply, Refused, Situation, reset, FirstRunFrom}
-use Rattle.snoop_engine.specs.Frames.{Frame, FramesAreTheRun, FramesFrom, outcomes_of, steps_of}
+use Rattle.snoop_engine.proofs.Common.{◌≡◌, List, [], ◌∷◌, ◌++◌, refl, ap, ◌∙◌, Result, Step, Reply, Refused, Situation, reset, FirstRunFrom, Frame, FramesAreTheRun, FramesFrom, outcomes_of, steps_of}
 use Rattle.snoop_engine.proofs.TakenLemmas.{goes_alike}
 
 -- frames are a run

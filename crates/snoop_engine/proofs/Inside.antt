@@ -1,7 +1,6 @@
 -- What a getter answers that answers inside a shape alone.
-use Rattle.std.proofs.Common.{◌≡◌, ℕ, ◌<◌, Bool, Option, Some, None, true, false, cond, refl, sym, ap, ◌∙◌, arith, ◌&&◌, IfSome, IsSome, is_some, nat_lt, option_map, if◌then◌else◌}
-use Rattle.snoop_engine.proofs.Common.{nat_tests, same_Some, CacheState, Open, Situation, state_of}
-use Rattle.snoop_engine.specs.Taken.{state_at}
+use Rattle.snoop_engine.proofs.Common.{◌≡◌, ℕ, ◌<◌, Bool, Option, Some, None, true, false, cond, refl, sym, ap, ◌∙◌, arith, ◌&&◌, IfSome, IsSome, is_some, nat_lt, option_map, if◌then◌else◌, nat_tests, same_Some, CacheState, Open}
+use Rattle.snoop_engine.proofs.Common.{Situation, state_of, state_at}
 
 pub inside_one : {A : Type 0} (r v : Option A) (n b : ℕ) → (b < n → r ≡ v) → IfSome r (λ _. b < n) → r ≡ (if nat_lt b n then v else None)
 inside_one None v n b inside outside = grind (arith, nat_tests, inside)

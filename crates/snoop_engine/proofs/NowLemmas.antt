@@ -1,11 +1,7 @@
 -- What a core's line says nothing of: values in a state that may not be read, a place where no request waits.
-use Rattle.std.proofs.Common.{◌≡◌, ℕ, ◌+◌, Bool, true, false, cond, Option, Some, None, List, [], ◌∷◌, length, refl, sym, ap, arith, ◌&&◌, ◌==◌, count_by, is_some, nat_lt, not, option_map, flat_map}
-use Rattle.snoop_engine.proofs.Common.{range_with_len, sum_by-cons, word_at, CacheState, waiting_request, queue_of, held_by, Situation, picture_of, state_of, keeps}
-use Rattle.std.specs.List.{position_or_len}
-use Rattle.std.proofs.lemmas.Bool.{le-ltb}
+use Rattle.snoop_engine.proofs.Common.{◌≡◌, ℕ, ◌+◌, Bool, true, false, cond, Option, Some, None, List, [], ◌∷◌, length, refl, sym, ap, arith, ◌&&◌, ◌==◌, count_by, is_some, nat_lt, not, option_map, flat_map, range_with_len}
+use Rattle.snoop_engine.proofs.Common.{sum_by-cons, word_at, CacheState, waiting_request, queue_of, held_by, Situation, picture_of, state_of, keeps, position_or_len, le-ltb, kept_at, kept_text, place_text, value_text, state_at}
 use Rattle.snoop_model.specs.Pictures.InQueue.{IsInQueue}
-use Rattle.snoop_engine.specs.States.{kept_at, kept_text, place_text, value_text}
-use Rattle.snoop_engine.specs.Taken.{state_at}
 use Rattle.snoop_engine.proofs.Inside.{state_there}
 
 no_texts : (f : ℕ → List ℕ) → ((k : ℕ) → f k ≡ []) → (ks : List ℕ) → flat_map f ks ≡ []

@@ -1,11 +1,6 @@
 -- What a round gives, turn by turn.
-use Rattle.std.proofs.Common.{◌≡◌, ℕ, ◌<◌, Option, Some, None, sym, ◌∙◌, ap, inl, inr, arith, List, [], ◌∷◌, ◌++◌, take, drop, Contains, IfNone, slice_get}
-use Rattle.snoop_engine.proofs.Common.{All-append, Contains-append_cases, Contains-append_left, Contains-append_right, Situation, IsQuiet, turn_rule}
-use Rattle.std.proofs.lemmas.List.{take-append-drop}
-use Rattle.std.proofs.lemmas.List.Elements.{All-take, All-drop}
-use Rattle.snoop_model.specs.Turns.Serving.{IsServing}
-use Rattle.snoop_engine.specs.Todo.{Todo, todo_of, lanes_under_way, block_of_work}
-use Rattle.snoop_engine.specs.Round.{IsFit, IsIdle}
+use Rattle.snoop_engine.proofs.Common.{◌≡◌, ℕ, ◌<◌, Option, Some, None, sym, ◌∙◌, ap, inl, inr, arith, List, [], ◌∷◌, ◌++◌, take, drop, Contains, IfNone, slice_get, All-append, Contains-append_cases, Contains-append_left}
+use Rattle.snoop_engine.proofs.Common.{Contains-append_right, Situation, IsQuiet, turn_rule, take-append-drop, All-take, All-drop, IsServing, Todo, todo_of, lanes_under_way, block_of_work, IsFit, IsIdle}
 
 module _ {s : Situation} {lanes : List Todo} {turns : List ℕ} (fit : IsFit s lanes turns) where
   -- the first turn may come last

@@ -1,20 +1,12 @@
 -- The frames that a view was shown: what was written of them, or stands in the chunk.
-use Rattle.std.proofs.Common.{◌≡◌, ℕ, ◌+◌, List, [], ◌∷◌, ◌++◌, length, length-append, Option, refl, sym, ap, ◌∙◌, append_assoc, append-nil, arith, Result, Ok, Err, IsErrAnd, subst}
-use Rattle.snoop_engine.proofs.Common.{Appends, Extent, AppendsFront, Gathers, Spills, Step, Protocol, WriteFault, gathers_cut, gathers_done, gathers_more, gathers_spilled, gathers_stop}
-use Rattle.snoop_engine.proofs.Common.{appends_none_of, Reply, Refused, Situation, reset, GoesFirst, RunsGoOn, TheRun}
+use Rattle.snoop_engine.proofs.Common.{◌≡◌, ℕ, ◌+◌, List, [], ◌∷◌, ◌++◌, length, length-append, Option, refl, sym, ap, ◌∙◌, append_assoc, append-nil, arith, Result, Ok, Err, IsErrAnd, subst, Appends, Extent, AppendsFront, Gathers}
+use Rattle.snoop_engine.proofs.Common.{Spills, Step, Protocol, WriteFault, gathers_cut, gathers_done, gathers_more, gathers_spilled, gathers_stop, appends_none_of, Reply, Refused, Situation, reset, GoesFirst, RunsGoOn, TheRun}
+use Rattle.snoop_engine.proofs.Common.{appends_none, CanEnd, LeadsToEndWith, Leading, LeadsOn, fault_of_write, AreFrames, Frame, FramesFrom, GivesSteps, lines_of_step, IsNextSeen, block_of_step, frame_seen, shown, view_text}
+use Rattle.snoop_engine.proofs.Common.{SimFault, Seen}
 use Rattle.snoop_trace.specs.declared.fault.WriteFault.TheVariants as write
-use Rattle.snoop_trace.proofs.OutputLemmas.{appends_none}
-use Rattle.snoop_engine.specs.Courses.{CanEnd, LeadsToEndWith, Leading, LeadsOn}
-use Rattle.snoop_engine.specs.Fault.{fault_of_write}
-use Rattle.snoop_engine.specs.Frames.{AreFrames, Frame, FramesFrom}
-use Rattle.snoop_engine.specs.Inputs.{GivesSteps}
 use Rattle.snoop_engine.specs.SimulatedView.{BeginsToShow, ShowsRun, SimulatesView}
-use Rattle.snoop_engine.specs.Taken.{lines_of_step}
-use Rattle.snoop_engine.specs.Views.{IsNextSeen, block_of_step, frame_seen, shown, view_text}
-use Rattle.snoop_engine.specs.declared.fault.SimFault.{SimFault}
 use Rattle.snoop_engine.specs.declared.input.Input.{Input}
 use Rattle.snoop_engine.specs.declared.fault.SimFault.TheVariants.{Text, NoMemory, Write}
-use Rattle.snoop_engine.specs.declared.seen.Seen.{Seen}
 use Rattle.snoop_engine.proofs.TrueLines.{lines_fit}
 use Rattle.snoop_engine.proofs.CourseLemmas.{Along, along_more, along_none, ends_here, ends_on}
 use Rattle.snoop_engine.proofs.FrameLemmas.{are_the_run, framed, frames_keep, frames_on, steps_of_on}

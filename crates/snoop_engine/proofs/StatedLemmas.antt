@@ -1,11 +1,6 @@
 -- The states of frames, as a view writes them.
-use Rattle.std.proofs.Common.{◌≡◌, ℕ, ◌+◌, true, false, List, [], ◌++◌, length, ap, ◌∙◌, append-nil, flat_map}
-use Rattle.snoop_engine.proofs.Common.{Extent, Situation}
-use Rattle.snoop_engine.specs.Frames.{Frame}
-use Rattle.snoop_engine.specs.Chosen.{Chosen, is_shown}
-use Rattle.snoop_engine.specs.States.{header_text, shown_text, states_text, step_fields, taken_text}
-use Rattle.snoop_engine.specs.Views.{IsNextSeen, frame_seen, shown, view_text}
-use Rattle.snoop_engine.specs.declared.seen.Seen.{Seen}
+use Rattle.snoop_engine.proofs.Common.{◌≡◌, ℕ, ◌+◌, true, false, List, [], ◌++◌, length, ap, ◌∙◌, append-nil, flat_map, Extent, Situation, Frame, Chosen, is_shown, header_text, shown_text, states_text, step_fields, taken_text}
+use Rattle.snoop_engine.proofs.Common.{IsNextSeen, frame_seen, shown, view_text, Seen}
 use Rattle.snoop_engine.proofs.ViewLemmas.{shown_numbered}
 
 pub states_view : (shape : Extent) (choice : Chosen) (frames : List Frame) (final : Situation)

@@ -1,19 +1,13 @@
 -- Counters, one of which goes up.
-use Rattle.std.proofs.Common.{◌≡◌, ℕ, ◌+◌, ◌*◌, ◌<◌, Bool, true, false, ◌&&◌, List, [], ◌∷◌, ◌++◌, cond, filter, length, length-append, get_or, set, replicate, sym, ◌∙◌, inl, inr, arith, ◌==◌, Some}
-use Rattle.snoop_engine.proofs.Common.{cases_eq, nat_tests, common_steps, CacheState, CacheEvent, MemState, MemEvent}
-use Rattle.std.proofs.lemmas.Bool.{eq-eqb, ne_eqb}
-use Rattle.std.proofs.lemmas.List.{length-replicate, length-set, get_or-replicate, get_or-set_other, get_or-set_same}
-use Rattle.std.proofs.lemmas.List.Elements.{filter-append}
+use Rattle.snoop_engine.proofs.Common.{◌≡◌, ℕ, ◌+◌, ◌*◌, ◌<◌, Bool, true, false, ◌&&◌, List, [], ◌∷◌, ◌++◌, cond, filter, length, length-append, get_or, set, replicate, sym, ◌∙◌, inl, inr, arith, ◌==◌, Some, cases_eq, nat_tests}
+use Rattle.snoop_engine.proofs.Common.{common_steps, CacheState, CacheEvent, MemState, MemEvent, eq-eqb, ne_eqb, length-replicate, length-set, get_or-replicate, get_or-set_other, get_or-set_same, filter-append, takes_memory_row}
+use Rattle.snoop_engine.proofs.Common.{takes_row, Tallies, core_place, memory_place, Taken, Core, Memory}
 use Rattle.snoop_rules.specs.declared.names.CacheState.TheVariants as state
 use Rattle.snoop_rules.specs.declared.names.CacheEvent.TheVariants as event
 use Rattle.snoop_rules.specs.declared.names.MemState.TheVariants as mem_state
 use Rattle.snoop_rules.specs.declared.names.MemEvent.TheVariants as mem_event
 use Rattle.snoop_history.specs.Totals.{capped}
 use Rattle.snoop_engine.specs.Numbers.{event_number, memory_event_number, memory_state_number, state_number}
-use Rattle.snoop_engine.specs.Counts.{takes_memory_row, takes_row}
-use Rattle.snoop_engine.specs.Tallies.{Tallies, core_place, memory_place}
-use Rattle.snoop_engine.specs.declared.taken.Taken.{Taken}
-use Rattle.snoop_engine.specs.declared.taken.Taken.TheVariants.{Core, Memory}
 
 -- the numbers are within the tables
 state_within : (s : CacheState) → state_number s < 13

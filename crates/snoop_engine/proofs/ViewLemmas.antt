@@ -1,9 +1,5 @@
 -- What is shown of frames: of each by its number, or nothing before the end.
-use Rattle.std.proofs.Common.{◌≡◌, ℕ, ◌+◌, List, [], ◌∷◌, ◌++◌, length, refl, ap, arith, flat_map}
-use Rattle.snoop_engine.proofs.Common.{length_push, Situation}
-use Rattle.snoop_engine.specs.Frames.{Frame}
-use Rattle.snoop_engine.specs.Numbered.{Numbered, numbered_from}
-use Rattle.snoop_engine.specs.Views.{shown, view_text}
+use Rattle.snoop_engine.proofs.Common.{◌≡◌, ℕ, ◌+◌, List, [], ◌∷◌, ◌++◌, length, refl, ap, arith, flat_map, length_push, Situation, Frame, Numbered, numbered_from, shown, view_text}
 
 -- what is shown of each frame by its number
 pub shown_numbered : (shows : ℕ → Frame → List ℕ) (before frames : List Frame)

@@ -1,23 +1,15 @@
 -- The lines of a course's steps, written or in the chunk, and then the report.
-use Rattle.std.proofs.Common.{◌≡◌, ℕ, List, [], ◌∷◌, ◌++◌, Option, refl, sym, ap, ◌∙◌, append_assoc, ◌⊎◌, inl, inr, Result, Ok, Err, IsErrAnd}
-use Rattle.snoop_engine.proofs.Common.{Appends, Extent, AppendsFront, Gathers, Spills, WriteFault, Protocol, Row, Step, gathers_cut, gathers_done, gathers_more, gathers_spilled}
-use Rattle.snoop_engine.proofs.Common.{gathers_stop, appends_none_of, Item, Reply, Refused, Situation, reset, FirstRunFrom, GoesFirst, RunsGoOn, TheRun}
+use Rattle.snoop_engine.proofs.Common.{◌≡◌, ℕ, List, [], ◌∷◌, ◌++◌, Option, refl, sym, ap, ◌∙◌, append_assoc, ◌⊎◌, inl, inr, Result, Ok, Err, IsErrAnd, Appends, Extent, AppendsFront, Gathers, Spills, WriteFault, Protocol, Row}
+use Rattle.snoop_engine.proofs.Common.{Step, gathers_cut, gathers_done, gathers_more, gathers_spilled, gathers_stop, appends_none_of, Item, Reply, Refused, Situation, reset, FirstRunFrom, GoesFirst, RunsGoOn, TheRun, gathers_none}
+use Rattle.snoop_engine.proofs.Common.{appends_more, front_after, CanEnd, LeadsToEndWith, Leading, LeadsOn, fault_of_write, EndsInOrder, InOrder, IsAtTheEnd, IsAtTheStart, Progress, SimFault}
 use Rattle.std.proofs.lemmas.List.{append-nil}
 use Rattle.snoop_trace.specs.declared.fault.WriteFault.TheVariants as write
-use Rattle.snoop_trace.proofs.GathersLemmas.{gathers_none}
-use Rattle.snoop_trace.proofs.OutputLemmas.{appends_more, front_after}
 use Rattle.snoop_history.specs.Report.{report_of}
-use Rattle.snoop_engine.specs.Courses.{CanEnd, LeadsToEndWith, Leading, LeadsOn}
-use Rattle.snoop_engine.specs.Fault.{fault_of_write}
-use Rattle.snoop_engine.specs.InOrder.{EndsInOrder, InOrder}
-use Rattle.snoop_engine.specs.Journey.{IsAtTheEnd, IsAtTheStart}
 use Rattle.snoop_engine.specs.Line.{line_text, line_texts}
-use Rattle.snoop_engine.specs.Round.{Progress}
 use Rattle.snoop_engine.specs.Simulated.{Begins}
 use Rattle.snoop_engine.specs.SimulatedRun.{BeginsRun, ReportsRun}
 use Rattle.snoop_engine.specs.SimulatedSerial.{BeginsSerial, ReportsSerial}
 use Rattle.snoop_engine.specs.Written.{run_text}
-use Rattle.snoop_engine.specs.declared.fault.SimFault.{SimFault}
 use Rattle.snoop_engine.specs.declared.fault.SimFault.TheVariants as fault
 use Rattle.snoop_engine.proofs.CourseLemmas.{Along, along_more, along_none, driver_served, ends_here, ends_on, in_order_served}
 use Rattle.snoop_engine.proofs.TakenLemmas.{run_shape}

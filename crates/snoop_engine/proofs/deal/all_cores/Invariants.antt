@@ -1,4 +1,4 @@
-use Rattle.std.proofs.Common.{◌≡◌, ◌≤◌}
+use Rattle.snoop_engine.proofs.Common.{◌≡◌, ◌≤◌}
 use Rattle.std.specs.VecDeque.{deque_len, deque_capacity}
 use Rattle.snoop_engine.proofs.Dealing.{Counted}
 use Rattle.snoop_engine.proofs.deal.all_cores.Given as goal

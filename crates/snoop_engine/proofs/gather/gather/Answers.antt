@@ -1,4 +1,4 @@
-use Rattle.std.proofs.Common.{[], ◌∷◌, ◌++◌}
+use Rattle.snoop_engine.proofs.Common.{[], ◌∷◌, ◌++◌}
 use Rattle.snoop_engine.proofs.CourseLemmas.{leads_more}
 use Rattle.snoop_engine.proofs.gather.gather.Goals as goal
 

@@ -1,5 +1,4 @@
-use Rattle.std.proofs.Common.{List, Result}
-use Rattle.snoop_engine.proofs.Common.{Reply, Refused}
+use Rattle.snoop_engine.proofs.Common.{List, Result, Reply, Refused}
 use Rattle.snoop_engine.proofs.CourseLemmas.{LeadsFrom}
 use Rattle.snoop_engine.proofs.gather.gather.Given as goal
 

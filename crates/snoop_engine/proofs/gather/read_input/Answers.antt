@@ -1,4 +1,4 @@
-use Rattle.std.proofs.Common.{◌∙◌}
+use Rattle.snoop_engine.proofs.Common.{◌∙◌}
 use Rattle.snoop_engine.proofs.CourseLemmas.{driver_serves, in_order_serves}
 use Rattle.snoop_engine.proofs.gather.read_input.Goals as goal
 

@@ -1,4 +1,4 @@
-use Rattle.std.proofs.Common.{◌≡◌, Some, false}
+use Rattle.snoop_engine.proofs.Common.{◌≡◌, Some, false}
 use Rattle.snoop_engine.proofs.WrittenLemmas.{Writing}
 use Rattle.snoop_engine.proofs.lines.write_lines.Given as goal
 

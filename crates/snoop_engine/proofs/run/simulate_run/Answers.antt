@@ -1,4 +1,4 @@
-use Rattle.std.proofs.Common.{inl, inr}
+use Rattle.snoop_engine.proofs.Common.{inl, inr}
 use Rattle.snoop_engine.proofs.WrittenLemmas.{begins_run, reports_run, write_faulted}
 use Rattle.snoop_engine.proofs.run.simulate_run.Goals as goal
 

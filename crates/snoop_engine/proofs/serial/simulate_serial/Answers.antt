@@ -1,4 +1,4 @@
-use Rattle.std.proofs.Common.{inl, inr, ◌∙◌}
+use Rattle.snoop_engine.proofs.Common.{inl, inr, ◌∙◌}
 use Rattle.snoop_engine.proofs.WrittenLemmas.{begins_serial, reports_serial, write_faulted}
 use Rattle.snoop_engine.proofs.serial.simulate_serial.Goals as goal
 

@@ -1,5 +1,4 @@
-use Rattle.std.proofs.Common.{◌≡◌, Some, false}
-use Rattle.snoop_engine.specs.Askers.{AreAskers}
+use Rattle.snoop_engine.proofs.Common.{◌≡◌, Some, false, AreAskers}
 use Rattle.snoop_engine.proofs.ShownLemmas.{Showing}
 use Rattle.snoop_engine.proofs.show.show.Given as goal
 

@@ -1,5 +1,5 @@
+use Rattle.snoop_engine.proofs.Common.{Rows}
 use Rattle.snoop_engine.proofs.CourseLemmas.{driver_serves}
-use Rattle.snoop_engine.specs.declared.input.Input.TheVariants.{Rows}
 use Rattle.snoop_engine.proofs.ShownLemmas.{view_faulted}
 use Rattle.snoop_engine.proofs.show.view_rows.Goals as goal
 

@@ -1,4 +1,4 @@
-use Rattle.snoop_engine.specs.declared.input.Input.TheVariants.{Steps}
+use Rattle.snoop_engine.proofs.Common.{Steps}
 use Rattle.snoop_engine.proofs.ShownLemmas.{view_faulted}
 use Rattle.snoop_engine.proofs.show.view_steps.Goals as goal
 

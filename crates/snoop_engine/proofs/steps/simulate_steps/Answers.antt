@@ -1,4 +1,4 @@
-use Rattle.std.proofs.Common.{inl, inr}
+use Rattle.snoop_engine.proofs.Common.{inl, inr}
 use Rattle.snoop_engine.proofs.WrittenLemmas.{write_faulted}
 use Rattle.snoop_engine.proofs.steps.simulate_steps.Goals as goal
 

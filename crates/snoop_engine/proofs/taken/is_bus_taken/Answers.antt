@@ -1,5 +1,4 @@
-use Rattle.std.proofs.Common.{◌≡◌, ◌<◌, ap, ◌∙◌, arith}
-use Rattle.snoop_engine.proofs.Common.{Extent, BusTaken, picture_of}
+use Rattle.snoop_engine.proofs.Common.{◌≡◌, ◌<◌, ap, ◌∙◌, arith, Extent, BusTaken, picture_of}
 use Rattle.snoop_engine.proofs.Inside.{is_opened}
 use Rattle.snoop_engine.proofs.taken.is_bus_taken.Goals as goal
 

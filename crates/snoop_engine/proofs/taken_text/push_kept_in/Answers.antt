@@ -1,5 +1,4 @@
-use Rattle.std.proofs.Common.{rules, ◌≡◌, false, sym, ◌∙◌, append-nil}
-use Rattle.snoop_engine.proofs.Common.{keeps}
+use Rattle.snoop_engine.proofs.Common.{rules, ◌≡◌, false, sym, ◌∙◌, append-nil, keeps}
 use Rattle.snoop_engine.proofs.NowLemmas.{none_kept}
 use Rattle.snoop_engine.proofs.taken_text.push_kept_in.Goals as goal
 

@@ -1,5 +1,4 @@
-use Rattle.std.proofs.Common.{rules, ◌≡◌, false, sym, ◌∙◌, append-nil, is_some}
-use Rattle.snoop_engine.proofs.Common.{waiting_request}
+use Rattle.snoop_engine.proofs.Common.{rules, ◌≡◌, false, sym, ◌∙◌, append-nil, is_some, waiting_request}
 use Rattle.snoop_engine.proofs.NowLemmas.{none_placed}
 use Rattle.snoop_engine.proofs.taken_text.push_place_in.Goals as goal
 

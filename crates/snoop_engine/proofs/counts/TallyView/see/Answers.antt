@@ -1,6 +1,4 @@
-use Rattle.std.proofs.Common.{append-nil, sym}
-use Rattle.snoop_engine.specs.Counts.{all_lines}
-use Rattle.snoop_engine.specs.Views.{frame_seen}
+use Rattle.snoop_engine.proofs.Common.{append-nil, sym, all_lines, frame_seen}
 use Rattle.snoop_engine.proofs.CountedLemmas.{all_lines_more}
 use Rattle.snoop_engine.proofs.counts.TallyView.see.Goals as goal
 

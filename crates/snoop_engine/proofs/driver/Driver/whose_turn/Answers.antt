@@ -1,5 +1,4 @@
-use Rattle.std.proofs.Common.{◌≡◌, slice_get, arith}
-use Rattle.snoop_engine.proofs.Common.{common_steps}
+use Rattle.snoop_engine.proofs.Common.{◌≡◌, slice_get, arith, common_steps}
 use Rattle.snoop_engine.proofs.Rounds.{all_done}
 use Rattle.snoop_engine.proofs.driver.Driver.whose_turn.Goals as goal
 

@@ -1,5 +1,4 @@
-use Rattle.std.proofs.Common.{refl}
-use Rattle.snoop_engine.specs.InOrder.{InOrder}
+use Rattle.snoop_engine.proofs.Common.{refl, InOrder}
 use Rattle.snoop_engine.proofs.CourseLemmas.{fewer_in_order, in_order_follows, in_order_leads}
 use Rattle.snoop_engine.proofs.InOrderLemmas.{in_order_moves}
 use Rattle.snoop_engine.proofs.serial_driver.SerialDriverCourse.take.Goals as goal
