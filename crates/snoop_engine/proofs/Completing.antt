@@ -1,16 +1,15 @@
 -- From wherever a driver of rows has come, its rows can be served.
-use Rattle.snoop_engine.proofs.Common.{IsIdle, get_or, get_or_default, ◌≡◌, ◌⊎◌, ℕ, zero, suc, ◌+◌, ◌/◌, ◌<◌, true, false, Option, Some, None, List, [], ◌∷◌, length, refl, sym, ◌∙◌, ap, arith, inl, inr, Result, Ok, Contains, IsOk, slice_set, cases_eq}
+use Rattle.snoop_engine.proofs.Common.{IsIdle, get_or, get_or_default, ◌≡◌, ◌⊎◌, ℕ, zero, suc, ◌+◌, ◌/◌, ◌<◌, true, Option, Some, None, List, [], ◌∷◌, length, refl, sym, ◌∙◌, ap, arith, inl, inr, Result, Ok, Contains, IsOk, slice_set, cases_eq}
 use Rattle.snoop_engine.proofs.Common.{All-head, All-nil, All-tail, Extent, word_asked, Row, Step, Ask, Work, Protocol, Reply, Refused, FirstMove, Situation, reset, TheRun}
 use Rattle.snoop_engine.proofs.Common.{IsUnderWay, turn_of, CanEnd, Leading, LeadsOn, EndsInOrder, FollowsInOrder, InOrder, IsInOrder, TakesUpNext, remaining_in_order, row_under_way, IsAtTheEnd, ServesOnly, nothing, Advances}
-use Rattle.snoop_engine.proofs.Common.{IsEnabled, IsFit, IsOver, Progress, TakesUp, remaining, ask_for, is_ask, ask_of, Todo, block_of_work, left_in, nothing_to_do, todo_of, lanes_under_way}
+use Rattle.snoop_engine.proofs.Common.{IsEnabled, IsFit, IsOver, Progress, TakesUp, remaining, ask_for, Todo, block_of_work, left_in, nothing_to_do, todo_of, lanes_under_way}
 use Rattle.snoop_model.proofs.Queues.Moves.{keeps_well}
 use Rattle.snoop_model.proofs.Runs.GoOn.{IsSteady, moves_on, reset_steady, run_steady, steady_on}
 use Rattle.snoop_engine.proofs.CourseLemmas.{driver_leads, fewer_in_order, in_order_ends, in_order_leads}
-use Rattle.snoop_engine.proofs.Driving.{fit_begins, fit_idles, fit_moves, goes_begun, goes_on, lane_apart, lane_put, over_idle, over_now, takes_first}
+use Rattle.snoop_engine.proofs.Driving.{all_done, fit_begins, fit_idles, fit_moves, goes_begun, goes_on, lane_apart, lane_put, over_idle, over_now, takes_first}
 use Rattle.snoop_engine.proofs.Fewer.{leaves_fewer, left_same}
 use Rattle.snoop_engine.proofs.InOrderLemmas.{at_rest, begun_enabled, begun_fit, begun_takes_up, begun_under_way, goes_on_enabled, in_order_moves, under_way_asks_nothing}
 use Rattle.snoop_engine.proofs.InOrderLemmas as order
-use Rattle.snoop_engine.proofs.Rounds.{all_done}
 
 -- drivers of any kind: where the machine is, what leads to the end, how much is left, and what holds of a driver
 module _ {D : Type 0} (at : D → Situation) (leads : D → Leading) (left : D → ℕ) (Fits : D → Type 0) where
@@ -39,11 +38,6 @@ module _ {D : Type 0} (at : D → Situation) (leads : D → Leading) (left : D �
           record { steps = on.0 ∷ end.steps; outcomes = Ok one.0 ∷ end.outcomes; final = end.final; way = to.1.3 end.steps end.outcomes end.final end.way }
     ]
   ]
-
--- what is no Ask asks nothing of any core
-no_ask : (step : Step) → is_ask step ≡ false → (core : ℕ) → ask_of core step ≡ None
-no_ask (Ask c block word asking) e core = cc
-no_ask _ e core = refl
 
 -- a driver whose cores go side by side
 abbrev DriverNext : Progress → Type 0
@@ -122,7 +116,7 @@ module _ {s : Situation} {lanes : List Todo} {core : ℕ} {turns : List ℕ} (fi
   by_step work works None is = by_left (over_now fit has_core read works None is) (todo_of lanes core).left refl
   by_step work works (Some step) is =
       let own = under_way_asks_nothing s core work.block work.word work.op (Some step) is in
-      by lanes step fit (own.1 (lanes_under_way lanes)) (goes_on fit has_core read works (Some step) is) (λ k. rw (no_ask step own.0 k))
+      by lanes step fit (own.1 (lanes_under_way lanes)) (goes_on fit has_core read works (Some step) is) (λ k. rw (own.2 k))
 
   by_work : (work : Option Work) → (todo_of lanes core).work ≡ work → DriverNext here
   by_work None none = by_left (over_idle fit has_core none) (todo_of lanes core).left refl

@@ -18,10 +18,6 @@ pub leads_more : (first now next : Leading) (steps : List Step) (outcomes : List
 leads_more first now next steps outcomes step outcome far on rest more final h =
     rw (append_assoc steps (step ∷ []) rest, append_assoc outcomes (outcome ∷ []) more) (far (step ∷ rest) (outcome ∷ more) final (on rest more final h))
 
-pub leads_all : (first now : Leading) (steps : List Step) (outcomes : List (Result Reply Refused)) (final : Situation) → LeadsFrom first now steps outcomes
-    → now [] [] final → first steps outcomes final
-leads_all first now steps outcomes final far over = rw (append-nil steps, append-nil outcomes) at (far [] [] final over)
-
 -- some steps of a course were taken, from reset to here, and it can go on to its end
 pub record Along (protocol : Protocol) (shape : Extent) (first now : Leading) (here : Situation) : Type 0 where
   pub steps : List Step
@@ -64,7 +60,8 @@ module _ {protocol : Protocol} {shape : Extent} {first now : Leading} {here : Si
   -- what holds of these steps, which are all
   pub ends_here : (all : Leading) (final : Situation) → now [] [] final → all along.steps along.outcomes final → LeadsToEndWith first all
   ends_here all final over holds =
-      record { steps = along.steps; outcomes = along.outcomes; final = final; way = leads_all first now along.steps along.outcomes final along.leads over; holds = holds }
+      let way = rw (append-nil along.steps, append-nil along.outcomes) at (along.leads [] [] final over) in
+      record { steps = along.steps; outcomes = along.outcomes; final = final; way = way; holds = holds }
 
 -- a core's Asks, one step more at the head
 asks_first : (core : ℕ) (step : Step) (steps : List Step) → option_to_list (ask_of core step) ++ asks_of steps core ≡ asks_of (step ∷ steps) core
@@ -200,17 +197,16 @@ module _ {protocol : Protocol} {shape : Extent} {rows : List Row} {start : InOrd
   in_order_serves = record { outcomes = outcomes; final = final; run = in_order_served.0; serves = in_order_served.1 }
 
 -- a step that a driver found, taken
-module _ {before old : Progress} {step : Step} (finds : Finds before step old) (new : Progress) (answer : Reply) (move : FirstMove old.situation step answer new.situation) where
-  pub driver_follows : new.lanes ≡ old.lanes → Advances before step answer new
-  driver_follows lanes =
-      let moved = rw finds.situation at move in
-      let takes_up = rw (← lanes) at finds.takes_up in
-      record { move = moved; takes_up = takes_up; fewer = leaves_fewer before new step answer moved takes_up }
+pub driver_follows : {before old : Progress} {step : Step} → Finds before step old → (new : Progress) (answer : Reply) → FirstMove old.situation step answer new.situation → new.lanes ≡ old.lanes
+    → Advances before step answer new
+driver_follows {before} {old} {step} finds new answer move lanes =
+    let moved = rw finds.situation at move in
+    let takes_up = rw (← lanes) at finds.takes_up in
+    record { move = moved; takes_up = takes_up; fewer = leaves_fewer before new step answer moved takes_up }
 
--- the same where rows are served one after another
-module _ {before old : InOrder} {step : Step} (finds : FindsInOrder before step old) (new : InOrder) (answer : Reply) (move : FirstMove old.situation step answer new.situation) where
-  pub in_order_follows : new.left ≡ old.left → FollowsInOrder before step answer new
-  in_order_follows left = record { move = rw finds.situation at move; takes_up = rw left finds.takes_up }
+pub in_order_follows : {before old : InOrder} {step : Step} → FindsInOrder before step old → (new : InOrder) (answer : Reply) → FirstMove old.situation step answer new.situation → new.left ≡ old.left
+    → FollowsInOrder before step answer new
+in_order_follows finds new answer move left = record { move = rw finds.situation at move; takes_up = rw left finds.takes_up }
 
 -- at the end
 pub in_order_end : (old : InOrder) (r : Option Step) → IsQuiet old.situation → IfNone r (old.left ≡ []) → IfNone r (EndsInOrder old [] [] old.situation)

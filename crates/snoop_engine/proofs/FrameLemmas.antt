@@ -31,7 +31,3 @@ frames_keep (f ∷ fs) old new run =
     let one = goes_alike f.before f.step f.outcome f.after run.0.goes in
     let rest = frames_keep fs f.after new run.1 in
     (rest.0 ∙ one.0 ∙ ap (λ (s : Situation). s.protocol) run.0.before, rest.1 ∙ one.1 ∙ ap (λ (s : Situation). s.shape) run.0.before)
-
-pub steps_of_on : (first rest : List Frame) → steps_of (first ++ rest) ≡ steps_of first ++ steps_of rest
-steps_of_on [] rest = refl
-steps_of_on (f ∷ fs) rest = ap (λ (l : List Step). f.step ∷ l) (steps_of_on fs rest)

@@ -6,10 +6,7 @@ pub returns-in_err-write_lines-clause-does : goal.returns-in_err-write_lines-cla
 returns-in_err-write_lines-clause-does g c =
     let rows = c.in_ok-rows.rows.items in
     let begins = begins_serial c.in-Ok.ensures.situation (c.in-Ok.ensures.left ∙ c.deref.ensures.value) c.in_err-write_lines.ensures.front in
-    elim (write_faulted c.in_err-write_lines.field-0.0 _ c.from_residual-in_err-write_lines.ensures.1) [
-      | inl e ↦ rw e (rows, (c.in_ok-rows.ensures.read, begins))
-      | inr e ↦ rw e (rows, (c.in_ok-rows.ensures.read, begins))
-    ]
+    elim (write_faulted c.in_err-write_lines.field-0.0 _ c.from_residual-in_err-write_lines.ensures.1) [ inl e ↦ rw e (rows, (c.in_ok-rows.ensures.read, begins)) | inr e ↦ rw e (rows, (c.in_ok-rows.ensures.read, begins)) ]
 
 pub returns-clause-does : goal.returns-clause-does
 returns-clause-does g c =

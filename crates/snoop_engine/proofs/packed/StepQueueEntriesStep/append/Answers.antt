@@ -18,8 +18,4 @@ returns-clause-items c =
 pub returns-clause-bounded : goal.returns-clause-bounded
 returns-clause-bounded c =
     let heads = c.push_back_reserved.new.self in
-    let counted = steps_counted heads.items c.append_data.new.words.items c.append_data.new.values.items in
-    let long = heads.ok.0 in
-    let small = heads.small.0 in
-    let within = heads.small.1 in
-    omega arith
+    omega (arith, steps_counted heads.items c.append_data.new.words.items c.append_data.new.values.items, heads.ok.0, heads.small.0, heads.small.1)
