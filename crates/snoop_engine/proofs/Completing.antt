@@ -1,10 +1,9 @@
 -- From wherever a driver of rows has come, its rows can be served.
-use Rattle.snoop_engine.proofs.Common.{IsIdle, get_or, get_or_default, ◌≡◌, ◌⊎◌, ℕ, zero, suc, ◌+◌, ◌/◌, ◌<◌, true, Option, Some, None, List, [], ◌∷◌, length, refl, sym, ◌∙◌, ap, arith, inl, inr, Result, Ok, Contains, IsOk, slice_set, cases_eq}
+use Rattle.snoop_engine.proofs.Common.{option_map_or, IsIdle, get_or, get_or_default, ◌≡◌, ◌⊎◌, ℕ, zero, suc, ◌+◌, ◌/◌, ◌<◌, true, Option, Some, None, List, [], ◌∷◌, length, refl, sym, ◌∙◌, ap, arith, inl, inr, Result, Ok, Contains, IsOk, slice_set, cases_eq}
 use Rattle.snoop_engine.proofs.Common.{All-head, All-nil, All-tail, Extent, word_asked, Row, Step, Ask, Work, Protocol, Reply, Refused, FirstMove, Situation, reset, TheRun}
 use Rattle.snoop_engine.proofs.Common.{IsUnderWay, turn_of, CanEnd, Leading, LeadsOn, EndsInOrder, FollowsInOrder, InOrder, IsInOrder, TakesUpNext, remaining_in_order, row_under_way, IsAtTheEnd, ServesOnly, nothing, Advances}
 use Rattle.snoop_engine.proofs.Common.{IsEnabled, IsFit, IsOver, Progress, TakesUp, remaining, ask_for, Todo, block_of_work, left_in, nothing_to_do, todo_of, lanes_under_way}
-use Rattle.snoop_model.proofs.Queues.Moves.{keeps_well}
-use Rattle.snoop_model.proofs.Runs.GoOn.{IsSteady, moves_on, reset_steady, run_steady, steady_on}
+use Rattle.snoop_model.proofs.{Queues.Moves.keeps_well, Runs.GoOn.IsSteady, Runs.GoOn.moves_on, Runs.GoOn.reset_steady, Runs.GoOn.run_steady, Runs.GoOn.steady_on}
 use Rattle.snoop_engine.proofs.CourseLemmas.{driver_leads, fewer_in_order, in_order_ends, in_order_leads}
 use Rattle.snoop_engine.proofs.Driving.{all_done, fit_begins, fit_idles, fit_moves, goes_begun, goes_on, lane_apart, lane_put, over_idle, over_now, takes_first}
 use Rattle.snoop_engine.proofs.Fewer.{leaves_fewer, left_same}
@@ -112,21 +111,18 @@ module _ {s : Situation} {lanes : List Todo} {core : ℕ} {turns : List ℕ} (fi
       by (slice_set lanes core lane) (Ask core work.block work.word work.op) (fit_begins fit has_core over lane read first has_turn refl)
       (ap (λ (t : Todo). block_of_work t.work) (lane_put fit has_core lane)) (goes_begun fit has_core over lane read first _ refl) (takes_first fit has_core over lane read first _ refl)
 
-  by_step : (work : Work) → (todo_of lanes core).work ≡ Some work → (r : Option Step) → r ≡ turn_of s core work.block work.word work.op true → DriverNext here
-  by_step work works None is = by_left (over_now fit has_core read works None is) (todo_of lanes core).left refl
-  by_step work works (Some step) is =
+  by_work : (work : Option Work) (r : Option Step) → (todo_of lanes core).work ≡ work → r ≡ option_map_or (λ (w : Work). turn_of s core w.block w.word w.op true) work None → DriverNext here
+  by_work None r none is = by_left (over_idle fit has_core none) (todo_of lanes core).left refl
+  by_work (Some work) None works is = by_left (over_now fit has_core read works None is) (todo_of lanes core).left refl
+  by_work (Some work) (Some step) works is =
       let own = under_way_asks_nothing s core work.block work.word work.op (Some step) is in
       by lanes step fit (own.1 (lanes_under_way lanes)) (goes_on fit has_core read works (Some step) is) (λ k. rw (own.2 k))
-
-  by_work : (work : Option Work) → (todo_of lanes core).work ≡ work → DriverNext here
-  by_work None none = by_left (over_idle fit has_core none) (todo_of lanes core).left refl
-  by_work (Some work) works = by_step work works (turn_of s core work.block work.word work.op true) refl
 
 driver_next : (s : Situation) (lanes : List Todo) (turns : List ℕ) → IsFit s lanes turns → DriverNext (record { situation = s; lanes = lanes; turns = turns })
 driver_next s lanes [] fit =
     let done = all_done fit None refl in
     inl (record { run = refl; taken = All-nil IsOk; asked = done.0; quiet = done.1; few = omega arith })
-driver_next s lanes (core ∷ turns) fit = by_work fit (todo_of lanes core).work refl
+driver_next s lanes (core ∷ turns) fit = by_work fit (todo_of lanes core).work _ refl refl
 
 -- a driver that serves one row after another
 abbrev InOrderNext : InOrder → Type 0
@@ -154,16 +150,13 @@ module _ (s : Situation) (left : List Row) (row : Option Row) (fit : IsInOrder s
   then_left serves (next ∷ rest) first =
       then rest (Some next) (ask_for s.shape next) (begun_fit fit serves next rest first) (begun_under_way fit serves next rest first) (begun_enabled fit serves next rest first) (begun_takes_up fit serves next rest first)
 
-  then_step : (own : Row) → IsInOrder s left (Some own) → (r : Option Step)
-      → r ≡ turn_of s own.core (own.address / s.shape.block_bytes) (word_asked s.shape own.address own.op) own.op true → InOrderNext there
-  then_step own at None is = then_left (order.over_now at None is) left refl
-  then_step own at (Some step) is =
+  then_row : (own : Option Row) (r : Option Step) → row ≡ own
+      → r ≡ option_map_or (λ (own : Row). turn_of s own.core (own.address / s.shape.block_bytes) (word_asked s.shape own.address own.op) own.op true) own None → InOrderNext there
+  then_row None r none is = then_left (rw none at fit.serves) left refl
+  then_row (Some own) None its is = then_left (order.over_now (rw its at fit) None is) left refl
+  then_row (Some own) (Some step) its is =
       let none = under_way_asks_nothing s own.core (own.address / s.shape.block_bytes) (word_asked s.shape own.address own.op) own.op (Some step) is in
-      then left row step fit (none.1 (row_under_way s.shape row)) (goes_on_enabled at (Some step) is) (order.asks_nothing_more there step none.0)
-
-  then_row : (own : Option Row) → row ≡ own → InOrderNext there
-  then_row None none = then_left (rw none at fit.serves) left refl
-  then_row (Some own) its = then_step own (rw its at fit) (turn_of s own.core (own.address / s.shape.block_bytes) (word_asked s.shape own.address own.op) own.op true) refl
+      then left row step fit (none.1 (row_under_way s.shape row)) (goes_on_enabled (rw its at fit) (Some step) is) (order.asks_nothing_more there step none.0)
 
 -- wherever a run has led, such drivers can go on to their ends
 pub driver_can_end : (d : Progress) → IsFit d.situation d.lanes d.turns → (protocol : Protocol) (shape : Extent) (steps : List Step) (outcomes : List (Result Reply Refused)) → TheRun protocol shape steps outcomes d.situation → CanEnd (IsAtTheEnd d)
@@ -174,4 +167,4 @@ driver_can_end d fit protocol shape steps outcomes run =
 pub in_order_can_end : (d : InOrder) → IsInOrder d.situation d.left d.row → (protocol : Protocol) (shape : Extent) (steps : List Step) (outcomes : List (Result Reply Refused)) → TheRun protocol shape steps outcomes d.situation → CanEnd (EndsInOrder d)
 in_order_can_end d fit protocol shape steps outcomes run =
     can_end (λ (d : InOrder). d.situation) (λ (d : InOrder). EndsInOrder d) remaining_in_order (λ (d : InOrder). IsInOrder d.situation d.left d.row)
-    (λ d fit. then_row d.situation d.left d.row fit d.row refl) (suc (remaining_in_order d)) d fit (run_steady steps outcomes (reset protocol shape) d.situation (reset_steady protocol shape) run) (omega arith)
+    (λ d fit. then_row d.situation d.left d.row fit d.row _ refl refl) (suc (remaining_in_order d)) d fit (run_steady steps outcomes (reset protocol shape) d.situation (reset_steady protocol shape) run) (omega arith)

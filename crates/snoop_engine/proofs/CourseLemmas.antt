@@ -5,8 +5,7 @@ use Rattle.snoop_engine.proofs.Common.{steps_paid, turn_rule, cons_option, cases
 use Rattle.snoop_engine.proofs.Common.{LeadsToRest, remaining_in_order, StepsServe, StepsServeSerially, IsAtTheEnd, IsAtTheStart, Finds, Advances, Progress, ServesSerially, all_asks, ask_for, is_ask, Serves, ask_of, asks_of}
 use Rattle.snoop_engine.proofs.Common.{work_of, works_of}
 use Rattle.std.proofs.lemmas.List.Folds.{sum_by-replicate}
-use Rattle.snoop_engine.proofs.Fewer.{leaves_fewer}
-use Rattle.snoop_engine.proofs.TakenLemmas.{run_more, same_shape}
+use Rattle.snoop_engine.proofs.{Fewer.leaves_fewer, TakenLemmas.run_more, TakenLemmas.same_shape}
 
 -- what leads on from here leads on from the first place too, after these steps
 abbrev pub LeadsFrom : Leading → Leading → List Step → List (Result Reply Refused) → Type 0

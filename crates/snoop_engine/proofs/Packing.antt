@@ -1,9 +1,8 @@
 -- Packed steps, and one more.
 use Rattle.snoop_engine.proofs.Common.{◌≡◌, ℕ, ◌+◌, ◌≤◌, List, [], ◌∷◌, ◌++◌, length, length-append, drop, slice_index_or, refl, arith, length-drop, step_by, step_of_head, steps_in, stored_by, stored_in, worded_by, worded_in}
 use Rattle.std.proofs.lemmas.List.{drop-append-le, get_or_append_left}
-use Rattle.snoop_engine.specs.declared.packed.Kind.{Kind}
+use Rattle.snoop_engine.specs.declared.packed.{Kind.Kind, Head.Head}
 use Rattle.snoop_engine.specs.declared.packed.Kind.TheVariants as kind
-use Rattle.snoop_engine.specs.declared.packed.Head.{Head}
 
 -- a head's step is the same with more words and values after its own
 step_on : (k : Kind) (h : Head) (ws mw vs mv : List ℕ) → worded_by k ≤ length ws → stored_by k ≤ length vs

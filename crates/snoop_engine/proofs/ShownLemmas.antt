@@ -4,12 +4,10 @@ use Rattle.snoop_engine.proofs.Common.{Spills, Step, Protocol, WriteFault, gathe
 use Rattle.snoop_engine.proofs.Common.{appends_none, CanEnd, LeadsToEndWith, Leading, LeadsOn, fault_of_write, AreFrames, Frame, FramesFrom, GivesSteps, lines_of_step, IsNextSeen, block_of_step, frame_seen, shown, view_text}
 use Rattle.snoop_engine.proofs.Common.{SimFault, Seen}
 use Rattle.snoop_trace.specs.declared.fault.WriteFault.TheVariants as write
-use Rattle.snoop_engine.specs.SimulatedView.{BeginsToShow, ShowsRun, SimulatesView}
-use Rattle.snoop_engine.specs.declared.input.Input.{Input}
-use Rattle.snoop_engine.specs.declared.fault.SimFault.TheVariants.{Text, NoMemory, Write}
-use Rattle.snoop_engine.proofs.TrueLines.{lines_fit}
-use Rattle.snoop_engine.proofs.CourseLemmas.{Along, along_more, along_none, ends_here, ends_on}
-use Rattle.snoop_engine.proofs.FrameLemmas.{are_the_run, framed, frames_keep, frames_on}
+use Rattle.snoop_engine.specs.{SimulatedView.BeginsToShow, SimulatedView.ShowsRun, SimulatedView.SimulatesView, declared.input.Input.Input, declared.fault.SimFault.TheVariants.Text, declared.fault.SimFault.TheVariants.NoMemory}
+use Rattle.snoop_engine.specs.{declared.fault.SimFault.TheVariants.Write}
+use Rattle.snoop_engine.proofs.{TrueLines.lines_fit, CourseLemmas.Along, CourseLemmas.along_more, CourseLemmas.along_none, CourseLemmas.ends_here, CourseLemmas.ends_on, FrameLemmas.are_the_run, FrameLemmas.framed}
+use Rattle.snoop_engine.proofs.{FrameLemmas.frames_keep, FrameLemmas.frames_on}
 
 -- what is shown of more frames comes after what is shown of the first
 pub shown_on : (shows : List Frame → Frame → List ℕ) (before first rest : List Frame) → shown shows before (first ++ rest) ≡ shown shows before first ++ shown shows (before ++ first) rest

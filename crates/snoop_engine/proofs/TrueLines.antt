@@ -7,20 +7,13 @@ use Rattle.snoop_engine.proofs.Common.{get_or-set_same, Cell, Stalled, NothingWa
 use Rattle.snoop_engine.proofs.Common.{of_requestor, of_waiting_memory, refused_by, unless_i, FitsStep, HasAllLines, ShowsRows, HasTakenRows, Taken, Core, Memory, Nobody}
 use denote.Enum.Bare.{same_true, sameb}
 use Rattle.snoop_trace.specs.declared.step.Op.TheVariants as op
-use Rattle.snoop_rules.specs.declared.names.CacheAction.{CacheAction}
+use Rattle.snoop_rules.specs.{declared.names.CacheAction.CacheAction, contracts.names.CacheState.the_type, declared.names.MemAction.MemAction, MemoryCell.MemoryCell}
 use Rattle.snoop_rules.specs.declared.names.CacheAction.TheVariants as action
-use Rattle.snoop_rules.specs.contracts.names.CacheState.{the_type}
-use Rattle.snoop_rules.specs.declared.names.MemAction.{MemAction}
 use Rattle.snoop_rules.specs.declared.names.MemAction.TheVariants as mem_action
-use Rattle.snoop_rules.specs.MemoryCell.{MemoryCell}
-use Rattle.snoop_rules.proofs.Every.{all_protocols, all_states, all_events}
-use Rattle.snoop_rules.proofs.Rows.{each_row, each_row-at}
+use Rattle.snoop_rules.proofs.{Every.all_protocols, Every.all_states, Every.all_events, Rows.each_row, Rows.each_row-at}
 use Rattle.snoop_model.specs.Moves.Refuses.{Refuses}
-use Rattle.snoop_model.proofs.OneBlock.AfterMoves.{ask_line, order_here, respond_here}
-use Rattle.snoop_model.proofs.Queues.Moves.{keeps_well}
-use Rattle.snoop_model.proofs.Runs.GoOn.{reset_steady, IsSteady, steady_on}
-use Rattle.snoop_engine.proofs.AllLines.{asker_listed, cores_listed, memory_rows_listed}
-use Rattle.snoop_engine.proofs.TakenLemmas.{goes_alike}
+use Rattle.snoop_model.proofs.{OneBlock.AfterMoves.ask_line, OneBlock.AfterMoves.order_here, OneBlock.AfterMoves.respond_here, Queues.Moves.keeps_well, Runs.GoOn.reset_steady, Runs.GoOn.IsSteady, Runs.GoOn.steady_on}
+use Rattle.snoop_engine.proofs.{AllLines.asker_listed, AllLines.cores_listed, AllLines.memory_rows_listed, TakenLemmas.goes_alike}
 
 abbrev is_stall : CacheAction → Bool
 is_stall action.Stall = true

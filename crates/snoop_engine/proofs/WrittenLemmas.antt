@@ -5,14 +5,9 @@ use Rattle.snoop_engine.proofs.Common.{appends_more, front_after, CanEnd, LeadsT
 use Rattle.std.proofs.lemmas.List.{append-nil}
 use Rattle.snoop_trace.specs.declared.fault.WriteFault.TheVariants as write
 use Rattle.snoop_history.specs.Report.{report_of}
-use Rattle.snoop_engine.specs.Line.{line_text, line_texts}
-use Rattle.snoop_engine.specs.Simulated.{Begins}
-use Rattle.snoop_engine.specs.SimulatedRun.{BeginsRun, ReportsRun}
-use Rattle.snoop_engine.specs.SimulatedSerial.{BeginsSerial, ReportsSerial}
-use Rattle.snoop_engine.specs.Written.{run_text}
+use Rattle.snoop_engine.specs.{Line.line_text, Line.line_texts, Simulated.Begins, SimulatedRun.BeginsRun, SimulatedRun.ReportsRun, SimulatedSerial.BeginsSerial, SimulatedSerial.ReportsSerial, Written.run_text}
 use Rattle.snoop_engine.specs.declared.fault.SimFault.TheVariants as fault
-use Rattle.snoop_engine.proofs.CourseLemmas.{Along, along_more, along_none, driver_served, ends_here, ends_on, in_order_served}
-use Rattle.snoop_engine.proofs.TakenLemmas.{run_shape}
+use Rattle.snoop_engine.proofs.{CourseLemmas.Along, CourseLemmas.along_more, CourseLemmas.along_none, CourseLemmas.driver_served, CourseLemmas.ends_here, CourseLemmas.ends_on, CourseLemmas.in_order_served, TakenLemmas.run_shape}
 
 -- the lines of a run that goes on
 line_texts_on : (shape : Extent) (first rest : List Step) (outcomes more : List (Result Reply Refused)) (old new : Situation)
