@@ -1,10 +1,9 @@
 -- No row of a step that is taken is left out of its lines.
-use Rattle.snoop_engine.proofs.Common.{◌≡◌, ℕ, ◌<◌, ◌≤◌, ◌+◌, true, zero, suc, List, [], ◌∷◌, Some, refl, sym, subst, ◌∙◌, inl, inr, lt-ltb, arith, Contains, Ok, flat_map, ap, range_with_len, cases_eq, cases_lt}
+use Rattle.snoop_engine.proofs.Common.{Evict, ◌≡◌, ℕ, ◌<◌, ◌≤◌, ◌+◌, true, zero, suc, List, [], ◌∷◌, Some, refl, sym, subst, ◌∙◌, inl, inr, lt-ltb, arith, Contains, Ok, flat_map, ap, range_with_len, cases_eq, cases_lt}
 use Rattle.snoop_engine.proofs.Common.{get_or_past, Contains-append_left, Contains-append_right, Contains-push, same_Some, Op, Step, Ask, Order, Respond, CacheEvent, CacheState, I, MemEvent, Request, PutM, arrival}
 use Rattle.snoop_engine.proofs.Common.{asked, at_memory, takes_payload, Open, Reply, Line, nothing_held, Situation, picture_of, state_of, ConsultsCache, ConsultsMemory}
 use Rattle.snoop_engine.proofs.Common.{IsWithin, TakesFirst, GoesFirst, Invariant, event_asked, of_ask, of_core, of_holder, of_memory, of_requestor, of_waiting_memory, taken_by, unless_i, DoesNothing}
 use Rattle.snoop_engine.proofs.Common.{Taken, Core, Memory}
-use Rattle.snoop_trace.specs.declared.step.Op.TheVariants as op
 
 has_one : (line : Taken) → Contains (line ∷ []) line
 has_one line = Contains-push [] line
@@ -20,8 +19,8 @@ has_unless_i : (requestor : ℕ) (s : CacheState) (line : Taken) → (DoesNothin
 has_unless_i requestor I line h = absurd (h tt)
 has_unless_i requestor _ line h = has_one line
 
-event_unless : (asking : Op) (s : CacheState) → ((asking ≡ op.Evict) × (s ≡ I) → ⊥) → event_asked asking s ≡ Some (asked asking)
-event_unless op.Evict I h = absurd (h (refl, refl))
+event_unless : (asking : Op) (s : CacheState) → ((asking ≡ Evict) × (s ≡ I) → ⊥) → event_asked asking s ≡ Some (asked asking)
+event_unless Evict I h = absurd (h (refl, refl))
 event_unless _ _ h = refl
 
 module _ (s : Situation) where

@@ -14,7 +14,7 @@ pub use Rattle.snoop_trace.proofs.{GathersLemmas.gathers_cut, GathersLemmas.gath
 pub use Rattle.snoop_trace.proofs.{OutputLemmas.appends_none_of, OutputLemmas.on_err, OutputLemmas.appends_none, OutputLemmas.appends_more, OutputLemmas.front_after, WordPlaces.word_there, WordPlaces.asked_within}
 pub use Rattle.snoop_trace.specs.{Asked.step_of, Asked.asked_of, Extent.Extent, Extent.IsWithinLimits, Grammar.IsRowWithin, Grammar.word_asked, Grammar.block_at, Output.AppendsFront, Output.Gathers, Output.Spills, Words.word_at}
 pub use Rattle.snoop_trace.specs.{Words.HasWord, declared.fault.WriteFault.WriteFault, declared.protocol.Protocol.Protocol, declared.protocol.Protocol.TheVariants.Mesi, declared.protocol.Protocol.TheVariants.Msi}
-pub use Rattle.snoop_trace.specs.{declared.step.Asked.Asked, declared.step.Op.Op, declared.step.Row.Row, declared.step.Step.Step, declared.step.Step.TheVariants.Ask, declared.step.Step.TheVariants.Order}
+pub use Rattle.snoop_trace.specs.{declared.step.Asked.Asked, declared.step.Op.Op, declared.step.Op.TheVariants.Evict, declared.step.Row.Row, declared.step.Step.Step, declared.step.Step.TheVariants.Ask, declared.step.Step.TheVariants.Order}
 pub use Rattle.snoop_trace.specs.{declared.step.Step.TheVariants.Respond, declared.step.Work.Work}
 pub use Rattle.snoop_rules.proofs.TextLemmas.{piece_more, pieces_all}
 pub use Rattle.snoop_rules.specs.{Cell.cell_of, Cell.Cell, TableOrder.cache_events, TableOrder.cache_states, TableOrder.memory_events, TableOrder.memory_states, Takers.arrival, Takers.arrival_at_memory, Takers.asked}

@@ -1,14 +1,12 @@
 -- Each line of the frames of a run fits its step.
-use Rattle.snoop_engine.proofs.Common.{◌≡◌, ◌⊎◌, ℕ, ◌<◌, ◌+◌, Bool, true, false, zero, suc, List, [], ◌∷◌, length, Option, Some, None, refl, sym, ap, ◌∙◌, inl, inr, arith, ◌≢◌, ◌||◌, All, IsSomeAnd, MatchBool, Result, Ok, Err}
+use Rattle.snoop_engine.proofs.Common.{Evict, ◌≡◌, ◌⊎◌, ℕ, ◌<◌, ◌+◌, Bool, true, false, zero, suc, List, [], ◌∷◌, length, Option, Some, None, refl, sym, ap, ◌∙◌, inl, inr, arith, ◌≢◌, ◌||◌, All, IsSomeAnd, MatchBool, Result, Ok, Err}
 use Rattle.snoop_engine.proofs.Common.{not, if◌then◌else◌, flat_map, range_with_len, option_map_or, All-append, All-cons, All-nil, Extent, Protocol, Msi, Mesi, Op, Step, Ask, Order, Respond, CacheEvent}
 use Rattle.snoop_engine.proofs.Common.{CacheState, I, MemEvent, Request, PutM, arrival, arrival_at_memory, asked, at_memory, seen_by, takes_payload, Did, Item, Open, Reply, Refused, BusTaken, Line, Picture, held_at, held_by}
 use Rattle.snoop_engine.proofs.Common.{nothing_held, Situation, picture_of, reset, state_of, ConsultsCache, ConsultsMemory, ArrivesFor, IsAbsent, Asks, IsWithin, Responds, TakesFirst, GoesFirst, Invariant}
 use Rattle.snoop_engine.proofs.Common.{get_or-set_same, Cell, Stalled, NothingWaiting, NoTransaction, Settles, Takes, Frame, FramesFrom, event_asked, lines_of_step, of_arrival_at_memory, of_ask, of_holder, of_memory}
 use Rattle.snoop_engine.proofs.Common.{of_requestor, of_waiting_memory, refused_by, unless_i, FitsStep, HasAllLines, ShowsRows, HasTakenRows, Taken, Core, Memory, Nobody}
 use denote.Enum.Bare.{same_true, sameb}
-use Rattle.snoop_trace.specs.declared.step.Op.TheVariants as op
-use Rattle.snoop_rules.specs.{declared.names.CacheAction.CacheAction, contracts.names.CacheState.the_type, declared.names.MemAction.MemAction, MemoryCell.MemoryCell}
-use Rattle.snoop_rules.specs.declared.names.CacheAction.TheVariants as action
+use Rattle.snoop_rules.specs.{declared.names.CacheAction.CacheAction, declared.names.CacheAction.TheVariants.Drop, declared.names.CacheAction.TheVariants.Hit, declared.names.CacheAction.TheVariants.Issue, declared.names.CacheAction.TheVariants.Stall, contracts.names.CacheState.the_type, declared.names.MemAction.MemAction, MemoryCell.MemoryCell}
 use Rattle.snoop_rules.specs.declared.names.MemAction.TheVariants as mem_action
 use Rattle.snoop_rules.proofs.{Every.all_protocols, Every.all_states, Every.all_events, Rows.each_row, Rows.each_row-at}
 use Rattle.snoop_model.specs.Moves.Refuses.{Refuses}
@@ -16,7 +14,7 @@ use Rattle.snoop_model.proofs.{OneBlock.AfterMoves.ask_line, OneBlock.AfterMoves
 use Rattle.snoop_engine.proofs.{AllLines.asker_listed, AllLines.cores_listed, AllLines.memory_rows_listed, TakenLemmas.goes_alike}
 
 abbrev is_stall : CacheAction → Bool
-is_stall action.Stall = true
+is_stall Stall = true
 is_stall _ = false
 
 -- a stall leaves the state
@@ -26,20 +24,20 @@ stalls_stay = refl
 
 -- an Ask that has a row is an event
 asked_event : (p : Protocol) (asking : Op) (s : CacheState) (a : CacheAction) (n : CacheState) → Cell p s (asked asking) a n → event_asked asking s ≡ Some (asked asking)
-asked_event Msi op.Evict I a n h = cc
-asked_event Mesi op.Evict I a n h = cc
+asked_event Msi Evict I a n h = cc
+asked_event Mesi Evict I a n h = cc
 asked_event p asking s a n h = refl
 
 -- where an Ask leads its core
 taken_state : (act : CacheAction) (next : CacheState) (log : List Item) (core block word : ℕ) (asking : Op) (old new : Line) (answer : Reply) (entry : Option Item)
     → Takes act next log core block word asking old new answer entry → new.state ≡ next
-taken_state action.Hit next log core block word asking old new answer entry t = ap (λ (l : Line). l.state) t.1.0.held
-taken_state (action.Issue request) next log core block word asking old new answer entry t = ap (λ (l : Line). l.state) t.0
-taken_state action.Drop next log core block word asking old new answer entry t = ap (λ (l : Line). l.state) t.0
+taken_state Hit next log core block word asking old new answer entry t = ap (λ (l : Line). l.state) t.1.0.held
+taken_state (Issue request) next log core block word asking old new answer entry t = ap (λ (l : Line). l.state) t.0
+taken_state Drop next log core block word asking old new answer entry t = ap (λ (l : Line). l.state) t.0
 taken_state _ next log core block word asking old new answer entry t = absurd t
 
 -- an Evict in I is no event
-no_event : (asking : Op) (s : CacheState) → asking ≡ op.Evict → s ≡ I → event_asked asking s ≡ None
+no_event : (asking : Op) (s : CacheState) → asking ≡ Evict → s ≡ I → event_asked asking s ≡ None
 no_event asking s evict idle = rw (evict, idle)
 
 -- what holds of the lines of a value holds where the value may be missing
@@ -129,8 +127,8 @@ asker_looks s core block word asking met = (refl, refl, (λ absent. let none = n
 refused_fits : (old new : Situation) (step : Step) (cause : Refused) → Refuses old step cause → new ≡ old → All (FitsStep (here old new step (Err cause))) (refused_by old step cause)
 refused_fits old new (Ask core block word asking) (Stalled held) refuses same =
     let next = refuses.2.0 in
-    let stays : next ≡ state_of old core block = same_true the_type tt next (state_of old core block) (each_row-at _ stalls_stay old.protocol (state_of old core block) (asked asking) action.Stall next refuses.2.1) in
-    asked_fits old new (Ask core block word asking) (Err (Stalled held)) block tt core asking action.Stall next refuses.2.1 (rw same (sym stays)) (asker_looks old core block word asking)
+    let stays : next ≡ state_of old core block = same_true the_type tt next (state_of old core block) (each_row-at _ stalls_stay old.protocol (state_of old core block) (asked asking) Stall next refuses.2.1) in
+    asked_fits old new (Ask core block word asking) (Err (Stalled held)) block tt core asking Stall next refuses.2.1 (rw same (sym stays)) (asker_looks old core block word asking)
 refused_fits old new (Order core) (BusTaken block) refuses same =
     let P : Taken → Type 0 = FitsStep (here old new (Order core) (Err (BusTaken block))) in
     all_if P _ _ (λ before. Core core block None before ∷ []) (all_one P _ (idle_fits old new (Order core) (Err (BusTaken block)) core block same))
