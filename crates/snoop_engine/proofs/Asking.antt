@@ -22,11 +22,9 @@ asked_counted steps kept = sym (ap (λ (l : List Step). length l) kept ∙ lengt
 -- so the first asks
 pub first_asks : (steps rest : List Step) (step : Step) → steps ≡ map step_of (asked_by steps) → steps ≡ step ∷ rest
     → ((core block word : _) (asking : _) → step ≡ Ask core block word asking → ⊥) → ⊥
-first_asks steps rest step kept first none = go (asked_by steps) (sym first ∙ kept)
-  where
-    go : (asks : List Asked) → step ∷ rest ≡ map step_of asks → ⊥
-    go [] e = cc
-    go (asked ∷ asks) e = none asked.core asked.work.block asked.work.word asked.work.op (cc)
+first_asks steps rest step kept first none =
+    (elim (asked_by steps) as (λ asks. step ∷ rest ≡ map step_of asks → ⊥) [ [] ↦ λ e. cc | asked ∷ asks ↦ λ e. none asked.core asked.work.block asked.work.word asked.work.op (cc) ])
+    (sym first ∙ kept)
 
 -- the same where there may have been no memory for it
 pub still_ask : {E : Type 0} (r : Result (Unit {0}) E) (old new : List Step) (asked : Asked) → old ≡ map step_of (asked_by old) → OnOk r (new ≡ old ++ step_of asked ∷ []) → OnErr r (new ≡ old)

@@ -64,11 +64,8 @@ module _ {protocol : Protocol} {shape : Extent} {first now : Leading} {here : Si
 
 -- a core's Asks, one step more at the head
 asks_first : (core : ℕ) (step : Step) (steps : List Step) → option_to_list (ask_of core step) ++ asks_of steps core ≡ asks_of (step ∷ steps) core
-asks_first core step steps = go (ask_of core step)
-  where
-    go : (asked : Option Work) → option_to_list asked ++ asks_of steps core ≡ cons_option asked (asks_of steps core)
-    go None = refl
-    go (Some work) = refl
+asks_first core step steps =
+    elim (ask_of core step) as (λ asked. option_to_list asked ++ asks_of steps core ≡ cons_option asked (asks_of steps core)) [ None ↦ refl | Some work ↦ refl ]
 
 -- a driver of rows leads on by its step
 pub driver_leads : (old new : Progress) (step : Step) (answer : Reply) → Advances old step answer new → LeadsOn (IsAtTheEnd old) step (Ok answer) (IsAtTheEnd new)

@@ -1,5 +1,5 @@
 -- A driver that serves rows one after another: what its steps need, and what they keep.
-use Rattle.snoop_engine.proofs.Common.{ask_of, ◌≡◌, ℕ, ◌/◌, Bool, true, false, cond, Option, Some, None, List, [], ◌∷◌, refl, sym, ◌∙◌, ◌==◌, IfNone, IfSome, lt-ltb, subst, All-head, All-tail, Extent, IsRowWithin, word_asked, Op, Row}
+use Rattle.snoop_engine.proofs.Common.{ask_of, ◌≡◌, ℕ, ◌/◌, true, false, cond, Option, Some, None, List, [], ◌∷◌, refl, sym, ◌∙◌, ◌==◌, IfNone, IfSome, lt-ltb, subst, All-head, All-tail, Extent, IsRowWithin, word_asked, Op, Row}
 use Rattle.snoop_engine.proofs.Common.{Step, Ask, Respond, Request, waiting_request, Open, Reply, FirstMove, Situation, picture_of, state_of, IsQuiet, IsUnderWay, turn_of, turn_rule, eq-eqb, ne_eqb, block_at, word_there}
 use Rattle.snoop_engine.proofs.Common.{step_under_way, InOrder, IsInOrder, TakesUpNext, row_under_way, ServesOnly, nothing, only, IsEnabled, ask_for, is_ask}
 use Rattle.snoop_engine.proofs.TakenLemmas.{same_shape}
@@ -14,11 +14,8 @@ AsksNothing step = (is_ask step ≡ false) × ((under_way : ℕ → Option ℕ) 
 
 asks_nothing : (request : Option Request) (open_there : Option Open) (core block : ℕ) → IfSome (step_under_way request open_there core block) AsksNothing
 asks_nothing None None core block = tt
-asks_nothing None (Some transaction) core block = go (transaction.core == core)
-  where
-    go : (own : Bool) → IfSome (cond {A = Option Step} own (Some (Respond block)) None) AsksNothing
-    go true = (refl, λ under_way. tt, λ core. refl)
-    go false = tt
+asks_nothing None (Some transaction) core block =
+    elim (transaction.core == core) as (λ own. IfSome (cond {A = Option Step} own (Some (Respond block)) None) AsksNothing) [ true ↦ (refl, λ under_way. tt, λ core. refl) | false ↦ tt ]
 asks_nothing (Some request) None core block = (refl, λ under_way. tt, λ core. refl)
 asks_nothing (Some request) (Some transaction) core block = (refl, λ under_way. tt, λ core. refl)
 

@@ -22,8 +22,6 @@ is_opened None requestor named e is t = sym (e ∙ ap is_some is) ∙ t
 
 -- a state that is found is the core's
 pub state_there : (s : Situation) (core block : ℕ) (state : CacheState) → state_at s core block ≡ Some state → state_of s core block ≡ state
-state_there s core block state = go (nat_lt core s.shape.cores && nat_lt block s.shape.blocks)
-  where
-    go : (there : Bool) → cond {A = Option CacheState} there (Some (state_of s core block)) None ≡ Some state → state_of s core block ≡ state
-    go true e = same_Some _ _ e
-    go false e = cc
+state_there s core block state =
+    elim (nat_lt core s.shape.cores && nat_lt block s.shape.blocks) as (λ there. cond {A = Option CacheState} there (Some (state_of s core block)) None ≡ Some state → state_of s core block ≡ state)
+    [ true ↦ λ e. same_Some _ _ e | false ↦ λ e. cc ]

@@ -4,8 +4,7 @@ use Rattle.snoop_engine.proofs.Common.{Spills, Step, Protocol, WriteFault, gathe
 use Rattle.snoop_engine.proofs.Common.{appends_none, CanEnd, LeadsToEndWith, Leading, LeadsOn, fault_of_write, AreFrames, Frame, FramesFrom, GivesSteps, lines_of_step, IsNextSeen, block_of_step, frame_seen, shown, view_text}
 use Rattle.snoop_engine.proofs.Common.{SimFault, Seen}
 use Rattle.snoop_trace.specs.declared.fault.WriteFault.TheVariants as write
-use Rattle.snoop_engine.specs.{SimulatedView.BeginsToShow, SimulatedView.ShowsRun, SimulatedView.SimulatesView, declared.input.Input.Input, declared.fault.SimFault.TheVariants.Text, declared.fault.SimFault.TheVariants.NoMemory}
-use Rattle.snoop_engine.specs.{declared.fault.SimFault.TheVariants.Write}
+use Rattle.snoop_engine.specs.{SimulatedView.BeginsToShow, SimulatedView.ShowsRun, SimulatedView.SimulatesView, declared.input.Input.Input, declared.fault.SimFault.TheVariants.Text}
 use Rattle.snoop_engine.proofs.{TrueLines.lines_fit, CourseLemmas.Along, CourseLemmas.along_more, CourseLemmas.along_none, CourseLemmas.ends_here, CourseLemmas.ends_on, FrameLemmas.are_the_run, FrameLemmas.framed}
 use Rattle.snoop_engine.proofs.{FrameLemmas.frames_keep, FrameLemmas.frames_on}
 
@@ -178,5 +177,4 @@ module _ (protocol : Protocol) (shape : Extent) (one other : List Frame → Situ
       → SimulatesView protocol shape input one bytes result a b → SimulatesView protocol shape input other bytes result a b
   same_view input bytes (Ok u) a b h = (h.0, (h.1.0, same_shown h.0 a b h.1.1))
   same_view input bytes (Err (Text fault)) a b h = h
-  same_view input bytes (Err NoMemory) a b h = (h.0, (h.1.0, same_begun h.0 a b h.1.1))
-  same_view input bytes (Err Write) a b h = (h.0, (h.1.0, same_begun h.0 a b h.1.1))
+  same_view input bytes (Err _) a b h = (h.0, (h.1.0, same_begun h.0 a b h.1.1))

@@ -7,7 +7,7 @@ use Rattle.snoop_trace.specs.declared.fault.WriteFault.TheVariants as write
 use Rattle.snoop_history.specs.Report.{report_of}
 use Rattle.snoop_engine.specs.{Line.line_text, Line.line_texts, Simulated.Begins, SimulatedRun.BeginsRun, SimulatedRun.ReportsRun, SimulatedSerial.BeginsSerial, SimulatedSerial.ReportsSerial, Written.run_text}
 use Rattle.snoop_engine.specs.declared.fault.SimFault.TheVariants as fault
-use Rattle.snoop_engine.proofs.{CourseLemmas.Along, CourseLemmas.along_more, CourseLemmas.along_none, CourseLemmas.driver_served, CourseLemmas.ends_here, CourseLemmas.ends_on, CourseLemmas.in_order_served, TakenLemmas.run_shape}
+use Rattle.snoop_engine.proofs.{CourseLemmas.Along, CourseLemmas.along_more, CourseLemmas.along_none, CourseLemmas.driver_served, CourseLemmas.ends_here, CourseLemmas.ends_on, CourseLemmas.in_order_served, TakenLemmas.run_alike}
 
 -- the lines of a run that goes on
 line_texts_on : (shape : Extent) (first rest : List Step) (outcomes more : List (Result Reply Refused)) (old new : Situation)
@@ -71,7 +71,7 @@ module _ {protocol : Protocol} {shape : Extent} {first now : Leading} {here : Si
     lines = gathers_done a b c chunk _ far.lines flushed
 
     report : report_of words items ≡ report_of shape.words here.log
-    report = rw (last, these, run_shape far.along.steps far.along.outcomes (reset protocol shape) here far.along.run)
+    report = rw (last, these, (run_alike far.along.steps far.along.outcomes (reset protocol shape) here far.along.run).1)
 
     -- a stop in a write of the report
     pub writing_report_cut : AppendsFront c d (report_of words items) → LeadsToEndWith first (WritesFront shape a d)
