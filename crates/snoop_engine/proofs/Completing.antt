@@ -1,5 +1,5 @@
 -- From wherever a driver of rows has come, its rows can be served.
-use Rattle.snoop_engine.proofs.Common.{option_map_or, IsIdle, get_or, get_or_default, ◌≡◌, ◌⊎◌, ℕ, zero, suc, ◌+◌, ◌/◌, ◌<◌, true, Option, Some, None, List, [], ◌∷◌, length, refl, sym, ◌∙◌, ap, arith, inl, inr, Result, Ok, Contains, IsOk, slice_set, cases_eq}
+use Rattle.snoop_engine.proofs.Common.{option_map_or, IsIdle, get_or, get_or_default, ◌≡◌, ◌⊎◌, ℕ, zero, suc, ◌+◌, ◌/◌, ◌<◌, true, Option, Some, None, List, [], ◌∷◌, length, refl, sym, ◌∙◌, ap, arith, inl, inr, Result, Ok, IsOk, slice_set, cases_eq}
 use Rattle.snoop_engine.proofs.Common.{All-head, All-nil, All-tail, Extent, word_asked, Row, Step, Ask, Work, Protocol, Reply, Refused, FirstMove, Situation, reset, TheRun}
 use Rattle.snoop_engine.proofs.Common.{IsUnderWay, turn_of, CanEnd, Leading, LeadsOn, EndsInOrder, FollowsInOrder, InOrder, IsInOrder, TakesUpNext, remaining_in_order, row_under_way, IsAtTheEnd, ServesOnly, nothing, Advances}
 use Rattle.snoop_engine.proofs.Common.{IsEnabled, IsFit, IsOver, Progress, TakesUp, remaining, ask_for, Todo, block_of_work, left_in, nothing_to_do, todo_of, lanes_under_way}
@@ -64,9 +64,6 @@ module _ {s : Situation} {lanes : List Todo} {core : ℕ} {turns : List ℕ} (fi
   has_core : core < s.shape.cores
   has_core = All-head (λ (k : ℕ). k < s.shape.cores) core turns fit.few
 
-  has_turn : Contains (core ∷ turns) core
-  has_turn = (0, omega arith, refl)
-
   read : todo_of lanes core ≡ get_or lanes core (todo_of lanes core)
   read = get_or_default lanes core nothing_to_do (todo_of lanes core) (let cores = fit.cores in let has = has_core in omega arith)
 
@@ -96,7 +93,7 @@ module _ {s : Situation} {lanes : List Todo} {core : ℕ} {turns : List ℕ} (fi
       inr (inl (
         record { situation = s; lanes = next; turns = turns },
         (
-          without_turn (fit_idles fit has_core over nothing_to_do has_turn (refl, refl)) (rw own (refl, refl)),
+          without_turn (fit_idles fit has_core over nothing_to_do (0, omega arith, refl) (refl, refl)) (rw own (refl, refl)),
           refl,
           omega (arith, as_many),
           λ steps outcomes final end.
@@ -108,7 +105,7 @@ module _ {s : Situation} {lanes : List Todo} {core : ℕ} {turns : List ℕ} (fi
   by_left over [] none = idle over none
   by_left over (work ∷ works) first =
       let lane : Todo = record { left = works; work = Some work } in
-      by (slice_set lanes core lane) (Ask core work.block work.word work.op) (fit_begins fit has_core over lane read first has_turn refl)
+      by (slice_set lanes core lane) (Ask core work.block work.word work.op) (fit_begins fit has_core over lane read first (0, omega arith, refl) refl)
       (ap (λ (t : Todo). block_of_work t.work) (lane_put fit has_core lane)) (goes_begun fit has_core over lane read first _ refl) (takes_first fit has_core over lane read first _ refl)
 
   by_work : (work : Option Work) (r : Option Step) → (todo_of lanes core).work ≡ work → r ≡ option_map_or (λ (w : Work). turn_of s core w.block w.word w.op true) work None → DriverNext here

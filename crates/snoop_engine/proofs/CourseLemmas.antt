@@ -124,9 +124,6 @@ module _ (old new : InOrder) (step : Step) (answer : Reply) (follows : FollowsIn
       omega (arith, pays, paid_asks step, asked, left)
 
   module _ (steps : List Step) (outcomes : List (Result Reply Refused)) (final : Situation) (h : EndsInOrder new steps outcomes final) where
-    same : new.situation.shape ≡ old.situation.shape
-    same = same_shape old.situation new.situation step answer follows.move
-
     at_rest : (before after : List Step) (x : Step) → step ∷ steps ≡ before ++ x ∷ after → is_ask x ≡ true → LeadsToRest old.situation before
     at_rest [] after x split its =
         let same_step : step ≡ x = cc in
@@ -140,7 +137,7 @@ module _ (old new : InOrder) (step : Step) (answer : Reply) (follows : FollowsIn
     in_order_leads = record {
       run = (new.situation, (follows.move, h.run));
       taken = All-cons IsOk (Ok answer) outcomes refl h.taken;
-      asked = rw (all_asks_first step steps, follows.takes_up.asked, h.asked, same, follows.takes_up.left) (sym (map-append (ask_for old.situation.shape) follows.takes_up.first new.left));
+      asked = rw (all_asks_first step steps, follows.takes_up.asked, h.asked, same_shape old.situation new.situation step answer follows.move, follows.takes_up.left) (sym (map-append (ask_for old.situation.shape) follows.takes_up.first new.left));
       apart = at_rest;
       quiet = h.quiet;
       few = omega (arith, fewer_in_order, h.few);

@@ -122,14 +122,13 @@ module _ {s : Situation} {lanes : List Todo} {turns : List ℕ} (fit : IsFit s l
   pub all_done : (r : Option ℕ) → r ≡ slice_get turns 0 → IfNone r (((core : ℕ) → (todo_of lanes core).left ≡ []) × IsQuiet s)
   all_done (Some first) is = tt
   all_done None is =
-      let idle : (core : ℕ) → IsIdle (todo_of lanes core) = λ core. elim (fit.busy core) [ inl there ↦ absurd (none_left turns (sym is) core there) | inr h ↦ h ] in
+      let idle : (core : ℕ) → IsIdle (todo_of lanes core) = λ core. elim (fit.busy core) [
+        | inl there ↦ (elim turns as (λ turns. slice_get turns 0 ≡ None → Contains turns core → IsIdle (todo_of lanes core)) [ [] ↦ λ none has. absurd (let lt = has.1 in omega arith) | x ∷ xs ↦ λ none has. cc ]) (sym is) there
+        | inr h ↦ h
+      ] in
       let none : (core : ℕ) → lanes_under_way lanes core ≡ None = λ core. ap block_of_work (idle core).1 in
       let serving : IsServing (λ core. None) s = record {
         waits = λ core i d lt. sym (none core) ∙ fit.serving.waits core i d lt;
         opened = λ block transaction open_here. sym (none transaction.core) ∙ fit.serving.opened block transaction open_here;
       } in
       (λ core. (idle core).0, turn_rule.comes_to_rest s serving fit.kept)
-    where
-      none_left : (turns : List ℕ) → slice_get turns 0 ≡ None → (core : ℕ) → Contains turns core → ⊥
-      none_left [] h core there = let lt = there.1 in absurd (omega arith)
-      none_left (x ∷ xs) h core there = cc

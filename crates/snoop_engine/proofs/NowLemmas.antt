@@ -11,15 +11,13 @@ no_texts f none (k ∷ ks) = rw (none k) (no_texts f none ks)
 pub none_kept : (s : Situation) (core block : ℕ) (state : CacheState) → Some state ≡ state_at s core block → is_some (held_by (picture_of s block) core).kept ≡ keeps (state_of s core block) → keeps state ≡ false → kept_text s core block ≡ []
 none_kept s core block state at kept unread =
     let hidden : is_some (held_by (picture_of s block) core).kept ≡ false = rw (kept, state_there s core block state (sym at)) unread in
-    no_texts (λ word. value_text word (kept_at s core block word)) (λ word. ap (value_text word) (nothing_at word hidden)) (range_with_len 0 s.shape.words)
+    no_texts (λ word. value_text word (kept_at s core block word)) (λ word. ap (value_text word) (of_kept (held_by (picture_of s block) core).kept (nat_lt core s.shape.cores && nat_lt block s.shape.blocks && nat_lt word s.shape.words) word hidden))
+    (range_with_len 0 s.shape.words)
   where
     of_kept : (kept : Option (List ℕ)) (within : Bool) (word : ℕ) → is_some kept ≡ false → cond {A = Option ℕ} within (option_map (λ ws. word_at ws word) kept) None ≡ None
     of_kept None true word hidden = refl
     of_kept None false word hidden = refl
     of_kept (Some ws) within word hidden = cc
-
-    nothing_at : (word : ℕ) → is_some (held_by (picture_of s block) core).kept ≡ false → kept_at s core block word ≡ None
-    nothing_at word hidden = of_kept (held_by (picture_of s block) core).kept (nat_lt core s.shape.cores && nat_lt block s.shape.blocks && nat_lt word s.shape.words) word hidden
 
 none_before : (block : ℕ) (queue : List ℕ) → count_by (λ b. b == block) queue ≡ 0 → position_or_len (λ b. b == block) queue ≡ length queue
 none_before block [] none = refl

@@ -4,7 +4,7 @@ use Rattle.snoop_engine.proofs.Common.{not, if◌then◌else◌, flat_map, range
 use Rattle.snoop_engine.proofs.Common.{CacheState, I, MemEvent, Request, PutM, arrival, arrival_at_memory, asked, at_memory, seen_by, takes_payload, Did, Item, Open, Reply, Refused, BusTaken, Line, Picture, held_at, held_by}
 use Rattle.snoop_engine.proofs.Common.{nothing_held, Situation, picture_of, reset, state_of, ConsultsCache, ConsultsMemory, ArrivesFor, IsAbsent, Asks, IsWithin, Responds, TakesFirst, GoesFirst, Invariant}
 use Rattle.snoop_engine.proofs.Common.{get_or-set_same, Cell, Stalled, NothingWaiting, NoTransaction, Settles, Takes, Frame, FramesFrom, event_asked, lines_of_step, of_arrival_at_memory, of_ask, of_holder, of_memory}
-use Rattle.snoop_engine.proofs.Common.{of_requestor, of_waiting_memory, refused_by, unless_i, FitsStep, HasAllLines, ShowsRows, HasTakenRows, Taken, Core, Memory, Nobody}
+use Rattle.snoop_engine.proofs.Common.{of_requestor, of_waiting_memory, refused_by, unless_i, FitsStep, HasAllLines, ShowsRows, HasTakenRows, Taken, Core, Memory}
 use denote.Enum.Bare.{same_true, sameb}
 use Rattle.snoop_rules.specs.{declared.names.CacheAction.CacheAction, declared.names.CacheAction.TheVariants.Drop, declared.names.CacheAction.TheVariants.Hit, declared.names.CacheAction.TheVariants.Issue, declared.names.CacheAction.TheVariants.Stall, contracts.names.CacheState.the_type, declared.names.MemAction.MemAction, MemoryCell.MemoryCell}
 use Rattle.snoop_rules.specs.declared.names.MemAction.TheVariants as mem_action
@@ -61,19 +61,11 @@ module _ (old new : Situation) (step : Step) (outcome : Result Reply Refused) wh
   abbrev here : Frame
   here = record { step = step; outcome = outcome; before = old; after = new }
 
-  -- a core's line with no event
-  idle_fits : (core block : ℕ) → new ≡ old → FitsStep here (Core core block None (state_of old core block))
-  idle_fits core block same = record { before = refl; after = rw same }
-
   -- an Ask's line
   asker_fits : (core block : ℕ) (asking : Op) (event : Option CacheEvent) → event_asked asking (state_of old core block) ≡ event
       → FitsStep here (Core core block event (state_of old core block)) → All (FitsStep here) (of_ask old core block asking)
   asker_fits core block asking event is line =
       all_if (FitsStep here) _ _ (λ before. Core core block (event_asked asking before) before ∷ []) (all_one (FitsStep here) _ (rw is line))
-
-  -- a line of no controller
-  nobody_fits : (core block : Option ℕ) → All (FitsStep here) (Nobody core block ∷ [])
-  nobody_fits core block = all_one (FitsStep here) (Nobody core block) tt
 
   module _ (block : ℕ) (first : TakesFirst old step block) where
     -- a core's line at its event
@@ -131,10 +123,10 @@ refused_fits old new (Ask core block word asking) (Stalled held) refuses same =
     asked_fits old new (Ask core block word asking) (Err (Stalled held)) block tt core asking Stall next refuses.2.1 (rw same (sym stays)) (asker_looks old core block word asking)
 refused_fits old new (Order core) (BusTaken block) refuses same =
     let P : Taken → Type 0 = FitsStep (here old new (Order core) (Err (BusTaken block))) in
-    all_if P _ _ (λ before. Core core block None before ∷ []) (all_one P _ (idle_fits old new (Order core) (Err (BusTaken block)) core block same))
-refused_fits old new (Order core) NothingWaiting refuses same = nobody_fits old new (Order core) (Err NothingWaiting) (Some core) None
-refused_fits old new (Respond block) NoTransaction refuses same = nobody_fits old new (Respond block) (Err NoTransaction) None (Some block)
-refused_fits old new step cause refuses same = nobody_fits old new step (Err cause) None None
+    all_if P _ _ (λ before. Core core block None before ∷ []) (all_one P _ (record { before = refl; after = rw same }))
+refused_fits old new (Order core) NothingWaiting refuses same = all_one (FitsStep (here old new (Order core) (Err NothingWaiting))) _ tt
+refused_fits old new (Respond block) NoTransaction refuses same = all_one (FitsStep (here old new (Respond block) (Err NoTransaction))) _ tt
+refused_fits old new step cause refuses same = all_one (FitsStep (here old new step (Err cause))) _ tt
 
 -- the lines of one step
 step_fits : (old new : Situation) (step : Step) (outcome : Result Reply Refused) → Invariant old → GoesFirst old step outcome new → All (FitsStep (here old new step outcome)) (lines_of_step old step outcome)
@@ -146,7 +138,7 @@ step_fits old new (Ask core block word asking) (Ok answer) g goes =
     elim moves [
       | inl absent ↦
           asker_fits old new (Ask core block word asking) (Ok answer) core block asking None (no_event asking (state_of old core block) absent.0 absent.1)
-          (idle_fits old new (Ask core block word asking) (Ok answer) core block absent.3)
+          (record { before = refl; after = rw absent.3 })
       | inr a ↦
           asked_fits old new (Ask core block word asking) (Ok answer) block tt core asking a.row.action a.row.next a.is_row
           (ap (λ (l : Line). l.state) (ask_line old core block word asking answer new g within a)
