@@ -47,10 +47,7 @@ module _ {shape : Extent} {all rest : List Asked} {lanes : List Todo} (dealt : D
             | inl e ↦ rw (e, here, left, append_assoc) (rw (was, first, eq-eqb asked.core asked.core refl) at (dealt.left asked.core))
             | inr ne ↦ rw (other core ne) (rw (first, ne_eqb asked.core core (λ e. ne (sym e))) at (dealt.left core))
           ];
-          idle = λ core. elim (cases_eq core asked.core) [
-            | inl e ↦ rw (e, here, work, ← was) (dealt.idle asked.core)
-            | inr ne ↦ rw (other core ne) (dealt.idle core)
-          ];
+          idle = λ core. grind (arith, here, other core, was, work, dealt.idle core);
           counted =
               (let one : length next.left ≡ length (todo_of lanes asked.core).left + 1 = rw (left, was) (length_push old.left asked.work) in
               let set = sum_by-set (λ (t : Todo). length t.left) lanes asked.core next nothing_to_do has_lane in

@@ -3,7 +3,6 @@ pub mod TakenLemmas
 pub mod AskerLemmas
 pub mod Driving
 pub mod Fewer
-pub mod Asking
 pub mod Dealing
 pub mod WrittenLemmas
 pub mod Packing
@@ -17,6 +16,5 @@ pub mod ShownLemmas
 pub mod ViewLemmas
 pub mod CourseLemmas
 pub mod InOrderLemmas
-pub mod NowLemmas
 pub mod Completing
 pub mod NumberedLemmas

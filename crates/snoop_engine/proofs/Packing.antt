@@ -1,5 +1,6 @@
--- Packed steps, and one more.
-use Rattle.snoop_engine.proofs.Common.{◌≡◌, ℕ, ◌+◌, ◌≤◌, List, [], ◌∷◌, ◌++◌, length, length-append, drop, slice_index_or, refl, arith, length-drop, step_by, step_of_head, steps_in, stored_by, stored_in, worded_by, worded_in}
+-- Packed steps, one more, and steps that all ask.
+use Rattle.snoop_engine.proofs.Common.{◌≡◌, ℕ, ◌+◌, ◌≤◌, List, [], ◌∷◌, ◌++◌, length, length-append, drop, slice_index_or, refl, arith, length-drop, step_by, step_of_head, steps_in, stored_by, stored_in, worded_by, worded_in, ◌<◌}
+use Rattle.snoop_engine.proofs.Common.{◌^◌, map, sym, ◌∙◌, ap, Result, Ok, Err, OnOk, OnErr, length-map, map-append, Asked, Step, Ask, step_of, asked_by}
 use Rattle.std.proofs.lemmas.List.{drop-append-le, get_or_append_left}
 use Rattle.snoop_engine.specs.declared.packed.{Kind.Kind, Head.Head}
 use Rattle.snoop_engine.specs.declared.packed.Kind.TheVariants as kind
@@ -26,14 +27,54 @@ steps_more _ ws vs h mw mv e f = absurd (omega arith)
 
 -- as many words, or values, stand in a queue as its heads have
 module _ (by : Kind → ℕ) (in_all : List Head → ℕ) (none : in_all [] ≡ 0) (first : (h : Head) (hs : List Head) → in_all (h ∷ hs) ≡ by h.kind + in_all hs) where
-  one_more : (hs : List Head) (h : Head) → in_all (hs ++ h ∷ []) ≡ in_all hs + by h.kind
-  one_more [] h = omega (arith, none, first h [])
-  one_more (k ∷ ks) h = omega (arith, first k ks, first k (ks ++ h ∷ []), one_more ks h)
+  in_longer : (hs : List Head) (h : Head) → in_all (hs ++ h ∷ []) ≡ in_all hs + by h.kind
+  in_longer [] h = omega (arith, none, first h [])
+  in_longer (k ∷ ks) h = omega (arith, first k ks, first k (ks ++ h ∷ []), in_longer ks h)
 
   pub counted_after : (hs : List Head) (values more : List ℕ) (h : Head) → by h.kind ≡ length more → in_all hs ≡ length values → in_all (hs ++ h ∷ []) ≡ length (values ++ more)
-  counted_after hs values more h one e = omega (arith, one_more hs h, length-append values more)
+  counted_after hs values more h one e = omega (arith, in_longer hs h, length-append values more)
 
 -- there is a step for each head
 pub steps_counted : (hs : List Head) (ws vs : List ℕ) → length (steps_in hs ws vs) ≡ length hs
 steps_counted [] ws vs = refl
 steps_counted (h ∷ hs) ws vs = let more = steps_counted hs (drop (worded_by h.kind) ws) (drop (stored_by h.kind) vs) in omega arith
+
+-- one more Ask asks for one thing more
+pub asked_more : (old new : List Step) (asked : Asked) → new ≡ old ++ step_of asked ∷ [] → asked_by new ≡ asked_by old ++ asked ∷ []
+asked_more old new asked is = ap asked_by is ∙ go old
+  where
+    go : (steps : List Step) → asked_by (steps ++ step_of asked ∷ []) ≡ asked_by steps ++ asked ∷ []
+    go [] = refl
+    go (Ask core block word asking ∷ steps) = ap (λ (l : List Asked). record { core = core; work = record { block = block; word = word; op = asking } } ∷ l) (go steps)
+    go (_ ∷ steps) = go steps
+
+-- and all steps ask still
+pub all_ask : (old new : List Step) (asked : Asked) → old ≡ map step_of (asked_by old) → new ≡ old ++ step_of asked ∷ [] → new ≡ map step_of (asked_by new)
+all_ask old new asked kept is =
+    rw (is, asked_more old (old ++ step_of asked ∷ []) asked refl, map-append step_of (asked_by old) (asked ∷ []), ← kept)
+
+-- there is an Ask for each
+pub asked_counted : (steps : List Step) → steps ≡ map step_of (asked_by steps) → length (asked_by steps) ≡ length steps
+asked_counted steps kept = sym (ap (λ (l : List Step). length l) kept ∙ length-map (asked_by steps) step_of)
+
+-- so the first asks
+pub first_asks : (steps rest : List Step) (step : Step) → steps ≡ map step_of (asked_by steps) → steps ≡ step ∷ rest
+    → ((core block word : _) (asking : _) → step ≡ Ask core block word asking → ⊥) → ⊥
+first_asks steps rest step kept first none =
+    (elim (asked_by steps) as (λ asks. step ∷ rest ≡ map step_of asks → ⊥) [ [] ↦ λ e. cc | asked ∷ asks ↦ λ e. none asked.core asked.work.block asked.work.word asked.work.op (cc) ])
+    (sym first ∙ kept)
+
+-- the same where there may have been no memory for it
+pub still_ask : {E : Type 0} (r : Result (Unit {0}) E) (old new : List Step) (asked : Asked) → old ≡ map step_of (asked_by old) → OnOk r (new ≡ old ++ step_of asked ∷ []) → OnErr r (new ≡ old)
+    → new ≡ map step_of (asked_by new)
+still_ask (Ok u) old new asked kept ok err = all_ask old new asked kept ok
+still_ask (Err e) old new asked kept ok err = rw err kept
+
+pub one_more : {E : Type 0} (r : Result (Unit {0}) E) (old new : List Step) (asked : Asked) (shown : List Asked) → asked_by old ≡ shown → OnOk r (new ≡ old ++ step_of asked ∷ [])
+    → OnOk r (asked_by new ≡ shown ++ asked ∷ [])
+one_more (Ok u) old new asked shown view ok = asked_more old new asked ok ∙ ap (λ (l : List Asked). l ++ asked ∷ []) view
+one_more (Err e) old new asked shown view ok = tt
+
+pub few_asks : {E : Type 0} (r : Result (Unit {0}) E) (new : List Step) → new ≡ map step_of (asked_by new) → OnOk r (length new < 2 ^ 63) → OnOk r (length (asked_by new) < 2 ^ 63)
+few_asks (Ok u) new kept few = rw (asked_counted new kept) few
+few_asks (Err e) new kept few = tt

@@ -1,6 +1,6 @@
 -- Counters, one of which goes up.
-use Rattle.snoop_engine.proofs.Common.{I, ◌≡◌, ℕ, ◌+◌, ◌*◌, ◌<◌, Bool, true, false, ◌&&◌, List, [], ◌∷◌, ◌++◌, cond, filter, length, length-append, get_or, set, replicate, sym, ◌∙◌, inl, inr, arith, ◌==◌, Some, cases_eq, nat_tests}
-use Rattle.snoop_engine.proofs.Common.{common_steps, CacheState, CacheEvent, MemState, MemEvent, eq-eqb, ne_eqb, length-replicate, length-set, get_or-replicate, get_or-set_other, get_or-set_same, filter-append, takes_memory_row}
+use Rattle.snoop_engine.proofs.Common.{I, ◌≡◌, ℕ, ◌+◌, ◌*◌, ◌<◌, Bool, true, false, ◌&&◌, List, [], ◌∷◌, ◌++◌, cond, filter, length, length-append, get_or, set, replicate, sym, ◌∙◌, arith, ◌==◌, Some, nat_tests}
+use Rattle.snoop_engine.proofs.Common.{common_steps, CacheState, CacheEvent, MemState, MemEvent, ne_eqb, length-replicate, length-set, get_or-replicate, get_or-set_other, get_or-set_same, filter-append, takes_memory_row}
 use Rattle.snoop_engine.proofs.Common.{takes_row, Tallies, core_place, memory_place, Taken, Core, Memory}
 use Rattle.snoop_rules.specs.declared.names.{CacheEvent.TheVariants.Load, MemEvent.TheVariants.GetS, MemState.TheVariants.IorS}
 use Rattle.snoop_history.specs.Totals.{capped}
@@ -48,15 +48,8 @@ module _ (p : Taken → Bool) (lines : List Taken) (line : Taken) where
 
   counted_more : (counters new : List ℕ) (place here : ℕ) → place < length counters → new ≡ set counters place (capped (get_or counters place 0 + 1))
       → p line ≡ (place == here) → get_or counters here 0 ≡ capped (length (filter p lines)) → get_or new here 0 ≡ capped (length (filter p (lines ++ line ∷ [])))
-  counted_more counters new place here lt is test before = elim (cases_eq here place) [
-    | inl e ↦
-        let n = one_more true (test ∙ eq-eqb place here (sym e)) in
-        let old : get_or counters place 0 ≡ capped (length (filter p lines)) = rw e at before in
-        rw (is, e, get_or-set_same counters place (capped (get_or counters place 0 + 1)) 0 lt) (omega (arith, n, old))
-    | inr e ↦
-        let n = one_more false (test ∙ ne_eqb place here (λ q. e (sym q))) in
-        rw (is, get_or-set_other counters place here (capped (get_or counters place 0 + 1)) 0 e) (omega (arith, n, before))
-  ]
+  counted_more counters new place here lt is test before =
+      grind (arith, common_steps, nat_tests, one_more true, one_more false, get_or-set_same counters place (capped (get_or counters place 0 + 1)) 0 lt, get_or-set_other counters place here (capped (get_or counters place 0 + 1)) 0)
 
 -- a line is counted at one place
 tallies_at : (lines : List Taken) (line : Taken) (place : ℕ) (counters new : List ℕ) → place < 203 → new ≡ set counters place (capped (get_or counters place 0 + 1))
