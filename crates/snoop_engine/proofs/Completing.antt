@@ -1,5 +1,5 @@
 -- From wherever a driver of rows has come, its rows can be served.
-use Rattle.snoop_engine.proofs.Common.{option_map_or, IsIdle, get_or, get_or_default, ◌≡◌, ◌⊎◌, ℕ, zero, suc, ◌+◌, ◌/◌, ◌<◌, true, Option, Some, None, List, [], ◌∷◌, length, refl, sym, ◌∙◌, ap, arith, inl, inr, Result, Ok, IsOk, slice_set, cases_eq}
+use Rattle.snoop_engine.proofs.Common.{option_map_or, IsIdle, get_or, get_or_default, ◌≡◌, ◌⊎◌, ℕ, zero, suc, ◌+◌, ◌/◌, ◌<◌, true, Option, Some, None, List, [], ◌∷◌, length, refl, sym, ◌∙◌, ap, arith, inl, inr, Result, Ok, IsOk, slice_set}
 use Rattle.snoop_engine.proofs.Common.{All-head, All-nil, All-tail, Extent, word_asked, Row, Step, Ask, Work, Protocol, Reply, Refused, FirstMove, Situation, reset, TheRun}
 use Rattle.snoop_engine.proofs.Common.{IsUnderWay, turn_of, CanEnd, Leading, LeadsOn, EndsInOrder, FollowsInOrder, InOrder, IsInOrder, TakesUpNext, remaining_in_order, row_under_way, IsAtTheEnd, ServesOnly, nothing, Advances}
 use Rattle.snoop_engine.proofs.Common.{IsEnabled, IsFit, IsOver, Progress, TakesUp, remaining, ask_for, Todo, block_of_work, left_in, nothing_to_do, todo_of, lanes_under_way}
@@ -85,10 +85,7 @@ module _ {s : Situation} {lanes : List Todo} {core : ℕ} {turns : List ℕ} (fi
   idle over none =
       let next : List Todo = slice_set lanes core nothing_to_do in
       let own = lane_put fit has_core nothing_to_do in
-      let same : (k : ℕ) → (todo_of next k).left ≡ (todo_of lanes k).left = λ k. elim (cases_eq k core) [
-        | inl e ↦ rw (e, own, none)
-        | inr ne ↦ rw (lane_apart fit has_core nothing_to_do k ne)
-      ] in
+      let same : (k : ℕ) → (todo_of next k).left ≡ (todo_of lanes k).left = λ k. grind (arith, own, none, lane_apart fit has_core nothing_to_do k) in
       let as_many : left_in next ≡ left_in lanes = left_same next lanes (λ k. ap length (same k)) in
       inr (inl (
         record { situation = s; lanes = next; turns = turns },

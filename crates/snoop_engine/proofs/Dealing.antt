@@ -1,7 +1,7 @@
 -- What dealing the rows to their cores gives.
-use Rattle.snoop_engine.proofs.Common.{Evict, ◌≡◌, ◌≢◌, ℕ, ◌+◌, ◌<◌, Bool, None, List, [], ◌∷◌, ◌++◌, length, map, filter, append_assoc, refl, sym, ◌∙◌, ap, arith, inl, inr, get_or, ◌==◌, All, Contains, slice_set, cases_eq}
+use Rattle.snoop_engine.proofs.Common.{nat_tests, Evict, ◌≡◌, ◌≢◌, ℕ, ◌+◌, ◌<◌, Bool, None, List, [], ◌∷◌, ◌++◌, length, map, filter, append_assoc, refl, sym, ◌∙◌, ap, arith, inl, inr, get_or, ◌==◌, All, Contains, slice_set, cases_eq}
 use Rattle.snoop_engine.proofs.Common.{cases_lt, length_push, get_or_default, get_or_past, length-map, All-head, All-tail, All-push, Contains-push, Contains-append_left, Extent, Asked, Op, Row, IsRowWithin, Work}
-use Rattle.snoop_engine.proofs.Common.{Protocol, reset, turn_rule, cases_Bool, eq-eqb, ne_eqb, length-set, get_or-set_same, get_or-set_other, All-map, All-filter, All-weaker, sum_by-set, HasWord, IsWithinLimits, asked_of}
+use Rattle.snoop_engine.proofs.Common.{Protocol, reset, turn_rule, cases_Bool, length-set, get_or-set_same, get_or-set_other, All-map, All-filter, All-weaker, sum_by-set, HasWord, IsWithinLimits, asked_of}
 use Rattle.snoop_engine.proofs.Common.{asked_within, IsFit, IsWorkWithin, largest, IsAskedWithin, Todo, todo_of, nothing_to_do, lanes_under_way, left_in, work_of, works_by, works_of}
 use Rattle.snoop_engine.proofs.Fewer.{left_same}
 
@@ -43,10 +43,7 @@ module _ {shape : Extent} {all rest : List Asked} {lanes : List Todo} (dealt : D
         let other : (k : ℕ) → k ≢ asked.core → todo_of (slice_set lanes asked.core next) k ≡ todo_of lanes k = λ k ne. get_or-set_other lanes asked.core k next nothing_to_do ne in
         record {
           cores = length-set lanes asked.core next ∙ dealt.cores;
-          left = λ core. elim (cases_eq core asked.core) [
-            | inl e ↦ rw (e, here, left, append_assoc) (rw (was, first, eq-eqb asked.core asked.core refl) at (dealt.left asked.core))
-            | inr ne ↦ rw (other core ne) (rw (first, ne_eqb asked.core core (λ e. ne (sym e))) at (dealt.left core))
-          ];
+          left = λ core. (let before = rw first at (dealt.left core) in grind (arith, nat_tests, here, other core, was, left, append_assoc));
           idle = λ core. grind (arith, here, other core, was, work, dealt.idle core);
           counted =
               (let one : length next.left ≡ length (todo_of lanes asked.core).left + 1 = rw (left, was) (length_push old.left asked.work) in

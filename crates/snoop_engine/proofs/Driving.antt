@@ -1,5 +1,5 @@
 -- What a turn of a driver gives, and a round of turns.
-use Rattle.snoop_engine.proofs.Common.{◌≡◌, ◌≢◌, ℕ, ◌<◌, true, false, Option, Some, None, refl, sym, ◌∙◌, ap, inl, inr, cond, eqb, arith, get_or, Contains, IfSome, IfNone, slice_set, List, ◌∷◌, length, cases_eq, get_or_default}
+use Rattle.snoop_engine.proofs.Common.{nat_tests, ◌≡◌, ◌≢◌, ℕ, ◌<◌, true, false, Option, Some, None, refl, sym, ◌∙◌, ap, inl, inr, cond, eqb, arith, get_or, Contains, IfSome, IfNone, slice_set, List, ◌∷◌, length, cases_eq, get_or_default}
 use Rattle.snoop_engine.proofs.Common.{All-head, All-nil, All-tail, Step, Ask, Reply, FirstMove, Situation, Work, turn_of, IsUnderWay, turn_rule, eq-eqb, ne_eqb, length-set, get_or-set_same, get_or-set_other, Todo, todo_of}
 use Rattle.snoop_engine.proofs.Common.{nothing_to_do, lanes_under_way, block_of_work, IsOver, IsEnabled, IsFit, IsIdle, IsTodoWithin, IsWorkWithin, TakesUp, [], ◌++◌, take, drop, slice_get, All-append, Contains-append_cases}
 use Rattle.snoop_engine.proofs.Common.{Contains-append_left, Contains-append_right, IsQuiet, take-append-drop, All-take, All-drop, IsServing}
@@ -19,10 +19,7 @@ module _ {s : Situation} {lanes : List Todo} {turns : List ℕ} (fit : IsFit s l
   -- a core with nothing under way may have anything else
   pub over_idle : (todo_of lanes core).work ≡ None → IsOver lanes s core
   over_idle idle after others =
-      let extends : (k block : ℕ) → lanes_under_way lanes k ≡ Some block → after k ≡ Some block = λ k block h. elim (cases_eq k core) [
-        | inl e ↦ let clash = rw (e, idle) at h in cc
-        | inr ne ↦ others k ne ∙ h
-      ] in
+      let extends : (k block : ℕ) → lanes_under_way lanes k ≡ Some block → after k ≡ Some block = λ k block h. grind (arith, idle, others k) in
       record { waits = λ k i d lt. extends k _ (fit.serving.waits k i d lt); opened = λ block o is. extends o.core block (fit.serving.opened block o is) }
 
   -- the lane that is read at the core's place
@@ -79,10 +76,7 @@ module _ {s : Situation} {lanes : List Todo} {turns : List ℕ} (fit : IsFit s l
           rw asks (turn_rule.never_refused s bare core work.block work.word work.op false (Ask core work.block work.word work.op) (over bare away) fit.kept has_core within.0 within.1 here refl)
 
       pub takes_first : (r : Option Step) → r ≡ Some (Ask core work.block work.word work.op) → IfSome r (λ step. TakesUp lanes step (slice_set lanes core next))
-      takes_first r asks = rw asks (λ k. elim (cases_eq k core) [
-        | inl e ↦ rw (e, eq-eqb core core refl, lane_put next, is read) first
-        | inr ne ↦ rw (ne_eqb core k (λ e. ne (sym e)), lane_apart next k ne)
-      ])
+      takes_first r asks = rw asks (λ k. grind (arith, nat_tests, lane_put next, is read, first, lane_apart next k))
 
 -- a move keeps what holds between turns
 pub fit_moves : {s : Situation} {lanes : List Todo} {turns : List ℕ} → IsFit s lanes turns → (t : Situation) (step : Step) (answer : Reply)

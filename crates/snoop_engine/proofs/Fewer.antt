@@ -1,5 +1,5 @@
 -- Each step of a driver leaves fewer to come.
-use Rattle.snoop_engine.proofs.Common.{cases_eq, cases_lt, get_or_past, get_or-set_same, get_or-set_other, inl, inr, nothing_to_do, slice_set, sum_by-set, ◌≡◌, ◌≢◌, ℕ, suc, ◌+◌, ◌*◌, ◌<◌, List, [], ◌∷◌, length, ap, refl, sym, arith, sum_by-cons, Step, Ask, Reply, FirstMove, steps_paid, turn_rule, eq-eqb, ne_eqb, Todo, todo_of, left_in}
+use Rattle.snoop_engine.proofs.Common.{cases_lt, get_or_past, get_or-set_same, get_or-set_other, inl, inr, nothing_to_do, slice_set, sum_by-set, ◌≡◌, ◌≢◌, ℕ, suc, ◌+◌, ◌*◌, ◌<◌, List, [], ◌∷◌, length, ap, refl, sym, arith, sum_by-cons, Step, Ask, Reply, FirstMove, steps_paid, turn_rule, eq-eqb, ne_eqb, Todo, todo_of, left_in}
 use Rattle.snoop_engine.proofs.Common.{Progress, TakesUp, remaining}
 
 left_cons : (lane : Todo) (lanes : List Todo) → left_in (lane ∷ lanes) ≡ length lane.left + left_in lanes
@@ -18,10 +18,7 @@ left_fewer : (xs ys : List Todo) (core : ℕ) → length (todo_of xs core).left 
 left_fewer xs ys core one same = elim (cases_lt core (length xs)) [
   | inl there ↦
       let lane : Todo = todo_of ys core in
-      let alike : left_in (slice_set xs core lane) ≡ left_in ys = left_same (slice_set xs core lane) ys (λ k. elim (cases_eq k core) [
-        | inl e ↦ rw (e, get_or-set_same xs core lane nothing_to_do there)
-        | inr ne ↦ rw (get_or-set_other xs core k lane nothing_to_do ne) (same k ne)
-      ]) in
+      let alike : left_in (slice_set xs core lane) ≡ left_in ys = left_same (slice_set xs core lane) ys (λ k. grind (arith, get_or-set_same xs core lane nothing_to_do there, get_or-set_other xs core k lane nothing_to_do, same k)) in
       omega (arith, sum_by-set (λ (t : Todo). length t.left) xs core lane nothing_to_do there)
   | inr past ↦ let none = ap (λ (t : Todo). length t.left) (get_or_past xs core nothing_to_do (omega arith)) in absurd (omega (arith, one, none))
 ]

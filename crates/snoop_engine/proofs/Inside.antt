@@ -1,6 +1,6 @@
 -- What a getter answers that answers inside a shape alone, and what a core's line says nothing of: values in a state that may not be read, a place where no request waits.
 use Rattle.snoop_engine.proofs.Common.{◌≡◌, ℕ, ◌<◌, Bool, Option, Some, None, true, false, cond, refl, sym, ap, ◌∙◌, arith, ◌&&◌, IfSome, IsSome, is_some, nat_lt, option_map, if◌then◌else◌, nat_tests, same_Some, CacheState, Open}
-use Rattle.snoop_engine.proofs.Common.{Situation, state_of, state_at, ◌+◌, List, [], ◌∷◌, length, ◌==◌, count_by, not, flat_map, range_with_len, sum_by-cons, word_at, waiting_request, queue_of, held_by, picture_of, keeps}
+use Rattle.snoop_engine.proofs.Common.{Situation, state_of, state_at, List, [], ◌∷◌, length, ◌==◌, count_by, flat_map, range_with_len, sum_by-cons, word_at, waiting_request, queue_of, held_by, picture_of, keeps}
 use Rattle.snoop_engine.proofs.Common.{position_or_len, le-ltb, kept_at, kept_text, place_text, value_text}
 use Rattle.snoop_model.specs.Pictures.InQueue.{IsInQueue}
 
@@ -45,12 +45,7 @@ none_kept s core block state at kept unread =
 
 none_before : (block : ℕ) (queue : List ℕ) → count_by (λ b. b == block) queue ≡ 0 → position_or_len (λ b. b == block) queue ≡ length queue
 none_before block [] none = refl
-none_before block (b ∷ bs) none = of_test (λ (rest : count_by (λ k. k == block) bs ≡ 0). none_before block bs rest) (b == block) (sum_by-cons (λ (k : ℕ). cond (k == block) 1 0) b bs)
-  where
-    of_test : (count_by (λ k. k == block) bs ≡ 0 → position_or_len (λ k. k == block) bs ≡ length bs) → (same : Bool)
-        → count_by (λ k. k == block) (b ∷ bs) ≡ cond same 1 0 + count_by (λ k. k == block) bs → cond (not same) (1 + position_or_len (λ k. k == block) bs) 0 ≡ length (b ∷ bs)
-    of_test again true counted = absurd (omega (arith, none, counted))
-    of_test again false counted = let rest = again (omega (arith, none, counted)) in omega (arith, rest)
+none_before block (b ∷ bs) none = grind (arith, nat_tests, none_before block bs, sum_by-cons (λ (k : ℕ). cond (k == block) 1 0) b bs)
 
 pub none_placed : (s : Situation) (core block : ℕ) (state : CacheState) → Some state ≡ state_at s core block → IsInQueue s core block → is_some (waiting_request state) ≡ false → place_text s core block ≡ []
 none_placed s core block state at queued still =
