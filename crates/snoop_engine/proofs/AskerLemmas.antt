@@ -1,23 +1,12 @@
 -- Only an Ask moves its core out of I.
-use Rattle.std.proofs.Common.{◌≡◌, ◌⊎◌, ℕ, ◌≤◌, Bool, true, false, List, [], length, Some, None, Option, refl, sym, ap, ◌∙◌, inl, inr, arith, ◌==◌, ◌&&◌, ◌%◌, Ok, nat_lt, slice_get, slice_index_or, slice_set, if◌then◌else◌}
-use Rattle.snoop_engine.proofs.Common.{option_map_or, cases_lt, get_or_past, Protocol, Msi, Mesi, Op, Step, Ask, Order, Respond, CacheCell, CacheEvent, CacheState, I, Request, GetS}
-use Rattle.snoop_engine.proofs.Common.{PutM, arrival, seen_by, Did, Open, Situation, picture_of, state_of, Reply, Line, Picture, held_at, held_by, nothing_held}
-use Rattle.snoop_engine.proofs.Common.{ArrivesFor, FillsRequestor, IsAbsent, Asks, Orders, Responds, GoesFirst}
-use Rattle.std.proofs.lemmas.Bool.{le-ltb}
-use Rattle.snoop_rules.specs.declared.names.Payload.{Payload}
-use Rattle.snoop_rules.specs.declared.names.Payload.TheVariants.{Data}
-use Rattle.snoop_rules.specs.Cell.{cell_of}
-use Rattle.snoop_rules.specs.Takers.{other, own}
+use Rattle.snoop_engine.proofs.Common.{◌≡◌, ℕ, ◌≤◌, Bool, true, false, List, [], length, Some, None, Option, refl, sym, ap, ◌∙◌, inl, inr, arith, ◌==◌, ◌&&◌, ◌%◌, Ok, nat_lt, slice_get, slice_index_or, slice_set}
+use Rattle.snoop_engine.proofs.Common.{if◌then◌else◌, option_map_or, cases_lt, get_or_past, Protocol, Msi, Mesi, Op, Step, Ask, Order, Respond, CacheCell, CacheEvent, CacheState, I, Request, GetS, PutM, arrival, seen_by, Did}
+use Rattle.snoop_engine.proofs.Common.{Open, Situation, picture_of, state_of, Reply, Line, Picture, held_at, held_by, nothing_held, ArrivesFor, GoesFirst, le-ltb, cell_of, other}
+use Rattle.snoop_engine.proofs.Common.{own, nothing_there, with_line, get_or_from_slice_get, unwrap_or-slice_get, AreAskers, AreOthersInI, of_holder, unless_i, Taken, Core}
+use Rattle.snoop_rules.specs.declared.names.Payload.{Payload, TheVariants.Data}
 use Rattle.snoop_blocks.specs.CoreSet.{Puts, has, set_of}
-use Rattle.snoop_model.specs.Pictures.Situation.{nothing_there}
-use Rattle.snoop_model.specs.Pictures.Picture.{with_line}
 use Rattle.snoop_model.proofs.Lists.Writes.{set_cases}
 use Rattle.std.proofs.lemmas.Nat.Bits.{bit_at-zero}
-use Rattle.std.proofs.lemmas.Option.{get_or_from_slice_get, unwrap_or-slice_get}
-use Rattle.snoop_engine.specs.Askers.{AreAskers, AreOthersInI}
-use Rattle.snoop_engine.specs.Taken.{of_holder, unless_i}
-use Rattle.snoop_engine.specs.declared.taken.Taken.{Taken}
-use Rattle.snoop_engine.specs.declared.taken.Taken.TheVariants.{Core}
 use Rattle.snoop_engine.proofs.TakenLemmas.{same_shape}
 
 -- a request that a core in I sees leaves it there
@@ -47,35 +36,15 @@ module _ (old new : Situation) (core block : ℕ) (idle : state_of old core bloc
   in_i_of_picture : (b : ℕ) (next : Picture) → (block ≡ b → (held_by next core).state ≡ I) → (held_by (slice_index_or (slice_set old.pictures b next) block nothing_there) core).state ≡ I
   in_i_of_picture b next here = elim (set_cases old.pictures b block next nothing_there) [ inl p ↦ rw p.1 (here p.0) | inr e ↦ rw e idle ]
 
-  in_i_after_ask : (asker b word : ℕ) (asking : Op) (answer : Reply) → IsAbsent old asker b asking answer new ⊎ Asks old asker b word asking answer new → (core ≡ asker → block ≡ b → ⊥) → state_of new core block ≡ I
-  in_i_after_ask asker b word asking answer moves another = elim moves [
-    | inl absent ↦ rw absent.3 idle
-    | inr a ↦ rw a.after (in_i_of_picture b (with_line (picture_of old b) asker a.held) (λ same. elim (set_cases (picture_of old b).caches asker core a.held nothing_held) [
-      | inl p ↦ absurd (another p.0 same)
-      | inr e ↦ rw e (idle_in b same)
-    ]))
-  ]
-
-  in_i_after_order : (requestor b : ℕ) (request : Request) → Orders old requestor b request new → state_of new core block ≡ I
-  in_i_after_order requestor b request o = rw o.after (in_i_of_picture b o.next (λ same. elim (cases_lt core (length (picture_of old b).caches)) [
-    | inl there ↦ let row = o.taken.rows core there in rw row.2 (seen_row old.protocol (core == requestor) request row.0 (rw (idle_in b same) at row.1))
-    | inr past ↦ let long = o.taken.same_length in rw (get_or_past o.next.caches core nothing_held (omega arith))
-  ]))
-
-  in_i_after_fill : (b : ℕ) (closing : Open) (did : Option Did) (next : List Line) → block ≡ b → FillsRequestor closing old.protocol old.log (picture_of old b).caches next did → (held_at next core).state ≡ I
-  in_i_after_fill b closing did next same f = rw f.held (elim (set_cases (picture_of old b).caches closing.core core f.line nothing_held) [
+  -- what a response brings to the caches
+  in_i_after_arrival : (request : Request) (b : ℕ) (closing : Open) (did : Option Did) (next : List Line) → block ≡ b → ArrivesFor request closing old.protocol old.log (picture_of old b).caches next did → (held_at next core).state ≡ I
+  in_i_after_arrival PutM b closing did next same f = rw f.0 (idle_in b same)
+  in_i_after_arrival _ b closing did next same f = rw f.held (elim (set_cases (picture_of old b).caches closing.core core f.line nothing_held) [
     | inl p ↦
         let here = rw p.0 at (idle_in b same) in
         absurd (no_fill old.protocol closing.payload f.fills.event f.fills.row f.fills.arrives (rw here at f.fills.is_row))
     | inr e ↦ rw e (idle_in b same)
   ])
-
-  in_i_after_arrival : (request : Request) (b : ℕ) (closing : Open) (did : Option Did) (next : List Line) → block ≡ b → ArrivesFor request closing old.protocol old.log (picture_of old b).caches next did → (held_at next core).state ≡ I
-  in_i_after_arrival PutM b closing did next same f = rw f.0 (idle_in b same)
-  in_i_after_arrival _ b closing did next same f = in_i_after_fill b closing did next same f
-
-  in_i_after_respond : (b : ℕ) (closing : Open) (did : Option Did) → Responds old b closing did new → state_of new core block ≡ I
-  in_i_after_respond b closing did r = rw r.after (in_i_of_picture b r.next (λ same. in_i_after_arrival closing.request b closing did r.next.caches same r.requestor))
 
 -- the step is the core's Ask for the block
 abbrev IsAskOf : Step → ℕ → ℕ → Type 0
@@ -83,15 +52,25 @@ IsAskOf (Ask asker on word asking) core block = (core ≡ asker) × (block ≡ o
 IsAskOf _ core block = ⊥
 
 stays_in_i : (old new : Situation) (step : Step) (answer : Reply) → GoesFirst old step (Ok answer) new → (core block : ℕ) → (IsAskOf step core block → ⊥) → state_of old core block ≡ I → state_of new core block ≡ I
-stays_in_i old new (Ask asker on word asking) answer goes core block another idle =
-    let m = goes.1.1 in
-    in_i_after_ask old new core block idle asker goes.0 word asking answer m.moves (λ same here. another (same, here ∙ sym m.on_block))
+stays_in_i old new (Ask asker on word asking) answer goes core block another idle = elim goes.1.1.moves [
+  | inl absent ↦ rw absent.3 idle
+  | inr a ↦
+      let before : Picture = picture_of old goes.0 in
+      rw a.after (in_i_of_picture old new core block idle goes.0 (with_line before asker a.held) (λ same. elim (set_cases before.caches asker core a.held nothing_held) [
+        | inl p ↦ absurd (another (p.0, same ∙ sym goes.1.1.on_block))
+        | inr e ↦ rw e (idle_in old new core block idle goes.0 same)
+      ]))
+]
 stays_in_i old new (Order requestor) answer goes core block another idle =
-    let m = goes.1.1 in
-    in_i_after_order old new core block idle requestor goes.0 m.request m.orders
+    let o = goes.1.1.orders in
+    rw o.after (in_i_of_picture old new core block idle goes.0 o.next (λ same. elim (cases_lt core (length (picture_of old goes.0).caches)) [
+      | inl there ↦ let row = o.taken.rows core there in rw row.2 (seen_row old.protocol (core == requestor) goes.1.1.request row.0 (rw (idle_in old new core block idle goes.0 same) at row.1))
+      | inr past ↦ let long = o.taken.same_length in rw (get_or_past o.next.caches core nothing_held (omega arith))
+    ]))
 stays_in_i old new (Respond on) answer goes core block another idle =
     let m = goes.1.1 in
-    in_i_after_respond old new core block idle goes.0 m.closing m.did m.responds
+    let r = m.responds in
+    rw r.after (in_i_of_picture old new core block idle goes.0 r.next (λ same. in_i_after_arrival old new core block idle m.closing.request goes.0 m.closing m.did r.next.caches same r.requestor))
 
 -- the sets after a step that is no Ask
 pub follow_other : (old new : Situation) (step : Step) (answer : Reply) (sets : List (List ℕ)) → ((core block : ℕ) → IsAskOf step core block → ⊥) → AreAskers old sets → GoesFirst old step (Ok answer) new → AreAskers new sets

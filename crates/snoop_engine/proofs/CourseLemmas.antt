@@ -1,22 +1,11 @@
 -- Courses, step by step, and the rows that they serve.
-use Rattle.std.proofs.Common.{◌≡◌, ◌==◌, ℕ, ◌+◌, ◌*◌, ◌<◌, true, cond, Option, Some, None, List, [], ◌∷◌, ◌++◌, length, length-append, map, refl, sym, ◌∙◌, ap, arith, append_assoc, append-nil, inl, inr, Result, Ok, IsOk, IfNone, option_to_list}
-use Rattle.snoop_engine.proofs.Common.{length-map, map-append, All-cons, All-nil, Extent, Row, Step, Ask, Work, Protocol, Reply, Refused, Picture, Situation, reset}
-use Rattle.snoop_engine.proofs.Common.{FirstMove, GoesFirst, TheRun, IsQuiet, steps_paid, turn_rule}
-use Rattle.std.specs.List.{cons_option}
-use Rattle.std.proofs.lemmas.Bool.{cases_Bool}
+use Rattle.snoop_engine.proofs.Common.{◌≡◌, ◌==◌, ℕ, ◌+◌, ◌*◌, ◌<◌, true, cond, Option, Some, None, List, [], ◌∷◌, ◌++◌, length, length-append, map, refl, sym, ◌∙◌, ap, arith, append_assoc, append-nil, inl, inr, Result, Ok, IsOk}
+use Rattle.snoop_engine.proofs.Common.{IfNone, option_to_list, length-map, map-append, All-cons, All-nil, Extent, Row, Step, Ask, Work, Protocol, Reply, Refused, Picture, Situation, reset, FirstMove, GoesFirst, TheRun, IsQuiet}
+use Rattle.snoop_engine.proofs.Common.{steps_paid, turn_rule, cons_option, cases_Bool, untouched, has_transaction, steps_owed, CanEnd, LeadsToEndWith, Leading, LeadsOn, EndsInOrder, FindsInOrder, FollowsInOrder, InOrder}
+use Rattle.snoop_engine.proofs.Common.{LeadsToRest, remaining_in_order, StepsServe, StepsServeSerially, IsAtTheEnd, IsAtTheStart, Finds, Advances, Progress, ServesSerially, all_asks, ask_for, is_ask, Serves, ask_of, asks_of}
+use Rattle.snoop_engine.proofs.Common.{work_of, works_of}
 use Rattle.std.proofs.lemmas.List.Folds.{sum_by-replicate}
-use Rattle.snoop_model.specs.Pictures.Situation.{untouched}
-use Rattle.snoop_model.specs.Turns.Serving.{has_transaction, steps_owed}
-use Rattle.snoop_engine.specs.Courses.{CanEnd, LeadsToEndWith, Leading, LeadsOn}
-use Rattle.snoop_engine.specs.InOrder.{EndsInOrder, FindsInOrder, FollowsInOrder, InOrder, LeadsToRest, remaining_in_order}
-use Rattle.snoop_engine.specs.Inputs.{StepsServe, StepsServeSerially}
-use Rattle.snoop_engine.specs.Journey.{IsAtTheEnd, IsAtTheStart}
-use Rattle.snoop_engine.specs.Round.{Finds, Advances, Progress}
-use Rattle.snoop_engine.specs.Serial.{ServesSerially, all_asks, ask_for, is_ask}
-use Rattle.snoop_engine.specs.Served.{Serves, ask_of, asks_of}
-use Rattle.snoop_engine.specs.Todo.{work_of, works_of}
-use Rattle.snoop_engine.proofs.Fewer.{leaves_fewer}
-use Rattle.snoop_engine.proofs.TakenLemmas.{run_more, same_shape}
+use Rattle.snoop_engine.proofs.{Fewer.leaves_fewer, TakenLemmas.run_more, TakenLemmas.same_shape}
 
 -- what leads on from here leads on from the first place too, after these steps
 abbrev pub LeadsFrom : Leading → Leading → List Step → List (Result Reply Refused) → Type 0
@@ -27,10 +16,6 @@ pub leads_more : (first now next : Leading) (steps : List Step) (outcomes : List
     → LeadsFrom first now steps outcomes → LeadsOn now step outcome next → LeadsFrom first next (steps ++ step ∷ []) (outcomes ++ outcome ∷ [])
 leads_more first now next steps outcomes step outcome far on rest more final h =
     rw (append_assoc steps (step ∷ []) rest, append_assoc outcomes (outcome ∷ []) more) (far (step ∷ rest) (outcome ∷ more) final (on rest more final h))
-
-pub leads_all : (first now : Leading) (steps : List Step) (outcomes : List (Result Reply Refused)) (final : Situation) → LeadsFrom first now steps outcomes
-    → now [] [] final → first steps outcomes final
-leads_all first now steps outcomes final far over = rw (append-nil steps, append-nil outcomes) at (far [] [] final over)
 
 -- some steps of a course were taken, from reset to here, and it can go on to its end
 pub record Along (protocol : Protocol) (shape : Extent) (first now : Leading) (here : Situation) : Type 0 where
@@ -74,15 +59,13 @@ module _ {protocol : Protocol} {shape : Extent} {first now : Leading} {here : Si
   -- what holds of these steps, which are all
   pub ends_here : (all : Leading) (final : Situation) → now [] [] final → all along.steps along.outcomes final → LeadsToEndWith first all
   ends_here all final over holds =
-      record { steps = along.steps; outcomes = along.outcomes; final = final; way = leads_all first now along.steps along.outcomes final along.leads over; holds = holds }
+      let way = rw (append-nil along.steps, append-nil along.outcomes) at (along.leads [] [] final over) in
+      record { steps = along.steps; outcomes = along.outcomes; final = final; way = way; holds = holds }
 
 -- a core's Asks, one step more at the head
 asks_first : (core : ℕ) (step : Step) (steps : List Step) → option_to_list (ask_of core step) ++ asks_of steps core ≡ asks_of (step ∷ steps) core
-asks_first core step steps = go (ask_of core step)
-  where
-    go : (asked : Option Work) → option_to_list asked ++ asks_of steps core ≡ cons_option asked (asks_of steps core)
-    go None = refl
-    go (Some work) = refl
+asks_first core step steps =
+    elim (ask_of core step) as (λ asked. option_to_list asked ++ asks_of steps core ≡ cons_option asked (asks_of steps core)) [ None ↦ refl | Some work ↦ refl ]
 
 -- a driver of rows leads on by its step
 pub driver_leads : (old new : Progress) (step : Step) (answer : Reply) → Advances old step answer new → LeadsOn (IsAtTheEnd old) step (Ok answer) (IsAtTheEnd new)
@@ -141,9 +124,6 @@ module _ (old new : InOrder) (step : Step) (answer : Reply) (follows : FollowsIn
       omega (arith, pays, paid_asks step, asked, left)
 
   module _ (steps : List Step) (outcomes : List (Result Reply Refused)) (final : Situation) (h : EndsInOrder new steps outcomes final) where
-    same : new.situation.shape ≡ old.situation.shape
-    same = same_shape old.situation new.situation step answer follows.move
-
     at_rest : (before after : List Step) (x : Step) → step ∷ steps ≡ before ++ x ∷ after → is_ask x ≡ true → LeadsToRest old.situation before
     at_rest [] after x split its =
         let same_step : step ≡ x = cc in
@@ -157,7 +137,7 @@ module _ (old new : InOrder) (step : Step) (answer : Reply) (follows : FollowsIn
     in_order_leads = record {
       run = (new.situation, (follows.move, h.run));
       taken = All-cons IsOk (Ok answer) outcomes refl h.taken;
-      asked = rw (all_asks_first step steps, follows.takes_up.asked, h.asked, same, follows.takes_up.left) (sym (map-append (ask_for old.situation.shape) follows.takes_up.first new.left));
+      asked = rw (all_asks_first step steps, follows.takes_up.asked, h.asked, same_shape old.situation new.situation step answer follows.move, follows.takes_up.left) (sym (map-append (ask_for old.situation.shape) follows.takes_up.first new.left));
       apart = at_rest;
       quiet = h.quiet;
       few = omega (arith, fewer_in_order, h.few);
@@ -210,17 +190,16 @@ module _ {protocol : Protocol} {shape : Extent} {rows : List Row} {start : InOrd
   in_order_serves = record { outcomes = outcomes; final = final; run = in_order_served.0; serves = in_order_served.1 }
 
 -- a step that a driver found, taken
-module _ {before old : Progress} {step : Step} (finds : Finds before step old) (new : Progress) (answer : Reply) (move : FirstMove old.situation step answer new.situation) where
-  pub driver_follows : new.lanes ≡ old.lanes → Advances before step answer new
-  driver_follows lanes =
-      let moved = rw finds.situation at move in
-      let takes_up = rw (← lanes) at finds.takes_up in
-      record { move = moved; takes_up = takes_up; fewer = leaves_fewer before new step answer moved takes_up }
+pub driver_follows : {before old : Progress} {step : Step} → Finds before step old → (new : Progress) (answer : Reply) → FirstMove old.situation step answer new.situation → new.lanes ≡ old.lanes
+    → Advances before step answer new
+driver_follows {before} {old} {step} finds new answer move lanes =
+    let moved = rw finds.situation at move in
+    let takes_up = rw (← lanes) at finds.takes_up in
+    record { move = moved; takes_up = takes_up; fewer = leaves_fewer before new step answer moved takes_up }
 
--- the same where rows are served one after another
-module _ {before old : InOrder} {step : Step} (finds : FindsInOrder before step old) (new : InOrder) (answer : Reply) (move : FirstMove old.situation step answer new.situation) where
-  pub in_order_follows : new.left ≡ old.left → FollowsInOrder before step answer new
-  in_order_follows left = record { move = rw finds.situation at move; takes_up = rw left finds.takes_up }
+pub in_order_follows : {before old : InOrder} {step : Step} → FindsInOrder before step old → (new : InOrder) (answer : Reply) → FirstMove old.situation step answer new.situation → new.left ≡ old.left
+    → FollowsInOrder before step answer new
+in_order_follows finds new answer move left = record { move = rw finds.situation at move; takes_up = rw left finds.takes_up }
 
 -- at the end
 pub in_order_end : (old : InOrder) (r : Option Step) → IsQuiet old.situation → IfNone r (old.left ≡ []) → IfNone r (EndsInOrder old [] [] old.situation)

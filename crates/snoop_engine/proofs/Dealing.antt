@@ -1,19 +1,9 @@
 -- What dealing the rows to their cores gives.
-use Rattle.std.proofs.Common.{◌≡◌, ◌≢◌, ℕ, zero, suc, ◌+◌, ◌<◌, Bool, None, List, [], ◌∷◌, ◌++◌, length, map, filter, append_assoc, refl, sym, ◌∙◌, ap, arith, inl, inr, get_or, ◌==◌, All, Contains, slice_set}
-use Rattle.snoop_engine.proofs.Common.{cases_eq, cases_lt, length_push, get_or_default, get_or_past, length-map, All-head, All-tail, All-push, Contains-push, Contains-append_left}
-use Rattle.snoop_engine.proofs.Common.{sum_by-cons, Extent, Asked, Op, Row, IsRowWithin, Work, Protocol, reset, turn_rule}
-use Rattle.std.proofs.lemmas.Bool.{cases_Bool, eq-eqb, ne_eqb}
-use Rattle.std.proofs.lemmas.List.{length-set, get_or-set_same, get_or-set_other}
-use Rattle.std.proofs.lemmas.List.Elements.{All-map, All-filter, All-weaker}
-use Rattle.std.proofs.lemmas.List.Sums.{sum_by-set}
-use Rattle.snoop_trace.specs.Words.{HasWord}
-use Rattle.snoop_trace.specs.Extent.{IsWithinLimits}
-use Rattle.snoop_trace.specs.Asked.{asked_of}
-use Rattle.snoop_trace.specs.declared.step.Op.TheVariants as op
-use Rattle.snoop_trace.proofs.WordPlaces.{asked_within}
-use Rattle.snoop_engine.specs.Round.{IsFit, IsWorkWithin}
-use Rattle.snoop_engine.specs.Packed.{largest}
-use Rattle.snoop_engine.specs.Todo.{IsAskedWithin, Todo, todo_of, nothing_to_do, lanes_under_way, left_in, work_of, works_by, works_of}
+use Rattle.snoop_engine.proofs.Common.{nat_tests, Evict, ◌≡◌, ◌≢◌, ℕ, ◌+◌, ◌<◌, Bool, None, List, [], ◌∷◌, ◌++◌, length, map, filter, append_assoc, refl, sym, ◌∙◌, ap, arith, inl, inr, get_or, ◌==◌, All, Contains, slice_set, cases_eq}
+use Rattle.snoop_engine.proofs.Common.{cases_lt, length_push, get_or_default, get_or_past, length-map, All-head, All-tail, All-push, Contains-push, Contains-append_left, Extent, Asked, Op, Row, IsRowWithin, Work}
+use Rattle.snoop_engine.proofs.Common.{Protocol, reset, turn_rule, cases_Bool, length-set, get_or-set_same, get_or-set_other, All-map, All-filter, All-weaker, sum_by-set, HasWord, IsWithinLimits, asked_of}
+use Rattle.snoop_engine.proofs.Common.{asked_within, IsFit, IsWorkWithin, largest, IsAskedWithin, Todo, todo_of, nothing_to_do, lanes_under_way, left_in, work_of, works_by, works_of}
+use Rattle.snoop_engine.proofs.Fewer.{left_same}
 
 -- all asks but those that are left have been dealt
 pub record Dealt (shape : Extent) (all rest : List Asked) (lanes : List Todo) : Type 0 where
@@ -23,17 +13,8 @@ pub record Dealt (shape : Extent) (all rest : List Asked) (lanes : List Todo) : 
   pub counted : left_in lanes + length rest ≡ length all
   pub within : All (IsAskedWithin shape) rest
 
-sum_empty : (lanes : List Todo) → All (λ lane. lane ≡ nothing_to_do) lanes → left_in lanes ≡ 0
-sum_empty [] none = refl
-sum_empty (t ∷ ts) none =
-    let first : length t.left ≡ 0 = ap (λ (x : Todo). length x.left) (none 0 nothing_to_do (omega arith)) in
-    let rest : left_in ts ≡ 0 = sum_empty ts (λ k d lt. none (suc k) d (omega arith)) in
-    omega (arith, sum_by-cons (λ (x : Todo). length x.left) t ts, first, rest)
-
 todo_empty : (lanes : List Todo) → All (λ lane. lane ≡ nothing_to_do) lanes → (core : ℕ) → todo_of lanes core ≡ nothing_to_do
-todo_empty [] none core = refl
-todo_empty (t ∷ ts) none zero = none 0 nothing_to_do (omega arith)
-todo_empty (t ∷ ts) none (suc core) = todo_empty ts (λ k d lt. none (suc k) d (omega arith)) core
+todo_empty lanes none core = elim (cases_lt core (length lanes)) [ inl there ↦ none core nothing_to_do there | inr past ↦ get_or_past lanes core nothing_to_do (omega arith) ]
 
 pub dealt_none : (shape : Extent) (all : List Asked) (lanes : List Todo) → All (IsAskedWithin shape) all → length lanes ≡ shape.cores → All (λ lane. lane ≡ nothing_to_do) lanes
     → Dealt shape all all lanes
@@ -41,7 +22,7 @@ dealt_none shape all lanes within cores none = record {
   cores = cores;
   left = λ core. ap (λ (t : Todo). t.left ++ works_by all core) (todo_empty lanes none core);
   idle = λ core. ap (λ (t : Todo). t.work) (todo_empty lanes none core);
-  counted = let empty = sum_empty lanes none in omega (arith, empty);
+  counted = (let empty : left_in lanes ≡ 0 = left_same lanes [] (λ k. ap (λ (t : Todo). length t.left) (todo_empty lanes none k)) in omega arith);
   within = within;
 }
 
@@ -62,14 +43,8 @@ module _ {shape : Extent} {all rest : List Asked} {lanes : List Todo} (dealt : D
         let other : (k : ℕ) → k ≢ asked.core → todo_of (slice_set lanes asked.core next) k ≡ todo_of lanes k = λ k ne. get_or-set_other lanes asked.core k next nothing_to_do ne in
         record {
           cores = length-set lanes asked.core next ∙ dealt.cores;
-          left = λ core. elim (cases_eq core asked.core) [
-            | inl e ↦ rw (e, here, left, append_assoc) (rw (was, first, eq-eqb asked.core asked.core refl) at (dealt.left asked.core))
-            | inr ne ↦ rw (other core ne) (rw (first, ne_eqb asked.core core (λ e. ne (sym e))) at (dealt.left core))
-          ];
-          idle = λ core. elim (cases_eq core asked.core) [
-            | inl e ↦ rw (e, here, work, ← was) (dealt.idle asked.core)
-            | inr ne ↦ rw (other core ne) (dealt.idle core)
-          ];
+          left = λ core. (let before = rw first at (dealt.left core) in grind (arith, nat_tests, here, other core, was, left, append_assoc));
+          idle = λ core. grind (arith, here, other core, was, work, dealt.idle core);
           counted =
               (let one : length next.left ≡ length (todo_of lanes asked.core).left + 1 = rw (left, was) (length_push old.left asked.work) in
               let set = sum_by-set (λ (t : Todo). length t.left) lanes asked.core next nothing_to_do has_lane in
@@ -105,7 +80,7 @@ left_of_rows shape rows asks lanes is left counted =
 
 -- a word below the shape's is there
 word_there : (shape : Extent) (word : ℕ) (asking : Op) → IsWithinLimits shape → word < shape.words → HasWord shape word asking
-word_there shape word op.Evict limits few = tt
+word_there shape word Evict limits few = tt
 word_there shape word _ limits few = (few, omega (arith, limits.words.1))
 
 -- each work is of a block and a word that there are

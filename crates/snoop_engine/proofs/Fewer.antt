@@ -1,9 +1,6 @@
 -- Each step of a driver leaves fewer to come.
-use Rattle.std.proofs.Common.{◌≡◌, ◌≢◌, ℕ, zero, suc, ◌+◌, ◌*◌, ◌<◌, List, [], ◌∷◌, length, ap, refl, sym, arith}
-use Rattle.snoop_engine.proofs.Common.{sum_by-cons, Step, Ask, Reply, FirstMove, steps_paid, turn_rule}
-use Rattle.std.proofs.lemmas.Bool.{eq-eqb, ne_eqb}
-use Rattle.snoop_engine.specs.Todo.{Todo, todo_of, left_in}
-use Rattle.snoop_engine.specs.Round.{Progress, TakesUp, remaining}
+use Rattle.snoop_engine.proofs.Common.{cases_lt, get_or_past, get_or-set_same, get_or-set_other, inl, inr, nothing_to_do, slice_set, sum_by-set, ◌≡◌, ◌≢◌, ℕ, suc, ◌+◌, ◌*◌, ◌<◌, List, [], ◌∷◌, length, ap, refl, sym, arith, sum_by-cons, Step, Ask, Reply, FirstMove, steps_paid, turn_rule, eq-eqb, ne_eqb, Todo, todo_of, left_in}
+use Rattle.snoop_engine.proofs.Common.{Progress, TakesUp, remaining}
 
 left_cons : (lane : Todo) (lanes : List Todo) → left_in (lane ∷ lanes) ≡ length lane.left + left_in lanes
 left_cons lane lanes = omega (arith, sum_by-cons (λ (t : Todo). length t.left) lane lanes)
@@ -18,16 +15,13 @@ left_same (x ∷ xs) (y ∷ ys) same = omega (arith, left_cons, same 0, left_sam
 -- one core has one row fewer left
 left_fewer : (xs ys : List Todo) (core : ℕ) → length (todo_of xs core).left ≡ 1 + length (todo_of ys core).left
     → ((k : ℕ) → k ≢ core → length (todo_of xs k).left ≡ length (todo_of ys k).left) → left_in xs ≡ 1 + left_in ys
-left_fewer [] [] core one same = omega (arith, one)
-left_fewer [] (y ∷ ys) zero one same = omega (arith, one)
-left_fewer (x ∷ xs) [] zero one same = omega (arith, left_cons, one, left_same xs [] (λ k. same (suc k) (λ e. omega (arith, e))))
-left_fewer (x ∷ xs) (y ∷ ys) zero one same = omega (arith, left_cons, one, left_same xs ys (λ k. same (suc k) (λ e. omega (arith, e))))
-left_fewer [] (y ∷ ys) (suc core) one same =
-    omega (arith, left_cons, same 0 (λ e. omega (arith, e)), left_fewer [] ys core one (λ k ne. same (suc k) (λ e. ne (omega (arith, e)))))
-left_fewer (x ∷ xs) [] (suc core) one same =
-    omega (arith, left_cons, same 0 (λ e. omega (arith, e)), left_fewer xs [] core one (λ k ne. same (suc k) (λ e. ne (omega (arith, e)))))
-left_fewer (x ∷ xs) (y ∷ ys) (suc core) one same =
-    omega (arith, left_cons, same 0 (λ e. omega (arith, e)), left_fewer xs ys core one (λ k ne. same (suc k) (λ e. ne (omega (arith, e)))))
+left_fewer xs ys core one same = elim (cases_lt core (length xs)) [
+  | inl there ↦
+      let lane : Todo = todo_of ys core in
+      let alike : left_in (slice_set xs core lane) ≡ left_in ys = left_same (slice_set xs core lane) ys (λ k. grind (arith, get_or-set_same xs core lane nothing_to_do there, get_or-set_other xs core k lane nothing_to_do, same k)) in
+      omega (arith, sum_by-set (λ (t : Todo). length t.left) xs core lane nothing_to_do there)
+  | inr past ↦ let none = ap (λ (t : Todo). length t.left) (get_or_past xs core nothing_to_do (omega arith)) in absurd (omega (arith, one, none))
+]
 
 -- what a step takes up is what it pays for
 left_paid : (old new : List Todo) (step : Step) → TakesUp old step new → 3 * left_in old ≡ steps_paid step + 3 * left_in new

@@ -1,8 +1,6 @@
 -- Frames: as a run, and one after another.
-use Rattle.std.proofs.Common.{◌≡◌, List, [], ◌∷◌, ◌++◌, refl, ap, ◌∙◌, Result}
-use Rattle.snoop_engine.proofs.Common.{Step, Reply, Refused, Situation, reset, FirstRunFrom}
-use Rattle.snoop_engine.specs.Frames.{Frame, FramesAreTheRun, FramesFrom, outcomes_of, steps_of}
-use Rattle.snoop_engine.proofs.TakenLemmas.{goes_alike}
+use Rattle.snoop_engine.proofs.Common.{◌≡◌, List, [], ◌∷◌, ◌++◌, refl, ap, Result, Step, Reply, Refused, Situation, reset, FirstRunFrom, Frame, FramesAreTheRun, FramesFrom, outcomes_of, steps_of}
+use Rattle.snoop_engine.proofs.TakenLemmas.{run_alike}
 
 -- frames are a run
 frames_run : (frames : List Frame) (old new : Situation) → FramesFrom old frames new → FirstRunFrom old (steps_of frames) (outcomes_of frames) new
@@ -28,12 +26,4 @@ frames_on (f ∷ fs) rest old middle new run later = (run.0, frames_on fs rest f
 
 -- frames keep the protocol and the shape
 pub frames_keep : (frames : List Frame) (old new : Situation) → FramesFrom old frames new → (new.protocol ≡ old.protocol) × (new.shape ≡ old.shape)
-frames_keep [] old new run = (ap (λ (s : Situation). s.protocol) run, ap (λ (s : Situation). s.shape) run)
-frames_keep (f ∷ fs) old new run =
-    let one = goes_alike f.before f.step f.outcome f.after run.0.goes in
-    let rest = frames_keep fs f.after new run.1 in
-    (rest.0 ∙ one.0 ∙ ap (λ (s : Situation). s.protocol) run.0.before, rest.1 ∙ one.1 ∙ ap (λ (s : Situation). s.shape) run.0.before)
-
-pub steps_of_on : (first rest : List Frame) → steps_of (first ++ rest) ≡ steps_of first ++ steps_of rest
-steps_of_on [] rest = refl
-steps_of_on (f ∷ fs) rest = ap (λ (l : List Step). f.step ∷ l) (steps_of_on fs rest)
+frames_keep frames old new run = run_alike (steps_of frames) (outcomes_of frames) old new (frames_run frames old new run)

@@ -1,15 +1,7 @@
 -- A driver that serves rows one after another: what its steps need, and what they keep.
-use Rattle.std.proofs.Common.{◌≡◌, ℕ, ◌/◌, Bool, true, false, cond, Option, Some, None, List, [], ◌∷◌, refl, sym, ◌∙◌, ◌==◌, IfNone, IfSome, lt-ltb, subst}
-use Rattle.snoop_engine.proofs.Common.{All-head, All-tail, Extent, IsRowWithin, word_asked, Op, Row, Step, Ask, Respond, Request, waiting_request, Open, Reply, FirstMove, Situation}
-use Rattle.snoop_engine.proofs.Common.{picture_of, state_of, IsQuiet, IsUnderWay, turn_of, turn_rule}
-use Rattle.std.proofs.lemmas.Bool.{eq-eqb, ne_eqb}
-use Rattle.snoop_trace.specs.Grammar.{block_at}
-use Rattle.snoop_trace.proofs.WordPlaces.{word_there}
-use Rattle.snoop_model.specs.Turns.Turn.{step_under_way}
-use Rattle.snoop_engine.specs.InOrder.{InOrder, IsInOrder, TakesUpNext, row_under_way}
-use Rattle.snoop_engine.specs.UnderWay.{ServesOnly, nothing, only}
-use Rattle.snoop_engine.specs.Round.{IsEnabled}
-use Rattle.snoop_engine.specs.Serial.{ask_for, is_ask}
+use Rattle.snoop_engine.proofs.Common.{ask_of, ◌≡◌, ℕ, ◌/◌, true, false, cond, Option, Some, None, List, [], ◌∷◌, refl, sym, ◌∙◌, ◌==◌, IfNone, IfSome, lt-ltb, subst, All-head, All-tail, Extent, IsRowWithin, word_asked, Op, Row}
+use Rattle.snoop_engine.proofs.Common.{Step, Ask, Respond, Request, waiting_request, Open, Reply, FirstMove, Situation, picture_of, state_of, IsQuiet, IsUnderWay, turn_of, turn_rule, eq-eqb, ne_eqb, block_at, word_there}
+use Rattle.snoop_engine.proofs.Common.{step_under_way, InOrder, IsInOrder, TakesUpNext, row_under_way, ServesOnly, nothing, only, IsEnabled, ask_for, is_ask}
 use Rattle.snoop_engine.proofs.TakenLemmas.{same_shape}
 
 -- a core whose block is under way
@@ -18,17 +10,14 @@ here core block = rw (eq-eqb core core refl)
 
 -- a step of work under way is no Ask
 abbrev pub AsksNothing : Step → Type 0
-AsksNothing step = (is_ask step ≡ false) × ((under_way : ℕ → Option ℕ) → IsUnderWay under_way step)
+AsksNothing step = (is_ask step ≡ false) × ((under_way : ℕ → Option ℕ) → IsUnderWay under_way step) × ((core : ℕ) → ask_of core step ≡ None)
 
 asks_nothing : (request : Option Request) (open_there : Option Open) (core block : ℕ) → IfSome (step_under_way request open_there core block) AsksNothing
 asks_nothing None None core block = tt
-asks_nothing None (Some transaction) core block = go (transaction.core == core)
-  where
-    go : (own : Bool) → IfSome (cond {A = Option Step} own (Some (Respond block)) None) AsksNothing
-    go true = (refl, λ under_way. tt)
-    go false = tt
-asks_nothing (Some request) None core block = (refl, λ under_way. tt)
-asks_nothing (Some request) (Some transaction) core block = (refl, λ under_way. tt)
+asks_nothing None (Some transaction) core block =
+    elim (transaction.core == core) as (λ own. IfSome (cond {A = Option Step} own (Some (Respond block)) None) AsksNothing) [ true ↦ (refl, λ under_way. tt, λ core. refl) | false ↦ tt ]
+asks_nothing (Some request) None core block = (refl, λ under_way. tt, λ core. refl)
+asks_nothing (Some request) (Some transaction) core block = (refl, λ under_way. tt, λ core. refl)
 
 pub under_way_asks_nothing : (s : Situation) (core block word : ℕ) (asking : Op) (r : Option Step) → r ≡ turn_of s core block word asking true
     → IfSome r AsksNothing
@@ -39,13 +28,10 @@ pub serves_any : (s : Situation) (some : ℕ → Option ℕ) → ServesOnly noth
 serves_any s some serves = record {
   kept = serves.kept;
   serving = record {
-    waits = λ core i d lt. absurd (never _ (serves.serving.waits core i d lt));
-    opened = λ block transaction is. absurd (never block (serves.serving.opened block transaction is));
+    waits = λ core i d lt. cc (serves.serving.waits core i d lt);
+    opened = λ block transaction is. cc (serves.serving.opened block transaction is);
   };
 }
-  where
-    never : (block : ℕ) → ◌≡◌ {A = Option ℕ} None (Some block) → ⊥
-    never block e = cc
 
 -- nothing waits and nothing is open
 pub at_rest : (s : Situation) → ServesOnly nothing s → IsQuiet s

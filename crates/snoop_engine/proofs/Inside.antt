@@ -1,7 +1,8 @@
--- What a getter answers that answers inside a shape alone.
-use Rattle.std.proofs.Common.{◌≡◌, ℕ, ◌<◌, Bool, Option, Some, None, true, false, cond, refl, sym, ap, ◌∙◌, arith, ◌&&◌, IfSome, IsSome, is_some, nat_lt, option_map, if◌then◌else◌}
-use Rattle.snoop_engine.proofs.Common.{nat_tests, same_Some, CacheState, Open, Situation, state_of}
-use Rattle.snoop_engine.specs.Taken.{state_at}
+-- What a getter answers that answers inside a shape alone, and what a core's line says nothing of: values in a state that may not be read, a place where no request waits.
+use Rattle.snoop_engine.proofs.Common.{◌≡◌, ℕ, ◌<◌, Bool, Option, Some, None, true, false, cond, refl, sym, ap, ◌∙◌, arith, ◌&&◌, IfSome, IsSome, is_some, nat_lt, option_map, if◌then◌else◌, nat_tests, same_Some, CacheState, Open}
+use Rattle.snoop_engine.proofs.Common.{Situation, state_of, state_at, List, [], ◌∷◌, length, ◌==◌, count_by, flat_map, range_with_len, sum_by-cons, word_at, waiting_request, queue_of, held_by, picture_of, keeps}
+use Rattle.snoop_engine.proofs.Common.{position_or_len, le-ltb, kept_at, kept_text, place_text, value_text}
+use Rattle.snoop_model.specs.Pictures.InQueue.{IsInQueue}
 
 pub inside_one : {A : Type 0} (r v : Option A) (n b : ℕ) → (b < n → r ≡ v) → IfSome r (λ _. b < n) → r ≡ (if nat_lt b n then v else None)
 inside_one None v n b inside outside = grind (arith, nat_tests, inside)
@@ -23,8 +24,32 @@ is_opened None requestor named e is t = sym (e ∙ ap is_some is) ∙ t
 
 -- a state that is found is the core's
 pub state_there : (s : Situation) (core block : ℕ) (state : CacheState) → state_at s core block ≡ Some state → state_of s core block ≡ state
-state_there s core block state = go (nat_lt core s.shape.cores && nat_lt block s.shape.blocks)
+state_there s core block state =
+    elim (nat_lt core s.shape.cores && nat_lt block s.shape.blocks) as (λ there. cond {A = Option CacheState} there (Some (state_of s core block)) None ≡ Some state → state_of s core block ≡ state)
+    [ true ↦ λ e. same_Some _ _ e | false ↦ λ e. cc ]
+
+no_texts : (f : ℕ → List ℕ) → ((k : ℕ) → f k ≡ []) → (ks : List ℕ) → flat_map f ks ≡ []
+no_texts f none [] = refl
+no_texts f none (k ∷ ks) = rw (none k) (no_texts f none ks)
+
+pub none_kept : (s : Situation) (core block : ℕ) (state : CacheState) → Some state ≡ state_at s core block → is_some (held_by (picture_of s block) core).kept ≡ keeps (state_of s core block) → keeps state ≡ false → kept_text s core block ≡ []
+none_kept s core block state at kept unread =
+    let hidden : is_some (held_by (picture_of s block) core).kept ≡ false = rw (kept, state_there s core block state (sym at)) unread in
+    no_texts (λ word. value_text word (kept_at s core block word)) (λ word. ap (value_text word) (of_kept (held_by (picture_of s block) core).kept (nat_lt core s.shape.cores && nat_lt block s.shape.blocks && nat_lt word s.shape.words) word hidden))
+    (range_with_len 0 s.shape.words)
   where
-    go : (there : Bool) → cond {A = Option CacheState} there (Some (state_of s core block)) None ≡ Some state → state_of s core block ≡ state
-    go true e = same_Some _ _ e
-    go false e = cc
+    of_kept : (kept : Option (List ℕ)) (within : Bool) (word : ℕ) → is_some kept ≡ false → cond {A = Option ℕ} within (option_map (λ ws. word_at ws word) kept) None ≡ None
+    of_kept None true word hidden = refl
+    of_kept None false word hidden = refl
+    of_kept (Some ws) within word hidden = cc
+
+none_before : (block : ℕ) (queue : List ℕ) → count_by (λ b. b == block) queue ≡ 0 → position_or_len (λ b. b == block) queue ≡ length queue
+none_before block [] none = refl
+none_before block (b ∷ bs) none = grind (arith, nat_tests, none_before block bs, sum_by-cons (λ (k : ℕ). cond (k == block) 1 0) b bs)
+
+pub none_placed : (s : Situation) (core block : ℕ) (state : CacheState) → Some state ≡ state_at s core block → IsInQueue s core block → is_some (waiting_request state) ≡ false → place_text s core block ≡ []
+none_placed s core block state at queued still =
+    let idle : is_some (waiting_request (state_of s core block)) ≡ false = rw (state_there s core block state (sym at)) still in
+    let past = none_before block (queue_of s.queues core) (rw idle at queued) in
+    let after = le-ltb (position_or_len (λ b. b == block) (queue_of s.queues core)) (length (queue_of s.queues core)) (omega (arith, past)) in
+    rw after

@@ -1,10 +1,6 @@
 -- Frames with their numbers, when one frame more is seen, and which of them are shown.
-use Rattle.std.proofs.Common.{◌≡◌, ℕ, ◌+◌, true, false, List, [], ◌∷◌, ◌++◌, Option, Some, None, length, refl, ap, ◌∙◌, arith, is_none}
-use Rattle.snoop_engine.proofs.Common.{Situation}
-use Rattle.std.proofs.lemmas.Bool.{and_left, and_parts}
-use Rattle.snoop_engine.specs.Chosen.{Chosen, is_chosen, is_shown, is_in_range}
-use Rattle.snoop_engine.specs.Frames.{Frame}
-use Rattle.snoop_engine.specs.Numbered.{Numbered, led_to, numbered_from}
+use Rattle.snoop_engine.proofs.Common.{◌≡◌, ℕ, ◌+◌, true, false, List, [], ◌∷◌, ◌++◌, Option, Some, None, length, refl, ap, ◌∙◌, arith, is_none, Situation, and_left, and_parts, Chosen, is_chosen, is_shown, is_in_range, Frame}
+use Rattle.snoop_engine.proofs.Common.{Numbered, led_to, numbered_from}
 
 -- a frame with its number
 abbrev pub numbered : ℕ → Frame → Numbered

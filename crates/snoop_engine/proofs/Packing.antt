@@ -1,46 +1,18 @@
--- Packed steps, and one more.
-use Rattle.std.proofs.Common.{◌≡◌, ℕ, zero, suc, ◌+◌, ◌≤◌, List, [], ◌∷◌, ◌++◌, length, length-append, drop, slice_index_or, refl, arith}
-use Rattle.std.proofs.lemmas.List.{length-drop}
-use Rattle.snoop_engine.specs.declared.packed.Kind.{Kind}
+-- Packed steps, one more, and steps that all ask.
+use Rattle.snoop_engine.proofs.Common.{◌≡◌, ℕ, ◌+◌, ◌≤◌, List, [], ◌∷◌, ◌++◌, length, length-append, drop, slice_index_or, refl, arith, length-drop, step_by, step_of_head, steps_in, stored_by, stored_in, worded_by, worded_in, ◌<◌}
+use Rattle.snoop_engine.proofs.Common.{◌^◌, map, sym, ◌∙◌, ap, Result, Ok, Err, OnOk, OnErr, length-map, map-append, Asked, Step, Ask, step_of, asked_by}
+use Rattle.std.proofs.lemmas.List.{drop-append-le, get_or_append_left}
+use Rattle.snoop_engine.specs.declared.packed.{Kind.Kind, Head.Head}
 use Rattle.snoop_engine.specs.declared.packed.Kind.TheVariants as kind
-use Rattle.snoop_engine.specs.declared.packed.Head.{Head}
-use Rattle.snoop_engine.specs.Packed.{step_by, step_of_head, steps_in, stored_by, stored_in, worded_by, worded_in}
-
--- a longer list begins as the list does
-first_on : (xs more : List ℕ) → 1 ≤ length xs → slice_index_or (xs ++ more) 0 0 ≡ slice_index_or xs 0 0
-first_on [] more few = absurd (omega arith)
-first_on (x ∷ xs) more few = refl
-
--- no more than one of a list's elements, dropped from a longer list
-dropped_on : (n : ℕ) (xs more : List ℕ) → n ≤ 1 → n ≤ length xs → drop n (xs ++ more) ≡ drop n xs ++ more
-dropped_on zero xs more one few = refl
-dropped_on (suc zero) (x ∷ xs) more one few = refl
-dropped_on _ xs more one few = absurd (omega arith)
-
-few_words : (k : Kind) → worded_by k ≤ 1
-few_words kind.Load = omega arith
-few_words _ = omega arith
-
-few_values : (k : Kind) → stored_by k ≤ 1
-few_values kind.Load = omega arith
-few_values _ = omega arith
 
 -- a head's step is the same with more words and values after its own
 step_on : (k : Kind) (h : Head) (ws mw vs mv : List ℕ) → worded_by k ≤ length ws → stored_by k ≤ length vs
     → step_by k h (slice_index_or (ws ++ mw) 0 0) (slice_index_or (vs ++ mv) 0 0) ≡ step_by k h (slice_index_or ws 0 0) (slice_index_or vs 0 0)
-step_on kind.Store h ws mw vs mv w v = rw (first_on vs mv v)
-step_on kind.LoadOfWord h ws mw vs mv w v = rw (first_on ws mw w)
-step_on kind.StoreOfWord h ws mw vs mv w v = rw (first_on ws mw w, first_on vs mv v)
-step_on kind.EvictOfWord h ws mw vs mv w v = rw (first_on ws mw w)
+step_on kind.Store h ws mw vs mv w v = rw (get_or_append_left vs mv 0 0 v)
+step_on kind.LoadOfWord h ws mw vs mv w v = rw (get_or_append_left ws mw 0 0 w)
+step_on kind.StoreOfWord h ws mw vs mv w v = rw (get_or_append_left ws mw 0 0 w, get_or_append_left vs mv 0 0 v)
+step_on kind.EvictOfWord h ws mw vs mv w v = rw (get_or_append_left ws mw 0 0 w)
 step_on _ h ws mw vs mv w v = refl
-
-worded_more : (hs : List Head) (h : Head) → worded_in (hs ++ h ∷ []) ≡ worded_in hs + worded_by h.kind
-worded_more [] h = omega arith
-worded_more (k ∷ ks) h = let more = worded_more ks h in omega arith
-
-stored_more : (hs : List Head) (h : Head) → stored_in (hs ++ h ∷ []) ≡ stored_in hs + stored_by h.kind
-stored_more [] h = omega arith
-stored_more (k ∷ ks) h = let more = stored_more ks h in omega arith
 
 -- a head at the end, with its word and what it stores
 pub steps_more : (hs : List Head) (ws vs : List ℕ) (h : Head) (mw mv : List ℕ) → worded_in hs ≡ length ws → stored_in hs ≡ length vs
@@ -49,24 +21,60 @@ steps_more [] [] [] h mw mv e f = refl
 steps_more (k ∷ ks) ws vs h mw mv e f =
     let w : worded_by k.kind ≤ length ws = omega (arith, e) in
     let v : stored_by k.kind ≤ length vs = omega (arith, f) in
-    let rest_w : worded_in ks ≡ length (drop (worded_by k.kind) ws) = omega (arith, e, w, length-drop (worded_by k.kind) ws) in
-    let rest_v : stored_in ks ≡ length (drop (stored_by k.kind) vs) = omega (arith, f, v, length-drop (stored_by k.kind) vs) in
-    rw (
-      step_on k.kind k ws mw vs mv w v,
-      dropped_on (worded_by k.kind) ws mw (few_words k.kind) w,
-      dropped_on (stored_by k.kind) vs mv (few_values k.kind) v,
-      steps_more ks (drop (worded_by k.kind) ws) (drop (stored_by k.kind) vs) h mw mv rest_w rest_v,
-    )
+    rw (step_on k.kind k ws mw vs mv w v, drop-append-le (worded_by k.kind) ws mw w, drop-append-le (stored_by k.kind) vs mv v)
+    (rw (steps_more ks (drop (worded_by k.kind) ws) (drop (stored_by k.kind) vs) h mw mv (omega (arith, e, length-drop (worded_by k.kind) ws)) (omega (arith, f, length-drop (stored_by k.kind) vs))))
 steps_more _ ws vs h mw mv e f = absurd (omega arith)
 
--- as many words and values stand in a queue as its heads have
-pub worded_after : (hs : List Head) (ws more : List ℕ) (h : Head) → worded_by h.kind ≡ length more → worded_in hs ≡ length ws → worded_in (hs ++ h ∷ []) ≡ length (ws ++ more)
-worded_after hs ws more h one e = omega (arith, worded_more hs h, length-append ws more)
+-- as many words, or values, stand in a queue as its heads have
+module _ (by : Kind → ℕ) (in_all : List Head → ℕ) (none : in_all [] ≡ 0) (first : (h : Head) (hs : List Head) → in_all (h ∷ hs) ≡ by h.kind + in_all hs) where
+  in_longer : (hs : List Head) (h : Head) → in_all (hs ++ h ∷ []) ≡ in_all hs + by h.kind
+  in_longer [] h = omega (arith, none, first h [])
+  in_longer (k ∷ ks) h = omega (arith, first k ks, first k (ks ++ h ∷ []), in_longer ks h)
 
-pub stored_after : (hs : List Head) (vs more : List ℕ) (h : Head) → stored_by h.kind ≡ length more → stored_in hs ≡ length vs → stored_in (hs ++ h ∷ []) ≡ length (vs ++ more)
-stored_after hs vs more h one e = omega (arith, stored_more hs h, length-append vs more)
+  pub counted_after : (hs : List Head) (values more : List ℕ) (h : Head) → by h.kind ≡ length more → in_all hs ≡ length values → in_all (hs ++ h ∷ []) ≡ length (values ++ more)
+  counted_after hs values more h one e = omega (arith, in_longer hs h, length-append values more)
 
 -- there is a step for each head
 pub steps_counted : (hs : List Head) (ws vs : List ℕ) → length (steps_in hs ws vs) ≡ length hs
 steps_counted [] ws vs = refl
 steps_counted (h ∷ hs) ws vs = let more = steps_counted hs (drop (worded_by h.kind) ws) (drop (stored_by h.kind) vs) in omega arith
+
+-- one more Ask asks for one thing more
+pub asked_more : (old new : List Step) (asked : Asked) → new ≡ old ++ step_of asked ∷ [] → asked_by new ≡ asked_by old ++ asked ∷ []
+asked_more old new asked is = ap asked_by is ∙ go old
+  where
+    go : (steps : List Step) → asked_by (steps ++ step_of asked ∷ []) ≡ asked_by steps ++ asked ∷ []
+    go [] = refl
+    go (Ask core block word asking ∷ steps) = ap (λ (l : List Asked). record { core = core; work = record { block = block; word = word; op = asking } } ∷ l) (go steps)
+    go (_ ∷ steps) = go steps
+
+-- and all steps ask still
+pub all_ask : (old new : List Step) (asked : Asked) → old ≡ map step_of (asked_by old) → new ≡ old ++ step_of asked ∷ [] → new ≡ map step_of (asked_by new)
+all_ask old new asked kept is =
+    rw (is, asked_more old (old ++ step_of asked ∷ []) asked refl, map-append step_of (asked_by old) (asked ∷ []), ← kept)
+
+-- there is an Ask for each
+pub asked_counted : (steps : List Step) → steps ≡ map step_of (asked_by steps) → length (asked_by steps) ≡ length steps
+asked_counted steps kept = sym (ap (λ (l : List Step). length l) kept ∙ length-map (asked_by steps) step_of)
+
+-- so the first asks
+pub first_asks : (steps rest : List Step) (step : Step) → steps ≡ map step_of (asked_by steps) → steps ≡ step ∷ rest
+    → ((core block word : _) (asking : _) → step ≡ Ask core block word asking → ⊥) → ⊥
+first_asks steps rest step kept first none =
+    (elim (asked_by steps) as (λ asks. step ∷ rest ≡ map step_of asks → ⊥) [ [] ↦ λ e. cc | asked ∷ asks ↦ λ e. none asked.core asked.work.block asked.work.word asked.work.op (cc) ])
+    (sym first ∙ kept)
+
+-- the same where there may have been no memory for it
+pub still_ask : {E : Type 0} (r : Result (Unit {0}) E) (old new : List Step) (asked : Asked) → old ≡ map step_of (asked_by old) → OnOk r (new ≡ old ++ step_of asked ∷ []) → OnErr r (new ≡ old)
+    → new ≡ map step_of (asked_by new)
+still_ask (Ok u) old new asked kept ok err = all_ask old new asked kept ok
+still_ask (Err e) old new asked kept ok err = rw err kept
+
+pub one_more : {E : Type 0} (r : Result (Unit {0}) E) (old new : List Step) (asked : Asked) (shown : List Asked) → asked_by old ≡ shown → OnOk r (new ≡ old ++ step_of asked ∷ [])
+    → OnOk r (asked_by new ≡ shown ++ asked ∷ [])
+one_more (Ok u) old new asked shown view ok = asked_more old new asked ok ∙ ap (λ (l : List Asked). l ++ asked ∷ []) view
+one_more (Err e) old new asked shown view ok = tt
+
+pub few_asks : {E : Type 0} (r : Result (Unit {0}) E) (new : List Step) → new ≡ map step_of (asked_by new) → OnOk r (length new < 2 ^ 63) → OnOk r (length (asked_by new) < 2 ^ 63)
+few_asks (Ok u) new kept few = rw (asked_counted new kept) few
+few_asks (Err e) new kept few = tt

@@ -1,23 +1,12 @@
 -- The frames that a view was shown: what was written of them, or stands in the chunk.
-use Rattle.std.proofs.Common.{◌≡◌, ℕ, ◌+◌, List, [], ◌∷◌, ◌++◌, length, length-append, Option, refl, sym, ap, ◌∙◌, append_assoc, append-nil, arith, Result, Ok, Err, IsErrAnd, subst}
-use Rattle.snoop_engine.proofs.Common.{Appends, Extent, AppendsFront, Gathers, Spills, Step, Protocol, WriteFault, gathers_cut, gathers_done, gathers_more, gathers_spilled, gathers_stop}
-use Rattle.snoop_engine.proofs.Common.{appends_none_of, Reply, Refused, Situation, reset, GoesFirst, RunsGoOn, TheRun}
+use Rattle.snoop_engine.proofs.Common.{map-append, ◌≡◌, ℕ, ◌+◌, List, [], ◌∷◌, ◌++◌, length, length-append, Option, refl, sym, ap, ◌∙◌, append_assoc, append-nil, arith, Result, Ok, Err, IsErrAnd, subst, Appends, Extent, AppendsFront, Gathers}
+use Rattle.snoop_engine.proofs.Common.{Spills, Step, Protocol, WriteFault, gathers_cut, gathers_done, gathers_more, gathers_spilled, gathers_stop, appends_none_of, Reply, Refused, Situation, reset, GoesFirst, RunsGoOn, TheRun}
+use Rattle.snoop_engine.proofs.Common.{appends_none, CanEnd, LeadsToEndWith, Leading, LeadsOn, fault_of_write, AreFrames, Frame, FramesFrom, GivesSteps, lines_of_step, IsNextSeen, block_of_step, frame_seen, shown, view_text}
+use Rattle.snoop_engine.proofs.Common.{SimFault, Seen}
 use Rattle.snoop_trace.specs.declared.fault.WriteFault.TheVariants as write
-use Rattle.snoop_trace.proofs.OutputLemmas.{appends_none}
-use Rattle.snoop_engine.specs.Courses.{CanEnd, LeadsToEndWith, Leading, LeadsOn}
-use Rattle.snoop_engine.specs.Fault.{fault_of_write}
-use Rattle.snoop_engine.specs.Frames.{AreFrames, Frame, FramesFrom}
-use Rattle.snoop_engine.specs.Inputs.{GivesSteps}
-use Rattle.snoop_engine.specs.SimulatedView.{BeginsToShow, ShowsRun, SimulatesView}
-use Rattle.snoop_engine.specs.Taken.{lines_of_step}
-use Rattle.snoop_engine.specs.Views.{IsNextSeen, block_of_step, frame_seen, shown, view_text}
-use Rattle.snoop_engine.specs.declared.fault.SimFault.{SimFault}
-use Rattle.snoop_engine.specs.declared.input.Input.{Input}
-use Rattle.snoop_engine.specs.declared.fault.SimFault.TheVariants.{Text, NoMemory, Write}
-use Rattle.snoop_engine.specs.declared.seen.Seen.{Seen}
-use Rattle.snoop_engine.proofs.TrueLines.{lines_fit}
-use Rattle.snoop_engine.proofs.CourseLemmas.{Along, along_more, along_none, ends_here, ends_on}
-use Rattle.snoop_engine.proofs.FrameLemmas.{are_the_run, framed, frames_keep, frames_on, steps_of_on}
+use Rattle.snoop_engine.specs.{SimulatedView.BeginsToShow, SimulatedView.ShowsRun, SimulatedView.SimulatesView, declared.input.Input.Input, declared.fault.SimFault.TheVariants.Text}
+use Rattle.snoop_engine.proofs.{TrueLines.lines_fit, CourseLemmas.Along, CourseLemmas.along_more, CourseLemmas.along_none, CourseLemmas.ends_here, CourseLemmas.ends_on, FrameLemmas.are_the_run, FrameLemmas.framed}
+use Rattle.snoop_engine.proofs.{FrameLemmas.frames_keep, FrameLemmas.frames_on}
 
 -- what is shown of more frames comes after what is shown of the first
 pub shown_on : (shows : List Frame → Frame → List ℕ) (before first rest : List Frame) → shown shows before (first ++ rest) ≡ shown shows before first ++ shown shows (before ++ first) rest
@@ -42,7 +31,7 @@ module _ (protocol : Protocol) (shape : Extent) (heading : List ℕ) (shows : Li
       let further = go_on protocol shape steps left outcomes to run in
       let more = framed left further.0 to further.1.0 further.1.1 in
       let all : AreFrames protocol shape (steps ++ left) (frames ++ more.0) further.1.0 = record {
-        whole = rw (steps_of_on frames more.0, are.whole, more.1.0);
+        whole = rw (map-append (λ (f : Frame). f.step) frames more.0, are.whole, more.1.0);
         run = frames_on frames more.0 (reset protocol shape) to further.1.0 are.run more.1.1;
       } in
       begins_to_show all (simp (shown_on shows [] frames more.0, append_assoc) (simp append_assoc at (cut (shown shows frames more.0 ++ ending (frames ++ more.0) further.1.0))))
@@ -112,7 +101,7 @@ module _ {protocol : Protocol} {shape : Extent} {heading : Protocol → Extent �
         along = along_more far.along next what.step what.outcome after goes on can_end;
         frames = far.frames ++ frame_seen to what after ∷ [];
         counted = place ∙ omega (arith, length-append far.frames (frame ∷ []));
-        are = record { whole = steps_of_on far.frames (frame ∷ []) ∙ ap (λ (l : List Step). l ++ what.step ∷ []) far.are.whole; run = run };
+        are = record { whole = map-append (λ (f : Frame). f.step) far.frames (frame ∷ []) ∙ ap (λ (l : List Step). l ++ what.step ∷ []) far.are.whole; run = run };
         has_seen = one.0;
         lines = simp (shown_on (shows protocol shape) [] far.frames (frame ∷ []), append-nil, ← append_assoc)
             (gathers_more a b chunk grown _ _ far.lines one.1);
@@ -188,5 +177,4 @@ module _ (protocol : Protocol) (shape : Extent) (one other : List Frame → Situ
       → SimulatesView protocol shape input one bytes result a b → SimulatesView protocol shape input other bytes result a b
   same_view input bytes (Ok u) a b h = (h.0, (h.1.0, same_shown h.0 a b h.1.1))
   same_view input bytes (Err (Text fault)) a b h = h
-  same_view input bytes (Err NoMemory) a b h = (h.0, (h.1.0, same_begun h.0 a b h.1.1))
-  same_view input bytes (Err Write) a b h = (h.0, (h.1.0, same_begun h.0 a b h.1.1))
+  same_view input bytes (Err _) a b h = (h.0, (h.1.0, same_begun h.0 a b h.1.1))

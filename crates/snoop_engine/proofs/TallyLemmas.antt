@@ -1,42 +1,27 @@
 -- Counters, one of which goes up.
-use Rattle.std.proofs.Common.{◌≡◌, ℕ, ◌+◌, ◌*◌, ◌<◌, Bool, true, false, ◌&&◌, List, [], ◌∷◌, ◌++◌, cond, filter, length, length-append, get_or, set, replicate, sym, ◌∙◌, inl, inr, arith, ◌==◌, Some}
-use Rattle.snoop_engine.proofs.Common.{cases_eq, nat_tests, common_steps, CacheState, CacheEvent, MemState, MemEvent}
-use Rattle.std.proofs.lemmas.Bool.{eq-eqb, ne_eqb}
-use Rattle.std.proofs.lemmas.List.{length-replicate, length-set, get_or-replicate, get_or-set_other, get_or-set_same}
-use Rattle.std.proofs.lemmas.List.Elements.{filter-append}
-use Rattle.snoop_rules.specs.declared.names.CacheState.TheVariants as state
-use Rattle.snoop_rules.specs.declared.names.CacheEvent.TheVariants as event
-use Rattle.snoop_rules.specs.declared.names.MemState.TheVariants as mem_state
-use Rattle.snoop_rules.specs.declared.names.MemEvent.TheVariants as mem_event
+use Rattle.snoop_engine.proofs.Common.{I, ◌≡◌, ℕ, ◌+◌, ◌*◌, ◌<◌, Bool, true, false, ◌&&◌, List, [], ◌∷◌, ◌++◌, cond, filter, length, length-append, get_or, set, replicate, sym, ◌∙◌, arith, ◌==◌, Some, nat_tests}
+use Rattle.snoop_engine.proofs.Common.{common_steps, CacheState, CacheEvent, MemState, MemEvent, ne_eqb, length-replicate, length-set, get_or-replicate, get_or-set_other, get_or-set_same, filter-append, takes_memory_row}
+use Rattle.snoop_engine.proofs.Common.{takes_row, Tallies, core_place, memory_place, Taken, Core, Memory}
+use Rattle.snoop_rules.specs.declared.names.{CacheEvent.TheVariants.Load, MemEvent.TheVariants.GetS, MemState.TheVariants.IorS}
 use Rattle.snoop_history.specs.Totals.{capped}
 use Rattle.snoop_engine.specs.Numbers.{event_number, memory_event_number, memory_state_number, state_number}
-use Rattle.snoop_engine.specs.Counts.{takes_memory_row, takes_row}
-use Rattle.snoop_engine.specs.Tallies.{Tallies, core_place, memory_place}
-use Rattle.snoop_engine.specs.declared.taken.Taken.{Taken}
-use Rattle.snoop_engine.specs.declared.taken.Taken.TheVariants.{Core, Memory}
 
 -- the numbers are within the tables
-state_within : (s : CacheState) → state_number s < 13
-state_within state.I = omega arith
-state_within _ = omega arith
-
 event_within : (e : CacheEvent) → event_number e < 11
-event_within event.Load = omega arith
+event_within Load = omega arith
 event_within _ = omega arith
 
-memory_state_within : (s : MemState) → memory_state_number s < 10
-memory_state_within mem_state.IorS = omega arith
-memory_state_within _ = omega arith
-
 memory_event_within : (e : MemEvent) → memory_event_number e < 6
-memory_event_within mem_event.GetS = omega arith
+memory_event_within GetS = omega arith
 memory_event_within _ = omega arith
 
 core_below : (s : CacheState) (e : CacheEvent) → core_place s e < 143
-core_below s e = let a = state_within s in let b = event_within e in omega arith
+core_below I e = let within = event_within e in omega arith
+core_below _ e = let within = event_within e in omega arith
 
 memory_below : (s : MemState) (e : MemEvent) → memory_place s e < 203
-memory_below s e = let a = memory_state_within s in let b = memory_event_within e in omega arith
+memory_below IorS e = let within = memory_event_within e in omega arith
+memory_below _ e = let within = memory_event_within e in omega arith
 
 -- nothing is counted yet
 pub tallies_none : Tallies (replicate 203 0) []
@@ -63,15 +48,8 @@ module _ (p : Taken → Bool) (lines : List Taken) (line : Taken) where
 
   counted_more : (counters new : List ℕ) (place here : ℕ) → place < length counters → new ≡ set counters place (capped (get_or counters place 0 + 1))
       → p line ≡ (place == here) → get_or counters here 0 ≡ capped (length (filter p lines)) → get_or new here 0 ≡ capped (length (filter p (lines ++ line ∷ [])))
-  counted_more counters new place here lt is test before = elim (cases_eq here place) [
-    | inl e ↦
-        let n = one_more true (test ∙ eq-eqb place here (sym e)) in
-        let old : get_or counters place 0 ≡ capped (length (filter p lines)) = rw e at before in
-        rw (is, e, get_or-set_same counters place (capped (get_or counters place 0 + 1)) 0 lt) (omega (arith, n, old))
-    | inr e ↦
-        let n = one_more false (test ∙ ne_eqb place here (λ q. e (sym q))) in
-        rw (is, get_or-set_other counters place here (capped (get_or counters place 0 + 1)) 0 e) (omega (arith, n, before))
-  ]
+  counted_more counters new place here lt is test before =
+      grind (arith, common_steps, nat_tests, one_more true, one_more false, get_or-set_same counters place (capped (get_or counters place 0 + 1)) 0 lt, get_or-set_other counters place here (capped (get_or counters place 0 + 1)) 0)
 
 -- a line is counted at one place
 tallies_at : (lines : List Taken) (line : Taken) (place : ℕ) (counters new : List ℕ) → place < 203 → new ≡ set counters place (capped (get_or counters place 0 + 1))

@@ -1,67 +1,43 @@
 -- Each line of the frames of a run fits its step.
-use Rattle.std.proofs.Common.{◌≡◌, ◌⊎◌, ℕ, ◌<◌, ◌+◌, Bool, true, false, zero, suc, List, [], ◌∷◌, length, Option, Some, None, refl, sym, ap, ◌∙◌, inl, inr, arith, ◌≢◌, ◌||◌, All, IsSomeAnd, MatchBool, Result, Ok, Err, not, if◌then◌else◌, flat_map, subst}
-use Rattle.snoop_engine.proofs.Common.{range_with_len, option_map_or, All-append, All-cons, All-nil, Extent, Protocol, Msi, Mesi, Op, Step, Ask, Order, Respond, CacheCell, CacheEvent}
-use Rattle.snoop_engine.proofs.Common.{CacheState, I, MemEvent, Request, PutM, arrival, arrival_at_memory, asked, at_memory, seen_by, takes_payload, Did, Item, Open, Reply}
-use Rattle.snoop_engine.proofs.Common.{Refused, BusTaken, Line, Picture, held_at, held_by, nothing_held, Situation, picture_of, reset, state_of, ConsultsCache, ConsultsMemory, ArrivesFor}
-use Rattle.snoop_engine.proofs.Common.{FillsRequestor, IsAbsent, Asks, IsWithin, Orders, Responds, TakesFirst, GoesFirst, Invariant}
+use Rattle.snoop_engine.proofs.Common.{Evict, ◌≡◌, ◌⊎◌, ℕ, ◌<◌, ◌+◌, Bool, true, false, zero, suc, List, [], ◌∷◌, length, Option, Some, None, refl, sym, ap, ◌∙◌, inl, inr, arith, ◌≢◌, ◌||◌, All, IsSomeAnd, MatchBool, Result, Ok, Err}
+use Rattle.snoop_engine.proofs.Common.{not, if◌then◌else◌, flat_map, range_with_len, option_map_or, All-append, All-cons, All-nil, Extent, Protocol, Msi, Mesi, Op, Step, Ask, Order, Respond, CacheEvent}
+use Rattle.snoop_engine.proofs.Common.{CacheState, I, MemEvent, Request, PutM, arrival, arrival_at_memory, asked, at_memory, seen_by, takes_payload, Did, Item, Open, Reply, Refused, BusTaken, Line, Picture, held_at, held_by}
+use Rattle.snoop_engine.proofs.Common.{nothing_held, Situation, picture_of, reset, state_of, ConsultsCache, ConsultsMemory, ArrivesFor, IsAbsent, Asks, IsWithin, Responds, TakesFirst, GoesFirst, Invariant}
+use Rattle.snoop_engine.proofs.Common.{get_or-set_same, Cell, Stalled, NothingWaiting, NoTransaction, Settles, Takes, Frame, FramesFrom, event_asked, lines_of_step, of_arrival_at_memory, of_ask, of_holder, of_memory}
+use Rattle.snoop_engine.proofs.Common.{of_requestor, of_waiting_memory, refused_by, unless_i, FitsStep, HasAllLines, ShowsRows, HasTakenRows, Taken, Core, Memory}
 use denote.Enum.Bare.{same_true, sameb}
-use Rattle.std.proofs.lemmas.List.{get_or-set_same}
-use Rattle.snoop_trace.specs.declared.step.Op.TheVariants as op
-use Rattle.snoop_rules.specs.declared.names.CacheAction.{CacheAction}
-use Rattle.snoop_rules.specs.declared.names.CacheAction.TheVariants as action
-use Rattle.snoop_rules.specs.contracts.names.CacheState.{the_type}
-use Rattle.snoop_rules.specs.declared.names.MemAction.{MemAction}
+use Rattle.snoop_rules.specs.{declared.names.CacheAction.CacheAction, declared.names.CacheAction.TheVariants.Drop, declared.names.CacheAction.TheVariants.Hit, declared.names.CacheAction.TheVariants.Issue, declared.names.CacheAction.TheVariants.Stall, contracts.names.CacheState.the_type, declared.names.MemAction.MemAction, MemoryCell.MemoryCell}
 use Rattle.snoop_rules.specs.declared.names.MemAction.TheVariants as mem_action
-use Rattle.snoop_rules.specs.Cell.{Cell}
-use Rattle.snoop_rules.specs.MemoryCell.{MemoryCell}
-use Rattle.snoop_rules.proofs.Every.{all_protocols, all_states, all_events}
-use Rattle.snoop_rules.proofs.Rows.{each_row, each_row-at}
-use Rattle.snoop_model.specs.declared.replies.Refused.TheVariants.{Stalled, NothingWaiting, NoTransaction}
-use Rattle.snoop_model.specs.Moves.Move.{Settles, Takes}
+use Rattle.snoop_rules.proofs.{Every.all_protocols, Every.all_states, Every.all_events, Rows.each_row, Rows.each_row-at}
 use Rattle.snoop_model.specs.Moves.Refuses.{Refuses}
-use Rattle.snoop_model.proofs.Invariant.Runs.{reset_invariant}
-use Rattle.snoop_model.proofs.OneBlock.AfterMoves.{ask_line, order_here, respond_here}
-use Rattle.snoop_model.proofs.Queues.Moves.{keeps_well, starts_well}
-use Rattle.snoop_model.proofs.Runs.GoOn.{IsSteady, steady_on}
-use Rattle.snoop_engine.specs.Frames.{Frame, FramesFrom}
-use Rattle.snoop_engine.specs.Taken.{event_asked, lines_of_step, of_arrival, of_arrival_at_memory, of_ask, of_holder, of_memory, of_request, of_requestor, of_respond, of_waiting_memory, refused_by, unless_i}
-use Rattle.snoop_engine.specs.TrueLines.{FitsStep, HasAllLines, ShowsRows, HasTakenRows}
-use Rattle.snoop_engine.proofs.AllLines.{asker_listed, cores_listed, memory_rows_listed}
-use Rattle.snoop_engine.specs.declared.taken.Taken.{Taken}
-use Rattle.snoop_engine.specs.declared.taken.Taken.TheVariants.{Core, Memory, Nobody}
-use Rattle.snoop_engine.proofs.TakenLemmas.{goes_alike}
+use Rattle.snoop_model.proofs.{OneBlock.AfterMoves.ask_line, OneBlock.AfterMoves.order_here, OneBlock.AfterMoves.respond_here, Queues.Moves.keeps_well, Runs.GoOn.reset_steady, Runs.GoOn.IsSteady, Runs.GoOn.steady_on}
+use Rattle.snoop_engine.proofs.{AllLines.asker_listed, AllLines.cores_listed, AllLines.memory_rows_listed, TakenLemmas.goes_alike}
 
-abbrev stalls : CacheAction → Bool
-stalls action.Stall = true
-stalls _ = false
-
-abbrev stall_test : Protocol → CacheState → CacheEvent → CacheCell → Bool
-stall_test p s e row = not (stalls row.action) || sameb the_type row.next s
-
-stall_test_holds : each_row stall_test ≡ true
-unfolding each_row all_protocols all_states all_events
-stall_test_holds = refl
+abbrev is_stall : CacheAction → Bool
+is_stall Stall = true
+is_stall _ = false
 
 -- a stall leaves the state
-stall_stays : (p : Protocol) (s : CacheState) (e : CacheEvent) (n : CacheState) → Cell p s e action.Stall n → n ≡ s
-stall_stays p s e n h = same_true the_type tt n s (each_row-at stall_test stall_test_holds p s e action.Stall n h)
+stalls_stay : each_row (λ p s e row. not (is_stall row.action) || sameb the_type row.next s) ≡ true
+unfolding each_row all_protocols all_states all_events
+stalls_stay = refl
 
 -- an Ask that has a row is an event
 asked_event : (p : Protocol) (asking : Op) (s : CacheState) (a : CacheAction) (n : CacheState) → Cell p s (asked asking) a n → event_asked asking s ≡ Some (asked asking)
-asked_event Msi op.Evict I a n h = cc
-asked_event Mesi op.Evict I a n h = cc
+asked_event Msi Evict I a n h = cc
+asked_event Mesi Evict I a n h = cc
 asked_event p asking s a n h = refl
 
 -- where an Ask leads its core
 taken_state : (act : CacheAction) (next : CacheState) (log : List Item) (core block word : ℕ) (asking : Op) (old new : Line) (answer : Reply) (entry : Option Item)
     → Takes act next log core block word asking old new answer entry → new.state ≡ next
-taken_state action.Hit next log core block word asking old new answer entry t = ap (λ (l : Line). l.state) t.1.0.held
-taken_state (action.Issue request) next log core block word asking old new answer entry t = ap (λ (l : Line). l.state) t.0
-taken_state action.Drop next log core block word asking old new answer entry t = ap (λ (l : Line). l.state) t.0
+taken_state Hit next log core block word asking old new answer entry t = ap (λ (l : Line). l.state) t.1.0.held
+taken_state (Issue request) next log core block word asking old new answer entry t = ap (λ (l : Line). l.state) t.0
+taken_state Drop next log core block word asking old new answer entry t = ap (λ (l : Line). l.state) t.0
 taken_state _ next log core block word asking old new answer entry t = absurd t
 
 -- an Evict in I is no event
-no_event : (asking : Op) (s : CacheState) → asking ≡ op.Evict → s ≡ I → event_asked asking s ≡ None
+no_event : (asking : Op) (s : CacheState) → asking ≡ Evict → s ≡ I → event_asked asking s ≡ None
 no_event asking s evict idle = rw (evict, idle)
 
 -- what holds of the lines of a value holds where the value may be missing
@@ -85,19 +61,11 @@ module _ (old new : Situation) (step : Step) (outcome : Result Reply Refused) wh
   abbrev here : Frame
   here = record { step = step; outcome = outcome; before = old; after = new }
 
-  -- a core's line with no event
-  idle_fits : (core block : ℕ) → new ≡ old → FitsStep here (Core core block None (state_of old core block))
-  idle_fits core block same = record { before = refl; after = rw same }
-
   -- an Ask's line
   asker_fits : (core block : ℕ) (asking : Op) (event : Option CacheEvent) → event_asked asking (state_of old core block) ≡ event
       → FitsStep here (Core core block event (state_of old core block)) → All (FitsStep here) (of_ask old core block asking)
   asker_fits core block asking event is line =
       all_if (FitsStep here) _ _ (λ before. Core core block (event_asked asking before) before ∷ []) (all_one (FitsStep here) _ (rw is line))
-
-  -- a line of no controller
-  nobody_fits : (core block : Option ℕ) → All (FitsStep here) (Nobody core block ∷ [])
-  nobody_fits core block = all_one (FitsStep here) (Nobody core block) tt
 
   module _ (block : ℕ) (first : TakesFirst old step block) where
     -- a core's line at its event
@@ -121,56 +89,21 @@ module _ (old new : Situation) (step : Step) (outcome : Result Reply Refused) wh
     memory_fits event act row looks =
         all_if (FitsStep here) _ _ (λ before. Memory block event before ∷ []) (all_one (FitsStep here) _ (record { first = first; looks = looks; held = refl; action = act; row = row }))
 
-    -- the lines of a move
-    ask_fits : (core word : ℕ) (asking : Op) (answer : Reply) → Invariant old → IsWithin old core block
-        → IsAbsent old core block asking answer new ⊎ Asks old core block word asking answer new
-        → (event_asked asking (state_of old core block) ≡ Some (asked asking) → ConsultsCache old step core block (Some (asked asking)))
-        → All (FitsStep here) (of_ask old core block asking)
-    ask_fits core word asking answer g within moves looks = elim moves [
-      | inl absent ↦ asker_fits core block asking None (no_event asking (state_of old core block) absent.0 absent.1) (idle_fits core block absent.3)
-      | inr a ↦ asked_fits core asking a.row.action a.row.next a.is_row
-          (ap (λ (l : Line). l.state) (ask_line old core block word asking answer new g within a)
-          ∙ taken_state a.row.action a.row.next old.log core block word asking (held_by (picture_of old block) core) a.held answer a.entry a.taken)
-          looks
-    ]
-
-    order_fits : (core : ℕ) (request : Request) → Invariant old → IsWithin old core block → Orders old core block request new
-        → ((k : ℕ) → ConsultsCache old step k block (Some (seen_by k core request))) → ConsultsMemory old step block (Some (at_memory request))
-        → All (FitsStep here) (of_request old core block request)
-    order_fits core request g within o looks memory_looks =
-        let now : picture_of new block ≡ o.next = order_here old core block request new g within o in
-        let wide = g.shaped.row block within.1 in
-        let holder : (k : ℕ) → k < 0 + old.shape.cores → All (FitsStep here) (of_holder old core block request k) = λ k k_in.
-        (let row = o.taken.rows k (omega arith) in
-        let is : state_of new k block ≡ row.0.next = ap (λ (p : Picture). (held_by p k).state) now ∙ ap (λ (l : Line). l.state) row.2 in
-        all_if (FitsStep here) _ _ (λ before. unless_i before (Core k block (Some (seen_by k core request)) before))
-        (all_unless_i (FitsStep here) (state_of old k block) _ (row_fits k (seen_by k core request) row.0.action row.0.next row.1 is (looks k)))) in
-        let done : (picture_of new block).memory.state ≡ o.memory.0.next = ap (λ (p : Picture). p.memory.state) now ∙ o.memory.2 in
-        All-append (FitsStep here) (flat_map (of_holder old core block request) (range_with_len 0 old.shape.cores)) (of_memory old block (at_memory request))
-        (all_range (FitsStep here) (of_holder old core block request) 0 old.shape.cores holder)
-        (memory_fits (at_memory request) o.memory.0.action (rw done o.memory.1) memory_looks)
-
     -- the requestor's line at a Respond
-    filled_fits : (closing : Open) (did : Option Did) (next : Picture) → closing.core < length (picture_of old block).caches → picture_of new block ≡ next
-        → FillsRequestor closing old.protocol old.log (picture_of old block).caches next.caches did
-        → ((event : CacheEvent) → Some event ≡ arrival closing.payload → ConsultsCache old step closing.core block (Some event))
-        → All (FitsStep here) (of_arrival old closing.core block (arrival closing.payload))
-    filled_fits closing did next within now f looks =
+    requestor_fits : (request : Request) (closing : Open) (did : Option Did) (next : Picture) → closing.core < length (picture_of old block).caches → picture_of new block ≡ next
+        → ArrivesFor request closing old.protocol old.log (picture_of old block).caches next.caches did
+        → (request ≢ PutM → (event : CacheEvent) → Some event ≡ arrival closing.payload → ConsultsCache old step closing.core block (Some event))
+        → All (FitsStep here) (of_requestor request old block closing)
+    requestor_fits PutM closing did next within now f looks = All-nil (FitsStep here)
+    requestor_fits _ closing did next within now f looks =
         let is : state_of new closing.core block ≡ f.fills.row.next =
         ap (λ (p : Picture). (held_by p closing.core).state) now
         ∙ ap (λ (l : Line). l.state) (ap (λ (l : List Line). held_at l closing.core) f.held ∙ get_or-set_same (picture_of old block).caches closing.core f.line nothing_held within ∙ f.fills.held) in
         rw f.fills.arrives
         (all_if (FitsStep here) _ _ (λ before. Core closing.core block (Some f.fills.event) before ∷ [])
-        (all_one (FitsStep here) _ (row_fits closing.core f.fills.event f.fills.row.action f.fills.row.next f.fills.is_row is (looks f.fills.event (sym f.fills.arrives)))))
+        (all_one (FitsStep here) _ (row_fits closing.core f.fills.event f.fills.row.action f.fills.row.next f.fills.is_row is (looks (λ h. cc) f.fills.event (sym f.fills.arrives)))))
 
-    requestor_fits : (request : Request) (closing : Open) (did : Option Did) (next : Picture) → closing.core < length (picture_of old block).caches
-        → picture_of new block ≡ next
-        → ArrivesFor request closing old.protocol old.log (picture_of old block).caches next.caches did
-        → (request ≢ PutM → (event : CacheEvent) → Some event ≡ arrival closing.payload → ConsultsCache old step closing.core block (Some event))
-        → All (FitsStep here) (of_requestor request old block closing)
-    requestor_fits PutM closing did next within now f looks = All-nil (FitsStep here)
-    requestor_fits _ closing did next within now f looks = filled_fits closing did next within now f (looks (λ h. cc))
-
+    -- and memory's
     settled_fits : (takes : Bool) (event : Option MemEvent) (act : MemAction)
         → MatchBool takes (IsSomeAnd event (λ e. MemoryCell old.protocol (picture_of old block).memory.state e act (picture_of new block).memory.state)) ((act ≡ mem_action.None) × ((picture_of new block).memory.state ≡ (picture_of old block).memory.state))
         → (takes ≡ true → ConsultsMemory old step block event) → All (FitsStep here) (if takes then of_arrival_at_memory old block event else [])
@@ -178,78 +111,91 @@ module _ (old new : Situation) (step : Step) (outcome : Result Reply Refused) wh
     settled_fits true (Some event) act h looks = memory_fits event act h (looks refl)
     settled_fits false event act h looks = All-nil (FitsStep here)
 
-    respond_fits : (closing : Open) (did : Option Did) → Invariant old → block < old.shape.blocks → Responds old block closing did new
-        → (closing.request ≢ PutM → (event : CacheEvent) → Some event ≡ arrival closing.payload → ConsultsCache old step closing.core block (Some event))
-        → (takes_payload closing.request (picture_of old block).memory.state ≡ true → ConsultsMemory old step block (arrival_at_memory closing.payload))
-        → All (FitsStep here) (of_respond old block closing)
-    respond_fits closing did g within r looks memory_looks =
-        let now : picture_of new block ≡ r.next = respond_here old block closing did new g within r in
-        let core_in = (g.blocks block within).requestor_in closing r.opened in
-        let long = g.shaped.row block within in
-        let settled : Settles old.protocol closing.request closing.payload (picture_of old block).memory.state r.memory.act (picture_of new block).memory.state = subst (λ (p : Picture). Settles old.protocol closing.request closing.payload (picture_of old block).memory.state r.memory.act p.memory.state) (sym now) r.memory.settled in
-        All-append (FitsStep here) (of_requestor closing.request old block closing) (of_waiting_memory old block closing)
-        (requestor_fits closing.request closing did r.next (omega arith) now r.requestor looks)
-        (all_if (FitsStep here) _ _ (λ before. if takes_payload closing.request before then of_arrival_at_memory old block (arrival_at_memory closing.payload) else [])
-        (settled_fits (takes_payload closing.request (picture_of old block).memory.state) (arrival_at_memory closing.payload) r.memory.act settled memory_looks))
-
 -- an Ask that is an event is looked up
 asker_looks : (s : Situation) (core block word : ℕ) (asking : Op) → event_asked asking (state_of s core block) ≡ Some (asked asking) → ConsultsCache s (Ask core block word asking) core block (Some (asked asking))
 asker_looks s core block word asking met = (refl, refl, (λ absent. let none = no_event asking (state_of s core block) absent.0 absent.1 in cc), refl)
 
-module _ (old new : Situation) where
-  -- the lines of a refused step
-  refused_fits : (step : Step) (cause : Refused) → Refuses old step cause → new ≡ old → All (FitsStep (here old new step (Err cause))) (refused_by old step cause)
-  refused_fits (Ask core block word asking) (Stalled held) refuses same =
-      let next = refuses.2.0 in
-      asked_fits old new (Ask core block word asking) (Err (Stalled held)) block tt core asking action.Stall next refuses.2.1
-      (rw same (sym (stall_stays old.protocol (state_of old core block) (asked asking) next refuses.2.1))) (asker_looks old core block word asking)
-  refused_fits (Order core) (BusTaken block) refuses same =
-      all_if (FitsStep (here old new (Order core) (Err (BusTaken block)))) _ _ (λ before. Core core block None before ∷ [])
-      (all_one (FitsStep (here old new (Order core) (Err (BusTaken block)))) _ (idle_fits old new (Order core) (Err (BusTaken block)) core block same))
-  refused_fits (Order core) NothingWaiting refuses same = nobody_fits old new (Order core) (Err NothingWaiting) (Some core) None
-  refused_fits (Respond block) NoTransaction refuses same = nobody_fits old new (Respond block) (Err NoTransaction) None (Some block)
-  refused_fits step cause refuses same = nobody_fits old new step (Err cause) None None
+-- the lines of a refused step
+refused_fits : (old new : Situation) (step : Step) (cause : Refused) → Refuses old step cause → new ≡ old → All (FitsStep (here old new step (Err cause))) (refused_by old step cause)
+refused_fits old new (Ask core block word asking) (Stalled held) refuses same =
+    let next = refuses.2.0 in
+    let stays : next ≡ state_of old core block = same_true the_type tt next (state_of old core block) (each_row-at _ stalls_stay old.protocol (state_of old core block) (asked asking) Stall next refuses.2.1) in
+    asked_fits old new (Ask core block word asking) (Err (Stalled held)) block tt core asking Stall next refuses.2.1 (rw same (sym stays)) (asker_looks old core block word asking)
+refused_fits old new (Order core) (BusTaken block) refuses same =
+    let P : Taken → Type 0 = FitsStep (here old new (Order core) (Err (BusTaken block))) in
+    all_if P _ _ (λ before. Core core block None before ∷ []) (all_one P _ (record { before = refl; after = rw same }))
+refused_fits old new (Order core) NothingWaiting refuses same = all_one (FitsStep (here old new (Order core) (Err NothingWaiting))) _ tt
+refused_fits old new (Respond block) NoTransaction refuses same = all_one (FitsStep (here old new (Respond block) (Err NoTransaction))) _ tt
+refused_fits old new step cause refuses same = all_one (FitsStep (here old new step (Err cause))) _ tt
 
 -- the lines of one step
-step_fits : (old new : Situation) (step : Step) (outcome : Result Reply Refused) → IsSteady old → GoesFirst old step outcome new → All (FitsStep (here old new step outcome)) (lines_of_step old step outcome)
-step_fits old new step (Err cause) steady goes = refused_fits old new step cause goes.0 goes.1
-step_fits old new (Ask core block word asking) (Ok answer) steady goes =
+step_fits : (old new : Situation) (step : Step) (outcome : Result Reply Refused) → Invariant old → GoesFirst old step outcome new → All (FitsStep (here old new step outcome)) (lines_of_step old step outcome)
+step_fits old new step (Err cause) g goes = refused_fits old new step cause goes.0 goes.1
+step_fits old new (Ask core block word asking) (Ok answer) g goes =
     let m = goes.1.1 in
-    ask_fits old new (Ask core block word asking) (Ok answer) block tt core word asking answer steady.0 (rw m.on_block m.within) (rw m.on_block m.moves) (asker_looks old core block word asking)
-step_fits old new (Order core) (Ok answer) steady goes =
-    let move = goes.1.1 in
-    let request : Request = move.request in
-    rw (goes.1.0, move.orders.ready.0) (order_fits old new (Order core) (Ok answer) goes.0 goes.1.0 core request steady.0 move.within move.orders
-    (λ k. (request, (move.orders.ready, refl))) (request, (move.orders.ready, refl)))
-step_fits old new (Respond block) (Ok answer) steady goes =
-    let move = goes.1.1 in
-    let closing : Open = move.closing in
-    let responds : Responds old block closing move.did new = rw move.on_block move.responds in
-    rw responds.opened (respond_fits old new (Respond block) (Ok answer) block tt closing move.did steady.0 (rw move.on_block move.within) responds
-    (λ other event comes. (closing, (refl, responds.opened, refl, other, comes))) (λ takes. (closing, (refl, responds.opened, takes, refl))))
+    let within : IsWithin old core block = rw m.on_block m.within in
+    let moves : IsAbsent old core block asking answer new ⊎ Asks old core block word asking answer new = rw m.on_block m.moves in
+    elim moves [
+      | inl absent ↦
+          asker_fits old new (Ask core block word asking) (Ok answer) core block asking None (no_event asking (state_of old core block) absent.0 absent.1)
+          (record { before = refl; after = rw absent.3 })
+      | inr a ↦
+          asked_fits old new (Ask core block word asking) (Ok answer) block tt core asking a.row.action a.row.next a.is_row
+          (ap (λ (l : Line). l.state) (ask_line old core block word asking answer new g within a)
+          ∙ taken_state a.row.action a.row.next old.log core block word asking (held_by (picture_of old block) core) a.held answer a.entry a.taken)
+          (asker_looks old core block word asking)
+    ]
+step_fits old new (Order core) (Ok answer) g goes =
+    let P : Taken → Type 0 = FitsStep (here old new (Order core) (Ok answer)) in
+    let block : ℕ = goes.0 in
+    let m = goes.1.1 in
+    let o = m.orders in
+    let wide = g.shaped.row block m.within.1 in
+    let now : picture_of new block ≡ o.next = order_here old core block m.request new g m.within o in
+    let holder : (k : ℕ) → k < 0 + old.shape.cores → All P (of_holder old core block m.request k) = λ k k_in.
+    (let row = o.taken.rows k (omega arith) in
+    all_if P _ _ (λ before. unless_i before (Core k block (Some (seen_by k core m.request)) before))
+    (all_unless_i P (state_of old k block) _
+    (row_fits old new (Order core) (Ok answer) block goes.1.0 k (seen_by k core m.request) row.0.action row.0.next row.1 (ap (λ (p : Picture). (held_by p k).state) now ∙ ap (λ (l : Line). l.state) row.2) (m.request, (o.ready, refl))))) in
+    rw (goes.1.0, o.ready.0)
+    (All-append P (flat_map (of_holder old core block m.request) (range_with_len 0 old.shape.cores)) (of_memory old block (at_memory m.request))
+    (all_range P (of_holder old core block m.request) 0 old.shape.cores holder)
+    (memory_fits old new (Order core) (Ok answer) block goes.1.0 (at_memory m.request) o.memory.0.action (rw (now, o.memory.2) o.memory.1) (m.request, (o.ready, refl))))
+step_fits old new (Respond block) (Ok answer) g goes =
+    let P : Taken → Type 0 = FitsStep (here old new (Respond block) (Ok answer)) in
+    let m = goes.1.1 in
+    let closing : Open = m.closing in
+    let within : block < old.shape.blocks = rw m.on_block m.within in
+    let r : Responds old block closing m.did new = rw m.on_block m.responds in
+    let now : picture_of new block ≡ r.next = respond_here old block closing m.did new g within r in
+    let core_in = (g.blocks block within).requestor_in closing r.opened in
+    let long = g.shaped.row block within in
+    let settled : Settles old.protocol closing.request closing.payload (picture_of old block).memory.state r.memory.act (picture_of new block).memory.state = rw now r.memory.settled in
+    rw r.opened
+    (All-append P (of_requestor closing.request old block closing) (of_waiting_memory old block closing)
+    (requestor_fits old new (Respond block) (Ok answer) block tt closing.request closing m.did r.next (omega arith) now r.requestor (λ other event comes. (closing, (refl, r.opened, refl, other, comes))))
+    (all_if P _ _ (λ before. if takes_payload closing.request before then of_arrival_at_memory old block (arrival_at_memory closing.payload) else [])
+    (settled_fits old new (Respond block) (Ok answer) block tt (takes_payload closing.request (picture_of old block).memory.state) (arrival_at_memory closing.payload) r.memory.act settled (λ takes. (closing, (refl, r.opened, takes, refl))))))
 
 -- none is left out
-step_whole : (old new : Situation) (step : Step) (outcome : Result Reply Refused) → IsSteady old → GoesFirst old step outcome new → HasTakenRows outcome → HasAllLines (here old new step outcome)
-step_whole old new step (Ok answer) steady goes takes = record {
-  cores = cores_listed old new step answer steady.0 goes;
-  memory = memory_rows_listed old new step answer steady.0 goes;
-}
-step_whole old new (Ask asker on word asking) (Err (Stalled state)) steady goes takes = record {
-  cores = λ core block event first looks held. asker_listed old asker on word asking steady.0 goes.0.0 core block event looks;
+step_whole : (old new : Situation) (step : Step) (outcome : Result Reply Refused) → Invariant old → GoesFirst old step outcome new → HasTakenRows outcome → HasAllLines (here old new step outcome)
+step_whole old new step (Ok answer) g goes takes = record { cores = cores_listed old new answer g step goes; memory = memory_rows_listed old new answer g step goes }
+step_whole old new (Ask asker on word asking) (Err (Stalled state)) g goes takes = record {
+  cores = λ core block event first looks held. asker_listed old asker on word asking goes.0.0 core block event looks;
   memory = λ block event first looks. absurd looks;
 }
-step_whole old new _ (Err (Stalled state)) steady goes takes = absurd goes.0
-step_whole old new step (Err cause) steady goes takes = absurd takes
+step_whole old new _ (Err (Stalled state)) g goes takes = absurd goes.0
+step_whole old new step (Err cause) g goes takes = absurd takes
 
 -- the frames of a run from a steady machine
 frames_show : (frames : List Frame) (old new : Situation) → IsSteady old → FramesFrom old frames new → All ShowsRows frames
 frames_show [] old new steady run = All-nil ShowsRows
 frames_show (f ∷ fs) old new steady run =
     let from : IsSteady f.before = rw run.0.before steady in
-    All-cons ShowsRows f fs (record { stays = (goes_alike f.before f.step f.outcome f.after run.0.goes).0; fit = step_fits f.before f.after f.step f.outcome from run.0.goes; all = step_whole f.before f.after f.step f.outcome from run.0.goes })
-    (frames_show fs f.after new (steady_on keeps_well f.before f.step f.outcome f.after from run.0.goes) run.1)
+    let goes = run.0.goes in
+    All-cons ShowsRows f fs (record { stays = (goes_alike f.before f.step f.outcome f.after goes).0; fit = step_fits f.before f.after f.step f.outcome from.0 goes; all = step_whole f.before f.after f.step f.outcome from.0 goes })
+    (frames_show fs f.after new (steady_on keeps_well f.before f.step f.outcome f.after from goes) run.1)
 
 -- the frames of a run from reset
 pub lines_fit : (protocol : Protocol) (shape : Extent) (frames : List Frame) (final : Situation) → FramesFrom (reset protocol shape) frames final → All ShowsRows frames
-lines_fit protocol shape frames final run =
-    frames_show frames (reset protocol shape) final (reset_invariant protocol shape, (starts_well protocol shape (λ core. None)).0) run
+lines_fit protocol shape frames final run = frames_show frames (reset protocol shape) final (reset_steady protocol shape) run

@@ -1,9 +1,7 @@
--- What is shown of frames: of each by its number, or nothing before the end.
-use Rattle.std.proofs.Common.{◌≡◌, ℕ, ◌+◌, List, [], ◌∷◌, ◌++◌, length, refl, ap, arith, flat_map}
-use Rattle.snoop_engine.proofs.Common.{length_push, Situation}
-use Rattle.snoop_engine.specs.Frames.{Frame}
-use Rattle.snoop_engine.specs.Numbered.{Numbered, numbered_from}
-use Rattle.snoop_engine.specs.Views.{shown, view_text}
+-- What views show of frames: of each by its number, or nothing before the end; their counts, and their states.
+use Rattle.snoop_engine.proofs.Common.{◌≡◌, ℕ, ◌+◌, List, [], ◌∷◌, ◌++◌, length, refl, ap, arith, flat_map, length_push, Situation, Frame, Numbered, numbered_from, shown, view_text, flat_map_more, Protocol, all_lines, counts_text}
+use Rattle.snoop_engine.proofs.Common.{frames_counts_text, lines_of_step, Tallies, counts_in, memory_counts_in, true, false, ◌∙◌, append-nil, Extent, Chosen, is_shown, header_text, shown_text, states_text, step_fields, taken_text}
+use Rattle.snoop_engine.proofs.Common.{IsNextSeen, frame_seen, Seen}
 
 -- what is shown of each frame by its number
 pub shown_numbered : (shows : ℕ → Frame → List ℕ) (before frames : List Frame)
@@ -21,3 +19,31 @@ nothing_shown before (f ∷ fs) = nothing_shown (before ++ f ∷ []) fs
 -- all that such a view writes is its ending
 pub quiet_view : (ending : List Frame → Situation → List ℕ) (frames : List Frame) (final : Situation) → view_text [] (λ (fs : List Frame) (f : Frame). []) ending frames final ≡ ending frames final
 quiet_view ending frames final = ap (λ (t : List ℕ). t ++ ending frames final) (nothing_shown [] frames)
+
+-- the lines of one frame more
+pub all_lines_more : (frames : List Frame) (frame : Frame) → all_lines frames ++ lines_of_step frame.before frame.step frame.outcome ≡ all_lines (frames ++ frame ∷ [])
+all_lines_more frames frame = flat_map_more (λ (f : Frame). lines_of_step f.before f.step f.outcome) [] frames frame
+
+-- the text of the counters is that of the frames
+pub text_of_frames : (protocol : Protocol) (frames : List Frame) (counters : List ℕ) → Tallies counters (all_lines frames)
+    → counts_text protocol (counts_in counters) (memory_counts_in counters) ≡ frames_counts_text protocol frames
+text_of_frames protocol frames counters counted = λ i. counts_text protocol (λ state event. counted.cores state event i) (λ state event. counted.memory state event i)
+
+pub counts_view : (protocol : Protocol) (frames : List Frame) (final : Situation)
+    → view_text [] (λ (fs : List Frame) (f : Frame). []) (λ (fs : List Frame) (s : Situation). frames_counts_text protocol fs) frames final ≡ frames_counts_text protocol frames
+counts_view protocol frames final = quiet_view (λ (fs : List Frame) (s : Situation). frames_counts_text protocol fs) frames final
+
+pub states_view : (shape : Extent) (choice : Chosen) (frames : List Frame) (final : Situation)
+    → view_text header_text (λ (fs : List Frame) (f : Frame). shown_text shape choice (1 + length fs) f) (λ (fs : List Frame) (s : Situation). []) frames final ≡ states_text shape choice frames
+states_view shape choice frames final =
+    append-nil (header_text ++ shown (λ (fs : List Frame) (f : Frame). shown_text shape choice (1 + length fs) f) [] frames)
+    ∙ ap (λ (t : List ℕ). header_text ++ t) (shown_numbered (shown_text shape choice) [] frames)
+
+-- what is written of a step that is seen
+module _ (choice : Chosen) (frames : List Frame) (before : Situation) (seen : Seen) (after : Situation) (next : IsNextSeen after.protocol after.shape frames before seen after) where
+  pub text_shown : is_shown choice seen.block seen.number ≡ true
+      → flat_map (λ taken. step_fields after.shape seen.number seen.step seen.outcome ++ taken_text after taken) seen.lines.now ≡ shown_text after.shape choice (1 + length frames) (frame_seen before seen after)
+  text_shown here = rw (next.lines, next.number, rw (next.block, next.number) at here)
+
+  pub text_hidden : is_shown choice seen.block seen.number ≡ false → [] ≡ shown_text after.shape choice (1 + length frames) (frame_seen before seen after)
+  text_hidden other = rw (rw (next.block, next.number) at other)

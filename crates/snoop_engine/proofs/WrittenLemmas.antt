@@ -1,26 +1,13 @@
 -- The lines of a course's steps, written or in the chunk, and then the report.
-use Rattle.std.proofs.Common.{◌≡◌, ℕ, List, [], ◌∷◌, ◌++◌, Option, refl, sym, ap, ◌∙◌, append_assoc, ◌⊎◌, inl, inr, Result, Ok, Err, IsErrAnd}
-use Rattle.snoop_engine.proofs.Common.{Appends, Extent, AppendsFront, Gathers, Spills, WriteFault, Protocol, Row, Step, gathers_cut, gathers_done, gathers_more, gathers_spilled}
-use Rattle.snoop_engine.proofs.Common.{gathers_stop, appends_none_of, Item, Reply, Refused, Situation, reset, FirstRunFrom, GoesFirst, RunsGoOn, TheRun}
+use Rattle.snoop_engine.proofs.Common.{◌≡◌, ℕ, List, [], ◌∷◌, ◌++◌, Option, refl, sym, ap, ◌∙◌, append_assoc, ◌⊎◌, inl, inr, Result, Ok, Err, IsErrAnd, Appends, Extent, AppendsFront, Gathers, Spills, WriteFault, Protocol, Row}
+use Rattle.snoop_engine.proofs.Common.{Step, gathers_cut, gathers_done, gathers_more, gathers_spilled, gathers_stop, appends_none_of, Item, Reply, Refused, Situation, reset, FirstRunFrom, GoesFirst, RunsGoOn, TheRun, gathers_none}
+use Rattle.snoop_engine.proofs.Common.{appends_more, front_after, CanEnd, LeadsToEndWith, Leading, LeadsOn, fault_of_write, EndsInOrder, InOrder, IsAtTheEnd, IsAtTheStart, Progress, SimFault}
 use Rattle.std.proofs.lemmas.List.{append-nil}
 use Rattle.snoop_trace.specs.declared.fault.WriteFault.TheVariants as write
-use Rattle.snoop_trace.proofs.GathersLemmas.{gathers_none}
-use Rattle.snoop_trace.proofs.OutputLemmas.{appends_more, front_after}
 use Rattle.snoop_history.specs.Report.{report_of}
-use Rattle.snoop_engine.specs.Courses.{CanEnd, LeadsToEndWith, Leading, LeadsOn}
-use Rattle.snoop_engine.specs.Fault.{fault_of_write}
-use Rattle.snoop_engine.specs.InOrder.{EndsInOrder, InOrder}
-use Rattle.snoop_engine.specs.Journey.{IsAtTheEnd, IsAtTheStart}
-use Rattle.snoop_engine.specs.Line.{line_text, line_texts}
-use Rattle.snoop_engine.specs.Round.{Progress}
-use Rattle.snoop_engine.specs.Simulated.{Begins}
-use Rattle.snoop_engine.specs.SimulatedRun.{BeginsRun, ReportsRun}
-use Rattle.snoop_engine.specs.SimulatedSerial.{BeginsSerial, ReportsSerial}
-use Rattle.snoop_engine.specs.Written.{run_text}
-use Rattle.snoop_engine.specs.declared.fault.SimFault.{SimFault}
+use Rattle.snoop_engine.specs.{Line.line_text, Line.line_texts, Simulated.Begins, SimulatedRun.BeginsRun, SimulatedRun.ReportsRun, SimulatedSerial.BeginsSerial, SimulatedSerial.ReportsSerial, Written.run_text}
 use Rattle.snoop_engine.specs.declared.fault.SimFault.TheVariants as fault
-use Rattle.snoop_engine.proofs.CourseLemmas.{Along, along_more, along_none, driver_served, ends_here, ends_on, in_order_served}
-use Rattle.snoop_engine.proofs.TakenLemmas.{run_shape}
+use Rattle.snoop_engine.proofs.{CourseLemmas.Along, CourseLemmas.along_more, CourseLemmas.along_none, CourseLemmas.driver_served, CourseLemmas.ends_here, CourseLemmas.ends_on, CourseLemmas.in_order_served, TakenLemmas.run_alike}
 
 -- the lines of a run that goes on
 line_texts_on : (shape : Extent) (first rest : List Step) (outcomes more : List (Result Reply Refused)) (old new : Situation)
@@ -84,7 +71,7 @@ module _ {protocol : Protocol} {shape : Extent} {first now : Leading} {here : Si
     lines = gathers_done a b c chunk _ far.lines flushed
 
     report : report_of words items ≡ report_of shape.words here.log
-    report = rw (last, these, run_shape far.along.steps far.along.outcomes (reset protocol shape) here far.along.run)
+    report = rw (last, these, (run_alike far.along.steps far.along.outcomes (reset protocol shape) here far.along.run).1)
 
     -- a stop in a write of the report
     pub writing_report_cut : AppendsFront c d (report_of words items) → LeadsToEndWith first (WritesFront shape a d)

@@ -1,5 +1,4 @@
-use Rattle.snoop_engine.proofs.CountedLemmas.{counts_view}
-use Rattle.snoop_engine.proofs.ShownLemmas.{same_view}
+use Rattle.snoop_engine.proofs.{ViewLemmas.counts_view, ShownLemmas.same_view}
 use Rattle.snoop_engine.proofs.counts.simulate_counts.Goals as goal
 
 pub returns-clause-does : goal.returns-clause-does

@@ -1,7 +1,4 @@
-use Rattle.std.proofs.Common.{◌≡◌, ◌++◌, take, flat_map}
-use Rattle.snoop_engine.proofs.Common.{cache_events}
-use Rattle.snoop_engine.specs.Counts.{cache_count_at}
-use Rattle.snoop_engine.specs.Tallies.{counts_in}
+use Rattle.snoop_engine.proofs.Common.{◌≡◌, ◌++◌, take, flat_map, cache_events, cache_count_at, counts_in}
 use Rattle.snoop_engine.proofs.counts_text.push_cache_rows.Given as goal
 
 -- the lines so far

@@ -1,7 +1,4 @@
-use Rattle.std.proofs.Common.{◌≡◌, ◌++◌, take, flat_map}
-use Rattle.snoop_engine.proofs.Common.{memory_events, memory_states}
-use Rattle.snoop_engine.specs.Counts.{memory_count_at}
-use Rattle.snoop_engine.specs.Tallies.{memory_counts_in}
+use Rattle.snoop_engine.proofs.Common.{◌≡◌, ◌++◌, take, flat_map, memory_events, memory_states, memory_count_at, memory_counts_in}
 use Rattle.snoop_engine.proofs.counts_text.push_memory_counts.Given as goal
 
 -- the lines so far

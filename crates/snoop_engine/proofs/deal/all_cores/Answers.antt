@@ -1,5 +1,4 @@
-use Rattle.std.proofs.Common.{arith}
-use Rattle.snoop_engine.proofs.Dealing.{counted_more}
+use Rattle.snoop_engine.proofs.{Common.arith, Dealing.counted_more}
 use Rattle.snoop_engine.proofs.deal.all_cores.Goals as goal
 
 pub loop-core-preserved : goal.loop-core-preserved

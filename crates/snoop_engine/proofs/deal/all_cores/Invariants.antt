@@ -1,6 +1,5 @@
-use Rattle.std.proofs.Common.{◌≡◌, ◌≤◌}
+use Rattle.snoop_engine.proofs.{Common.◌≡◌, Common.◌≤◌, Dealing.Counted}
 use Rattle.std.specs.VecDeque.{deque_len, deque_capacity}
-use Rattle.snoop_engine.proofs.Dealing.{Counted}
 use Rattle.snoop_engine.proofs.deal.all_cores.Given as goal
 
 abbrev pub invariant-loop-core : goal.invariant-loop-core

@@ -1,5 +1,4 @@
-use Rattle.std.proofs.Common.{length}
-use Rattle.snoop_engine.proofs.Dealing.{Dealt}
+use Rattle.snoop_engine.proofs.{Common.length, Dealing.Dealt}
 use Rattle.snoop_engine.proofs.deal.deal.Given as goal
 
 abbrev pub invariant-loop-asked : goal.invariant-loop-asked

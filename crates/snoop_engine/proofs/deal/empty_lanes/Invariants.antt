@@ -1,5 +1,4 @@
-use Rattle.std.proofs.Common.{◌≡◌, ◌≤◌, length, vec_capacity, All}
-use Rattle.snoop_engine.specs.Todo.{nothing_to_do}
+use Rattle.snoop_engine.proofs.Common.{◌≡◌, ◌≤◌, length, vec_capacity, All, nothing_to_do}
 use Rattle.snoop_engine.proofs.deal.empty_lanes.Given as goal
 
 abbrev pub invariant-loop : goal.invariant-loop

@@ -1,6 +1,4 @@
-use Rattle.std.proofs.Common.{List, Result}
-use Rattle.snoop_engine.proofs.Common.{Reply, Refused}
-use Rattle.snoop_engine.proofs.CourseLemmas.{LeadsFrom}
+use Rattle.snoop_engine.proofs.{Common.List, Common.Result, Common.Reply, Common.Refused, CourseLemmas.LeadsFrom}
 use Rattle.snoop_engine.proofs.gather.gather.Given as goal
 
 -- what leads on from here leads on from the start, after the steps so far

@@ -1,5 +1,4 @@
-use Rattle.std.proofs.Common.{[]}
-use Rattle.snoop_engine.proofs.Common.{on_err}
+use Rattle.snoop_engine.proofs.Common.{[], on_err}
 use Rattle.snoop_engine.proofs.WrittenLemmas.{writing_cut, writing_done, writing_more, writing_none, writing_report_cut, writing_spilled, writing_stop}
 use Rattle.snoop_engine.proofs.lines.write_lines.Goals as goal
 

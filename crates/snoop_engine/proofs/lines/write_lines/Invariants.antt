@@ -1,5 +1,4 @@
-use Rattle.std.proofs.Common.{◌≡◌, Some, false}
-use Rattle.snoop_engine.proofs.WrittenLemmas.{Writing}
+use Rattle.snoop_engine.proofs.{Common.◌≡◌, Common.Some, Common.false, WrittenLemmas.Writing}
 use Rattle.snoop_engine.proofs.lines.write_lines.Given as goal
 
 -- the lines of the steps so far were written or stand in the chunk, and no write has failed

@@ -1,5 +1,4 @@
-use Rattle.std.proofs.Common.{◌∙◌, [], sym}
-use Rattle.snoop_engine.proofs.Common.{on_err}
+use Rattle.snoop_engine.proofs.Common.{◌∙◌, [], sym, on_err}
 use Rattle.snoop_engine.proofs.ShownLemmas.{ends_with_nothing, showing_cut, showing_cut_at_end, showing_done, showing_more, showing_none, showing_spilled, showing_stop}
 use Rattle.snoop_engine.proofs.show.show.Goals as goal
 

@@ -1,5 +1,4 @@
-use Rattle.snoop_engine.proofs.Common.{on_err}
-use Rattle.snoop_engine.proofs.ShownLemmas.{begins_nothing}
+use Rattle.snoop_engine.proofs.{Common.on_err, ShownLemmas.begins_nothing}
 use Rattle.snoop_engine.proofs.show.show_script.Goals as goal
 
 pub returns-in_err-course-clause-front : goal.returns-in_err-course-clause-front

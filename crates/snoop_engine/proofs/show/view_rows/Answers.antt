@@ -1,6 +1,4 @@
-use Rattle.snoop_engine.proofs.CourseLemmas.{driver_serves}
-use Rattle.snoop_engine.specs.declared.input.Input.TheVariants.{Rows}
-use Rattle.snoop_engine.proofs.ShownLemmas.{view_faulted}
+use Rattle.snoop_engine.proofs.{Common.Rows, CourseLemmas.driver_serves, ShownLemmas.view_faulted}
 use Rattle.snoop_engine.proofs.show.view_rows.Goals as goal
 
 pub returns-in_err-show-clause-does : goal.returns-in_err-show-clause-does

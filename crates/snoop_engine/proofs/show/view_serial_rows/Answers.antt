@@ -1,7 +1,4 @@
-use Rattle.std.proofs.Common.{◌∙◌}
-use Rattle.snoop_engine.proofs.CourseLemmas.{in_order_serves}
-use Rattle.snoop_engine.specs.declared.input.Input.TheVariants.{SerialRows}
-use Rattle.snoop_engine.proofs.ShownLemmas.{view_faulted}
+use Rattle.snoop_engine.proofs.{Common.◌∙◌, Common.SerialRows, CourseLemmas.in_order_serves, ShownLemmas.view_faulted}
 use Rattle.snoop_engine.proofs.show.view_serial_rows.Goals as goal
 
 pub returns-in_err-show-clause-does : goal.returns-in_err-show-clause-does

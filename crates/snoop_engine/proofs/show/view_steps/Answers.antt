@@ -1,5 +1,4 @@
-use Rattle.snoop_engine.specs.declared.input.Input.TheVariants.{Steps}
-use Rattle.snoop_engine.proofs.ShownLemmas.{view_faulted}
+use Rattle.snoop_engine.proofs.{Common.Steps, ShownLemmas.view_faulted}
 use Rattle.snoop_engine.proofs.show.view_steps.Goals as goal
 
 pub returns-in_err-show_script-clause-does : goal.returns-in_err-show_script-clause-does

@@ -1,5 +1,4 @@
-use Rattle.std.proofs.Common.{◌≡◌, ◌++◌, take, flat_map}
-use Rattle.snoop_engine.specs.States.{taken_text}
+use Rattle.snoop_engine.proofs.Common.{◌≡◌, ◌++◌, take, flat_map, taken_text}
 use Rattle.snoop_engine.proofs.states.push_lines.Given as goal
 
 -- the lines so far

@@ -1,5 +1,4 @@
-use Rattle.snoop_engine.proofs.ShownLemmas.{same_view}
-use Rattle.snoop_engine.proofs.StatedLemmas.{states_view}
+use Rattle.snoop_engine.proofs.{ShownLemmas.same_view, ViewLemmas.states_view}
 use Rattle.snoop_engine.proofs.states.simulate_states.Goals as goal
 
 pub returns-clause-does : goal.returns-clause-does

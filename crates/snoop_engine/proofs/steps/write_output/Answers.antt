@@ -1,5 +1,4 @@
-use Rattle.snoop_engine.proofs.Common.{on_err}
-use Rattle.snoop_engine.proofs.WrittenLemmas.{begins_nothing}
+use Rattle.snoop_engine.proofs.{Common.on_err, WrittenLemmas.begins_nothing}
 use Rattle.snoop_engine.proofs.steps.write_output.Goals as goal
 
 pub returns-in_err-course-clause-front : goal.returns-in_err-course-clause-front

@@ -1,7 +1,4 @@
-use Rattle.std.proofs.Common.{◌≡◌, ◌++◌, ◌≤◌, ◌-◌, flat_map}
-use Rattle.snoop_engine.proofs.Common.{range_with_len}
-use Rattle.snoop_engine.specs.Askers.{AreOthersInI}
-use Rattle.snoop_engine.specs.Taken.{of_holder}
+use Rattle.snoop_engine.proofs.Common.{◌≡◌, ◌++◌, ◌≤◌, ◌-◌, flat_map, range_with_len, AreOthersInI, of_holder}
 use Rattle.snoop_engine.proofs.taken.add_holders.Given as goal
 
 -- the lines of the cores so far; the others of the block are in I

@@ -1,4 +1,4 @@
-use Rattle.std.proofs.Common.{append_assoc}
+use Rattle.snoop_engine.proofs.Common.{append_assoc}
 use Rattle.snoop_engine.proofs.taken.add_respond.Goals as goal
 
 pub returns : goal.returns

@@ -1,6 +1,4 @@
-use Rattle.std.proofs.Common.{◌≡◌, ◌<◌, ap, ◌∙◌, arith}
-use Rattle.snoop_engine.proofs.Common.{Extent, BusTaken, picture_of}
-use Rattle.snoop_engine.proofs.Inside.{is_opened}
+use Rattle.snoop_engine.proofs.{Common.◌≡◌, Common.◌<◌, Common.ap, Common.◌∙◌, Common.arith, Common.Extent, Common.BusTaken, Common.picture_of, Inside.is_opened}
 use Rattle.snoop_engine.proofs.taken.is_bus_taken.Goals as goal
 
 pub returns-in-Some : goal.returns-in-Some

@@ -1,4 +1,4 @@
-use Rattle.snoop_engine.specs.Askers.{AreAskers}
+use Rattle.snoop_engine.proofs.Common.{AreAskers}
 use Rattle.snoop_engine.proofs.taken.take_step.Goals as goal
 use Rattle.snoop_engine.proofs.taken.take_step.Goals.{then-not-is_bus_taken+in_ok-add_taken, else-not-is_bus_taken}
 

@@ -1,6 +1,4 @@
-use Rattle.std.proofs.Common.{◌≡◌, ◌++◌, flat_map}
-use Rattle.snoop_engine.proofs.Common.{range_with_len}
-use Rattle.snoop_engine.specs.States.{kept_at, value_text}
+use Rattle.snoop_engine.proofs.Common.{◌≡◌, ◌++◌, flat_map, range_with_len, kept_at, value_text}
 use Rattle.snoop_engine.proofs.taken_text.push_kept.Given as goal
 
 -- the values so far

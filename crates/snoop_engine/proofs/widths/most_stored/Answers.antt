@@ -1,7 +1,5 @@
-use Rattle.std.proofs.Common.{◌≡◌, ◌++◌, ◌∷◌, [], List, max, sym, take, arith}
-use Rattle.snoop_engine.proofs.Common.{take_more, Step, Ask}
+use Rattle.snoop_engine.proofs.Common.{◌≡◌, ◌++◌, ◌∷◌, [], List, max, sym, take, arith, take_more, Step, Ask, most_stored, stored}
 use Rattle.snoop_trace.specs.declared.step.Op.TheVariants.{Load}
-use Rattle.snoop_engine.specs.Widths.{most_stored, stored}
 use Rattle.snoop_engine.proofs.widths.most_stored.Goals as goal
 
 -- one step more

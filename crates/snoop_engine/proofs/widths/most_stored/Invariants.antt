@@ -1,5 +1,4 @@
-use Rattle.std.proofs.Common.{◌≡◌, take}
-use Rattle.snoop_engine.specs.Widths.{most_stored}
+use Rattle.snoop_engine.proofs.Common.{◌≡◌, take, most_stored}
 use Rattle.snoop_engine.proofs.widths.most_stored.Given as goal
 
 -- the largest value so far

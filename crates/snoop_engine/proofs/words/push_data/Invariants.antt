@@ -1,5 +1,4 @@
-use Rattle.std.proofs.Common.{◌≡◌, ◌++◌, codes, decimal, flat_map}
-use Rattle.snoop_engine.proofs.Common.{range_with_len, word_at}
+use Rattle.snoop_engine.proofs.Common.{◌≡◌, ◌++◌, codes, decimal, flat_map, range_with_len, word_at}
 use Rattle.snoop_engine.proofs.words.push_data.Given as goal
 
 -- the values so far

@@ -1,7 +1,4 @@
-use Rattle.std.proofs.Common.{◌≡◌, ◌++◌, flat_map}
-use Rattle.snoop_engine.proofs.Common.{range_with_len}
-use Rattle.snoop_engine.specs.States.{kept_at}
-use Rattle.snoop_engine.specs.Words.{spaced}
+use Rattle.snoop_engine.proofs.Common.{◌≡◌, ◌++◌, flat_map, range_with_len, kept_at, spaced}
 use Rattle.snoop_engine.proofs.words.push_kept.Given as goal
 
 -- the values so far

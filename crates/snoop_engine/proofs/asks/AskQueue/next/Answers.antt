@@ -1,4 +1,4 @@
-use Rattle.snoop_engine.proofs.Asking.{first_asks}
+use Rattle.snoop_engine.proofs.Packing.{first_asks}
 use Rattle.snoop_engine.proofs.asks.AskQueue.next.Goals as goal
 
 pub unreachable-requires : goal.unreachable-requires

@@ -1,4 +1,4 @@
-use Rattle.snoop_engine.proofs.Asking.{few_asks, one_more, still_ask}
+use Rattle.snoop_engine.proofs.Packing.{few_asks, one_more, still_ask}
 use Rattle.snoop_engine.proofs.asks.AskQueueEntriesAsked.append.Goals as goal
 
 pub invariant_of-self : goal.invariant_of-self

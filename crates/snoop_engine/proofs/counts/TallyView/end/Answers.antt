@@ -1,4 +1,4 @@
-use Rattle.snoop_engine.proofs.CountedLemmas.{text_of_frames}
+use Rattle.snoop_engine.proofs.ViewLemmas.{text_of_frames}
 use Rattle.snoop_engine.proofs.counts.TallyView.end.Goals as goal
 
 pub returns : goal.returns

@@ -1,7 +1,4 @@
-use Rattle.std.proofs.Common.{append-nil, sym}
-use Rattle.snoop_engine.specs.Counts.{all_lines}
-use Rattle.snoop_engine.specs.Views.{frame_seen}
-use Rattle.snoop_engine.proofs.CountedLemmas.{all_lines_more}
+use Rattle.snoop_engine.proofs.{Common.append-nil, Common.sym, Common.all_lines, Common.frame_seen, ViewLemmas.all_lines_more}
 use Rattle.snoop_engine.proofs.counts.TallyView.see.Goals as goal
 
 pub returns : goal.returns

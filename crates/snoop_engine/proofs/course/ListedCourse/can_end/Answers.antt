@@ -1,4 +1,4 @@
-use Rattle.std.proofs.Common.{refl}
+use Rattle.snoop_engine.proofs.Common.{refl}
 use Rattle.snoop_engine.proofs.course.ListedCourse.can_end.Goals as goal
 
 pub returns : goal.returns

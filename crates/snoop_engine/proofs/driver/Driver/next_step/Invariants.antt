@@ -1,5 +1,4 @@
-use Rattle.std.proofs.Common.{length}
-use Rattle.snoop_engine.specs.Round.{IsUnasked}
+use Rattle.snoop_engine.proofs.Common.{length, IsUnasked}
 use Rattle.snoop_engine.proofs.driver.Driver.next_step.Given as goal
 
 abbrev pub invariant-loop-core : goal.invariant-loop-core

@@ -1,4 +1,4 @@
-use Rattle.snoop_engine.proofs.Rounds.{fit_rotated}
+use Rattle.snoop_engine.proofs.Driving.{fit_rotated}
 use Rattle.snoop_engine.proofs.driver.Driver.pass_on.Goals as goal
 
 pub invariant_of-self : goal.invariant_of-self

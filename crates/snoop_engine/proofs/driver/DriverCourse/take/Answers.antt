@@ -1,7 +1,4 @@
-use Rattle.std.proofs.Common.{refl}
-use Rattle.snoop_engine.specs.Round.{Progress}
-use Rattle.snoop_engine.proofs.CourseLemmas.{driver_follows, driver_leads}
-use Rattle.snoop_engine.proofs.Driving.{fit_moves}
+use Rattle.snoop_engine.proofs.{Common.refl, Common.Progress, CourseLemmas.driver_follows, CourseLemmas.driver_leads, Driving.fit_moves}
 use Rattle.snoop_engine.proofs.driver.DriverCourse.take.Goals as goal
 
 pub invariant_of-self-2 : goal.invariant_of-self-2

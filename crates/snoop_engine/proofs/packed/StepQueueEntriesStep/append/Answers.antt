@@ -1,13 +1,12 @@
-use Rattle.std.proofs.Common.{arith}
-use Rattle.snoop_engine.specs.Packed.{values_of, words_of}
-use Rattle.snoop_engine.proofs.Packing.{steps_counted, steps_more, stored_after, worded_after}
+use Rattle.snoop_engine.proofs.Common.{refl, stored_by, stored_in, worded_by, worded_in, arith, values_of, words_of}
+use Rattle.snoop_engine.proofs.Packing.{counted_after, steps_counted, steps_more}
 use Rattle.snoop_engine.proofs.packed.StepQueueEntriesStep.append.Goals as goal
 
 pub invariant_of-self-2 : goal.invariant_of-self-2
 invariant_of-self-2 c =
     rw (c.push_back_reserved.ensures.items, c.in_ok-reserve.ensures.items, c.in_ok-append_data.ensures.words, c.in_ok-append_data.ensures.values) (
-      worded_after c.self.inside.heads.items c.self.inside.words.items (words_of c.args.step) c.new.result c.new.ensures.words c.self.invariant.0,
-      stored_after c.self.inside.heads.items c.self.inside.values.items (values_of c.args.step) c.new.result c.new.ensures.values c.self.invariant.1,
+      counted_after worded_by worded_in refl (λ h hs. refl) c.self.inside.heads.items c.self.inside.words.items (words_of c.args.step) c.new.result c.new.ensures.words c.self.invariant.0,
+      counted_after stored_by stored_in refl (λ h hs. refl) c.self.inside.heads.items c.self.inside.values.items (values_of c.args.step) c.new.result c.new.ensures.values c.self.invariant.1,
     )
 
 pub returns-clause-items : goal.returns-clause-items
@@ -19,8 +18,4 @@ returns-clause-items c =
 pub returns-clause-bounded : goal.returns-clause-bounded
 returns-clause-bounded c =
     let heads = c.push_back_reserved.new.self in
-    let counted = steps_counted heads.items c.append_data.new.words.items c.append_data.new.values.items in
-    let long = heads.ok.0 in
-    let small = heads.small.0 in
-    let within = heads.small.1 in
-    omega arith
+    omega (arith, steps_counted heads.items c.append_data.new.words.items c.append_data.new.values.items, heads.ok.0, heads.small.0, heads.small.1)

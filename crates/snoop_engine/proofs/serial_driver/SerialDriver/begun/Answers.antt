@@ -1,6 +1,4 @@
-use Rattle.std.proofs.Common.{arith, rules, ◌≡◌, ◌∷◌, sym, subst}
-use Rattle.snoop_engine.proofs.Common.{common_steps, Step}
-use Rattle.snoop_engine.specs.Round.{IsEnabled}
+use Rattle.snoop_engine.proofs.Common.{arith, rules, ◌≡◌, ◌∷◌, sym, subst, common_steps, Step, IsEnabled}
 use Rattle.snoop_engine.proofs.InOrderLemmas.{asks_row, begun_enabled, begun_fit, begun_takes_up}
 use Rattle.snoop_engine.proofs.serial_driver.SerialDriver.begun.Goals as goal
 

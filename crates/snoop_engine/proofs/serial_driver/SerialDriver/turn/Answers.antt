@@ -1,5 +1,4 @@
-use Rattle.snoop_engine.proofs.CourseLemmas.{in_order_end}
-use Rattle.snoop_engine.proofs.InOrderLemmas.{at_rest}
+use Rattle.snoop_engine.proofs.{CourseLemmas.in_order_end, InOrderLemmas.at_rest}
 use Rattle.snoop_engine.proofs.serial_driver.SerialDriver.turn.Goals as goal
 
 pub returns-clause-done : goal.returns-clause-done

@@ -2,4 +2,4 @@ use Rattle.snoop_engine.proofs.Completing.{in_order_can_end}
 use Rattle.snoop_engine.proofs.serial_driver.SerialDriverCourse.can_end.Goals as goal
 
 pub returns : goal.returns
-returns c protocol shape = in_order_can_end c.runs_go_on.ensures protocol shape c.args.self.now (rw (← c.self.view_is) c.self.invariant)
+returns c = in_order_can_end c.args.self.now (rw (← c.self.view_is) c.self.invariant)

@@ -1,6 +1,4 @@
-use Rattle.std.proofs.Common.{sym, refl, ◌∙◌, append-nil}
-use Rattle.snoop_engine.proofs.Common.{on_ok_weaker}
-use Rattle.snoop_engine.proofs.StatedLemmas.{text_hidden, text_shown}
+use Rattle.snoop_engine.proofs.{Common.sym, Common.refl, Common.◌∙◌, Common.append-nil, Common.on_ok_weaker, ViewLemmas.text_hidden, ViewLemmas.text_shown}
 use Rattle.snoop_engine.proofs.states.StatesView.see.Goals as goal
 
 pub returns-then-has_step : goal.returns-then-has_step

@@ -1,7 +1,4 @@
-use Rattle.std.proofs.Common.{[], ◌∷◌, ◌++◌, None, append_assoc, get_or, take}
-use Rattle.snoop_engine.proofs.Common.{take_more, I}
-use Rattle.std.proofs.lemmas.List.{take_all}
-use Rattle.snoop_engine.specs.declared.taken.Taken.TheVariants.{Core}
+use Rattle.snoop_engine.proofs.Common.{[], ◌∷◌, ◌++◌, None, append_assoc, get_or, take, take_more, I, take_all, Core}
 use Rattle.snoop_engine.proofs.tally.Tally.add_all.Goals as goal
 
 pub loop-line-preserved : goal.loop-line-preserved

@@ -1,6 +1,4 @@
-use Rattle.std.proofs.Common.{List, ◌++◌, take}
-use Rattle.snoop_engine.specs.Tallies.{Tallies}
-use Rattle.snoop_engine.specs.declared.taken.Taken.{Taken}
+use Rattle.snoop_engine.proofs.Common.{List, ◌++◌, take, Tallies, Taken}
 use Rattle.snoop_engine.proofs.tally.Tally.add_all.Given as goal
 
 -- the lines so far are counted
