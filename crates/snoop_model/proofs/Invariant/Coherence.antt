@@ -1,8 +1,7 @@
 -- What the invariant says of a situation: one writer, current copies and memory, all rows, one sender.
 use Rattle.std.proofs.Common.{◌≡◌, ◌≢◌, ℕ, true, false, List, [], Option, Some, None, refl, inl, inr, sym, ◌∙◌, arith, rules}
-use Rattle.std.specs.Option.{ForSome}
 use Rattle.snoop_model.proofs.Lists.Facts.{if_some}
-use Rattle.snoop_model.proofs.Common.{and_parts, arrival, arrival_at_memory, Ask, asked, awaited_request, BlockInvariant, both_ways, CacheEvent, CacheState, CanOrder, carries_value, cases_Bool, cases_lt, Cell, data_under_way, eq-eqb, false_from_ne_true, flat_words, get_or_past, HasOpen, held_by, IfSome, Invariant, is_put_m, is_some, IsSome, IsSomeAnd, IsWellKept, IsWithin, keeps, Line, MemEvent, none-some, nothing_held, nothing_there, Op, Open, Order, OrdersFollowSenderTable, own_open, owns, Picture, picture_of, Protocol, Request, Respond, seen_by, Situation, state_of, Step, talk_of, waiting_request, Waits, ◌<◌, ◌↔◌, ◌≤◌}
+use Rattle.snoop_model.proofs.Common.{and_parts, arrival, arrival_at_memory, Ask, asked, awaited_request, BlockInvariant, both_ways, CacheEvent, CacheState, CanOrder, carries_value, cases_Bool, cases_lt, Cell, data_under_way, eq-eqb, false_from_ne_true, fits, flat_words, ForSome, get_or_past, HasOpen, held_by, IfSome, in_protocol, Invariant, is_clean, is_owner, is_put_m, is_some, IsSome, IsSomeAnd, IsWellKept, IsWithin, keeps, Line, MemEvent, none-some, nothing_held, nothing_there, Op, Open, Order, OrdersFollowSenderTable, own_open, owns, Picture, picture_of, Protocol, Request, Respond, seen_by, Situation, state_of, Step, talk_of, wait_fits, waiting_request, Waits, ◌<◌, ◌↔◌, ◌≤◌}
 use Rattle.snoop_trace.specs.declared.step.Op.TheVariants as op
 use Rattle.snoop_trace.specs.declared.protocol.Protocol.TheVariants.{Msi, Mesi}
 use Rattle.snoop_rules.specs.declared.names.CacheState.TheVariants as state
@@ -13,18 +12,9 @@ use Rattle.snoop_rules.specs.Possible.{MayLoad, MayStore}
 use Rattle.snoop_rules.specs.Takers.{other as another}
 use Rattle.snoop_model.specs.Moves.LookUps.{HasRow, HasMemRow, ConsultsCache, ConsultsMemory, FindsRows}
 use Rattle.snoop_model.specs.Pictures.OneWriter.{OneWriter}
-use Rattle.snoop_model.specs.Invariant.Fits.{in_protocol, is_clean, is_owner, wait_fits, fits}
-use Rattle.snoop_model.proofs.Tables.StateTests.{some_of}
+use Rattle.snoop_model.proofs.Tables.{StateTests.some_of, AskTests.ask_rule, AskTests.is_idle_evict, Rows.hit_keeps, RespondTests.memory_row_for, RespondTests.row_for, SenderLines.led_line, WaitingRows.awaited-get, StateTests.brings_data, StateTests.resting_rule}
 use Rattle.snoop_model.proofs.Tables.AskTests
-use Rattle.snoop_model.proofs.Tables.AskTests.{ask_rule, is_idle_evict}
-use Rattle.snoop_model.proofs.Tables.Rows.{hit_keeps}
-use Rattle.snoop_model.proofs.Tables.RespondTests.{memory_row_for, row_for}
-use Rattle.snoop_model.proofs.OneBlock.OrderStep.{seen_other}
-use Rattle.snoop_model.proofs.OneBlock.Facts.{one_writer, fits_waits, fits_is_owner, each_held}
-use Rattle.snoop_model.proofs.OneBlock.Possible.{Answerable, Possible, order_possible, ask_possible, respond_possible}
-use Rattle.snoop_model.proofs.Tables.SenderLines.{led_line}
-use Rattle.snoop_model.proofs.Tables.WaitingRows.{awaited-get}
-use Rattle.snoop_model.proofs.Tables.StateTests.{brings_data, resting_rule}
+use Rattle.snoop_model.proofs.OneBlock.{OrderStep.seen_other, Facts.one_writer, Facts.fits_waits, Facts.fits_is_owner, Facts.each_held, Possible.Answerable, Possible.Possible, Possible.order_possible, Possible.ask_possible, Possible.respond_possible}
 
 -- an owner may write
 owner_stores : (p : Protocol) (s : CacheState) → in_protocol p s ≡ true → is_owner s ≡ true → MayStore p s

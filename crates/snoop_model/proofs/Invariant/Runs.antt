@@ -1,28 +1,16 @@
 -- The invariant holds at reset, and after each move: flat memory and the log first, then the block, and what waits.
 use Rattle.std.proofs.Common.{◌≡◌, ◌≢◌, ℕ, ◌<◌, Bool, true, false, not, List, [], ◌∷◌, ◌++◌, length, Option, Some, None, refl, inl, inr, ap, sym, ◌∙◌, arith, replicate}
-use Rattle.std.proofs.Math.Bool.{and-false}
-use Rattle.std.proofs.lemmas.List.Elements.{All-nil, All-cons, All-append}
-use Rattle.std.proofs.lemmas.List.FromFn.{length-map-range_with_len, get_or-map-range_with_len, fill_by_all}
-use Rattle.std.proofs.lemmas.Bool.Decides.{eqb_tells}
-use Rattle.snoop_model.proofs.Common.{Access, after_order, All, append-nil, Ask, BlockInvariant, CacheAction, CacheState, came_of, cases_Bool, cases_lt, Did, eq-eqb, Err, Extent, first_memory, flat, flat_words, get_or-replicate, get_or-set_other, get_or-set_same, get_or_past, Goes, HasWord, held_by, IfSome, IfSome_then, if◌then◌else◌, Invariant, is_store_to, IsNext, IsProper, IsShaped, IsWithin, IsWord, Item, kept_waiting, Legal, length-replicate, length-set, Line, MoveOn, ne_eqb, next_did, none-some, nothing_held, nothing_there, Ok, Op, Open, operation_of, operations, option_map, option_map_or, option_to_list, Order, Performs, Picture, picture_of, Protocol, queues_after, Refused, Reply, request_for, reset, Respond, Result, same_Some, Situation, slice_set, Step, stores, Takes, untouched, with_line, word_at, ◌==◌}
+use Rattle.snoop_model.proofs.Common.{Access, after_order, All, All-append, All-cons, All-nil, and-false, append-nil, Ask, BlockInvariant, CacheAction, CacheState, came_of, cases_Bool, cases_lt, claims_of, Did, eq-eqb, eqb_tells, Err, Extent, fill_by_all, first_memory, fits, flat, flat_words, get_or-map-range_with_len, get_or-replicate, get_or-set_other, get_or-set_same, get_or_past, Goes, HasWord, held_by, IfSome, IfSome_then, if◌then◌else◌, in_protocol, Invariant, is_clean, is_owner, is_sharer, is_store_to, IsNext, IsProper, IsShaped, IsWithin, IsWord, Item, kept_waiting, Legal, length-map-range_with_len, length-replicate, length-set, Line, MoveOn, ne_eqb, next_did, none-some, nothing_held, nothing_there, Ok, Op, Open, operation_of, operations, operations-push, option_map, option_map_or, option_to_list, Order, Performs, Picture, picture_of, Protocol, queues_after, Refused, Reply, request_for, reset, Respond, Result, same, same_Some, Situation, slice_set, Step, stores, Takes, untouched, wait_fits, with_line, word_at, ◌==◌}
 use Rattle.snoop_trace.specs.declared.step.Op.TheVariants as op
 use Rattle.snoop_rules.specs.declared.names.CacheAction.TheVariants as action
 use Rattle.snoop_history.specs.declared.items.Item.TheVariants as item
-use Rattle.snoop_history.proofs.Pushed.{operations-push}
 use Rattle.snoop_history.proofs.Legal.{flat-grows, legal-grows}
-use Rattle.snoop_model.proofs.Lists.Writes.{each_set}
-use Rattle.snoop_model.proofs.OneBlock.Facts.{each_held}
-use Rattle.snoop_model.proofs.OneBlock.Operation.{did_in, flat_after, IsLawful}
-use Rattle.snoop_model.proofs.OneBlock.OfBlocks.{changed, in_pictures, each_picture, shaped_after}
+use Rattle.snoop_model.proofs.Lists.{Writes.each_set, Facts.replicated}
+use Rattle.snoop_model.proofs.OneBlock.{Facts.each_held, Operation.did_in, Operation.flat_after, Operation.IsLawful, OfBlocks.changed, OfBlocks.in_pictures, OfBlocks.each_picture, OfBlocks.shaped_after, AskStep.ask_keeps, OrderStep.order_keeps, RespondStep.respond_keeps}
 use Rattle.snoop_model.proofs.Lines.Answered.{by_request, arrives_length, still_waiting}
-use Rattle.snoop_model.proofs.OneBlock.AskStep.{ask_keeps}
-use Rattle.snoop_model.proofs.OneBlock.OrderStep.{order_keeps}
-use Rattle.snoop_model.proofs.OneBlock.RespondStep.{respond_keeps}
 use Rattle.snoop_trace.specs.declared.protocol.Protocol.TheVariants as protocol
 use Rattle.snoop_rules.specs.declared.names.CacheState.TheVariants.{I}
 use Rattle.snoop_model.specs.declared.replies.Refused.TheVariants.{NoMemory}
-use Rattle.snoop_model.specs.Invariant.Fits.{claims_of, is_owner, is_sharer, is_clean, wait_fits, in_protocol, same, fits}
-use Rattle.snoop_model.proofs.Lists.Facts.{replicated}
 
 -- a word of a block in flat memory
 pub word_flat : (log : List Item) (block word : ℕ) → word < 64 → word_at (flat_words log block) word ≡ flat log block word

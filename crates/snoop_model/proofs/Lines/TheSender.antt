@@ -1,9 +1,8 @@
 -- The loop that looks for the one sender.
 use Rattle.std.proofs.Common.{◌≡◌, ℕ, ◌+◌, ◌<◌, ◌≤◌, length, Option, Some, None, arith, inl, inr, ◌≢◌}
-use Rattle.snoop_model.proofs.Common.{cases_eq, cases_lt, Protocol, CacheState, CacheAction, MemState, MemAction, Request, Payload, Target, Cell, MemoryCell, seen_by, at_memory, Picture, held_by, Sends, ⊤}
+use Rattle.snoop_model.proofs.Common.{at_memory, CacheAction, CacheState, cases_eq, cases_lt, Cell, FollowsSenderTable, held_by, MemAction, MemoryCell, MemState, Payload, Picture, Protocol, Request, seen_by, Sends, Target, ⊤}
 use Rattle.snoop_rules.specs.declared.names.CacheAction.TheVariants as action
 use Rattle.snoop_rules.specs.declared.names.MemAction.TheVariants as mem_action
-use Rattle.snoop_model.specs.Moves.SenderTable.{FollowsSenderTable}
 use Rattle.snoop_model.proofs.Tables.SentBy.{sending, sending_memory, sends_is}
 
 -- memory, or a core below n

@@ -1,10 +1,7 @@
 -- How often a block stands in a queue.
 use Rattle.std.proofs.Common.{zero-add, ◌≡◌, ◌≢◌, ℕ, suc, ◌+◌, ◌<◌, ◌≤◌, not, cond, eqb, List, [], ◌∷◌, ◌++◌, length, filter, refl, inl, inr, sym, ◌∙◌, arith, count_by, Contains, eq-eqb, ne_eqb, get_or-set_same, get_or-set_other}
-use Rattle.snoop_model.proofs.Common.{queue_of, after_issue, after_order}
-use Rattle.std.proofs.lemmas.Bool.Decides.{eqb_tells}
-use Rattle.std.proofs.lemmas.List.Sums.{get_or-le-sum_by, sum_by_push, sum_by-cons}
-use Rattle.snoop_model.proofs.Lists.Facts.{one_if}
-use Rattle.snoop_model.proofs.Lists.Writes.{same_set}
+use Rattle.snoop_model.proofs.Common.{after_issue, after_order, eqb_tells, get_or-le-sum_by, queue_of, sum_by-cons, sum_by_push}
+use Rattle.snoop_model.proofs.Lists.{Facts.one_if, Writes.same_set}
 
 abbrev pub times : ℕ → List ℕ → ℕ
 times block queue = count_by (λ b. eqb b block) queue

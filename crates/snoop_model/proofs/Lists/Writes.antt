@@ -1,10 +1,6 @@
 -- What a write in one place does to a list of lists, and to sums over it.
 use Rattle.std.proofs.Common.{◌≡◌, ◌≢◌, ℕ, zero, suc, ◌+◌, ◌<◌, ◌≤◌, List, [], ◌∷◌, ◌++◌, length, filter, not, Bool, false, Some, refl, ap, arith, inl, inr, ◌⊎◌, slice_index_or, slice_set, slice_get, All, ◌==◌, sum_by, count_by, eq-eqb, get_or-set_same, get_or-set_other}
-use Rattle.snoop_model.proofs.Common.{cond_both, same_Some, get_or_past, queue_of, after_issue, after_order}
-use Rattle.std.proofs.lemmas.Option.{get_or_from_slice_get, slice_get_within}
-use Rattle.std.proofs.lemmas.List.{set_past, length_push}
-use Rattle.std.proofs.lemmas.List.Elements.{All-push, All-filter}
-use Rattle.std.proofs.lemmas.List.Sums.{sum_by-set, length-filter, count_by-le-length}
+use Rattle.snoop_model.proofs.Common.{after_issue, after_order, All-filter, All-push, cond_both, count_by-le-length, get_or_from_slice_get, get_or_past, length-filter, length_push, queue_of, same_Some, set_past, slice_get_within, sum_by-set}
 use Rattle.snoop_model.proofs.Lists.Facts.{one_if}
 
 -- what stands in a place after a write

@@ -1,12 +1,7 @@
 -- What waited, or was asked, waits or is its core's last operation: by `once` alone.
 use Rattle.std.proofs.Common.{◌≡◌, ℕ, zero, suc, ◌⊎◌, inl, inr, ◌==◌, List, [], ◌∷◌, ◌++◌, map, Option, Some, None, refl, ap, sym, ◌∙◌, arith, append-nil}
-use Rattle.std.specs.List.Sorted.{IsPermutation}
-use Rattle.std.specs.List.{cons_option}
-use Rattle.std.proofs.lemmas.List.Sorted.{Contains-permutation, IsPermutation-sym}
-use Rattle.std.proofs.lemmas.List.Elements.{Contains-append_left, Contains-append_right, Contains-append_cases}
-use Rattle.snoop_model.proofs.Common.{Access, answers_of, append_cancel_left, asked_access, cases_Bool, Contains, Did, did_access, eqb-true, filter, FirstMove, held_by, IsLast, IsOwed, Item, map-append, Ok, OnceMore, option_to_list, Owes, picture_of, Reply, same_Some, Situation, Step, waiting_at}
+use Rattle.snoop_model.proofs.Common.{Access, answers_of, answers_of-push, append_cancel_left, asked_access, cases_Bool, cons_option, Contains, Contains-append_cases, Contains-append_left, Contains-append_right, Contains-permutation, Did, did_access, eqb-true, filter, FirstMove, held_by, IsLast, IsOwed, IsPermutation, IsPermutation-sym, Item, last_or-append, map-append, of_core, Ok, OnceMore, option_to_list, Owes, picture_of, Reply, same_Some, Situation, Step, waiting_at}
 use Rattle.snoop_model.proofs.Runs.Shape.{on_stays}
-use Rattle.snoop_history.proofs.Pushed.{answers_of-push, last_or-append, of_core}
 use Rattle.snoop_model.proofs.OneBlock.Operation.{did_in}
 
 -- a core's operations with one item more

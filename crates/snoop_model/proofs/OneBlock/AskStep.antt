@@ -4,12 +4,9 @@ use Rattle.snoop_model.proofs.Common.{and_parts, both_ways, not-true, same_Some,
 use Rattle.snoop_trace.specs.declared.step.Op.TheVariants as op
 use Rattle.snoop_rules.specs.declared.names.CacheEvent.TheVariants as event
 use Rattle.snoop_rules.specs.declared.names.CacheAction.TheVariants as action
-use Rattle.snoop_model.proofs.OneBlock.Operation.{did_in, flat_after, IsLawful}
+use Rattle.snoop_model.proofs.OneBlock.{Operation.did_in, Operation.flat_after, Operation.IsLawful, Facts.LineFits, Facts.carried_line, Facts.line_of, Facts.one_writer, Facts.owned_alone, Facts.still_fits}
 use Rattle.snoop_model.proofs.Lists.Writes.{each_set}
-use Rattle.snoop_model.proofs.OneBlock.Facts.{LineFits, carried_line, line_of, one_writer, owned_alone, still_fits}
-use Rattle.snoop_model.proofs.Tables.Rows.{hit_keeps, IsProper-issue, IsProper-hit, IsProper-drop}
-use Rattle.snoop_model.proofs.Tables.AskTests.{AskQuestion, ask_rule, ask_test, ask_fits, ask_carries, ask_store_owns}
-use Rattle.snoop_model.proofs.Tables.StateTests.{kept_reader}
+use Rattle.snoop_model.proofs.Tables.{Rows.hit_keeps, Rows.IsProper-issue, Rows.IsProper-hit, Rows.IsProper-drop, AskTests.AskQuestion, AskTests.ask_rule, AskTests.ask_test, AskTests.ask_fits, AskTests.ask_carries, AskTests.ask_store_owns, StateTests.kept_reader}
 
 -- an operation that changes the block's words is of a core that owns it
 module _ {p : Protocol} {n : ℕ} {flat : List ℕ} {picture : Picture} (g : BlockInvariant p n flat picture)

@@ -1,7 +1,6 @@
 -- What follows from the invariant of one block.
 use Rattle.std.proofs.Common.{arith, ◌≡◌, ◌≢◌, ◌<◌, ◌&&◌, ◌||◌, ◌∙◌, ℕ, List, Bool, true, false, not, eqb, Option, Some, None, refl, inl, inr, sym, subst, length, is_some, eq-eqb, eqb-true, ne_eqb}
-use Rattle.snoop_model.proofs.Common.{and_parts, cases_eq, not-true, cases_lt, get_or_past, same_Some, Protocol, CacheState, Request, Line, Picture, held_by, held_at, nothing_held, keeps, IsProper, is_owner, is_sharer, is_clean, in_protocol, same, wait_fits, fits, BlockInvariant, talk_of, own_open, owns, or_right}
-use Rattle.std.proofs.lemmas.Bool.Decides.{eqb_tells}
+use Rattle.snoop_model.proofs.Common.{and_parts, BlockInvariant, CacheState, cases_eq, cases_lt, eqb_tells, fits, get_or_past, held_at, held_by, in_protocol, is_clean, is_owner, is_sharer, IsProper, keeps, Line, not-true, nothing_held, or_right, own_open, owns, Picture, Protocol, Request, same, same_Some, talk_of, wait_fits}
 use Rattle.snoop_model.proofs.Lines.TheSender.{IsBelow}
 use Rattle.snoop_model.proofs.Tables.StateTests.{all_open-at, same_is, brings_data, carries, clean_reads, owned_rule}
 

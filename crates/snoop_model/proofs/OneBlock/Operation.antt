@@ -1,8 +1,6 @@
 -- What a move's operation, if it has one, does to its block's words in flat memory.
 use Rattle.std.proofs.Common.{◌≡◌, List, ℕ, true, cond, Option, Some, None, slice_set}
-use Rattle.snoop_model.proofs.Common.{Did, Item, ⊤}
-use Rattle.snoop_trace.specs.Words.{word_at}
-use Rattle.snoop_history.specs.History.{operation_of}
+use Rattle.snoop_model.proofs.Common.{Did, Item, operation_of, word_at, ⊤}
 
 abbrev pub did_in : Option Item → Option Did
 did_in None = None

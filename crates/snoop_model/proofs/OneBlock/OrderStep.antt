@@ -3,11 +3,7 @@ use Rattle.std.proofs.Common.{◌≡◌, ◌≢◌, ◌<◌, ◌∙◌, ℕ, len
 use Rattle.snoop_model.proofs.Common.{and_from, or_cases, same_Some, Protocol, CacheCell, MemCell, Request, Payload, cell_of, memory_cell_of, own, other, seen_by, at_memory, carries_value, waiting_request, Open, Picture, held_by, Situation, picture_of, keeps, Orders, sender_of, is_put_m, Sends, value_sent, Claims, claims_of, fits, BlockInvariant, own_open, owns, cond_both, cond_some}
 use Rattle.snoop_model.proofs.Lists.Facts.{of_choice}
 use Rattle.snoop_model.proofs.Lines.TheSender.{IsBelow, sends_below}
-use Rattle.snoop_model.proofs.Tables.StateTests.{all_fitting-at, when_at, EachHolds, some_and, some_each, carries, kept_reader}
-use Rattle.snoop_model.proofs.Tables.OrderTests.{SendsSo, end_tests, order_rule, other_tests, payload_of, sends_so-true}
-use Rattle.snoop_model.proofs.Tables.Rows.{IsProper-order}
-use Rattle.snoop_model.proofs.Tables.SenderLines.{follows_sender_table}
-use Rattle.snoop_model.proofs.Tables.SentBy.{payload_from, sends_is, sends_row, memory_sends_row}
+use Rattle.snoop_model.proofs.Tables.{StateTests.all_fitting-at, StateTests.when_at, StateTests.EachHolds, StateTests.some_and, StateTests.some_each, StateTests.carries, StateTests.kept_reader, OrderTests.SendsSo, OrderTests.end_tests, OrderTests.order_rule, OrderTests.other_tests, OrderTests.payload_of, OrderTests.sends_so-true, Rows.IsProper-order, SenderLines.follows_sender_table, SentBy.payload_from, SentBy.sends_is, SentBy.sends_row, SentBy.memory_sends_row}
 use Rattle.snoop_model.proofs.OneBlock.Facts.{LineFits, by_core, carried_line, is_it, it_is, line_of, OwnerIn, core_in, owns_owned, owns_apart}
 
 -- all that an Order looks up of a picture that keeps its invariant

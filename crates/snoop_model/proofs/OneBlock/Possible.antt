@@ -1,13 +1,8 @@
 -- Each step finds its rows, and an Order exactly one sender.
 use Rattle.std.proofs.Common.{◌≡◌, ◌<◌, ℕ, length, List, true, false, Option, Some, None}
 use Rattle.snoop_model.proofs.Common.{Protocol, Op, CacheCell, MemCell, Request, Payload, cell_of, memory_cell_of, asked, seen_by, at_memory, arrival, arrival_at_memory, takes_payload, waiting_request, Open, Picture, held_by, sender_of, is_put_m, IsOnlySender, BlockInvariant}
-use Rattle.snoop_model.proofs.Tables.StateTests.{some_and}
-use Rattle.snoop_model.proofs.Tables.SenderLines.{follows_sender_table}
-use Rattle.snoop_model.proofs.OneBlock.Facts.{below_owner, is_itself}
-use Rattle.snoop_model.proofs.OneBlock.OrderStep.{each_row, look, meant, meant_in, sender_told, sends, sends_if_meant, sent}
-use Rattle.snoop_model.proofs.OneBlock.RespondStep.{answered, closing}
-use Rattle.snoop_model.proofs.Tables.AskTests.{ask_fits, ask_holds_of, is_idle_evict}
-use Rattle.snoop_model.proofs.Tables.RespondTests.{memory_row_for, row_for}
+use Rattle.snoop_model.proofs.Tables.{StateTests.some_and, SenderLines.follows_sender_table, AskTests.ask_fits, AskTests.ask_holds_of, AskTests.is_idle_evict, RespondTests.memory_row_for, RespondTests.row_for}
+use Rattle.snoop_model.proofs.OneBlock.{Facts.below_owner, Facts.is_itself, OrderStep.each_row, OrderStep.look, OrderStep.meant, OrderStep.meant_in, OrderStep.sender_told, OrderStep.sends, OrderStep.sends_if_meant, OrderStep.sent, RespondStep.answered, RespondStep.closing}
 
 pub record Possible (p : Protocol) (before : Picture) (c : ℕ) (q : Request) : Type 0 where
   pub rows : (d : ℕ) → d < length before.caches → (r : CacheCell) × (cell_of p (held_by before d).state (seen_by d c q) ≡ Some r)

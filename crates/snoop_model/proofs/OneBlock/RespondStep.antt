@@ -1,17 +1,12 @@
 -- A Respond finds its rows and keeps the invariant, and a load that it performs gives the flat value.
 use Rattle.std.proofs.Common.{arith, ◌≡◌, ◌<◌, ◌&&◌, ◌||◌, ◌∙◌, ℕ, length, List, Bool, true, false, not, cond, Option, Some, None, refl, inl, inr, ap, sym, is_some, if◌then◌else◌, eq-eqb, ne_eqb}
-use Rattle.snoop_model.proofs.Common.{and_parts, both_ways, cases_Bool, not-true, none-some, same_Some, Protocol, Op, CacheAction, CacheCell, MemAction, MemCell, Request, arrival, arrival_at_memory, takes_payload, Did, Item, Open, Picture, held_at, held_by, nothing_held, Situation, picture_of, keeps, Performs, is_load, FillsRequestor, ArrivesFor, Responds, next_did, written, is_put_m, is_get_m, Claims, claims_of, BlockInvariant, owns, PutM, cond_both}
-use Rattle.snoop_trace.specs.Words.{word_at}
+use Rattle.snoop_model.proofs.Common.{and_parts, arrival, arrival_at_memory, ArrivesFor, BlockInvariant, both_ways, CacheAction, CacheCell, cases_Bool, Claims, claims_of, cond_both, Did, FillsRequestor, held_at, held_by, is_get_m, is_load, is_put_m, Item, keeps, MemAction, MemCell, next_did, none-some, not-true, nothing_held, Op, Open, owns, Performs, Picture, picture_of, Protocol, PutM, Request, Responds, same_Some, Situation, takes_payload, word_at, written}
 use Rattle.snoop_trace.specs.declared.step.Op.TheVariants as op
 use Rattle.snoop_rules.specs.declared.names.CacheAction.TheVariants as action
 use Rattle.snoop_rules.specs.declared.names.MemAction.TheVariants as mem_action
-use Rattle.snoop_model.proofs.Lists.Facts.{of_choice}
-use Rattle.snoop_model.proofs.Lists.Writes.{each_set}
-use Rattle.snoop_model.proofs.Tables.StateTests.{when, all_open-at, all_fitting-at, when_at, EachHolds, same_is, some_and, some_each}
-use Rattle.snoop_model.proofs.Tables.RespondTests.{answer_tests, fills_store, gains, respond_rule, respond_tests, row_for, settled_row, settled_so, stays_so, writes}
-use Rattle.snoop_model.proofs.Tables.Rows.{IsProper-fill}
-use Rattle.snoop_model.proofs.OneBlock.Facts.{LineFits, line_of, still_fits, OwnerIn, core_in, owns_owned}
-use Rattle.snoop_model.proofs.OneBlock.Operation.{flat_after, IsLawful}
+use Rattle.snoop_model.proofs.Lists.{Facts.of_choice, Writes.each_set}
+use Rattle.snoop_model.proofs.Tables.{StateTests.when, StateTests.all_open-at, StateTests.all_fitting-at, StateTests.when_at, StateTests.EachHolds, StateTests.same_is, StateTests.some_and, StateTests.some_each, RespondTests.answer_tests, RespondTests.fills_store, RespondTests.gains, RespondTests.respond_rule, RespondTests.respond_tests, RespondTests.row_for, RespondTests.settled_row, RespondTests.settled_so, RespondTests.stays_so, RespondTests.writes, Rows.IsProper-fill}
+use Rattle.snoop_model.proofs.OneBlock.{Facts.LineFits, Facts.line_of, Facts.still_fits, Facts.OwnerIn, Facts.core_in, Facts.owns_owned, Operation.flat_after, Operation.IsLawful}
 
 -- all that a Respond looks up of a picture that keeps its invariant
 pub record Closing {p : Protocol} {n : ℕ} {flat : List ℕ} {before : Picture} (good : BlockInvariant p n flat before) (o : Open) : Type 0 where

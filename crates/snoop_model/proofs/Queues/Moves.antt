@@ -2,17 +2,12 @@
 use Rattle.std.proofs.Common.{◌≡◌, ◌≢◌, ℕ, ◌<◌, ◌++◌, List, [], length, Option, Some, None, refl, sym, ◌∙◌, arith, inl, inr, ◌∷◌}
 use Rattle.snoop_model.proofs.Common.{Access, after_issue, after_order, ArrivesFor, Ask, asked, awaited_request, CacheAction, CacheState, cases_Bool, cases_lt, Cell, Contains, Did, eq-eqb, FillsRequestor, get_or-set_same, get_or_past, held_at, held_by, if◌then◌else◌, is_some, IsSome, IsWellKept, IsWithin, Item, KeepsWell, length-set, Line, missed_request, MoveOn, ne_eqb, none-some, nothing_held, Op, Open, option_to_list, Order, Picture, picture_of, Protocol, queue_of, queues_after, Reply, Request, reset, Respond, Responds, same_Some, Situation, slice_get, slice_get-get_or, StandsFirst, StartsWell, state_of, Step, Takes, TakesRows, waiting_request, Waits, WaitsOnNone, with_line, ◌==◌}
 use Rattle.snoop_rules.specs.declared.names.CacheAction.TheVariants as action
-use Rattle.snoop_model.proofs.Lists.Facts.{one_if, replicated}
-use Rattle.snoop_model.proofs.Lists.Writes.{each_set}
-use Rattle.snoop_model.proofs.Lists.QueueCounts.{times, issued_own, issued_others, issued_elsewhere, ordered_own, ordered_others, ordered_elsewhere, counted_in, in_counted}
-use Rattle.snoop_model.proofs.Tables.Rows.{issue-waits, issue-missed, asked_missed, hit_facts, drop_facts, order_facts, fill-waits}
-use Rattle.snoop_model.proofs.Tables.WaitingRows.{awaited-asked, awaited-ordered, awaited-filled, awaited-get}
-use Rattle.snoop_model.proofs.OneBlock.Facts.{by_core, each_held}
-use Rattle.snoop_model.proofs.OneBlock.OfBlocks.{changed, in_pictures, each_picture, shaped_after}
+use Rattle.snoop_model.proofs.Lists.{Facts.one_if, Facts.replicated, Writes.each_set, QueueCounts.times, QueueCounts.issued_own, QueueCounts.issued_others, QueueCounts.issued_elsewhere, QueueCounts.ordered_own, QueueCounts.ordered_others, QueueCounts.ordered_elsewhere, QueueCounts.counted_in, QueueCounts.in_counted}
+use Rattle.snoop_model.proofs.Tables.{Rows.issue-waits, Rows.issue-missed, Rows.asked_missed, Rows.hit_facts, Rows.drop_facts, Rows.order_facts, Rows.fill-waits, WaitingRows.awaited-asked, WaitingRows.awaited-ordered, WaitingRows.awaited-filled, WaitingRows.awaited-get, StateTests.some_of}
+use Rattle.snoop_model.proofs.OneBlock.{Facts.by_core, Facts.each_held, OfBlocks.changed, OfBlocks.in_pictures, OfBlocks.each_picture, OfBlocks.shaped_after}
 use Rattle.snoop_model.proofs.Lines.Answered.{by_request, filled_or_same, arrives_length, still_waiting}
 use Rattle.snoop_model.proofs.Invariant.Runs.{reset_line, reset_open, reset_shaped}
 use Rattle.snoop_model.specs.Pictures.InQueue.{IsInQueue}
-use Rattle.snoop_model.proofs.Tables.StateTests.{some_of}
 
 -- how often a core that holds the block in this state has it in its queue
 abbrev waits : CacheState → ℕ

@@ -3,8 +3,7 @@ use Rattle.std.proofs.Common.{◌≡◌, None, List, [], ◌∷◌, refl, ap, sy
 use Rattle.snoop_model.proofs.Common.{Err, Extent, FirstMove, FirstRunFrom, GoesFirst, Invariant, IsWellKept, KeepsWell, Ok, Protocol, Refused, Refuses, Reply, reset, Result, Situation, Step}
 use Rattle.snoop_model.proofs.Invariant.Runs.{reset_invariant, move_keeps}
 use Rattle.snoop_model.proofs.Queues.Moves.{keeps_well, starts_well, AreQueued}
-use Rattle.snoop_model.proofs.Steps.Next.{next_of}
-use Rattle.snoop_model.proofs.Steps.GoesNext.{goes_is, goes_next}
+use Rattle.snoop_model.proofs.Steps.{Next.next_of, GoesNext.goes_is, GoesNext.goes_next}
 use Rattle.snoop_model.proofs.Runs.Along.{kept_along}
 
 -- a step that is not refused is a move, an Order's on the first block of its core's queue

@@ -1,25 +1,16 @@
 -- Each step that goes comes to what is computed of it, and from every situation of a run each step goes so.
 use Rattle.std.proofs.Common.{◌≡◌, ℕ, zero, suc, ◌<◌, ◌≤◌, ◌&&◌, Bool, true, false, List, length, Option, Some, None, refl, ◌⊎◌, inl, inr, ap, ◌∙◌, arith, not}
 use Rattle.std.specs.Bool.{Decides}
-use Rattle.std.proofs.Math.Dec.{ltb}
-use Rattle.std.proofs.lemmas.Bool.Decides.{Decides-and, Decides-ltb}
-use Rattle.std.proofs.lemmas.List.FromFn.{fill_by_all, get_or-map-range_with_len, length-map-range_with_len}
-use Rattle.snoop_model.proofs.Common.{Access, and_cases, and_from, and_left, and_parts, and_right, arrival, arrival_at_memory, ArrivesFor, Ask, asked, both_ways, CacheAction, CacheCell, CacheEvent, CacheState, CanOrder, cases_Bool, cases_eq, cases_lt, Cell, Did, Err, Extent, false_from_ne_true, FillsRequestor, FirstMove, flat_words, GoesFirst, HasWord, held_at, held_by, Hits, if◌then◌else◌, Invariant, is_load, is_put_m, is_some, IsOnlySender, IsProper, IsWithin, Item, le-ltb, Line, lt-ltb, ltb-false, ltb-true, MemAction, MemCell, MemEvent, MemState, missed_request, nothing_held, Ok, Op, Open, option_map, option_map_or, Order, Orders, Payload, Performs, Picture, picture_of, Protocol, queue_of, Refused, Refuses, Reply, Request, request_for, Respond, Responds, Result, seen_by, Situation, slice_get, StandsFirst, state_of, Step, Takes, takes_payload, unwrap_or, word_places, written, zero_words}
+use Rattle.snoop_model.proofs.Common.{Access, all_payloads, all_payloads-at, all_protocols, all_protocols-at, all_states, all_states-at, and_cases, and_from, and_left, and_parts, and_right, arrival, arrival_at_memory, ArrivesFor, Ask, asked, both_ways, CacheAction, CacheCell, CacheEvent, CacheState, CanOrder, cases_Bool, cases_eq, cases_lt, Cell, Decides-and, Decides-ltb, Did, Err, Extent, false_from_ne_true, fill_by_all, FillsRequestor, FirstMove, flat_words, get_or-map-range_with_len, GoesFirst, HasWord, held_at, held_by, Hits, if◌then◌else◌, Invariant, is_load, is_put_m, is_some, IsOnlySender, IsProper, IsWithin, Item, le-ltb, length-map-range_with_len, Line, lt-ltb, ltb, ltb-false, ltb-true, MemAction, MemCell, MemEvent, MemState, missed_request, nothing_held, Ok, Op, Open, option_map, option_map_or, Order, Orders, Payload, Performs, Picture, picture_of, Protocol, queue_of, Refused, Refuses, Reply, Request, request_for, Respond, Responds, Result, seen_by, Situation, slice_get, StandsFirst, state_of, Step, Takes, takes_payload, unwrap_or, word_places, written, zero_words}
 use Rattle.snoop_trace.specs.declared.step.Op.TheVariants as op
 use Rattle.snoop_rules.specs.declared.names.CacheAction.TheVariants as action
 use Rattle.snoop_rules.specs.declared.names.Request.TheVariants as request
 use Rattle.snoop_model.specs.declared.replies.Refused.TheVariants.{NoCore, NoBlock, Stalled, NothingWaiting, BusTaken, NoTransaction}
 use Rattle.snoop_model.proofs.Lines.TheSender.{IsBelow, sends_below}
-use Rattle.snoop_model.proofs.Tables.SentBy.{payload_from, sends_is, sends_row}
-use Rattle.snoop_model.proofs.Tables.RespondTests.{SettlesIf, memory_row_for, row_for}
-use Rattle.snoop_model.proofs.OneBlock.OfBlocks.{same_picture, same_memory}
+use Rattle.snoop_model.proofs.Tables.{SentBy.payload_from, SentBy.sends_is, SentBy.sends_row, RespondTests.SettlesIf, RespondTests.memory_row_for, RespondTests.row_for, StateTests.given, StateTests.given_at, StateTests.some_of, Rows.is_evict, Rows.asked_answers, Rows.hit_keeps, AskTests.is_idle_evict}
+use Rattle.snoop_model.proofs.OneBlock.{OfBlocks.same_picture, OfBlocks.same_memory, Possible.ask_possible, Possible.respond_possible}
 use Rattle.snoop_model.proofs.Steps.Next.{Next, value_of, words_after, has_word, after_ask, by_row, next_asked, sender_below, line_after, next_picture, next_ordered, settled, filled, brought, next_closed, next_of, next_first}
-use Rattle.snoop_rules.proofs.Every.{all_protocols, all_protocols-at, all_states, all_states-at, all_payloads, all_payloads-at}
-use Rattle.snoop_model.proofs.Tables.StateTests.{given, given_at, some_of}
-use Rattle.snoop_model.proofs.Tables.Rows.{is_evict, asked_answers, hit_keeps}
-use Rattle.snoop_model.proofs.Tables.AskTests.{is_idle_evict}
 use Rattle.snoop_model.proofs.Invariant.Coherence.{orders_follow_sender_table, finds_rows, idle_evict, waits_within}
-use Rattle.snoop_model.proofs.OneBlock.Possible.{ask_possible, respond_possible}
 use Rattle.snoop_model.proofs.Queues.Moves.{none_there, AreQueued, first_waits, none_waits}
 
 -- an operation does one thing

@@ -1,11 +1,9 @@
 -- Tests of the rows of an Ask, computed over the whole tables.
 use Rattle.std.proofs.Common.{◌≡◌, ◌&&◌, ◌||◌, Bool, true, false, not, Option, Some, refl}
-use Rattle.snoop_model.proofs.Common.{and_parts, is_some, Protocol, Op, CacheState, CacheEvent, CacheCell, Request, cell_of, asked, is_owner, is_sharer, is_clean, wait_fits, in_protocol, same, fits}
+use Rattle.snoop_model.proofs.Common.{all_events, all_events-at, all_protocols, all_protocols-at, all_requests, all_requests-at, all_states, and_parts, asked, CacheCell, CacheEvent, CacheState, cell_of, fits, in_protocol, is_clean, is_owner, is_sharer, is_some, Op, Protocol, Request, same, wait_fits}
 use Rattle.snoop_rules.specs.declared.names.CacheState.TheVariants as state
 use Rattle.snoop_rules.specs.declared.names.CacheEvent.TheVariants as event
-use Rattle.snoop_rules.proofs.Every.{all_events, all_events-at, all_protocols, all_protocols-at, all_requests, all_requests-at, all_states}
-use Rattle.snoop_model.proofs.Tables.StateTests.{all_fitting, all_fitting-at, all_options, all_options-at, either, either-at, given, given_at, is_some_and, when, when_at, is_hit, carries}
-use Rattle.snoop_model.proofs.Tables.Rows.{serving, serving-asked}
+use Rattle.snoop_model.proofs.Tables.{StateTests.all_fitting, StateTests.all_fitting-at, StateTests.all_options, StateTests.all_options-at, StateTests.either, StateTests.either-at, StateTests.given, StateTests.given_at, StateTests.is_some_and, StateTests.when, StateTests.when_at, StateTests.is_hit, StateTests.carries, Rows.serving, Rows.serving-asked}
 
 abbrev pub is_store : CacheEvent → Bool
 is_store event.Store = true

@@ -1,13 +1,9 @@
 -- A test of the rows of an Order, computed over the whole tables.
 use Rattle.std.proofs.Common.{◌≡◌, ◌&&◌, ◌||◌, Bool, true, false, not, cond, List, [], ◌∷◌, Option, Some, None, refl, unwrap_or}
-use Rattle.snoop_model.proofs.Common.{and_parts, Protocol, CacheState, CacheCell, MemState, MemCell, Request, Payload, cell_of, memory_cell_of, own, other, at_memory, carries_value, waiting_request, keeps, Memory, Requestor, Other, is_put_m, Claims, claims_of, is_owner, is_sharer, is_clean, wait_fits, in_protocol, same, fits}
-use Rattle.std.specs.Option.{option_or}
+use Rattle.snoop_model.proofs.Common.{all_memories, all_memories-at, all_protocols, all_protocols-at, all_states, and_parts, at_memory, CacheCell, CacheState, carries_value, cell_of, Claims, claims_of, fits, in_protocol, is_clean, is_owner, is_put_m, is_sharer, keeps, MemCell, Memory, memory_cell_of, MemState, option_or, other, Other, own, Payload, Protocol, Request, Requestor, same, wait_fits, waiting_request}
 use Rattle.snoop_rules.specs.declared.names.Payload.TheVariants as payload
 use Rattle.snoop_rules.specs.contracts.names.Payload.{the_type as payloads}
-use Rattle.snoop_rules.proofs.Every.{all_protocols, all_protocols-at, all_states, all_memories, all_memories-at}
-use Rattle.snoop_model.proofs.Tables.StateTests.{all_fitting, all_fitting-at, each, either, given, given_at, is_some_and, same_option, same_option-true, when, when_at, carries}
-use Rattle.snoop_model.proofs.Tables.SenderLines.{follows_sender_table}
-use Rattle.snoop_model.proofs.Tables.SentBy.{sent_by, sent_by_memory}
+use Rattle.snoop_model.proofs.Tables.{StateTests.all_fitting, StateTests.all_fitting-at, StateTests.each, StateTests.either, StateTests.given, StateTests.given_at, StateTests.is_some_and, StateTests.same_option, StateTests.same_option-true, StateTests.when, StateTests.when_at, StateTests.carries, SenderLines.follows_sender_table, SentBy.sent_by, SentBy.sent_by_memory}
 
 -- what a controller sends is this payload if it is meant to send, else nothing; one that sends is on a line of the table, and has the words that the payload carries
 abbrev pub sends_so : Option Payload → Bool → Payload → Bool → Bool → Bool

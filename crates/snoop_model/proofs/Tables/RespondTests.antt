@@ -1,9 +1,8 @@
 -- A test of the rows of a Respond, computed over the whole tables.
 use Rattle.std.proofs.Common.{option_and_then, ◌≡◌, ◌&&◌, ◌||◌, Bool, true, false, not, cond, List, [], ◌∷◌, Option, Some, None, refl, ap, sym, MatchBool, IsSomeAnd, ◌↔◌}
-use Rattle.snoop_model.proofs.Common.{same_Some, Protocol, CacheState, CacheEvent, CacheAction, CacheCell, MemState, MemEvent, MemAction, MemCell, Request, Payload, cell_of, MemoryCell, memory_cell_of, arrival, arrival_at_memory, takes_payload, carries_value, keeps, is_put_m, is_get_m, Claims, claims_of, is_owner, is_sharer, is_clean, wait_fits, in_protocol, same, fits}
+use Rattle.snoop_model.proofs.Common.{all_memories, all_memories-at, all_payloads, all_payloads-at, all_protocols, all_protocols-at, all_requests, all_requests-at, all_states, arrival, arrival_at_memory, CacheAction, CacheCell, CacheEvent, CacheState, carries_value, cell_of, Claims, claims_of, fits, in_protocol, is_clean, is_get_m, is_owner, is_put_m, is_sharer, keeps, MemAction, MemCell, MemEvent, memory_cell_of, MemoryCell, MemState, Payload, Protocol, Request, same, same_Some, takes_payload, wait_fits}
 use Rattle.snoop_rules.specs.declared.names.CacheAction.TheVariants as action
 use Rattle.snoop_rules.specs.declared.names.MemAction.TheVariants as mem_action
-use Rattle.snoop_rules.proofs.Every.{all_protocols, all_protocols-at, all_states, all_memories, all_memories-at, all_requests, all_requests-at, all_payloads, all_payloads-at}
 use Rattle.snoop_model.proofs.Tables.StateTests.{all_fitting, all_open, each, either, given, given_at, is_some_and, when}
 
 -- the row for an event, if there are both

@@ -1,14 +1,11 @@
 -- What holds of every row, found by trying all.
 use Rattle.std.proofs.Common.{List, ◌≡◌, ℕ, Bool, true, false, not, ◌&&◌, ◌||◌, Option, Some, None, [], ◌∷◌, refl, sym, ◌∙◌, is_some, option_map, ◌==◌, if◌then◌else◌}
-use Rattle.snoop_model.proofs.Common.{same_Some, Protocol, Op, CacheState, CacheEvent, CacheAction, CacheCell, Request, Cell, asked, own, other, seen_by, waiting_request, Line, kept_on, keeps, request_for, missed_request, awaited_request, IsProper, moves_to, kept_waiting, is_load, same, GetS, GetM, PutM}
-use Rattle.std.proofs.Math.Bool.{and-true, and-false}
+use Rattle.snoop_model.proofs.Common.{all_events, all_protocols, all_states, and-false, and-true, asked, awaited_request, CacheAction, CacheCell, CacheEvent, CacheState, Cell, each_row, each_row-at, GetM, GetS, is_load, IsProper, keeps, kept_on, kept_waiting, Line, missed_request, moves_to, Op, other, own, Protocol, PutM, Request, request_for, same, same_Some, seen_by, waiting_request}
 use Rattle.snoop_trace.specs.declared.step.Op.TheVariants as op
 use Rattle.snoop_rules.specs.declared.names.CacheState.TheVariants.{I, ImAd, IiA}
 use Rattle.snoop_rules.specs.declared.names.CacheEvent.TheVariants as event
 use Rattle.snoop_rules.specs.declared.names.CacheAction.TheVariants as action
 use Rattle.snoop_rules.specs.contracts.names.Request.{the_type as requests}
-use Rattle.snoop_rules.proofs.Every.{all_protocols, all_states, all_events}
-use Rattle.snoop_rules.proofs.Rows.{each_row, each_row-at}
 use Rattle.snoop_model.proofs.Tables.StateTests.{EachHolds, each, each_holds, same_is, same_option, same_option-true}
 
 -- the same requests, or none

@@ -1,14 +1,11 @@
 -- The table of senders as a test.
 use Rattle.std.proofs.Common.{◌≡◌, ◌&&◌, ℕ, Bool, true, false, Option, refl, ap}
-use Rattle.snoop_model.proofs.Common.{and_parts, Protocol, MemState, Request, Payload, arrival_at_memory, takes_payload, Picture, held_by, Sender, Memory, Requestor, Other, sender_of, lines_of, list_any}
-use denote.Enum.Bare.{same_true, sameb}
+use Rattle.snoop_model.proofs.Common.{and_parts, arrival_at_memory, held_by, IsSenderLine, lines_of, list_any, Memory, MemState, Other, Payload, Picture, Protocol, Request, Requestor, same_true, sameb, Sender, sender_of, takes_payload}
 use Rattle.std.proofs.lemmas.Map.Views.{Contains-from_any}
 use Rattle.snoop_rules.specs.contracts.names.CacheState.{the_type as states}
 use Rattle.snoop_rules.specs.contracts.names.MemState.{the_type as memories}
 use Rattle.snoop_rules.specs.contracts.names.Payload.{the_type as payloads}
-use Rattle.snoop_model.specs.Moves.SenderTable.{IsSenderLine}
-use Rattle.snoop_model.proofs.Tables.StateTests.{is_some_and, some_and}
-use Rattle.snoop_model.proofs.Tables.RespondTests.{settled_row, settled_so}
+use Rattle.snoop_model.proofs.Tables.{StateTests.is_some_and, StateTests.some_and, RespondTests.settled_row, RespondTests.settled_so}
 
 abbrev same_sender : Sender → Sender → Bool
 same_sender Memory Memory = true

@@ -1,9 +1,7 @@
 -- Tests of each value of a type, tests that compare, and those of the states and of the table of claims, computed over all of them.
 use Rattle.std.proofs.Common.{arith, ℕ, eqb, inl, inr, ◌≡◌, ◌&&◌, Bool, true, false, Option, Some, None, List, [], ◌∷◌, refl, ap, ◌||◌, not, cond}
-use Rattle.snoop_model.proofs.Common.{Protocol, CacheState, Request, Open, Talk, and_parts, cases_Bool, fits, own_open, same, talk_of, CacheAction, MemState, carries_value, kept_on, keeps, Claims, claims_of, is_owner, is_sharer, is_clean, wait_fits, in_protocol, ⊤, list_all, is_some}
-use denote.Enum.Bare.{Bare, same_true, sameb}
+use Rattle.snoop_model.proofs.Common.{all_memories, all_memories-at, all_payloads, all_payloads-at, all_protocols, all_protocols-at, all_requests, all_requests-at, all_states, all_states-at, and_parts, Bare, CacheAction, CacheState, carries_value, cases_Bool, Claims, claims_of, fits, in_protocol, is_clean, is_owner, is_sharer, is_some, keeps, kept_on, list_all, MemState, Open, own_open, Protocol, Request, same, same_true, sameb, Talk, talk_of, wait_fits, ⊤}
 use denote.Enum.Declared.{Declared}
-use Rattle.snoop_rules.proofs.Every.{all_states, all_states-at, all_protocols, all_protocols-at, all_memories, all_memories-at, all_requests, all_requests-at, all_payloads, all_payloads-at}
 use Rattle.snoop_rules.specs.declared.names.CacheState.TheVariants as state
 use Rattle.snoop_rules.specs.declared.names.CacheAction.TheVariants as action
 

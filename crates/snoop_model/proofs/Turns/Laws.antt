@@ -1,21 +1,16 @@
 -- All laws of turns that follow the turn rule: what they keep, that they are never refused, what they cost, and when a work is over.
 use Rattle.std.proofs.Common.{◌≡◌, ◌≢◌, ℕ, ◌+◌, ◌≤◌, true, false, List, length, Option, Some, None, refl, sym, ◌∙◌, ap, subst, arith, inl, inr, ◌⊎◌, Bool, not, ◌||◌}
-use Rattle.std.proofs.lemmas.List.Elements.{All-contains, All-weaker, Contains-get_or}
-use Rattle.snoop_model.proofs.Common.{Access, All, Ask, asked, awaited_request, CacheAction, CacheEvent, CacheState, cases_eq, Cell, ClosedIsLast, ComesToRest, cond_some, Contains, Ends, EndsAtOnce, eq-eqb, FirstMove, has_transaction, held_by, is_some, IsServing, IsWellKept, Item, Line, ne_eqb, NeverRefused, none-some, nothing_there, Op, Open, or_cases, Order, Pays, Picture, picture_of, Protocol, queue_of, queues_after, Refused, Refuses, Reply, Request, Respond, same_Some, ServesOn, Situation, slice_index_or, slice_set, state_of, Step, sum_by, Takes, TurnLaws, waiting_request, Waits, with_line, ◌==◌}
+use Rattle.snoop_model.proofs.Common.{Access, All, All-contains, All-weaker, all_events, all_protocols, all_states, Ask, asked, awaited_request, CacheAction, CacheEvent, CacheState, cases_eq, Cell, ClosedIsLast, ComesToRest, cond_some, Contains, Contains-get_or, each_row, each_row-at, Ends, EndsAtOnce, eq-eqb, FirstMove, has_transaction, held_by, is_some, IsServing, IsWellKept, Item, Line, ne_eqb, NeverRefused, none-some, nothing_there, Op, Open, or_cases, Order, Pays, Picture, picture_of, Protocol, queue_of, queues_after, Refused, Refuses, Reply, Request, Respond, same_Some, ServesOn, Situation, slice_index_or, slice_set, state_of, Step, sum_by, Takes, TurnLaws, waiting_request, Waits, with_line, ◌==◌}
 use Rattle.snoop_rules.specs.declared.names.CacheAction.TheVariants as action
 use Rattle.snoop_model.specs.declared.replies.Reply.TheVariants.{Issued}
 use Rattle.snoop_model.specs.declared.replies.Refused.TheVariants.{NoCore, NoBlock, Stalled, NothingWaiting, BusTaken, NoTransaction}
 use Rattle.snoop_model.specs.Turns.Turn.{step_under_way, turn_of}
-use Rattle.snoop_model.proofs.Lists.Facts.{one_if}
-use Rattle.snoop_model.proofs.Lists.Writes.{set_cases, all_first, all_issued, all_ordered, sum_issued, sum_ordered, one_small, count_set}
+use Rattle.snoop_model.proofs.Lists.{Facts.one_if, Writes.set_cases, Writes.all_first, Writes.all_issued, Writes.all_ordered, Writes.sum_issued, Writes.sum_ordered, Writes.one_small, Writes.count_set}
 use Rattle.snoop_model.proofs.OneBlock.OfBlocks.{same_everywhere}
 use Rattle.snoop_model.proofs.Queues.Moves.{none_there, starts_well, keeps_well, queued_waits, waits_queued}
 use Rattle.snoop_model.proofs.Once.Owed.{owes}
 use Rattle.snoop_rules.specs.declared.names.CacheState.TheVariants.{I}
-use Rattle.snoop_rules.proofs.Every.{all_protocols, all_states, all_events}
-use Rattle.snoop_rules.proofs.Rows.{each_row, each_row-at}
-use Rattle.snoop_model.proofs.Tables.StateTests.{some_of}
-use Rattle.snoop_model.proofs.Tables.WaitingRows.{has_missed}
+use Rattle.snoop_model.proofs.Tables.{StateTests.some_of, WaitingRows.has_missed}
 
 -- the core waits in a state, for its own request to be ordered or for data
 abbrev pub is_busy : CacheState → Bool
