@@ -12,8 +12,7 @@ use Rattle.snoop_rules.specs.Possible.{MayLoad, MayStore}
 use Rattle.snoop_rules.specs.Takers.{other as another}
 use Rattle.snoop_model.specs.Moves.LookUps.{HasRow, HasMemRow, ConsultsCache, ConsultsMemory, FindsRows}
 use Rattle.snoop_model.specs.Pictures.OneWriter.{OneWriter}
-use Rattle.snoop_model.proofs.Tables.{StateTests.some_of, AskTests.ask_rule, AskTests.is_idle_evict, Rows.hit_keeps, RespondTests.memory_row_for, RespondTests.row_for, SenderLines.led_line, WaitingRows.awaited-get, StateTests.brings_data, StateTests.resting_rule}
-use Rattle.snoop_model.proofs.Tables.AskTests
+use Rattle.snoop_model.proofs.Tables.{StateTests.some_of, AskTests.ask_rule, AskTests.is_idle_evict, Rows.hit_keeps, RespondTests.memory_row_for, RespondTests.row_for, SenderLines.led_line, WaitingRows.awaited-get, StateTests.brings_data, StateTests.claims_rule}
 use Rattle.snoop_model.proofs.OneBlock.{OrderStep.seen_other, Facts.one_writer, Facts.fits_waits, Facts.fits_is_owner, Facts.each_held, Possible.Answerable, Possible.Possible, Possible.order_possible, Possible.ask_possible, Possible.respond_possible}
 
 -- an owner may write
@@ -108,8 +107,8 @@ module _ (s : Situation) (g : Invariant s) where
           let within = keeper_within core block (hit_keeps s.protocol held event.Store writes.0 writes.1).0 in
           let good = g.blocks block within.1 in
           let ow = owns good.owner core in
-          let owning = (and_parts ow _ (ask_rule AskTests.ask_store_owns s.protocol good.claims.shared ow (own_open (picture_of s block).transaction core)
-          held (op.Store 0) (record { action = action.Hit; next = writes.0 }) (good.states core within.0) writes.1)).0 in
+          let (_, rule) = ask_rule _ _ _ _ _ (op.Store 0) (good.states core within.0) in
+          let (owning, _) = (rule (record { action = action.Hit; next = writes.0 }) writes.1).1.1 refl in
           both_ways _ (one_writer good core owning other (keeper_within other block keeping).0 apart) keeping
 
   -- each reader keeps flat memory's value
@@ -135,7 +134,7 @@ module _ (s : Situation) (g : Invariant s) where
   pub memory_current : (block : ℕ) → block < s.shape.blocks → ((core : ℕ) → ¬ MayStore s.protocol (state_of s core block)) → data_under_way (picture_of s block).transaction ≡ None → (picture_of s block).memory.value ≡ flat_words s.log block
   memory_current block within idle none =
       let it = g.blocks block within in
-      it.fresh (resting_rule s.protocol _ (talk_of (picture_of s block).transaction) it.claims it.is_claims (nobody_owns it idle) (no_data _ none))
+      it.fresh ((claims_rule s.protocol _ _ it.claims it.is_claims).1 (nobody_owns it idle) (no_data _ none))
 
   -- an open transaction is of a block within the shape
   opened_within : (block : ℕ) (o : Open) → (picture_of s block).transaction ≡ Some o → block < s.shape.blocks

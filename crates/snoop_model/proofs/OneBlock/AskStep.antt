@@ -1,12 +1,12 @@
 -- An Ask keeps the invariant, and a load that it performs gives the flat value.
-use Rattle.std.proofs.Common.{◌≡◌, ◌≢◌, ◌<◌, ◌⊎◌, ◌∙◌, ℕ, Bool, false, List, true, not, length, Some, refl, inl, inr, sym}
-use Rattle.snoop_model.proofs.Common.{and_parts, both_ways, not-true, same_Some, Protocol, Op, CacheAction, Cell, asked, carries_value, Open, Reply, Line, Picture, held_by, nothing_held, with_line, Situation, picture_of, Takes, Asks, is_clean, BlockInvariant, own_open, owns}
+use Rattle.std.proofs.Common.{◌≡◌, ◌≢◌, ◌<◌, ◌⊎◌, ◌∙◌, ℕ, Bool, false, List, true, length, Some, refl, inl, inr, sym}
+use Rattle.snoop_model.proofs.Common.{both_ways, same_Some, Protocol, Op, CacheAction, Cell, asked, carries_value, Open, Reply, Line, Picture, held_by, nothing_held, with_line, Situation, picture_of, Takes, Asks, BlockInvariant, own_open, owns}
 use Rattle.snoop_trace.specs.declared.step.Op.TheVariants as op
 use Rattle.snoop_rules.specs.declared.names.CacheEvent.TheVariants as event
 use Rattle.snoop_rules.specs.declared.names.CacheAction.TheVariants as action
 use Rattle.snoop_model.proofs.OneBlock.{Operation.did_in, Operation.flat_after, Operation.IsLawful, Facts.LineFits, Facts.carried_line, Facts.line_of, Facts.one_writer, Facts.owned_alone, Facts.still_fits}
 use Rattle.snoop_model.proofs.Lists.Writes.{each_set}
-use Rattle.snoop_model.proofs.Tables.{Rows.hit_keeps, Rows.IsProper-issue, Rows.IsProper-hit, Rows.IsProper-drop, AskTests.AskQuestion, AskTests.ask_rule, AskTests.ask_test, AskTests.ask_fits, AskTests.ask_carries, AskTests.ask_store_owns, StateTests.kept_reader}
+use Rattle.snoop_model.proofs.Tables.{Rows.hit_keeps, Rows.IsProper-issue, Rows.IsProper-hit, Rows.IsProper-drop, AskTests.ask_rule, AskTests.asked_row, StateTests.kept_reader}
 
 -- an operation that changes the block's words is of a core that owns it
 module _ {p : Protocol} {n : ℕ} {flat : List ℕ} {picture : Picture} (g : BlockInvariant p n flat picture)
@@ -31,49 +31,38 @@ module _ (s : Situation) (core block word : ℕ) (asking : Op) (answer : Reply) 
   abbrev old : Line
   old = held_by before core
 
-  -- a test of an Ask's row
-  abbrev Holds : CacheAction → Op → AskQuestion → Type 0
-  Holds a o k = ask_test k s.protocol g.claims.shared (owns g.owner core) (own_open before.transaction core) old.state (asked o) (record { action = a; next = asks.row.next }) ≡ true
-
   -- what the core holds after an Ask, by its row; whether the block's words change; and that a load gives the flat value
   asker : (a : CacheAction) (o : Op) → Cell s.protocol old.state (asked o) a asks.row.next
-      → ((k : AskQuestion) → Holds a o k) → Takes a asks.row.next s.log core block word o old asks.held answer asks.entry
+      → (asked_row s.protocol g.claims.shared (owns g.owner core) (own_open before.transaction core) old.state (asked o) (record { action = a; next = asks.row.next })).claim
+      → Takes a asks.row.next s.log core block word o old asks.held answer asks.entry
       → LineFits s.protocol g.claims.shared (owns g.owner core) (own_open before.transaction core) (flat_after flat (did_in asks.entry)) before.memory.value asks.held
       × ((flat_after flat (did_in asks.entry) ≡ flat) ⊎ (owns g.owner core ≡ true)) × IsLawful flat (did_in asks.entry)
-  asker action.Hit op.Load row holds (value, (hit, _, entry)) =
+  asker action.Hit op.Load row (fit, (carry, _)) (value, (hit, _, entry)) =
       let same = same_Some _ _ (sym hit.kept ∙ g.kept core asker_in (hit_keeps _ _ _ _ row).0) in
       let performed = hit.performed in
       let proper = IsProper-hit s.protocol old event.Load asks.row.next hit.after (g.proper core asker_in) row in
-      rw (hit.held, entry) (carried_line old (line_of g core asker_in) _ (λ h. cc) (holds ask_fits) (holds ask_carries) proper, inl refl, λ e. cc)
-  asker action.Hit (op.Store v) row holds (value, (hit, _, entry)) =
+      rw (hit.held, entry) (carried_line old (line_of g core asker_in) _ (λ h. cc) fit (carry refl) proper, inl refl, λ e. cc)
+  asker action.Hit (op.Store v) row (fit, (_, stores)) (value, (hit, _, entry)) =
       let same = same_Some _ _ (sym hit.kept ∙ g.kept core asker_in (hit_keeps _ _ _ _ row).0) in
       let performed = hit.performed in
-      let (owning, unclean) = and_parts (owns g.owner core) (not (is_clean asks.row.next)) (holds ask_store_owns) in
+      let (owning, unclean) = stores refl in
       let proper = IsProper-hit s.protocol old event.Store asks.row.next hit.after (g.proper core asker_in) row in
-      rw (hit.held, entry) (record { fit = holds ask_fits; kept = λ h. cc; clean = λ h. absurd (both_ways _ (not-true _ unclean) h); proper = proper }, inr owning, λ e. cc)
-  asker action.Hit op.Evict row holds took = absurd took.1.0.performed
-  asker (action.Issue r) o row holds (held, _, entry) =
-      rw (held, entry) (
-        carried_line old (line_of g core asker_in) _ (kept_reader asks.row.next old.kept) (holds ask_fits) (holds ask_carries)
-            (IsProper-issue s.protocol old word o r asks.row.next (g.proper core asker_in) row),
-        inl refl,
-        tt,
-      )
-  asker action.Drop o row holds (held, _, entry) =
-      rw (held, entry) (
-        carried_line old (line_of g core asker_in) _ (kept_reader asks.row.next old.kept) (holds ask_fits) (holds ask_carries)
-            (IsProper-drop s.protocol old (asked o) asks.row.next (g.proper core asker_in) row),
-        inl refl,
-        tt,
-      )
-  asker _ o row holds took = absurd took
+      rw (hit.held, entry) (record { fit = fit; kept = λ h. cc; clean = λ h. absurd (both_ways _ unclean h); proper = proper }, inr owning, λ e. cc)
+  asker action.Hit op.Evict row so took = absurd took.1.0.performed
+  asker (action.Issue r) o row (fit, (carry, _)) (held, _, entry) =
+      let proper = IsProper-issue s.protocol old word o r asks.row.next (g.proper core asker_in) row in
+      rw (held, entry) (carried_line old (line_of g core asker_in) _ (kept_reader asks.row.next old.kept) fit (carry refl) proper, inl refl, tt)
+  asker action.Drop o row (fit, (carry, _)) (held, _, entry) =
+      let proper = IsProper-drop s.protocol old (asked o) asks.row.next (g.proper core asker_in) row in
+      rw (held, entry) (carried_line old (line_of g core asker_in) _ (kept_reader asks.row.next old.kept) fit (carry refl) proper, inl refl, tt)
+  asker _ o row so took = absurd took
 
   -- an Ask keeps the invariant of a picture, and a load that it performs gives the flat value
   pub ask_keeps : BlockInvariant s.protocol n (flat_after flat (did_in asks.entry)) (with_line before core asks.held) × IsLawful flat (did_in asks.entry)
   ask_keeps =
       let words = flat_after flat (did_in asks.entry) in
-      let rule : (k : AskQuestion) → Holds asks.row.action asking k = λ k. ask_rule k _ _ _ _ _ asking asks.row (g.states core asker_in) asks.is_row in
-      let (line, changed, lawful) = asker asks.row.action asking asks.is_row rule asks.taken in
+      let (_, rule) = ask_rule _ _ _ _ _ asking (g.states core asker_in) in
+      let (line, changed, lawful) = asker asks.row.action asking asks.is_row (rule asks.row asks.is_row) asks.taken in
       let lines = each_set before.caches core asks.held nothing_held
       (λ d x. d < n → LineFits s.protocol g.claims.shared (owns g.owner d) (own_open before.transaction d) words before.memory.value x)
       in_row (λ c_in. line) (λ d apart d_in. other_fits g core words changed d d_in apart) in

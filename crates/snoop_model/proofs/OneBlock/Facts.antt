@@ -1,8 +1,8 @@
 -- What follows from the invariant of one block.
 use Rattle.std.proofs.Common.{arith, ◌≡◌, ◌≢◌, ◌<◌, ◌&&◌, ◌||◌, ◌∙◌, ℕ, List, Bool, true, false, not, eqb, Option, Some, None, refl, inl, inr, sym, subst, length, is_some, eq-eqb, eqb-true, ne_eqb}
-use Rattle.snoop_model.proofs.Common.{and_parts, BlockInvariant, CacheState, cases_eq, cases_lt, eqb_tells, fits, get_or_past, held_at, held_by, in_protocol, is_clean, is_owner, is_sharer, IsProper, keeps, Line, not-true, nothing_held, or_right, own_open, owns, Picture, Protocol, Request, same, same_Some, talk_of, wait_fits}
+use Rattle.snoop_model.proofs.Common.{and_parts, BlockInvariant, CacheState, cases_eq, cases_lt, eqb_tells, fits, get_or_past, held_at, held_by, in_protocol, is_clean, is_owner, is_sharer, IsProper, keeps, Line, nothing_held, or_right, own_open, owns, Picture, Protocol, Request, same, same_Some, talk_of, wait_fits}
 use Rattle.snoop_model.proofs.Lines.TheSender.{IsBelow}
-use Rattle.snoop_model.proofs.Tables.StateTests.{all_open-at, same_is, brings_data, carries, clean_reads, owned_rule}
+use Rattle.snoop_model.proofs.Tables.{Tested.of_open, Tested.same_is, StateTests.brings_data, StateTests.carries, StateTests.clean_reads, StateTests.claims_rule}
 
 -- what holds of one core and of each other holds of each
 pub by_core : (c : ℕ) (P : ℕ → Type 0) → P c → ((d : ℕ) → d ≢ c → P d) → (d : ℕ) → P d
@@ -24,9 +24,6 @@ pub fits_waits : (p : Protocol) (shared ow : Bool) (w : Option Request) (s : Cac
 unfolding fits
 fits_waits p shared ow w s h = (and_parts (not (is_sharer s) || shared) _ (and_parts (same (is_owner s) ow) _ (and_parts (in_protocol p s) _ h).1).1).1
 
-pub implied : (a b : Bool) → (not a || b) ≡ true → a ≡ true → b ≡ true
-implied a b h e = rw e at h
-
 -- what the invariant says of one core's line, where the block's words and memory's are these
 pub record LineFits (p : Protocol) (shared owning : Bool) (wait : Option Request) (words memory : List ℕ) (line : Line) : Type 0 where
   pub fit : fits p shared owning wait line.state ≡ true
@@ -36,11 +33,9 @@ pub record LineFits (p : Protocol) (shared owning : Bool) (wait : Option Request
 
 module _ {p : Protocol} {shared owning shared' owning' : Bool} {wait wait' : Option Request} {flat memory : List ℕ} (old : Line) (was : LineFits p shared owning wait flat memory old) where
   -- a row that makes no reader, and no clean owner, of a core lets its words carry over
-  pub carried_line : (new : Line) → (keeps new.state ≡ true → new.kept ≡ old.kept) → fits p shared' owning' wait' new.state ≡ true → carries old.state new.state ≡ true → IsProper new
+  pub carried_line : (new : Line) → (keeps new.state ≡ true → new.kept ≡ old.kept) → fits p shared' owning' wait' new.state ≡ true → (carries old.state new.state).claim → IsProper new
       → LineFits p shared' owning' wait' flat memory new
-  carried_line new kept fit carry proper =
-      let (read, clean) = and_parts (not (keeps new.state) || keeps old.state) _ carry in
-      record { fit = fit; kept = λ h. kept h ∙ was.kept (rw h at read); clean = λ h. was.clean (rw h at clean); proper = proper }
+  carried_line new kept fit carry proper = record { fit = fit; kept = λ h. kept h ∙ was.kept (carry.0 h); clean = λ h. was.clean (carry.1 h); proper = proper }
 
   -- a line that stays as it is fits the block's new words, which are the old ones if the line may be read
   pub still_fits : {words memory' : List ℕ} → (keeps old.state ≡ true → words ≡ flat) → (memory ≡ flat → memory' ≡ flat) → fits p shared' owning' wait' old.state ≡ true
@@ -67,14 +62,8 @@ module _ {p : Protocol} {n : ℕ} {flat : List ℕ} {picture : Picture} (g : Blo
   pub owned_alone : (c : ℕ) → owns g.owner c ≡ true
       → (g.claims.fresh ≡ false) × (brings_data (talk_of picture.transaction) ≡ false) × ((d : ℕ) → d < n → d ≢ c → keeps (held_by picture d).state ≡ false)
   owned_alone c owning =
-      let is_owned : g.claims.owned ≡ true = sym g.is_owned ∙ rw (owner_is g.owner c owning) refl in
-      let (unfresh, rest) = and_parts _ _ (owned_rule p picture.memory.state (talk_of picture.transaction) g.claims g.is_claims is_owned) in
-      let (no_data, blind) = and_parts _ _ rest in (
-        not-true _ unfresh,
-        not-true _ no_data,
-        λ d d_in apart.
-            not-true _ (rw (owns_one g.owner c d owning apart) at (all_open-at _ _ picture.transaction _ blind d _ _ (g.states d d_in))),
-      )
+      let (unfresh, (no_data, blind)) = (claims_rule p picture.memory.state (talk_of picture.transaction) g.claims g.is_claims).0 (sym g.is_owned ∙ rw (owner_is g.owner c owning) refl) in
+      (unfresh, no_data, λ d d_in apart. of_open p g.claims.shared picture.transaction _ blind d _ _ (g.states d d_in) (owns_one g.owner c d owning apart))
 
   -- one writer alone, or only readers
   pub one_writer : (c : ℕ) → owns g.owner c ≡ true → (d : ℕ) → d < n → d ≢ c → keeps (held_by picture d).state ≡ false

@@ -1,7 +1,7 @@
 -- Each step finds its rows, and an Order exactly one sender.
 use Rattle.std.proofs.Common.{◌≡◌, ◌<◌, ℕ, length, List, true, false, Option, Some, None}
 use Rattle.snoop_model.proofs.Common.{Protocol, Op, CacheCell, MemCell, Request, Payload, cell_of, memory_cell_of, asked, seen_by, at_memory, arrival, arrival_at_memory, takes_payload, waiting_request, Open, Picture, held_by, sender_of, is_put_m, IsOnlySender, BlockInvariant}
-use Rattle.snoop_model.proofs.Tables.{StateTests.some_and, SenderLines.follows_sender_table, AskTests.ask_fits, AskTests.ask_holds_of, AskTests.is_idle_evict, RespondTests.memory_row_for, RespondTests.row_for}
+use Rattle.snoop_model.proofs.Tables.{SenderLines.follows_sender_table, AskTests.ask_rule, AskTests.is_idle_evict, RespondTests.memory_row_for, RespondTests.row_for}
 use Rattle.snoop_model.proofs.OneBlock.{Facts.below_owner, Facts.is_itself, OrderStep.each_row, OrderStep.look, OrderStep.meant, OrderStep.meant_in, OrderStep.sender_told, OrderStep.sends, OrderStep.sends_if_meant, OrderStep.sent, RespondStep.answered, RespondStep.closing}
 
 pub record Possible (p : Protocol) (before : Picture) (c : ℕ) (q : Request) : Type 0 where
@@ -11,7 +11,7 @@ pub record Possible (p : Protocol) (before : Picture) (c : ℕ) (q : Request) : 
   pub from : Option ℕ
   pub payload : Payload
   pub sender : IsOnlySender p before c q from payload
-  pub order_line : follows_sender_table p q before.memory.state (sender_of c (λ k. (held_by before k).state) from) payload cell_of_memory.next ≡ true
+  pub order_line : (follows_sender_table p q before.memory.state (sender_of c (λ k. (held_by before k).state) from) payload cell_of_memory.next).claim
 
 -- an Order finds all its rows and exactly one sender, and is a line of the table of Orders
 pub order_possible : (p : Protocol) (flat : List ℕ) (before : Picture) (c : ℕ) (q : Request) → BlockInvariant p (length before.caches) flat before → c < length before.caches → waiting_request (held_by before c).state ≡ Some q → before.transaction ≡ None → Possible p before c q
@@ -32,8 +32,7 @@ order_possible p flat before c q good c_in waits calm =
 -- an Ask finds its row; an Evict in I has none and needs none
 pub ask_possible : (p : Protocol) (n : ℕ) (flat : List ℕ) (before : Picture) (c : ℕ) (o : Op) → BlockInvariant p n flat before → c < n → is_idle_evict (held_by before c).state (asked o) ≡ false → (r : CacheCell) × (cell_of p (held_by before c).state (asked o) ≡ Some r)
 ask_possible p n flat before c o good c_in busy =
-    let s = (held_by before c).state in
-    let (row, is_row, _) = some_and (cell_of p s (asked o)) _ (rw busy at (ask_holds_of ask_fits _ _ _ _ s o (good.states c c_in)).0) in
+    let (row, is_row, _) = (ask_rule _ _ _ _ _ o (good.states c c_in)).0 busy in
     (row, is_row)
 
 -- a Respond finds its rows

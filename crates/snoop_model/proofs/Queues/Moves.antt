@@ -3,7 +3,7 @@ use Rattle.std.proofs.Common.{◌≡◌, ◌≢◌, ℕ, ◌<◌, ◌++◌, List
 use Rattle.snoop_model.proofs.Common.{Access, after_issue, after_order, ArrivesFor, Ask, asked, awaited_request, CacheAction, CacheState, cases_Bool, cases_lt, Cell, Contains, Did, eq-eqb, FillsRequestor, get_or-set_same, get_or_past, held_at, held_by, if◌then◌else◌, is_some, IsSome, IsWellKept, IsWithin, Item, KeepsWell, length-set, Line, missed_request, MoveOn, ne_eqb, none-some, nothing_held, Op, Open, option_to_list, Order, Picture, picture_of, Protocol, queue_of, queues_after, Reply, Request, reset, Respond, Responds, same_Some, Situation, slice_get, slice_get-get_or, StandsFirst, StartsWell, state_of, Step, Takes, TakesRows, waiting_request, Waits, WaitsOnNone, with_line, ◌==◌}
 use Rattle.snoop_rules.specs.declared.names.CacheAction.TheVariants as action
 use Rattle.snoop_model.proofs.Lists.{Facts.one_if, Facts.replicated, Writes.each_set, QueueCounts.times, QueueCounts.issued_own, QueueCounts.issued_others, QueueCounts.issued_elsewhere, QueueCounts.ordered_own, QueueCounts.ordered_others, QueueCounts.ordered_elsewhere, QueueCounts.counted_in, QueueCounts.in_counted}
-use Rattle.snoop_model.proofs.Tables.{Rows.issue-waits, Rows.issue-missed, Rows.asked_missed, Rows.hit_facts, Rows.drop_facts, Rows.order_facts, Rows.fill-waits, WaitingRows.awaited-asked, WaitingRows.awaited-ordered, WaitingRows.awaited-filled, WaitingRows.awaited-get, StateTests.some_of}
+use Rattle.snoop_model.proofs.Tables.{Rows.issue-waits, Rows.issue-missed, Rows.asked_missed, Rows.action_rule, Rows.order_rule, Rows.fill-waits, WaitingRows.awaited-asked, WaitingRows.awaited-ordered, WaitingRows.awaited-filled, WaitingRows.awaited-get, StateTests.some_of}
 use Rattle.snoop_model.proofs.OneBlock.{Facts.by_core, Facts.each_held, OfBlocks.changed, OfBlocks.in_pictures, OfBlocks.each_picture, OfBlocks.shaped_after}
 use Rattle.snoop_model.proofs.Lines.Answered.{by_request, filled_or_same, arrives_length, still_waiting}
 use Rattle.snoop_model.proofs.Invariant.Runs.{reset_line, reset_open, reset_shaped}
@@ -76,11 +76,11 @@ module _ (s : Situation) (kept : IsWellKept s) (core block word : ℕ) (asking :
   kept_taken : (act : CacheAction) → Cell s.protocol line.state (asked asking) act next → Takes act next s.log core block word asking line held answer entry
       → KeepsOn s block (with_line (picture_of s block) core held) (queues_after act s.queues core block)
   kept_taken action.Hit row taken =
-      let facts = hit_facts s.protocol line.state (asked asking) next row in
-      still action.Hit row (rw taken.1.0.held refl) (rw taken.1.0.held refl) facts.1 facts.2
+      let (_, (missed, (waits, _))) = action_rule s.protocol line.state (asked asking) action.Hit next row in
+      still action.Hit row (rw taken.1.0.held refl) (rw taken.1.0.held refl) missed waits
   kept_taken action.Drop row taken =
-      let facts = drop_facts s.protocol line.state (asked asking) next row in
-      still action.Drop row (rw taken.0 refl) (rw taken.0 refl) facts.1 facts.2
+      let (_, (missed, (waits, _))) = action_rule s.protocol line.state (asked asking) action.Drop next row in
+      still action.Drop row (rw taken.0 refl) (rw taken.0 refl) missed waits
   kept_taken (action.Issue request) row taken =
       let (was, is) = issue-waits s.protocol line.state (asked asking) request next row in
       let missed = (issue-missed s.protocol line.state (asked asking) request next row).1 in
@@ -102,7 +102,7 @@ module _ (p : Protocol) (core : ℕ) (request : Request) (old new : List Line) (
   row_waits : (k : ℕ) → k < length old → waiting_request (held_at new k).state ≡ (if k == core then None else waiting_request (held_at old k).state)
   row_waits k inside =
       let (row, is_row, moved) = taken.rows k inside in
-      rw moved (order_facts p (held_at old k).state k core request row.action row.next is_row).2
+      rw moved (order_rule p (held_at old k).state k core request row.action row.next is_row).1.1
 
   pub own_waits : core < length old → waiting_request (held_at new core).state ≡ None
   own_waits inside = row_waits core inside ∙ rw (eq-eqb core core refl) refl
@@ -170,10 +170,10 @@ on_kept block s t (Order core) answer kept m =
           (λ below.
           let (row, is_row, moved) = taken.rows k (rw (← taken.same_length) below) in
           let s_old = (held_by before k).state in
-          let facts = order_facts s.protocol s_old k core m.request row.action row.next is_row in
+          let (_, (missed, _)) = order_rule s.protocol s_old k core m.request row.action row.next is_row in
           rw moved (record {
             awaits = λ q h. (let its = awaited-ordered s.protocol s_old k core m.request row.action row.next q is_row h in (_, (m.orders.opened, its.0, its.1)));
-            operations = λ access h. rw (← facts.1) (kept.operations k block access h);
+            operations = λ access h. rw (← missed) (kept.operations k block access h);
           }))
           (record { awaits = λ q h. cc; operations = λ access h. cc });
     }))

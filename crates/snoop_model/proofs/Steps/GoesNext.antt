@@ -1,13 +1,13 @@
 -- Each step that goes comes to what is computed of it, and from every situation of a run each step goes so.
-use Rattle.std.proofs.Common.{◌≡◌, ℕ, zero, suc, ◌<◌, ◌≤◌, ◌&&◌, Bool, true, false, List, length, Option, Some, None, refl, ◌⊎◌, inl, inr, ap, ◌∙◌, arith, not}
+use Rattle.std.proofs.Common.{◌≡◌, ℕ, zero, suc, ◌<◌, ◌≤◌, ◌&&◌, Bool, true, false, List, length, Option, Some, None, refl, ◌⊎◌, inl, inr, ap, ◌∙◌, arith}
 use Rattle.std.specs.Bool.{Decides}
-use Rattle.snoop_model.proofs.Common.{Access, all_payloads, all_payloads-at, all_protocols, all_protocols-at, all_states, all_states-at, and_cases, and_from, and_left, and_parts, and_right, arrival, arrival_at_memory, ArrivesFor, Ask, asked, both_ways, CacheAction, CacheCell, CacheEvent, CacheState, CanOrder, cases_Bool, cases_eq, cases_lt, Cell, Decides-and, Decides-ltb, Did, Err, Extent, false_from_ne_true, fill_by_all, FillsRequestor, FirstMove, flat_words, get_or-map-range_with_len, GoesFirst, HasWord, held_at, held_by, Hits, if◌then◌else◌, Invariant, is_load, is_put_m, is_some, IsOnlySender, IsProper, IsWithin, Item, le-ltb, length-map-range_with_len, Line, lt-ltb, ltb, ltb-false, ltb-true, MemAction, MemCell, MemEvent, MemState, missed_request, nothing_held, Ok, Op, Open, option_map, option_map_or, Order, Orders, Payload, Performs, Picture, picture_of, Protocol, queue_of, Refused, Refuses, Reply, Request, request_for, Respond, Responds, Result, seen_by, Situation, slice_get, StandsFirst, state_of, Step, Takes, takes_payload, unwrap_or, word_places, written, zero_words}
+use Rattle.snoop_model.proofs.Common.{Access, all_payloads, all_protocols, all_states, all_states-at, and_cases, and_from, and_left, and_parts, and_right, arrival, arrival_at_memory, ArrivesFor, Ask, asked, both_ways, CacheAction, CacheCell, CacheEvent, CacheState, CanOrder, cases_Bool, cases_eq, cases_lt, Cell, Decides-and, Decides-ltb, Did, Err, Extent, false_from_ne_true, fill_by_all, FillsRequestor, FirstMove, flat_words, get_or-map-range_with_len, GoesFirst, HasWord, held_at, held_by, Hits, if◌then◌else◌, Invariant, is_load, is_put_m, is_some, IsOnlySender, IsProper, IsWithin, Item, le-ltb, length-map-range_with_len, Line, lt-ltb, ltb, ltb-false, ltb-true, MemAction, MemCell, MemEvent, MemState, missed_request, nothing_held, Ok, Op, Open, option_map, option_map_or, Order, Orders, Payload, Performs, Picture, picture_of, Protocol, queue_of, Refused, Refuses, Reply, Request, request_for, Respond, Responds, Result, seen_by, Situation, slice_get, StandsFirst, state_of, Step, Takes, takes_payload, unwrap_or, word_places, written, zero_words}
 use Rattle.snoop_trace.specs.declared.step.Op.TheVariants as op
 use Rattle.snoop_rules.specs.declared.names.CacheAction.TheVariants as action
 use Rattle.snoop_rules.specs.declared.names.Request.TheVariants as request
 use Rattle.snoop_model.specs.declared.replies.Refused.TheVariants.{NoCore, NoBlock, Stalled, NothingWaiting, BusTaken, NoTransaction}
 use Rattle.snoop_model.proofs.Lines.TheSender.{IsBelow, sends_below}
-use Rattle.snoop_model.proofs.Tables.{SentBy.payload_from, SentBy.sends_is, SentBy.sends_row, RespondTests.SettlesIf, RespondTests.memory_row_for, RespondTests.row_for, StateTests.given, StateTests.given_at, StateTests.some_of, Rows.is_evict, Rows.asked_answers, Rows.hit_keeps, AskTests.is_idle_evict}
+use Rattle.snoop_model.proofs.Tables.{SentBy.payload_from, SentBy.sends_is, SentBy.sends_row, RespondTests.SettlesIf, RespondTests.memory_row_for, RespondTests.row_for, Tested.Tested, Tested.each_of, Tested.each_payload, Tested.each_protocol, Tested.given, Tested.holds, StateTests.some_of, Rows.is_evict, Rows.asked_answers, Rows.hit_keeps, AskTests.is_idle_evict}
 use Rattle.snoop_model.proofs.OneBlock.{OfBlocks.same_picture, OfBlocks.same_memory, Possible.ask_possible, Possible.respond_possible}
 use Rattle.snoop_model.proofs.Steps.Next.{Next, value_of, words_after, has_word, after_ask, by_row, next_asked, sender_below, line_after, next_picture, next_ordered, settled, filled, brought, next_closed, next_of, next_first}
 use Rattle.snoop_model.proofs.Invariant.Coherence.{orders_follow_sender_table, finds_rows, idle_evict, waits_within}
@@ -127,7 +127,7 @@ some_kept None h = cc
 some_kept (Some v) h = refl
 
 -- a load or a store performs its operation
-performs : (asking : Op) → not (is_evict (asked asking)) ≡ true → (word : ℕ) (ws : List ℕ)
+performs : (asking : Op) → is_evict (asked asking) ≡ false → (word : ℕ) (ws : List ℕ)
     → Performs word asking ws (value_of word asking ws) (words_after word asking ws)
 performs op.Evict asks word ws = cc
 performs _ asks word ws = (refl, refl)
@@ -206,13 +206,16 @@ fills (Some request.GetS) action.FillLoad = true
 fills (Some request.GetM) action.FillStore = true
 fills _ _ = false
 
-data_fills : all_protocols (λ p. all_states (λ s. all_payloads (λ message. given (row_for p s (arrival message)) (λ r. fills (missed_request s) r.action)))) ≡ true
-unfolding all_protocols all_states all_payloads given
-data_fills = refl
+abbrev every_fill : Tested
+every_fill = each_protocol λ p. each_of all_states all_states-at λ s. each_payload λ message. given (row_for p s (arrival message)) λ r. holds (fills (missed_request s) r.action)
+
+data_fills : every_fill.claim
+unfolding all_protocols all_states all_payloads
+data_fills = every_fill.sound refl
 
 -- an action that fills for the operation's request is the fill for the operation, which is no eviction
 fill_is : (asking : Op) (act : CacheAction) → fills (Some (request_for asking)) act ≡ true
-    → (act ≡ (if is_load asking then action.FillLoad else action.FillStore)) × (not (is_evict (asked asking)) ≡ true)
+    → (act ≡ (if is_load asking then action.FillLoad else action.FillStore)) × (is_evict (asked asking) ≡ false)
 fill_is op.Load action.FillLoad h = (refl, refl)
 fill_is (op.Store v) action.FillStore h = (refl, refl)
 fill_is _ _ h = cc
@@ -224,7 +227,7 @@ module _ (p : Protocol) (log : List Item) (old : List Line) (o : Open) where
   fills_as None arrives row is proper = cc
   fills_as (Some e) arrives row is proper =
       let row_of : row_for p (held_at old o.core).state (arrival o.payload) ≡ Some row = rw arrives is in
-      by_waiting (held_at old o.core).waiting refl (rw proper.waiting (given_at _ _ row row_of (all_payloads-at _ (all_states-at _ (all_protocols-at _ data_fills p) _) o.payload)))
+      by_waiting (held_at old o.core).waiting refl (rw proper.waiting (data_fills p _ o.payload row row_of))
     where
       by_waiting : (waiting : Option Access) → (held_at old o.core).waiting ≡ waiting → fills (option_map (λ access. request_for access.op) waiting) row.action ≡ true
           → (let n = filled o p log old waiting in FillsRequestor o p log old n.0 n.1)

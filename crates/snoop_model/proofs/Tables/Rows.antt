@@ -1,19 +1,16 @@
 -- What holds of every row, found by trying all.
-use Rattle.std.proofs.Common.{List, ◌≡◌, ℕ, Bool, true, false, not, ◌&&◌, ◌||◌, Option, Some, None, [], ◌∷◌, refl, sym, ◌∙◌, is_some, option_map, ◌==◌, if◌then◌else◌}
-use Rattle.snoop_model.proofs.Common.{all_events, all_protocols, all_states, and-false, and-true, asked, awaited_request, CacheAction, CacheCell, CacheEvent, CacheState, Cell, each_row, each_row-at, GetM, GetS, is_load, IsProper, keeps, kept_on, kept_waiting, Line, missed_request, moves_to, Op, other, own, Protocol, PutM, Request, request_for, same, same_Some, seen_by, waiting_request}
+use Rattle.std.proofs.Common.{List, ◌≡◌, ℕ, Bool, true, false, not, ◌&&◌, Option, Some, None, refl, sym, ◌∙◌, is_some, option_map, ◌==◌, if◌then◌else◌}
+use Rattle.snoop_model.proofs.Common.{all_events, all_protocols, all_states, and-false, and-true, asked, awaited_request, CacheAction, CacheEvent, CacheState, Cell, each_row, GetM, GetS, is_load, IsProper, keeps, kept_on, kept_waiting, Line, missed_request, moves_to, Op, other, own, Protocol, PutM, Request, request_for, same, same_Some, seen_by, waiting_request}
 use Rattle.snoop_trace.specs.declared.step.Op.TheVariants as op
 use Rattle.snoop_rules.specs.declared.names.CacheState.TheVariants.{I, ImAd, IiA}
 use Rattle.snoop_rules.specs.declared.names.CacheEvent.TheVariants as event
 use Rattle.snoop_rules.specs.declared.names.CacheAction.TheVariants as action
 use Rattle.snoop_rules.specs.contracts.names.Request.{the_type as requests}
-use Rattle.snoop_model.proofs.Tables.StateTests.{EachHolds, each, each_holds, same_is, same_option, same_option-true}
+use Rattle.snoop_model.proofs.Tables.Tested.{◌also◌, Tested, alike, each_cell, equal, fails, given, holds}
 
 -- the same requests, or none
-abbrev pub same_request : Option Request → Option Request → Bool
-same_request = same_option requests
-
-pub same_request-true : (a b : Option Request) → same_request a b ≡ true → a ≡ b
-same_request-true = same_option-true requests tt
+abbrev pub same_request : Option Request → Option Request → Tested
+same_request = equal requests tt
 
 -- kept words are given up in this state
 abbrev given_up : CacheState → Bool
@@ -65,68 +62,62 @@ may_await event.Evict before = before
 may_await _ before = None
 
 -- what an action does to what is kept, to what has missed and to what waits: an issue, of the request that serves, begins to wait where nothing did; a fill ends what has missed; a hit, of kept words, and an Evict's drop, leave both
-abbrev action_tests : CacheState → CacheEvent → CacheState → CacheAction → List Bool
-action_tests s e n (action.Issue q) =
-    same (keeps n) (keeps s && not (given_up n)) ∷ same_request (waiting_request s) None ∷ same_request (waiting_request n) (Some q)
-    ∷ same_request (missed_request s) None ∷ same_request (missed_request n) (missed_at e) ∷ same_request (Some q) (serving e) ∷ []
-action_tests s e n action.Hit =
-    keeps n ∷ same_request (missed_request s) (missed_request n) ∷ same_request (waiting_request n) (waiting_request s) ∷ keeps s ∷ not (is_evict e) ∷ []
-action_tests s e n action.Drop =
-    same (keeps n) (keeps s && not (given_up n)) ∷ same_request (missed_request s) (missed_request n) ∷ same_request (waiting_request n) (waiting_request s) ∷ is_evict e ∷ []
-action_tests s e n action.FillLoad = keeps n ∷ same_request (missed_request n) None ∷ same_request (waiting_request n) (waiting_request s) ∷ []
-action_tests s e n action.FillStore = keeps n ∷ same_request (missed_request n) None ∷ same_request (waiting_request n) (waiting_request s) ∷ []
-action_tests s e n _ = []
+abbrev pub action_claims : CacheState → CacheEvent → CacheState → CacheAction → Tested
+action_claims s e n (action.Issue q) =
+    alike (keeps n) (keeps s && not (given_up n)) also (same_request (waiting_request s) None also same_request (waiting_request n) (Some q))
+    also (same_request (missed_request s) None also same_request (missed_request n) (missed_at e)) also same_request (Some q) (serving e)
+action_claims s e n action.Hit =
+    holds (keeps n) also same_request (missed_request s) (missed_request n) also same_request (waiting_request n) (waiting_request s) also holds (keeps s) also fails (is_evict e)
+action_claims s e n action.Drop =
+    alike (keeps n) (keeps s && not (given_up n)) also same_request (missed_request s) (missed_request n) also same_request (waiting_request n) (waiting_request s) also holds (is_evict e)
+action_claims s e n action.FillLoad = holds (keeps n) also same_request (missed_request n) None also same_request (waiting_request n) (waiting_request s)
+action_claims s e n action.FillStore = holds (keeps n) also same_request (missed_request n) None also same_request (waiting_request n) (waiting_request s)
+action_claims s e n _ = holds true
 
 -- at an Order, a core's own request ends its waiting, and another's leaves it
-abbrev order_tests : CacheState → Option Bool → CacheState → List Bool
-order_tests s None n = []
-order_tests s (Some mine) n =
-    same (keeps n) (keeps s && not (given_up n)) ∷ same_request (missed_request s) (missed_request n)
-    ∷ same_request (waiting_request n) (if mine then None else waiting_request s) ∷ []
+abbrev pub order_claims : CacheState → Bool → CacheState → Tested
+order_claims s mine n =
+    alike (keeps n) (keeps s && not (given_up n)) also same_request (missed_request s) (missed_request n) also same_request (waiting_request n) (if mine then None else waiting_request s)
 
--- what is asked of a row: that it answers what is asked, what its action does and what an Order does, and what may be awaited then
-abbrev row_tests : CacheState → CacheEvent → CacheCell → List Bool
-row_tests s e row =
-    (not (is_some (serving e)) || answers row.action) ∷ each (action_tests s e row.next row.action) ∷ each (order_tests s (is_own e) row.next)
-    ∷ (not (is_some (awaited_request row.next)) || same_request (awaited_request row.next) (may_await e (awaited_request s))) ∷ []
+-- what is claimed of a row: that it answers what is asked, what its action does and what an Order does, and what may be awaited then
+abbrev row_claims : Protocol → CacheState → CacheEvent → CacheAction → CacheState → Tested
+row_claims p s e a n =
+    given (serving e) (λ _. holds (answers a)) also action_claims s e n a
+    also given (is_own e) (λ mine. order_claims s mine n)
+    also given (awaited_request n) (λ r. same_request (may_await e (awaited_request s)) (Some r))
 
-abbrev row_test : Protocol → CacheState → CacheEvent → CacheCell → Bool
-row_test p s e row = each (row_tests s e row)
-
-row_test_holds : each_row row_test ≡ true
+rule : (each_cell row_claims).claim
 unfolding each_row all_protocols all_states all_events same
-row_test_holds = refl
+rule = (each_cell row_claims).sound refl
+
+module _ (p : Protocol) (s : CacheState) (e : CacheEvent) (a : CacheAction) (n : CacheState) (row : Cell p s e a n) where
+  pub action_rule : (action_claims s e n a).claim
+  action_rule = (rule p s e a n row).1.0
+
+  pub awaited_rule : (r : Request) → awaited_request n ≡ Some r → may_await e (awaited_request s) ≡ Some r
+  awaited_rule = (rule p s e a n row).1.1.1
 
 module _ (p : Protocol) (s : CacheState) (e : CacheEvent) (a : CacheAction) (n : CacheState) where
-  row_rule : Cell p s e a n → EachHolds (row_tests s e (record { action = a; next = n }))
-  row_rule row = each_holds (row_tests s e (record { action = a; next = n })) (each_row-at row_test row_test_holds p s e a n row)
-
-  action_rule : Cell p s e a n → EachHolds (action_tests s e n a)
-  action_rule row = each_holds (action_tests s e n a) (row_rule row).1.0
-
-  pub awaited_rule : (r : Request) → Cell p s e a n → awaited_request n ≡ Some r → may_await e (awaited_request s) ≡ Some r
-  awaited_rule r row awaits = sym (same_request-true (Some r) _ (rw awaits at (row_rule row).1.1.1.0))
-
   -- a fill ends all waiting and keeps a value
   abbrev IsFill : Op → Type 0
   IsFill asking = a ≡ (if is_load asking then action.FillLoad else action.FillStore)
 
-  fill_facts : (asking : Op) → IsFill asking → Cell p s e a n → (keeps n ≡ true) × (missed_request n ≡ None) × (waiting_request n ≡ waiting_request s)
-  fill_facts op.Load fill row = let (kept, (missed, (waits, _))) = rw fill at (action_rule row) in (kept, same_request-true _ _ missed, same_request-true _ _ waits)
-  fill_facts _ fill row = let (kept, (missed, (waits, _))) = rw fill at (action_rule row) in (kept, same_request-true _ _ missed, same_request-true _ _ waits)
+  fill_facts : (asking : Op) → IsFill asking → Cell p s e a n → (action_claims s e n action.FillLoad).claim
+  fill_facts op.Load fill row = rw fill at (action_rule p s e a n row)
+  fill_facts _ fill row = rw fill at (action_rule p s e a n row)
 
   pub fill-waits : (asking : Op) → IsFill asking → Cell p s e a n → waiting_request n ≡ waiting_request s
-  fill-waits asking fill row = (fill_facts asking fill row).2
+  fill-waits asking fill row = (fill_facts asking fill row).1.1
 
   pub IsProper-fill : (asking : Op) (after : List ℕ) → IsFill asking → Cell p s e a n → IsProper (record { state = n; kept = Some after; waiting = None })
-  IsProper-fill asking after fill row = let f = fill_facts asking fill row in record { kept = sym f.0; waiting = sym f.1 }
+  IsProper-fill asking after fill row = let f = fill_facts asking fill row in record { kept = sym f.0; waiting = sym f.1.0 }
 
 pub serving-asked : (asking : Op) → serving (asked asking) ≡ Some (request_for asking)
 serving-asked op.Evict = refl
 serving-asked _ = refl
 
 pub asked_answers : (p : Protocol) (s : CacheState) (asking : Op) (a : CacheAction) (n : CacheState) → Cell p s (asked asking) a n → answers a ≡ true
-asked_answers p s asking a n row = rw (serving-asked asking) at (row_rule p s (asked asking) a n row).0
+asked_answers p s asking a n row = (rule p s (asked asking) a n row).0 (request_for asking) (serving-asked asking)
 
 is_some-kept_on : (next : CacheState) (kept : Option (List ℕ)) (b : Bool) → is_some kept ≡ b → is_some (kept_on next kept) ≡ (b && not (given_up next))
 is_some-kept_on I kept b h = sym (and-false b)
@@ -139,21 +130,18 @@ IsProper-move : (old : Line) (n : CacheState) → IsProper old → keeps n ≡ (
     → IsProper (moves_to n old)
 IsProper-move old n proper kept missed = record { kept = is_some-kept_on n old.kept (keeps old.state) proper.kept ∙ sym kept; waiting = proper.waiting ∙ missed }
 
--- an issue makes a core wait that did not
 module _ (p : Protocol) (s : CacheState) (e : CacheEvent) (q : Request) (n : CacheState) (row : Cell p s e (action.Issue q) n) where
-  issue_facts : (keeps n ≡ (keeps s && not (given_up n))) × (Some q ≡ serving e)
-  issue_facts = let (kept, (_, (_, (_, (_, (served, _)))))) = action_rule p s e (action.Issue q) n row in (same_is _ _ kept, same_request-true _ _ served)
-
+  -- an issue makes a core wait that did not
   pub issue-waits : (waiting_request s ≡ None) × (waiting_request n ≡ Some q)
-  issue-waits = let (_, (stood, (waits, _))) = action_rule p s e (action.Issue q) n row in (same_request-true _ _ stood, same_request-true _ _ waits)
+  issue-waits = (action_rule p s e (action.Issue q) n row).1.0
 
   -- where a request is issued no operation had missed, and then the one that is asked has
   pub issue-missed : (missed_request s ≡ None) × (missed_request n ≡ missed_at e)
-  issue-missed = let (_, (_, (_, (none, (missed, _))))) = action_rule p s e (action.Issue q) n row in (same_request-true _ _ none, same_request-true _ _ missed)
+  issue-missed = (action_rule p s e (action.Issue q) n row).1.1.0
 
 pub issue_serves : (p : Protocol) (s : CacheState) (asking : Op) (q : Request) (n : CacheState) → Cell p s (asked asking) (action.Issue q) n
     → q ≡ request_for asking
-issue_serves p s asking q n row = same_Some _ _ ((issue_facts p s (asked asking) q n row).1 ∙ serving-asked asking)
+issue_serves p s asking q n row = same_Some _ _ ((action_rule p s (asked asking) (action.Issue q) n row).1.1.1 ∙ serving-asked asking)
 
 pub asked_missed : (word : ℕ) (asking : Op) → option_map (λ access. request_for access.op) (kept_waiting word asking) ≡ missed_at (asked asking)
 asked_missed word op.Evict = refl
@@ -162,37 +150,30 @@ asked_missed word _ = refl
 pub IsProper-issue : (p : Protocol) (old : Line) (word : ℕ) (asking : Op) (q : Request) (n : CacheState) → IsProper old → Cell p old.state (asked asking) (action.Issue q) n
     → IsProper (record { state = n; kept = kept_on n old.kept; waiting = kept_waiting word asking })
 IsProper-issue p old word asking q n proper row = record {
-  kept = is_some-kept_on n old.kept (keeps old.state) proper.kept ∙ sym (issue_facts p old.state (asked asking) q n row).0;
+  kept = is_some-kept_on n old.kept (keeps old.state) proper.kept ∙ sym (action_rule p old.state (asked asking) (action.Issue q) n row).0;
   waiting = asked_missed word asking ∙ sym (issue-missed p old.state (asked asking) q n row).1;
 }
 
-module _ (p : Protocol) (s : CacheState) (e : CacheEvent) (n : CacheState) where
-  -- a hit keeps a value, and what waits goes on waiting
-  pub hit_facts : Cell p s e action.Hit n → (keeps n ≡ true) × (missed_request s ≡ missed_request n) × (waiting_request n ≡ waiting_request s)
-  hit_facts row = let (kept, (missed, (waits, _))) = action_rule p s e action.Hit n row in (kept, same_request-true _ _ missed, same_request-true _ _ waits)
+-- a hit is no Evict, of words that are kept
+pub hit_keeps : (p : Protocol) (s : CacheState) (e : CacheEvent) (n : CacheState) → Cell p s e action.Hit n → (keeps s ≡ true) × (is_evict e ≡ false)
+hit_keeps p s e n row = (action_rule p s e action.Hit n row).1.1.1
 
-  -- it is no Evict, of words that are kept
-  pub hit_keeps : Cell p s e action.Hit n → (keeps s ≡ true) × (not (is_evict e) ≡ true)
-  hit_keeps row = let (_, (_, (_, (kept, (no_evict, _))))) = action_rule p s e action.Hit n row in (kept, no_evict)
-
-  -- what waits at a drop, which leaves nothing, goes on waiting too
-  pub drop_facts : Cell p s e action.Drop n → (keeps n ≡ (keeps s && not (given_up n))) × (missed_request s ≡ missed_request n) × (waiting_request n ≡ waiting_request s)
-  drop_facts row = let (kept, (missed, (waits, _))) = action_rule p s e action.Drop n row in (same_is _ _ kept, same_request-true _ _ missed, same_request-true _ _ waits)
-
-  pub drop-waits : Cell p s e action.Drop n → waiting_request n ≡ waiting_request s
-  drop-waits row = (drop_facts row).2
+pub drop-waits : (p : Protocol) (s : CacheState) (e : CacheEvent) (n : CacheState) → Cell p s e action.Drop n → waiting_request n ≡ waiting_request s
+drop-waits p s e n row = (action_rule p s e action.Drop n row).1.1.0
 
 pub IsProper-hit : (p : Protocol) (old : Line) (e : CacheEvent) (n : CacheState) (after : List ℕ) → IsProper old → Cell p old.state e action.Hit n
     → IsProper (record { state = n; kept = Some after; waiting = old.waiting })
-IsProper-hit p old e n after proper row = let f = hit_facts p old.state e n row in record { kept = sym f.0; waiting = proper.waiting ∙ f.1 }
+IsProper-hit p old e n after proper row =
+    let (kept, (missed, _)) = action_rule p old.state e action.Hit n row in
+    record { kept = sym kept; waiting = proper.waiting ∙ missed }
 
 -- only an Evict drops a line
 pub drop_evicts : (p : Protocol) (s : CacheState) (asking : Op) (n : CacheState) → Cell p s (asked asking) action.Drop n → asking ≡ op.Evict
 drop_evicts p s op.Evict n row = refl
-drop_evicts p s _ n row = let evicts = (action_rule p s _ action.Drop n row).1.1.1.0 in cc
+drop_evicts p s _ n row = let evicts = (action_rule p s _ action.Drop n row).1.1.1 in cc
 
 pub IsProper-drop : (p : Protocol) (old : Line) (e : CacheEvent) (n : CacheState) → IsProper old → Cell p old.state e action.Drop n → IsProper (moves_to n old)
-IsProper-drop p old e n proper row = let (kept, missed, _) = drop_facts p old.state e n row in IsProper-move old n proper kept missed
+IsProper-drop p old e n proper row = let (kept, (missed, _)) = action_rule p old.state e action.Drop n row in IsProper-move old n proper kept missed
 
 -- a core sees its own request exactly where it is the requestor
 seen_own : (mine : Bool) (q : Request) → is_own (if mine then own q else other q) ≡ Some mine
@@ -200,11 +181,8 @@ seen_own true GetS = refl
 seen_own false GetS = refl
 seen_own _ _ = refl
 
-pub order_facts : (p : Protocol) (s : CacheState) (k core : ℕ) (q : Request) (a : CacheAction) (n : CacheState) → Cell p s (seen_by k core q) a n
-    → (keeps n ≡ (keeps s && not (given_up n))) × (missed_request s ≡ missed_request n) × (waiting_request n ≡ (if k == core then None else waiting_request s))
-order_facts p s k core q a n row =
-    let (kept, (missed, (waits, _))) = each_holds (order_tests s (Some (k == core)) n) (rw (seen_own (k == core) q) at (row_rule p s (seen_by k core q) a n row).1.1.0) in
-    (same_is _ _ kept, same_request-true _ _ missed, same_request-true _ _ waits)
+pub order_rule : (p : Protocol) (s : CacheState) (k core : ℕ) (q : Request) (a : CacheAction) (n : CacheState) → Cell p s (seen_by k core q) a n → (order_claims s (k == core) n).claim
+order_rule p s k core q a n row = (rule p s (seen_by k core q) a n row).1.1.0 (k == core) (seen_own (k == core) q)
 
 pub IsProper-order : (p : Protocol) (old : Line) (k core : ℕ) (q : Request) (a : CacheAction) (n : CacheState) → IsProper old → Cell p old.state (seen_by k core q) a n → IsProper (moves_to n old)
-IsProper-order p old k core q a n proper row = let (kept, missed, _) = order_facts p old.state k core q a n row in IsProper-move old n proper kept missed
+IsProper-order p old k core q a n proper row = let (kept, (missed, _)) = order_rule p old.state k core q a n row in IsProper-move old n proper kept missed

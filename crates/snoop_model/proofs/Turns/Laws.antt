@@ -1,6 +1,6 @@
 -- All laws of turns that follow the turn rule: what they keep, that they are never refused, what they cost, and when a work is over.
 use Rattle.std.proofs.Common.{◌≡◌, ◌≢◌, ℕ, ◌+◌, ◌≤◌, true, false, List, length, Option, Some, None, refl, sym, ◌∙◌, ap, subst, arith, inl, inr, ◌⊎◌, Bool, not, ◌||◌}
-use Rattle.snoop_model.proofs.Common.{Access, All, All-contains, All-weaker, all_events, all_protocols, all_states, Ask, asked, awaited_request, CacheAction, CacheEvent, CacheState, cases_eq, Cell, ClosedIsLast, ComesToRest, cond_some, Contains, Contains-get_or, each_row, each_row-at, Ends, EndsAtOnce, eq-eqb, FirstMove, has_transaction, held_by, is_some, IsServing, IsWellKept, Item, Line, ne_eqb, NeverRefused, none-some, nothing_there, Op, Open, or_cases, Order, Pays, Picture, picture_of, Protocol, queue_of, queues_after, Refused, Refuses, Reply, Request, Respond, same_Some, ServesOn, Situation, slice_index_or, slice_set, state_of, Step, sum_by, Takes, TurnLaws, waiting_request, Waits, with_line, ◌==◌}
+use Rattle.snoop_model.proofs.Common.{Access, All, All-contains, All-weaker, all_events, all_protocols, all_states, Ask, asked, awaited_request, CacheAction, CacheEvent, CacheState, cases_eq, Cell, ClosedIsLast, ComesToRest, cond_some, Contains, Contains-get_or, each_row, Ends, EndsAtOnce, eq-eqb, FirstMove, has_transaction, held_by, is_some, IsServing, IsWellKept, Item, Line, ne_eqb, NeverRefused, none-some, nothing_there, Op, Open, or_cases, Order, Pays, Picture, picture_of, Protocol, queue_of, queues_after, Refused, Refuses, Reply, Request, Respond, same_Some, ServesOn, Situation, slice_index_or, slice_set, state_of, Step, sum_by, Takes, TurnLaws, waiting_request, Waits, with_line, ◌==◌}
 use Rattle.snoop_rules.specs.declared.names.CacheAction.TheVariants as action
 use Rattle.snoop_model.specs.declared.replies.Reply.TheVariants.{Issued}
 use Rattle.snoop_model.specs.declared.replies.Refused.TheVariants.{NoCore, NoBlock, Stalled, NothingWaiting, BusTaken, NoTransaction}
@@ -10,7 +10,7 @@ use Rattle.snoop_model.proofs.OneBlock.OfBlocks.{same_everywhere}
 use Rattle.snoop_model.proofs.Queues.Moves.{none_there, starts_well, keeps_well, queued_waits, waits_queued}
 use Rattle.snoop_model.proofs.Once.Owed.{owes}
 use Rattle.snoop_rules.specs.declared.names.CacheState.TheVariants.{I}
-use Rattle.snoop_model.proofs.Tables.{StateTests.some_of, WaitingRows.has_missed}
+use Rattle.snoop_model.proofs.Tables.{Tested.Tested, Tested.each_cell, Tested.holds, StateTests.some_of, WaitingRows.has_missed}
 
 -- the core waits in a state, for its own request to be ordered or for data
 abbrev pub is_busy : CacheState → Bool
@@ -20,13 +20,16 @@ abbrev is_stall : CacheAction → Bool
 is_stall action.Stall = true
 is_stall _ = false
 
-stalls_wait : each_row (λ p s e row. not (is_stall row.action) || is_busy s) ≡ true
-unfolding each_row all_protocols all_states all_events
-stalls_wait = refl
-
 -- a stall comes only where the core waits
+abbrev stalls : Tested
+stalls = each_cell λ p s e a n. holds (not (is_stall a) || is_busy s)
+
+stalls_wait : stalls.claim
+unfolding each_row all_protocols all_states all_events
+stalls_wait = stalls.sound refl
+
 pub stall_busy : (p : Protocol) (s : CacheState) (e : CacheEvent) (n : CacheState) → Cell p s e action.Stall n → is_busy s ≡ true
-stall_busy p s e n h = each_row-at _ stalls_wait p s e action.Stall n h
+stall_busy p s e n h = stalls_wait p s e action.Stall n h
 
 -- for one of the two, or the other
 pub busy_cases : (s : CacheState) → is_busy s ≡ true → ((request : Request) × (waiting_request s ≡ Some request)) ⊎ ((request : Request) × (awaited_request s ≡ Some request))
