@@ -3,7 +3,7 @@ pub use Rattle.std.specs.Prelude.{is_some, ⊤, All, Contains, Err, IfOk, IfSome
 pub use Rattle.std.specs.List.{list_all, list_any, cons_option, range_with_len}
 pub use Rattle.std.proofs.lemmas.Bool.{and_from, and_parts, both_ways, cases_Bool, cases_eq, cases_lt, cond_both, not-true, or_cases, or_right, and_cases, and_left, and_right, eq-eqb, eqb-true, false_from_ne_true, le-ltb, lt-ltb, ltb-false, ltb-true, ne_eqb}
 pub use Rattle.std.proofs.lemmas.List.{get_or_past, append-nil, append_cancel_left, get_or-replicate, get_or-set_other, get_or-set_same, length-replicate, length-set, map-append, length_push, set_past}
-pub use Rattle.std.proofs.lemmas.Option.{cond_some, none-some, same_Some, IfSome_then, slice_get-get_or, get_or_from_slice_get, slice_get_within}
+pub use Rattle.std.proofs.lemmas.Option.{cond_some, none-some, same_Some, IfSome_then, slice_get-get_or, option_and_then_some, get_or_from_slice_get, slice_get_within}
 pub use Rattle.snoop_trace.specs.Extent.{Extent}
 pub use Rattle.snoop_trace.specs.declared.{protocol.Protocol.Protocol, step.Op.Op, step.Step.Step}
 pub use Rattle.snoop_trace.specs.declared.step.Step.TheVariants.{Ask, Order, Respond}

@@ -217,7 +217,7 @@ module _ (s : Situation) (g : Invariant s) where
       let x = possible_order requestor block looks.0 looks.1.0 in
       rw looks.1.1 (x.cell_of_memory, x.memory_row)
   finds_memory (Respond on) block event (closing, looks) =
-      rw looks.3 (has_row (memory_row_for s.protocol (picture_of s block).memory.state) refl (arrival_at_memory closing.payload) ((response_possible block closing looks.1).memory looks.2))
+      rw looks.3 (has_row (memory_row_for s.protocol (picture_of s block).memory.state) refl (arrival_at_memory closing.payload) (let found = (response_possible block closing looks.1).memory in (found.0, rw looks.2 at found.1)))
 
   -- no step meets an impossible cell
   pub finds_rows : (step : Step) → FindsRows s step

@@ -1,6 +1,6 @@
 -- What every machine keeps makes it safe, and its steps keep it.
 use Rattle.std.proofs.Common.{◌≡◌, ℕ, List, ◌<◌, ◌≤◌, Option, Some, None, refl, ap, sym, ◌∙◌, arith, inl, inr, ◌⊎◌, true}
-use Rattle.snoop_model.proofs.Common.{arrival_at_memory, Ask, asked, CacheAction, CacheCell, CacheState, Cell, cell_of, Extent, flat, flat_words, Goes, HasOpen, held_by, IfSome, Invariant, is_clean, is_some, IsOpenByTable, IsProper, IsSenderLine, IsWellKept, Item, keeps, Line, MoveOn, nothing_held, Op, option_map, Order, Orders, Picture, picture_of, Protocol, Refused, Refuses, Reply, Request, reset, Respond, Result, RunBy, same_Some, Situation, state_of, Step, Takes, Waits, with_line, with_picture, word_at}
+use Rattle.snoop_model.proofs.Common.{arrival_at_memory, Ask, asked, CacheAction, CacheCell, CacheState, Cell, cell_of, Extent, flat, flat_words, Goes, HasOpen, held_by, IfSome, Invariant, is_clean, is_some, IsOpenByTable, IsProper, IsSenderLine, IsWellKept, Item, MemCell, takes_payload, keeps, Line, MoveOn, nothing_held, Op, option_map, Order, Orders, Picture, picture_of, Protocol, Refused, Refuses, Reply, Request, reset, Respond, Result, RunBy, same_Some, Situation, state_of, Step, Takes, Waits, with_line, with_picture, word_at}
 use Rattle.snoop_trace.specs.declared.step.Op.TheVariants as op
 use Rattle.snoop_trace.specs.declared.protocol.Protocol.TheVariants.{Msi, Mesi}
 use Rattle.snoop_rules.specs.declared.names.CacheState.TheVariants as state
@@ -11,12 +11,12 @@ use Rattle.snoop_model.specs.Coherent.{IsCoherent}
 use Rattle.snoop_model.specs.Runs.Safe.{IsSafe}
 use Rattle.snoop_model.specs.Invariant.MachineKeeps.{AreOnSenderLines, MachineKeeps}
 use Rattle.snoop_model.proofs.Lists.Facts.{if_some}
-use Rattle.snoop_model.proofs.Tables.{Rows.IsProper-drop, SentBy.sends_is}
+use Rattle.snoop_model.proofs.Tables.{Rows.IsProper-drop, SentBy.sends_is, RespondTests.settled_so}
 use Rattle.snoop_model.proofs.OneBlock.{AfterMoves.ask_line, AfterMoves.respond_here, OfBlocks.in_pictures, OfBlocks.each_picture}
 use Rattle.snoop_model.proofs.Invariant.{Coherence.has_one_writer, Coherence.kept_read, Coherence.readers_current, Coherence.data_current, Coherence.memory_current, Coherence.names_its_block, Coherence.data_awaited, Coherence.each_line, Coherence.held_within, Coherence.finds_rows, Coherence.orders_follow_sender_table, Runs.reset_invariant, Runs.reset_open, Runs.nothing_proper, Runs.nothing_waits, Runs.goes_kept, Runs.word_flat, Runs.move_keeps}
 use Rattle.snoop_model.proofs.Queues.Moves.{on_kept, starts_well}
 use Rattle.snoop_model.proofs.Runs.{Along.kept_along, GoOn.moves_on}
-use Rattle.snoop_model.proofs.Steps.GoesNext.{order_made, settled_is}
+use Rattle.snoop_model.proofs.Steps.GoesNext.{order_made}
 use Rattle.snoop_model.proofs.Turns.Laws.{stall_busy, busy_cases}
 
 -- a drop at an Evict leaves the block in I
@@ -104,9 +104,9 @@ module _ (s : Situation) (g : Invariant s) where
             let there : picture_of new block ≡ r.next = respond_here s block m.closing m.did new g m.within r in
             let same : m.closing ≡ o = same_Some _ _ (sym r.opened ∙ is) in
             let settles = rw same at r.memory.settled in
-            let settled = settled_is _ s.protocol (arrival_at_memory o.payload) (picture_of s block).memory.state in
-            let done = settled r.memory.act r.next.memory.state settles ∙ sym (settled line.1.act line.1.done line.1.settled) in
-            rw there (r.closed, ap (λ x. x.1) done);
+            let settled = settled_so (takes_payload o.request (picture_of s block).memory.state) s.protocol (arrival_at_memory o.payload) (picture_of s block).memory.state in
+            let done = same_Some _ _ (sym ((settled r.memory.act r.next.memory.state).0 settles) ∙ (settled line.1.act line.1.done).0 line.1.settled) in
+            rw there (r.closed, ap (λ (row : MemCell). row.next) done);
       })
 
   on_lines : AreOnSenderLines s → (block : ℕ) → block < s.shape.blocks → (next : Picture) → OnLine s.protocol next → AreOnSenderLines (with_picture s block next)

@@ -1,7 +1,7 @@
 -- Each step finds its rows, and an Order exactly one sender.
 use Rattle.std.proofs.Common.{◌≡◌, ◌<◌, ℕ, length, List, true, false, Option, Some, None}
 use Rattle.snoop_model.proofs.Common.{Protocol, Op, CacheCell, MemCell, Request, Payload, cell_of, memory_cell_of, asked, seen_by, at_memory, arrival, arrival_at_memory, takes_payload, waiting_request, Open, Picture, held_by, sender_of, is_put_m, IsOnlySender, BlockInvariant}
-use Rattle.snoop_model.proofs.Tables.{SenderLines.follows_sender_table, AskTests.ask_rule, AskTests.is_idle_evict, RespondTests.memory_row_for, RespondTests.row_for}
+use Rattle.snoop_model.proofs.Tables.{SenderLines.follows_sender_table, AskTests.ask_rule, AskTests.is_idle_evict, RespondTests.settled_row, RespondTests.row_for}
 use Rattle.snoop_model.proofs.OneBlock.{Facts.below_owner, Facts.is_itself, OrderStep.each_row, OrderStep.look, OrderStep.meant, OrderStep.meant_in, OrderStep.sender_told, OrderStep.sends, OrderStep.sends_if_meant, OrderStep.sent, RespondStep.answered, RespondStep.closing}
 
 pub record Possible (p : Protocol) (before : Picture) (c : ℕ) (q : Request) : Type 0 where
@@ -37,13 +37,13 @@ ask_possible p n flat before c o good c_in busy =
 
 -- a Respond finds its rows
 pub record Answerable (p : Protocol) (before : Picture) (o : Open) : Type 0 where
-  pub memory : takes_payload o.request before.memory.state ≡ true → (row : MemCell) × (memory_row_for p before.memory.state (arrival_at_memory o.payload) ≡ Some row)
+  pub memory : (row : MemCell) × (settled_row p o.request before.memory.state o.payload ≡ Some row)
   pub requestor : is_put_m o.request ≡ false → (row : CacheCell) × (row_for p (held_by before o.core).state (arrival o.payload) ≡ Some row)
 
 pub respond_possible : (p : Protocol) (n : ℕ) (flat : List ℕ) (before : Picture) (o : Open) → BlockInvariant p n flat before → before.transaction ≡ Some o → Answerable p before o
 respond_possible p n flat before o good was_open =
     let a = closing good o was_open in
     record {
-      memory = λ takes. (a.memory, rw takes at a.is_memory);
+      memory = (a.memory, a.is_memory);
       requestor = λ get. let (row, is_row, _) = answered a get in (row, is_row);
     }

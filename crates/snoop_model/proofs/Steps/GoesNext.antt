@@ -1,15 +1,16 @@
 -- Each step that goes comes to what is computed of it, and from every situation of a run each step goes so.
 use Rattle.std.proofs.Common.{◌≡◌, ℕ, zero, suc, ◌<◌, ◌≤◌, ◌&&◌, Bool, true, false, List, length, Option, Some, None, refl, ◌⊎◌, inl, inr, ap, ◌∙◌, arith}
 use Rattle.std.specs.Bool.{Decides}
-use Rattle.snoop_model.proofs.Common.{Access, all_payloads, all_protocols, all_states, all_states-at, and_cases, and_from, and_left, and_parts, and_right, arrival, arrival_at_memory, ArrivesFor, Ask, asked, both_ways, CacheAction, CacheCell, CacheEvent, CacheState, CanOrder, cases_Bool, cases_eq, cases_lt, Cell, Decides-and, Decides-ltb, Did, Err, Extent, false_from_ne_true, fill_by_all, FillsRequestor, FirstMove, flat_words, get_or-map-range_with_len, GoesFirst, HasWord, held_at, held_by, Hits, if◌then◌else◌, Invariant, is_load, is_put_m, is_some, IsOnlySender, IsProper, IsWithin, Item, le-ltb, length-map-range_with_len, Line, lt-ltb, ltb, ltb-false, ltb-true, MemAction, MemCell, MemEvent, MemState, missed_request, nothing_held, Ok, Op, Open, option_map, option_map_or, Order, Orders, Payload, Performs, Picture, picture_of, Protocol, queue_of, Refused, Refuses, Reply, Request, request_for, Respond, Responds, Result, seen_by, Situation, slice_get, StandsFirst, state_of, Step, Takes, takes_payload, unwrap_or, word_places, written, zero_words}
+use Rattle.snoop_model.proofs.Lists.Facts.{option_both}
+use Rattle.snoop_model.proofs.Common.{option_and_then_some, cond_both, waiting_request, cell_of, Access, all_payloads, all_protocols, all_states, all_states-at, and_cases, and_from, and_left, and_parts, and_right, arrival, arrival_at_memory, ArrivesFor, Ask, asked, both_ways, CacheAction, CacheCell, CacheEvent, CacheState, CanOrder, cases_Bool, cases_eq, cases_lt, Cell, Decides-and, Decides-ltb, Did, Err, Extent, false_from_ne_true, fill_by_all, FillsRequestor, FirstMove, flat_words, get_or-map-range_with_len, GoesFirst, HasWord, held_at, held_by, Hits, if◌then◌else◌, Invariant, is_load, is_put_m, is_some, IsOnlySender, IsProper, IsWithin, Item, le-ltb, length-map-range_with_len, Line, lt-ltb, ltb, ltb-false, ltb-true, MemAction, MemCell, MemEvent, MemState, missed_request, nothing_held, Ok, Op, Open, option_map, option_map_or, Order, Orders, Payload, Performs, Picture, picture_of, Protocol, queue_of, Refused, Refuses, Reply, Request, request_for, Respond, Responds, Result, seen_by, Situation, slice_get, StandsFirst, state_of, Step, Takes, takes_payload, unwrap_or, word_places, written, zero_words}
 use Rattle.snoop_trace.specs.declared.step.Op.TheVariants as op
 use Rattle.snoop_rules.specs.declared.names.CacheAction.TheVariants as action
 use Rattle.snoop_rules.specs.declared.names.Request.TheVariants as request
 use Rattle.snoop_model.specs.declared.replies.Refused.TheVariants.{NoCore, NoBlock, Stalled, NothingWaiting, BusTaken, NoTransaction}
 use Rattle.snoop_model.proofs.Lines.TheSender.{IsBelow, sends_below}
-use Rattle.snoop_model.proofs.Tables.{SentBy.payload_from, SentBy.sends_is, SentBy.sends_row, RespondTests.SettlesIf, RespondTests.memory_row_for, RespondTests.row_for, Tested.Tested, Tested.each_of, Tested.each_payload, Tested.each_protocol, Tested.given, Tested.holds, StateTests.some_of, Rows.is_evict, Rows.asked_answers, Rows.hit_keeps, AskTests.is_idle_evict}
+use Rattle.snoop_model.proofs.Tables.{SentBy.payload_from, SentBy.sends_is, SentBy.sends_row, RespondTests.settled_so, RespondTests.row_for, Tested.Tested, Tested.each_of, Tested.each_payload, Tested.each_protocol, Tested.given, Tested.holds, StateTests.some_of, Rows.is_evict, Rows.asked_answers, Rows.hit_keeps, AskTests.is_idle_evict}
 use Rattle.snoop_model.proofs.OneBlock.{OfBlocks.same_picture, OfBlocks.same_memory, Possible.ask_possible, Possible.respond_possible}
-use Rattle.snoop_model.proofs.Steps.Next.{Next, value_of, words_after, has_word, after_ask, by_row, next_asked, sender_below, line_after, next_picture, next_ordered, settled, filled, brought, next_closed, next_of, next_first}
+use Rattle.snoop_model.proofs.Steps.Next.{Next, value_of, words_after, has_word, after_ask, by_row, next_asked, sender_below, line_after, next_picture, next_ordered, filled, brought, next_closed, next_of, next_first}
 use Rattle.snoop_model.proofs.Invariant.Coherence.{orders_follow_sender_table, finds_rows, idle_evict, waits_within}
 use Rattle.snoop_model.proofs.Queues.Moves.{none_there, AreQueued, first_waits, none_waits}
 
@@ -59,12 +60,6 @@ module _ (p : Protocol) (before : Picture) (core : ℕ) (q : Request) where
       lower none (Some k) below sends = elim (cases_eq k n) [ inl e ↦ (let clash = rw (← e, sends) at none in cc) | inr ne ↦ omega arith ]
 
 -- A Respond.
-pub settled_is : (takes : Bool) (p : Protocol) (found : Option MemEvent) (m : MemState) (act : MemAction) (next : MemState)
-    → SettlesIf takes p found m act next → (act, next) ≡ settled takes p found m
-settled_is true p None m act next h = absurd h
-settled_is true p (Some e) m act next h = rw h refl
-settled_is false p found m act next h = rw (h.0, h.1) refl
-
 module _ (closing : Open) (p : Protocol) (log : List Item) (old new : List Line) (did : Option Did) where
   arrives_is : (q : Request) → ArrivesFor q closing p log old new did → (new, did) ≡ brought closing p log old q
   arrives_is request.PutM a = rw (a.0, a.1) refl
@@ -97,10 +92,9 @@ move_is s (Respond on) answer new (block, (first, m)) =
     let o = m.closing in
     let before : Picture = picture_of s block in
     let caches = arrives_is o s.protocol s.log before.caches r.next.caches m.did o.request r.requestor in
-    let memory = settled_is _ s.protocol (arrival_at_memory o.payload) before.memory.state r.memory.act r.next.memory.state r.memory.settled in
-    let next = same_picture (ap (λ x. x.0) caches) (same_memory (ap (λ x. x.1) memory)
-    (r.memory.value ∙ ap (λ x. written x.0 o.value before.memory.value) memory)) r.closed in
-    rw (m.on_block, m.answered, lt-ltb block s.shape.blocks m.within, r.opened, r.after, next, ap (λ x. x.1) caches) refl
+    let memory = (settled_so (takes_payload o.request before.memory.state) s.protocol (arrival_at_memory o.payload) before.memory.state r.memory.act r.next.memory.state).0 r.memory.settled in
+    let next = same_picture (ap (λ x. x.0) caches) (same_memory {state = r.next.memory.state} refl r.memory.value) r.closed in
+    rw (m.on_block, m.answered, lt-ltb block s.shape.blocks m.within, r.opened, r.after, memory, next, ap (λ x. x.1) caches) refl
 
 -- and so does a refusal
 module _ (s : Situation) (queued : AreQueued s) where
@@ -222,104 +216,77 @@ fill_is _ _ h = cc
 
 -- what the response brings to the caches
 module _ (p : Protocol) (log : List Item) (old : List Line) (o : Open) where
-  fills_as : (found : Option CacheEvent) → arrival o.payload ≡ found → (row : CacheCell) → row_for p (held_at old o.core).state found ≡ Some row → IsProper (held_at old o.core)
-      → (let n = filled o p log old (held_at old o.core).waiting in FillsRequestor o p log old n.0 n.1)
-  fills_as None arrives row is proper = cc
-  fills_as (Some e) arrives row is proper =
-      let row_of : row_for p (held_at old o.core).state (arrival o.payload) ≡ Some row = rw arrives is in
-      by_waiting (held_at old o.core).waiting refl (rw proper.waiting (data_fills p _ o.payload row row_of))
-    where
-      by_waiting : (waiting : Option Access) → (held_at old o.core).waiting ≡ waiting → fills (option_map (λ access. request_for access.op) waiting) row.action ≡ true
-          → (let n = filled o p log old waiting in FillsRequestor o p log old n.0 n.1)
-      by_waiting None waits fit = cc
-      by_waiting (Some access) waits fit =
-          let so = fill_is access.op row.action fit in
-          rw (arrives, is) (record {
-            line = _;
-            asking = access;
-            value = _;
-            fills = record {
-              event = e;
-              row = row;
-              after = _;
-              arrives = arrives;
-              is_row = is;
-              waited = waits;
-              fill = so.0;
-              performed = performs access.op so.1 access.word o.value;
-              held = refl;
-            };
-            held = refl;
-            logged = refl;
-          })
+  abbrev asker : Line
+  asker = held_at old o.core
 
-  brings : (q : Request) → (is_put_m q ≡ false → (r : CacheCell) × (row_for p (held_at old o.core).state (arrival o.payload) ≡ Some r))
-      → IsProper (held_at old o.core) → (let n = brought o p log old q in ArrivesFor q o p log old n.0 n.1)
+  fills_requestor : (row : CacheCell) → row_for p asker.state (arrival o.payload) ≡ Some row → IsProper asker → (let n = filled o p log old asker.waiting in FillsRequestor o p log old n.0 n.1)
+  fills_requestor row found proper =
+      let fit = data_fills p asker.state o.payload row found in
+      option_and_then_some (cell_of p asker.state) (arrival o.payload) row found (λ e arrives is_row.
+      option_both asker.waiting (λ waiting. let n = filled o p log old waiting in FillsRequestor o p log old n.0 n.1)
+      (λ none. let clash = rw (← proper.waiting, none) at fit in cc)
+      (λ access waits.
+      let so = fill_is access.op row.action (rw (← proper.waiting, waits) at fit) in
+      let performed = performs access.op so.1 access.word o.value in
+      rw found (record {
+        line = _;
+        asking = access;
+        value = _;
+        fills = record { event = e; row = row; after = _; arrives = arrives; is_row = is_row; waited = waits; fill = so.0; performed = performed; held = refl };
+        held = refl;
+        logged = refl;
+      })))
+
+  brings : (q : Request) → (is_put_m q ≡ false → (r : CacheCell) × (row_for p asker.state (arrival o.payload) ≡ Some r)) → IsProper asker
+      → (let n = brought o p log old q in ArrivesFor q o p log old n.0 n.1)
   brings request.PutM row proper = (refl, refl)
-  brings _ row proper = fills_as (arrival o.payload) refl (row refl).0 (row refl).1 proper
-
--- what the response brings to memory
-remembers : (takes : Bool) (p : Protocol) (found : Option MemEvent) (m : MemState) → (takes ≡ true → (r : MemCell) × (memory_row_for p m found ≡ Some r))
-    → SettlesIf takes p found m (settled takes p found m).0 (settled takes p found m).1
-remembers false p found m row = (refl, refl)
-remembers true p None m row = let none = (row refl).1 in cc
-remembers true p (Some e) m row = rw (row refl).1 refl
+  brings _ row proper = let found = row refl in fills_requestor found.0 found.1 proper
 
 -- each step goes as it is computed
 module _ (s : Situation) (g : Invariant s) where
-  pub goes_next : AreQueued s → (step : Step) → GoesFirst s step (next_of s step).0 (next_of s step).1
-  goes_next queued (Ask core block word asking) = elim (cases_lt core s.shape.cores) [
-    | inr past ↦ rw (le-ltb core s.shape.cores past) (past, refl)
-    | inl in_cores ↦ elim (cases_Bool (ltb block s.shape.blocks && has_word s.shape word asking)) [
-      | inl there ↦
-          let parts = and_parts _ _ there in
-          rw (lt-ltb core s.shape.cores in_cores, there) (goes_within s core block word asking (in_cores, ltb-true block s.shape.blocks parts.0)
-          ((word_decides s.shape word asking).0 parts.1) g)
-      | inr none ↦
-          let nowhere : (s.shape.blocks ≤ block) ⊎ (¬ HasWord s.shape word asking) = elim (and_cases _ _ none) [
-            | inl past ↦ inl (ltb-false block s.shape.blocks past)
-            | inr wordless ↦ inr (λ has. both_ways _ wordless ((word_decides s.shape word asking).1 has))
-          ] in
-          rw (lt-ltb core s.shape.cores in_cores, none) ((in_cores, nowhere), refl)
-    ]
-  ]
-  goes_next queued (Order core) = elim (cases_lt core s.shape.cores) [
-    | inr past ↦ rw (le-ltb core s.shape.cores past) (past, refl)
-    | inl in_cores ↦ rw (lt-ltb core s.shape.cores in_cores) (first in_cores (slice_get (queue_of s.queues core) 0) refl)
-  ]
-    where
-      free_or_not : (block : ℕ) → StandsFirst s core block → core < s.shape.cores → (found : Option Open) → (picture_of s block).transaction ≡ found
-          → (let n = next_first s core (Some block) in GoesFirst s (Order core) n.0 n.1)
-      free_or_not block is in_cores (Some o) busy = rw busy ((in_cores, is, rw busy refl), refl)
-      free_or_not block is in_cores None free =
-          let waits = first_waits s queued core block is in
-          let within = waits_within s g core block waits.0 waits.1 in
-          rw (free, waits.1) (block, (is, record { request = waits.0; within = within; answered = refl; orders = order_made s g core block waits.0 (waits.1, free) }))
+  closes : (block : ℕ) → block < s.shape.blocks → (o : Open) → (picture_of s block).transaction ≡ Some o → (let n = next_closed s block o in GoesFirst s (Respond block) n.0 n.1)
+  closes block within o opened =
+      let before : Picture = picture_of s block in
+      let good = g.blocks block within in
+      let rows = respond_possible s.protocol s.shape.cores (flat_words s.log block) before o good opened in
+      let settles = (settled_so (takes_payload o.request before.memory.state) s.protocol (arrival_at_memory o.payload) before.memory.state rows.memory.0.action rows.memory.0.next).1 rows.memory.1 in
+      let responds : Responds s block o _ (next_closed s block o).1 = record {
+        opened = opened;
+        next = _;
+        requestor = brings s.protocol s.log before.caches o o.request rows.requestor (good.proper o.core (good.requestor_in o opened));
+        memory = rw rows.memory.1 (record { act = rows.memory.0.action; settled = settles; value = refl });
+        closed = refl;
+        after = refl;
+      } in
+      (block, (tt, record { closing = o; did = _; on_block = refl; within = within; answered = refl; responds = responds }))
 
-      first : core < s.shape.cores → (found : Option ℕ) → slice_get (queue_of s.queues core) 0 ≡ found
-          → (let n = next_first s core found in GoesFirst s (Order core) n.0 n.1)
-      first in_cores None none = ((in_cores, none_waits s queued core none), refl)
-      first in_cores (Some block) is = free_or_not block is in_cores (picture_of s block).transaction refl
-  goes_next queued (Respond block) = elim (cases_lt block s.shape.blocks) [
-    | inr past ↦ rw (le-ltb block s.shape.blocks past) (past, refl)
-    | inl within ↦ rw (lt-ltb block s.shape.blocks within) (closes within (picture_of s block).transaction refl)
-  ]
-    where
-      closes : block < s.shape.blocks → (found : Option Open) → (picture_of s block).transaction ≡ found
-          → (let n = option_map_or (next_closed s block) found (Err NoTransaction, s) in GoesFirst s (Respond block) n.0 n.1)
-      closes within None none = ((within, none), refl)
-      closes within (Some o) opened =
-          let before : Picture = picture_of s block in
-          let good = g.blocks block within in
-          let rows = respond_possible s.protocol s.shape.cores (flat_words s.log block) before o good opened in
-          let requestor = brings s.protocol s.log before.caches o o.request rows.requestor (good.proper o.core (good.requestor_in o opened)) in
-          let settles = remembers (takes_payload o.request before.memory.state) s.protocol (arrival_at_memory o.payload) before.memory.state rows.memory in
-          let responds : Responds s block o _ (next_closed s block o).1 = record {
-            opened = opened;
-            next = _;
-            requestor = requestor;
-            memory = record { act = _; settled = settles; value = refl };
-            closed = refl;
-            after = refl;
-          } in
-          (block, (tt, record { closing = o; did = _; on_block = refl; within = within; answered = refl; responds = responds }))
+  pub goes_next : AreQueued s → (step : Step) → GoesFirst s step (next_of s step).0 (next_of s step).1
+  goes_next queued (Ask core block word asking) =
+      let Goes = λ (n : Next). GoesFirst s (Ask core block word asking) n.0 n.1 in
+      cond_both (ltb core s.shape.cores) _ _ Goes (λ below.
+      let in_cores = ltb-true core s.shape.cores below in
+      cond_both (ltb block s.shape.blocks && has_word s.shape word asking) _ _ Goes (λ there.
+      let (within, has) = and_parts _ _ there in
+      goes_within s core block word asking (in_cores, ltb-true block s.shape.blocks within) ((word_decides s.shape word asking).0 has) g) (λ nowhere.
+      let none : (s.shape.blocks ≤ block) ⊎ (¬ HasWord s.shape word asking) = elim (and_cases _ _ nowhere) [
+        | inl past ↦ inl (ltb-false block s.shape.blocks past)
+        | inr wordless ↦ inr (λ has. both_ways _ wordless ((word_decides s.shape word asking).1 has))
+      ] in
+      ((in_cores, none), refl))) (λ past. (ltb-false core s.shape.cores past, refl))
+  goes_next queued (Order core) =
+      let Goes = λ (n : Next). GoesFirst s (Order core) n.0 n.1 in
+      cond_both (ltb core s.shape.cores) _ _ Goes (λ below.
+      let in_cores = ltb-true core s.shape.cores below in
+      option_both (slice_get (queue_of s.queues core) 0) (λ first. Goes (next_first s core first)) (λ none. ((in_cores, none_waits s queued core none), refl)) (λ block is.
+      let waits = first_waits s queued core block is in
+      let within = waits_within s g core block waits.0 waits.1 in
+      let ordered = option_map_or (next_ordered s core block) (waiting_request (state_of s core block)) (Err NothingWaiting, s) in
+      option_both (picture_of s block).transaction (λ found. Goes (if is_some found then (Err (BusTaken block), s) else ordered))
+      (λ free. rw waits.1 (block, (is, record { request = waits.0; within = within; answered = refl; orders = order_made s g core block waits.0 (waits.1, free) })))
+      (λ o busy. ((in_cores, is, rw busy refl), refl)))) (λ past. (ltb-false core s.shape.cores past, refl))
+  goes_next queued (Respond block) =
+      let Goes = λ (n : Next). GoesFirst s (Respond block) n.0 n.1 in
+      cond_both (ltb block s.shape.blocks) _ _ Goes (λ below.
+      let within = ltb-true block s.shape.blocks below in
+      option_both (picture_of s block).transaction (λ found. Goes (option_map_or (next_closed s block) found (Err NoTransaction, s)))
+      (λ none. ((within, none), refl)) (closes block within)) (λ past. (ltb-false block s.shape.blocks past, refl))

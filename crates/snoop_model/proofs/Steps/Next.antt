@@ -9,7 +9,7 @@ use Rattle.snoop_history.specs.declared.items.Item.TheVariants as item
 use Rattle.snoop_model.specs.declared.replies.Reply.TheVariants as reply
 use Rattle.snoop_model.specs.declared.replies.Refused.TheVariants.{NoCore, NoBlock, Stalled, NothingWaiting, BusTaken, NoTransaction}
 use Rattle.snoop_model.proofs.OneBlock.OfBlocks.{changed}
-use Rattle.snoop_model.proofs.Tables.{RespondTests.row_for, RespondTests.memory_row_for, SentBy.payload_from}
+use Rattle.snoop_model.proofs.Tables.{RespondTests.row_for, RespondTests.settled_row, SentBy.payload_from}
 
 -- what a step is answered, and where it leads
 abbrev pub Next : Type 0
@@ -85,11 +85,6 @@ next_ordered s core block request =
     let sent : Item = item.Sent (record { core = core; request = request; block = block }) in
     (Ok (reply.Ordered request), changed s block next (after_order s.queues core block) (s.log ++ sent ∷ []))
 
--- what memory does with a message, and its state then
-abbrev pub settled : Bool → Protocol → Option MemEvent → MemState → MemAction × MemState
-settled takes p found m = if takes then option_map_or {U = MemAction × MemState} (λ row. (row.action, row.next)) (memory_row_for p m found)
-    (mem_action.None, m) else (mem_action.None, m)
-
 -- A Respond: what it brings to the lines, with the operation that it performs, and to memory.
 module _ (closing : Open) (p : Protocol) (log : List Item) (lines : List Line) where
   abbrev pub filled : Option Access → List Line × Option Did
@@ -109,8 +104,8 @@ abbrev pub next_closed : Situation → ℕ → Open → Next
 next_closed s block closing =
     let before = picture_of s block in
     let caches = brought closing s.protocol s.log before.caches closing.request in
-    let memory = settled (takes_payload closing.request before.memory.state) s.protocol (arrival_at_memory closing.payload) before.memory.state in
-    let next = free_picture caches.0 (record { state = memory.1; value = written memory.0 closing.value before.memory.value }) in
+    let memory = unwrap_or (settled_row s.protocol closing.request before.memory.state closing.payload) (record { action = mem_action.None; next = before.memory.state }) in
+    let next = free_picture caches.0 (record { state = memory.next; value = written memory.action closing.value before.memory.value }) in
     (Ok (reply.Came closing.payload closing.from caches.1), record (with_picture s block next) { log = s.log ++ item.Came (came_of closing) caches.1 ∷ [] })
 
 -- an Order of the block that stands first, if any
