@@ -1,5 +1,5 @@
 -- The invariant holds at reset, and after each move: flat memory and the log first, then the block, and what waits.
-use Rattle.std.proofs.Common.{◌≡◌, ◌≢◌, ℕ, ◌<◌, Bool, true, false, not, List, [], ◌∷◌, ◌++◌, length, Option, Some, None, refl, inl, inr, ap, sym, ◌∙◌, arith, replicate}
+use Rattle.std.proofs.Common.{cond, ◌&&◌, ◌≡◌, ◌≢◌, ℕ, ◌<◌, Bool, true, false, not, List, [], ◌∷◌, ◌++◌, length, Option, Some, None, refl, inl, inr, ap, sym, ◌∙◌, arith, replicate}
 use Rattle.snoop_model.proofs.Common.{Access, after_order, All, All-append, All-cons, All-nil, and-false, append-nil, Ask, BlockInvariant, CacheAction, CacheState, came_of, cases_Bool, cases_lt, claims_of, Did, eq-eqb, eqb_tells, Err, Extent, fill_by_all, first_memory, fits, flat, flat_words, get_or-map-range_with_len, get_or-replicate, get_or-set_other, get_or-set_same, get_or_past, Goes, HasWord, held_by, IfSome, IfSome_then, if◌then◌else◌, in_protocol, Invariant, is_clean, is_owner, is_sharer, is_store_to, IsNext, IsProper, IsShaped, IsWithin, IsWord, Item, kept_waiting, Legal, length-map-range_with_len, length-replicate, length-set, Line, MoveOn, ne_eqb, next_did, none-some, nothing_held, nothing_there, Ok, Op, Open, operation_of, operations, operations-push, option_map, option_map_or, option_to_list, Order, Performs, Picture, picture_of, Protocol, queues_after, Refused, Reply, request_for, reset, Respond, Result, same, same_Some, Situation, slice_set, Step, stores, Takes, untouched, wait_fits, with_line, word_at, ◌==◌}
 use Rattle.snoop_trace.specs.declared.step.Op.TheVariants as op
 use Rattle.snoop_rules.specs.declared.names.CacheAction.TheVariants as action
@@ -16,40 +16,29 @@ use Rattle.snoop_model.specs.declared.replies.Refused.TheVariants.{NoMemory}
 pub word_flat : (log : List Item) (block word : ℕ) → word < 64 → word_at (flat_words log block) word ≡ flat log block word
 word_flat log block word h = get_or-map-range_with_len (flat log block) 0 64 word word 0 h (omega arith)
 
--- after one more item the words of a block are those of a list that has, word by word, what the item leaves there
-words_are : (log : List Item) (entry : Item) (b : ℕ) (ws : List ℕ) → length ws ≡ 64 → ((k : ℕ) → k < 64 → word_at ws k ≡ stores entry b k (flat log b k))
-    → flat_words (log ++ entry ∷ []) b ≡ ws
-words_are log entry b ws long each = sym (fill_by_all (flat (log ++ entry ∷ []) b) ws 64 0 long (λ k h. each k h ∙ sym (flat-grows log entry b k)))
+-- the words of block b after an operation, if there is one
+abbrev flat_on : ℕ → List ℕ → Option Did → List ℕ
+flat_on b ws None = ws
+flat_on b ws (Some did) = cond (not did.load && did.block == b) (slice_set ws did.word did.value) ws
 
--- a move on a block leaves the words of each other
-flat_elsewhere : (log : List Item) (entry : Option Item) (block b : ℕ) → IfSome (did_in entry) (λ did. did.block ≡ block) → b ≢ block → flat_words (log ++ option_to_list entry) b ≡ flat_words log b
-flat_elsewhere log None block b on apart = rw append-nil refl
-flat_elsewhere log (Some entry) block b on apart = words_are log entry b (flat_words log b) (length-map-range_with_len (flat log b) 0 64)
-    (λ k h. word_flat log b k h ∙ left (operation_of entry) on k)
+-- after a move they are those after its operation
+flat_moved : (log : List Item) (entry : Option Item) (b : ℕ) → flat_words (log ++ option_to_list entry) b ≡ flat_on b (flat_words log b) (did_in entry)
+flat_moved log None b = rw append-nil refl
+flat_moved log (Some entry) b = sym (fill_by_all (flat (log ++ entry ∷ []) b) (flat_on b (flat_words log b) (operation_of entry)) 64 0 (long (operation_of entry))
+    (λ k h. each (operation_of entry) k h ∙ sym (flat-grows log entry b k)))
   where
-    left : (did : Option Did) → IfSome did (λ d. d.block ≡ block) → (k : ℕ) → flat log b k ≡ option_map_or (λ d. if is_store_to b k d then d.value else flat log b k) did (flat log b k)
-    left None on k = refl
-    left (Some did) on k = rw (on, ne_eqb block b (λ e. apart (sym e)), and-false (not did.load)) refl
+    long : (did : Option Did) → length (flat_on b (flat_words log b) did) ≡ 64
+    long None = length-map-range_with_len (flat log b) 0 64
+    long (Some did) = grind (arith, length-set (flat_words log b) did.word did.value, length-map-range_with_len (flat log b) 0 64)
 
--- and on its own block it does as its operation says
-flat_here : (log : List Item) (entry : Option Item) (block : ℕ) → IfSome (did_in entry) (λ did. did.block ≡ block)
-    → flat_words (log ++ option_to_list entry) block ≡ flat_after (flat_words log block) (did_in entry)
-flat_here log None block on = rw append-nil refl
-flat_here log (Some entry) block on = let so = after (operation_of entry) on in words_are log entry block _ so.0 so.1
-  where
-    stored : (did : Did) (k : ℕ) → k < 64 → word_at (slice_set (flat_words log block) did.word did.value) k ≡ (if did.word == k then did.value else flat log block k)
-    stored did k h = elim (eqb_tells did.word k) [
-      | inl t ↦ rw (t.0, t.1) (get_or-set_same (flat_words log block) k did.value 0 (rw length-map-range_with_len h))
-      | inr t ↦ rw t.0 (get_or-set_other (flat_words log block) did.word k did.value 0 (λ e. t.1 (sym e)) ∙ word_flat log block k h)
-    ]
+    each : (did : Option Did) (k : ℕ) → k < 64 → word_at (flat_on b (flat_words log b) did) k ≡ option_map_or (λ d. if is_store_to b k d then d.value else flat log b k) did (flat log b k)
+    each None k h = word_flat log b k h
+    each (Some did) k h = grind (arith, get_or-set_same (flat_words log b) did.word did.value 0, get_or-set_other (flat_words log b) did.word k did.value 0, eqb_tells did.word k, word_flat log b k h, length-map-range_with_len (flat log b) 0 64)
 
-    after : (did : Option Did) → IfSome did (λ d. d.block ≡ block) → (length (flat_after (flat_words log block) did) ≡ 64)
-        × ((k : ℕ) → k < 64 → word_at (flat_after (flat_words log block) did) k ≡ option_map_or (λ d. if is_store_to block k d then d.value else flat log block k) did (flat log block k))
-    after None on = (length-map-range_with_len (flat log block) 0 64, word_flat log block)
-    after (Some did) on = elim (cases_Bool did.load) [
-      | inl e ↦ rw e (length-map-range_with_len (flat log block) 0 64, word_flat log block)
-      | inr e ↦ rw (e, eq-eqb did.block block on) (length-set (flat_words log block) did.word did.value ∙ length-map-range_with_len (flat log block) 0 64, λ k h. stored did k h)
-    ]
+-- an operation on a block leaves the words of each other
+flat_split : (ws : List ℕ) (did : Option Did) (block b : ℕ) → IfSome did (λ d. d.block ≡ block) → (b ≢ block → flat_on b ws did ≡ ws) × (flat_on block ws did ≡ flat_after ws did)
+flat_split ws None block b on = (λ apart. refl, refl)
+flat_split ws (Some did) block b on = (λ apart. grind (arith, eqb_tells did.block b), grind (arith, eqb_tells did.block block))
 
 -- a log stays legal where the item's operation, if it has one, may come next
 legal_logged : (log : List Item) (entry : Option Item) → Legal log → IfSome (did_in entry) (IsNext log) → Legal (log ++ option_to_list entry)
@@ -101,8 +90,8 @@ kept old block next queues entry g k =
       shaped = shaped_after old block next queues log g.shaped k.as_wide k.as_many_queues;
       opened = each_picture old block next queues log (λ b x. (o : Open) → x.transaction ≡ Some o → o.block ≡ b) within (λ b apart. g.opened b) k.opened;
       blocks = each_picture old block next queues log (λ b x. b < old.shape.blocks → Good (flat_words log b) x) within
-          (λ b apart b_in. rw (flat_elsewhere old.log entry block b on apart) (g.blocks b b_in))
-          (λ b_in. rw (flat_here old.log entry block on) k.block_after);
+          (λ b apart b_in. rw (flat_moved, (flat_split (flat_words old.log b) (did_in entry) block b on).0 apart) (g.blocks b b_in))
+          (λ b_in. rw (flat_moved, (flat_split (flat_words old.log block) (did_in entry) block block on).1) k.block_after);
       legal = legal_logged old.log entry g.legal (IfSome_then (did_in entry) k.item (λ did h. h.1));
       logged = all_logged (IsLogged old) old.log entry g.logged (IfSome_then (did_in entry) k.item (λ did h. h.2));
       accesses = λ core. each_picture old block next queues log (λ b x. AccessWithin old.shape (held_by x core)) within (λ b apart. g.accesses core b) (k.accesses core);
