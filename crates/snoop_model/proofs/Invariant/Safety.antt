@@ -11,23 +11,13 @@ use Rattle.snoop_model.specs.Coherent.{IsCoherent}
 use Rattle.snoop_model.specs.Runs.Safe.{IsSafe}
 use Rattle.snoop_model.specs.Invariant.MachineKeeps.{AreOnSenderLines, MachineKeeps}
 use Rattle.snoop_model.proofs.Lists.Facts.{if_some}
-use Rattle.snoop_model.proofs.Tables.{Rows.IsProper-drop, SentBy.sends_is, RespondTests.settled_so}
+use Rattle.snoop_model.proofs.Tables.{Rows.drop_leaves, Rows.IsProper-drop, SentBy.sends_is, RespondTests.settled_so}
 use Rattle.snoop_model.proofs.OneBlock.{AfterMoves.ask_line, AfterMoves.respond_here, OfBlocks.in_pictures, OfBlocks.each_picture}
 use Rattle.snoop_model.proofs.Invariant.{Coherence.has_one_writer, Coherence.kept_read, Coherence.readers_current, Coherence.data_current, Coherence.memory_current, Coherence.names_its_block, Coherence.data_awaited, Coherence.each_line, Coherence.held_within, Coherence.finds_rows, Coherence.orders_follow_sender_table, Runs.reset_invariant, Runs.reset_open, Runs.nothing_proper, Runs.nothing_waits, Runs.goes_kept, Runs.word_flat, Runs.move_keeps}
 use Rattle.snoop_model.proofs.Queues.Moves.{on_kept, starts_well}
 use Rattle.snoop_model.proofs.Runs.{Along.kept_along, GoOn.moves_on}
 use Rattle.snoop_model.proofs.Steps.GoesNext.{order_made}
 use Rattle.snoop_model.proofs.Turns.Laws.{stall_busy, busy_cases}
-
--- a drop at an Evict leaves the block in I
-drop_leaves : (p : Protocol) (s : CacheState) (n : CacheState) → Cell p s (asked op.Evict) action.Drop n → n ≡ state.I
-drop_leaves p s n row = left p s (ap (option_map (λ (c : CacheCell). c.action)) row) (ap (option_map (λ (c : CacheCell). c.next)) row)
-  where
-    left : (p : Protocol) (s : CacheState) → option_map (λ c. c.action) (cell_of p s (asked op.Evict)) ≡ Some action.Drop
-        → option_map (λ c. c.next) (cell_of p s (asked op.Evict)) ≡ Some n → n ≡ state.I
-    left Msi state.S act next = cc
-    left Mesi state.S act next = cc
-    left _ _ act next = cc
 
 -- each open transaction is on a line
 abbrev OnLine : Protocol → Picture → Type 0
@@ -77,7 +67,7 @@ module _ (s : Situation) (g : Invariant s) where
       left (action.Issue request) next row held entry t = (let clash = t.1 in cc)
       left action.Drop next row held entry t =
           let old = held_by (picture_of s block) core in
-          let gone = drop_leaves s.protocol old.state next row in
+          let gone = drop_leaves s.protocol old.state (asked op.Evict) next row in
           let proper = rw gone at (IsProper-drop s.protocol old (asked op.Evict) next (all_proper core block) row) in
           rw (t.0, gone, nothing_waits old.waiting proper.waiting) refl
       left _ next row held entry t = absurd t

@@ -1,9 +1,9 @@
 -- A machine is well kept at reset, and stays so at each kind of move; so a core waits on the blocks in its queue, and on no others.
 use Rattle.std.proofs.Common.{◌≡◌, ◌≢◌, ℕ, ◌<◌, ◌++◌, List, [], length, Option, Some, None, refl, sym, ◌∙◌, arith, inl, inr, ◌∷◌}
-use Rattle.snoop_model.proofs.Common.{Access, after_issue, after_order, ArrivesFor, Ask, asked, awaited_request, CacheAction, CacheState, cases_Bool, cases_lt, Cell, Contains, Did, eq-eqb, FillsRequestor, get_or-set_same, get_or_past, held_at, held_by, if◌then◌else◌, is_some, IsSome, IsWellKept, IsWithin, Item, KeepsWell, length-set, Line, missed_request, MoveOn, ne_eqb, none-some, nothing_held, Op, Open, option_to_list, Order, Picture, picture_of, Protocol, queue_of, queues_after, Reply, Request, reset, Respond, Responds, same_Some, Situation, slice_get, slice_get-get_or, StandsFirst, StartsWell, state_of, Step, Takes, TakesRows, waiting_request, Waits, WaitsOnNone, with_line, ◌==◌}
+use Rattle.snoop_model.proofs.Common.{eqb-true, Access, after_issue, after_order, ArrivesFor, Ask, asked, awaited_request, CacheAction, CacheState, cases_Bool, cases_lt, Cell, Contains, Did, eq-eqb, FillsRequestor, get_or-set_same, get_or_past, held_at, held_by, if◌then◌else◌, is_some, IsSome, IsWellKept, IsWithin, Item, KeepsWell, length-set, Line, missed_request, MoveOn, ne_eqb, none-some, nothing_held, Op, Open, option_to_list, Order, Picture, picture_of, Protocol, queue_of, queues_after, Reply, Request, reset, Respond, Responds, same_Some, Situation, slice_get, slice_get-get_or, StandsFirst, StartsWell, state_of, Step, Takes, TakesRows, waiting_request, Waits, WaitsOnNone, with_line, ◌==◌}
 use Rattle.snoop_rules.specs.declared.names.CacheAction.TheVariants as action
 use Rattle.snoop_model.proofs.Lists.{Facts.one_if, Facts.replicated, Writes.each_set, QueueCounts.times, QueueCounts.issued_own, QueueCounts.issued_others, QueueCounts.issued_elsewhere, QueueCounts.ordered_own, QueueCounts.ordered_others, QueueCounts.ordered_elsewhere, QueueCounts.counted_in, QueueCounts.in_counted}
-use Rattle.snoop_model.proofs.Tables.{Rows.issue-waits, Rows.issue-missed, Rows.asked_missed, Rows.action_rule, Rows.order_rule, Rows.fill-waits, WaitingRows.awaited-asked, WaitingRows.awaited-ordered, WaitingRows.awaited-filled, WaitingRows.awaited-get, StateTests.some_of}
+use Rattle.snoop_model.proofs.Tables.{Rows.issue-waits, Rows.issue-missed, Rows.asked_missed, Rows.action_rule, Rows.order_rule, Rows.fill-waits, Rows.awaited-asked, WaitingRows.data_rule, WaitingRows.awaited-get, StateTests.some_of}
 use Rattle.snoop_model.proofs.OneBlock.{Facts.by_core, Facts.each_held, OfBlocks.changed, OfBlocks.in_pictures, OfBlocks.each_picture, OfBlocks.shaped_after}
 use Rattle.snoop_model.proofs.Lines.Answered.{by_request, filled_or_same, arrives_length, still_waiting}
 use Rattle.snoop_model.proofs.Invariant.Runs.{reset_line, reset_open, reset_shaped}
@@ -63,7 +63,7 @@ module _ (s : Situation) (kept : IsWellKept s) (core block word : ℕ) (asking :
         here = each (λ k x. times block (queue_of queues k) ≡ waits x.state) (rw is own) (λ k apart. rw (others k apart) (kept.queued k block));
         elsewhere = elsewhere;
         awaited = each (IsAwaited (picture_of s block).transaction)
-            (record { awaits = rw is (λ q h. kept.awaits core block q (awaited-asked s.protocol line.state asking act next q row h)); operations = rw is missed })
+            (record { awaits = rw is (λ q h. kept.awaits core block q (awaited-asked s.protocol line.state asking act next row q h)); operations = rw is missed })
             (λ k apart. awaited_in s kept block k);
       }
 
@@ -102,7 +102,7 @@ module _ (p : Protocol) (core : ℕ) (request : Request) (old new : List Line) (
   row_waits : (k : ℕ) → k < length old → waiting_request (held_at new k).state ≡ (if k == core then None else waiting_request (held_at old k).state)
   row_waits k inside =
       let (row, is_row, moved) = taken.rows k inside in
-      rw moved (order_rule p (held_at old k).state k core request row.action row.next is_row).1.1
+      rw moved (order_rule p (held_at old k).state k core request row.action row.next is_row).1.1.0
 
   pub own_waits : core < length old → waiting_request (held_at new core).state ≡ None
   own_waits inside = row_waits core inside ∙ rw (eq-eqb core core refl) refl
@@ -143,7 +143,7 @@ none_awaits s kept block closing did t r k q h = elim (by_request closing.reques
     filled f = each_held r.next.caches closing.core (λ x. awaited_request x.state ≡ Some q → ⊥)
         (λ below. let inside : closing.core < length (picture_of s block).caches = rw (f.held, length-set) at below in
         rw (f.held, get_or-set_same (picture_of s block).caches closing.core f.line nothing_held inside, f.fills.held)
-        (awaited-filled s.protocol (state_of s closing.core block) closing.payload f.fills.event f.fills.row.action f.fills.row.next q f.fills.arrives f.fills.is_row))
+        (λ awaits. none-some q (sym (data_rule s.protocol (state_of s closing.core block) closing.payload f.fills.row (rw f.fills.arrives f.fills.is_row)).1 ∙ awaits)))
         (λ h. cc)
 
 pub on_kept : (block : ℕ) (s t : Situation) (step : Step) (answer : Reply) → IsWellKept s → MoveOn block s step answer t → IsWellKept t
@@ -170,9 +170,9 @@ on_kept block s t (Order core) answer kept m =
           (λ below.
           let (row, is_row, moved) = taken.rows k (rw (← taken.same_length) below) in
           let s_old = (held_by before k).state in
-          let (_, (missed, _)) = order_rule s.protocol s_old k core m.request row.action row.next is_row in
+          let (_, (missed, (_, awaits))) = order_rule s.protocol s_old k core m.request row.action row.next is_row in
           rw moved (record {
-            awaits = λ q h. (let its = awaited-ordered s.protocol s_old k core m.request row.action row.next q is_row h in (_, (m.orders.opened, its.0, its.1)));
+            awaits = λ q h. let (mine, same) = awaits q h in (_, (m.orders.opened, sym (eqb-true k core mine), same_Some _ _ same));
             operations = λ access h. rw (← missed) (kept.operations k block access h);
           }))
           (record { awaits = λ q h. cc; operations = λ access h. cc });

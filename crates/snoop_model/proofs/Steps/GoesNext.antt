@@ -8,7 +8,7 @@ use Rattle.snoop_rules.specs.declared.names.CacheAction.TheVariants as action
 use Rattle.snoop_rules.specs.declared.names.Request.TheVariants as request
 use Rattle.snoop_model.specs.declared.replies.Refused.TheVariants.{NoCore, NoBlock, Stalled, NothingWaiting, BusTaken, NoTransaction}
 use Rattle.snoop_model.proofs.Lines.TheSender.{IsBelow, sends_below}
-use Rattle.snoop_model.proofs.Tables.{SentBy.payload_from, SentBy.sends_is, SentBy.sends_row, RespondTests.settled_so, RespondTests.row_for, Tested.Tested, Tested.each_of, Tested.each_payload, Tested.each_protocol, Tested.given, Tested.holds, StateTests.some_of, Rows.is_evict, Rows.asked_answers, Rows.hit_keeps, AskTests.is_idle_evict}
+use Rattle.snoop_model.proofs.Tables.{SentBy.payload_from, SentBy.sends_is, SentBy.sends_row, WaitingRows.data_rule, WaitingRows.fills, RespondTests.settled_so, RespondTests.row_for, StateTests.some_of, Rows.is_evict, Rows.asked_answers, Rows.hit_keeps, AskTests.is_idle_evict}
 use Rattle.snoop_model.proofs.OneBlock.{OfBlocks.same_picture, OfBlocks.same_memory, Possible.ask_possible, Possible.respond_possible}
 use Rattle.snoop_model.proofs.Steps.Next.{Next, value_of, words_after, has_word, after_ask, by_row, next_asked, sender_below, line_after, next_picture, next_ordered, filled, brought, next_closed, next_of, next_first}
 use Rattle.snoop_model.proofs.Invariant.Coherence.{orders_follow_sender_table, finds_rows, idle_evict, waits_within}
@@ -194,19 +194,6 @@ module _ (s : Situation) (g : Invariant s) where
         after = refl;
       }
 
--- data performs the operation that has missed
-abbrev fills : Option Request → CacheAction → Bool
-fills (Some request.GetS) action.FillLoad = true
-fills (Some request.GetM) action.FillStore = true
-fills _ _ = false
-
-abbrev every_fill : Tested
-every_fill = each_protocol λ p. each_of all_states all_states-at λ s. each_payload λ message. given (row_for p s (arrival message)) λ r. holds (fills (missed_request s) r.action)
-
-data_fills : every_fill.claim
-unfolding all_protocols all_states all_payloads
-data_fills = every_fill.sound refl
-
 -- an action that fills for the operation's request is the fill for the operation, which is no eviction
 fill_is : (asking : Op) (act : CacheAction) → fills (Some (request_for asking)) act ≡ true
     → (act ≡ (if is_load asking then action.FillLoad else action.FillStore)) × (is_evict (asked asking) ≡ false)
@@ -221,7 +208,7 @@ module _ (p : Protocol) (log : List Item) (old : List Line) (o : Open) where
 
   fills_requestor : (row : CacheCell) → row_for p asker.state (arrival o.payload) ≡ Some row → IsProper asker → (let n = filled o p log old asker.waiting in FillsRequestor o p log old n.0 n.1)
   fills_requestor row found proper =
-      let fit = data_fills p asker.state o.payload row found in
+      let fit = (data_rule p asker.state o.payload row found).0 in
       option_and_then_some (cell_of p asker.state) (arrival o.payload) row found (λ e arrives is_row.
       option_both asker.waiting (λ waiting. let n = filled o p log old waiting in FillsRequestor o p log old n.0 n.1)
       (λ none. let clash = rw (← proper.waiting, none) at fit in cc)

@@ -1,12 +1,13 @@
 -- What holds of every row, found by trying all.
-use Rattle.std.proofs.Common.{List, ◌≡◌, ℕ, Bool, true, false, not, ◌&&◌, Option, Some, None, refl, sym, ◌∙◌, is_some, option_map, ◌==◌, if◌then◌else◌}
-use Rattle.snoop_model.proofs.Common.{all_events, all_protocols, all_states, and-false, and-true, asked, awaited_request, CacheAction, CacheEvent, CacheState, Cell, each_row, GetM, GetS, is_load, IsProper, keeps, kept_on, kept_waiting, Line, missed_request, moves_to, Op, other, own, Protocol, PutM, Request, request_for, same, same_Some, seen_by, waiting_request}
+use Rattle.std.proofs.Common.{◌||◌, List, ◌≡◌, ℕ, Bool, true, false, not, ◌&&◌, Option, Some, None, refl, sym, ◌∙◌, is_some, option_map, ◌==◌, if◌then◌else◌}
+use Rattle.snoop_model.proofs.Common.{all_events, all_protocols, all_requests, all_states-at, cell_of, all_states, and-false, and-true, asked, awaited_request, CacheAction, CacheEvent, CacheState, Cell, each_row, GetM, GetS, is_load, IsProper, keeps, kept_on, kept_waiting, Line, missed_request, moves_to, Op, other, own, Protocol, PutM, Request, request_for, same, same_Some, seen_by, waiting_request}
 use Rattle.snoop_trace.specs.declared.step.Op.TheVariants as op
 use Rattle.snoop_rules.specs.declared.names.CacheState.TheVariants.{I, ImAd, IiA}
 use Rattle.snoop_rules.specs.declared.names.CacheEvent.TheVariants as event
 use Rattle.snoop_rules.specs.declared.names.CacheAction.TheVariants as action
 use Rattle.snoop_rules.specs.contracts.names.Request.{the_type as requests}
-use Rattle.snoop_model.proofs.Tables.Tested.{◌also◌, Tested, alike, each_cell, equal, fails, given, holds}
+use Rattle.snoop_rules.specs.contracts.names.CacheState.{the_type as states}
+use Rattle.snoop_model.proofs.Tables.Tested.{◌also◌, Tested, alike, each_bool, each_cell, each_of, each_protocol, each_request, equal, fails, given, holds}
 
 -- the same requests, or none
 abbrev pub same_request : Option Request → Option Request → Tested
@@ -42,26 +43,11 @@ abbrev pub serving : CacheEvent → Option Request
 serving event.Evict = Some PutM
 serving e = missed_at e
 
--- whether the request that a core sees at an Order is its own
-abbrev is_own : CacheEvent → Option Bool
-is_own event.OwnGetS = Some true
-is_own event.OwnGetM = Some true
-is_own event.OwnPutM = Some true
-is_own event.OtherGetS = Some false
-is_own event.OtherGetM = Some false
-is_own event.OtherPutM = Some false
-is_own _ = None
+-- the core waits in a state, for its own request to be ordered or for data
+abbrev pub is_busy : CacheState → Bool
+is_busy state = is_some (waiting_request state) || is_some (awaited_request state)
 
--- what a core may await after an event, where it awaited this before
-abbrev pub may_await : CacheEvent → Option Request → Option Request
-may_await event.OwnGetS before = Some GetS
-may_await event.OwnGetM before = Some GetM
-may_await event.Load before = before
-may_await event.Store before = before
-may_await event.Evict before = before
-may_await _ before = None
-
--- what an action does to what is kept, to what has missed and to what waits: an issue, of the request that serves, begins to wait where nothing did; a fill ends what has missed; a hit, of kept words, and an Evict's drop, leave both
+-- what an action does to what is kept, to what has missed and to what waits: an issue, of the request that serves, begins to wait where nothing did; a fill ends what has missed; a hit, of kept words, and an Evict's drop, to I, leave both; a stall comes only where the core waits
 abbrev pub action_claims : CacheState → CacheEvent → CacheState → CacheAction → Tested
 action_claims s e n (action.Issue q) =
     alike (keeps n) (keeps s && not (given_up n)) also (same_request (waiting_request s) None also same_request (waiting_request n) (Some q))
@@ -69,33 +55,39 @@ action_claims s e n (action.Issue q) =
 action_claims s e n action.Hit =
     holds (keeps n) also same_request (missed_request s) (missed_request n) also same_request (waiting_request n) (waiting_request s) also holds (keeps s) also fails (is_evict e)
 action_claims s e n action.Drop =
-    alike (keeps n) (keeps s && not (given_up n)) also same_request (missed_request s) (missed_request n) also same_request (waiting_request n) (waiting_request s) also holds (is_evict e)
+    alike (keeps n) (keeps s && not (given_up n)) also same_request (missed_request s) (missed_request n) also same_request (waiting_request n) (waiting_request s)
+    also (holds (is_evict e) also equal states tt (Some n) (Some I))
+action_claims s e n action.Stall = holds (is_busy s)
 action_claims s e n action.FillLoad = holds (keeps n) also same_request (missed_request n) None also same_request (waiting_request n) (waiting_request s)
 action_claims s e n action.FillStore = holds (keeps n) also same_request (missed_request n) None also same_request (waiting_request n) (waiting_request s)
 action_claims s e n _ = holds true
 
--- at an Order, a core's own request ends its waiting, and another's leaves it
-abbrev pub order_claims : CacheState → Bool → CacheState → Tested
-order_claims s mine n =
-    alike (keeps n) (keeps s && not (given_up n)) also same_request (missed_request s) (missed_request n) also same_request (waiting_request n) (if mine then None else waiting_request s)
-
--- what is claimed of a row: that it answers what is asked, what its action does and what an Order does, and what may be awaited then
+-- what is claimed of a row: what its action does, and that it answers what is asked, after which the core awaits what it awaited
 abbrev row_claims : Protocol → CacheState → CacheEvent → CacheAction → CacheState → Tested
-row_claims p s e a n =
-    given (serving e) (λ _. holds (answers a)) also action_claims s e n a
-    also given (is_own e) (λ mine. order_claims s mine n)
-    also given (awaited_request n) (λ r. same_request (may_await e (awaited_request s)) (Some r))
+row_claims p s e a n = action_claims s e n a also given (serving e) (λ _. holds (answers a) also given (awaited_request n) (λ r. same_request (awaited_request s) (Some r)))
 
 rule : (each_cell row_claims).claim
 unfolding each_row all_protocols all_states all_events same
 rule = (each_cell row_claims).sound refl
 
-module _ (p : Protocol) (s : CacheState) (e : CacheEvent) (a : CacheAction) (n : CacheState) (row : Cell p s e a n) where
-  pub action_rule : (action_claims s e n a).claim
-  action_rule = (rule p s e a n row).1.0
+pub action_rule : (p : Protocol) (s : CacheState) (e : CacheEvent) (a : CacheAction) (n : CacheState) → Cell p s e a n → (action_claims s e n a).claim
+action_rule p s e a n row = (rule p s e a n row).0
 
-  pub awaited_rule : (r : Request) → awaited_request n ≡ Some r → may_await e (awaited_request s) ≡ Some r
-  awaited_rule = (rule p s e a n row).1.1.1
+-- at an Order a core's own request ends its waiting, and only what it asks may be awaited then; another's leaves what waits
+abbrev pub order_claims : CacheState → Bool → Request → CacheState → Tested
+order_claims s mine q n =
+    alike (keeps n) (keeps s && not (given_up n)) also same_request (missed_request s) (missed_request n) also same_request (waiting_request n) (if mine then None else waiting_request s)
+    also given (awaited_request n) (λ r. holds mine also same_request (Some q) (Some r))
+
+abbrev every_order : Tested
+every_order = each_protocol λ p. each_of all_states all_states-at λ s. each_bool λ mine. each_request λ q. given (cell_of p s (if mine then own q else other q)) λ row. order_claims s mine q row.next
+
+every_rule : every_order.claim
+unfolding all_protocols all_states all_requests same
+every_rule = every_order.sound refl
+
+pub order_rule : (p : Protocol) (s : CacheState) (k core : ℕ) (q : Request) (a : CacheAction) (n : CacheState) → Cell p s (seen_by k core q) a n → (order_claims s (k == core) q n).claim
+order_rule p s k core q a n row = every_rule p s (k == core) q (record { action = a; next = n }) row
 
 module _ (p : Protocol) (s : CacheState) (e : CacheEvent) (a : CacheAction) (n : CacheState) where
   -- a fill ends all waiting and keeps a value
@@ -116,8 +108,13 @@ pub serving-asked : (asking : Op) → serving (asked asking) ≡ Some (request_f
 serving-asked op.Evict = refl
 serving-asked _ = refl
 
-pub asked_answers : (p : Protocol) (s : CacheState) (asking : Op) (a : CacheAction) (n : CacheState) → Cell p s (asked asking) a n → answers a ≡ true
-asked_answers p s asking a n row = (rule p s (asked asking) a n row).0 (request_for asking) (serving-asked asking)
+module _ (p : Protocol) (s : CacheState) (asking : Op) (a : CacheAction) (n : CacheState) (row : Cell p s (asked asking) a n) where
+  pub asked_answers : answers a ≡ true
+  asked_answers = ((rule p s (asked asking) a n row).1 (request_for asking) (serving-asked asking)).0
+
+  -- an Ask leaves what its core awaits
+  pub awaited-asked : (r : Request) → awaited_request n ≡ Some r → awaited_request s ≡ Some r
+  awaited-asked = ((rule p s (asked asking) a n row).1 (request_for asking) (serving-asked asking)).1
 
 is_some-kept_on : (next : CacheState) (kept : Option (List ℕ)) (b : Bool) → is_some kept ≡ b → is_some (kept_on next kept) ≡ (b && not (given_up next))
 is_some-kept_on I kept b h = sym (and-false b)
@@ -170,19 +167,14 @@ IsProper-hit p old e n after proper row =
 -- only an Evict drops a line
 pub drop_evicts : (p : Protocol) (s : CacheState) (asking : Op) (n : CacheState) → Cell p s (asked asking) action.Drop n → asking ≡ op.Evict
 drop_evicts p s op.Evict n row = refl
-drop_evicts p s _ n row = let evicts = (action_rule p s _ action.Drop n row).1.1.1 in cc
+drop_evicts p s _ n row = let evicts = (action_rule p s _ action.Drop n row).1.1.1.0 in cc
+
+-- and leaves the block in I
+pub drop_leaves : (p : Protocol) (s : CacheState) (e : CacheEvent) (n : CacheState) → Cell p s e action.Drop n → n ≡ I
+drop_leaves p s e n row = same_Some _ _ (action_rule p s e action.Drop n row).1.1.1.1
 
 pub IsProper-drop : (p : Protocol) (old : Line) (e : CacheEvent) (n : CacheState) → IsProper old → Cell p old.state e action.Drop n → IsProper (moves_to n old)
 IsProper-drop p old e n proper row = let (kept, (missed, _)) = action_rule p old.state e action.Drop n row in IsProper-move old n proper kept missed
-
--- a core sees its own request exactly where it is the requestor
-seen_own : (mine : Bool) (q : Request) → is_own (if mine then own q else other q) ≡ Some mine
-seen_own true GetS = refl
-seen_own false GetS = refl
-seen_own _ _ = refl
-
-pub order_rule : (p : Protocol) (s : CacheState) (k core : ℕ) (q : Request) (a : CacheAction) (n : CacheState) → Cell p s (seen_by k core q) a n → (order_claims s (k == core) n).claim
-order_rule p s k core q a n row = (rule p s (seen_by k core q) a n row).1.1.0 (k == core) (seen_own (k == core) q)
 
 pub IsProper-order : (p : Protocol) (old : Line) (k core : ℕ) (q : Request) (a : CacheAction) (n : CacheState) → IsProper old → Cell p old.state (seen_by k core q) a n → IsProper (moves_to n old)
 IsProper-order p old k core q a n proper row = let (kept, (missed, _)) = order_rule p old.state k core q a n row in IsProper-move old n proper kept missed

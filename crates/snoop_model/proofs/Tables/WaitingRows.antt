@@ -1,40 +1,29 @@
--- What every row does to what a core awaits, found by trying all.
-use Rattle.std.proofs.Common.{◌≡◌, ℕ, Bool, true, false, Some, refl, sym, is_some, ◌==◌, if◌then◌else◌, eqb-true}
-use Rattle.snoop_model.proofs.Common.{same_Some, Protocol, Op, CacheState, CacheEvent, CacheAction, Request, Payload, Cell, asked, own, other, seen_by, arrival, missed_request, awaited_request, PutM}
-use Rattle.snoop_trace.specs.declared.step.Op.TheVariants as op
+-- What every row for data does, found by trying all.
+use Rattle.std.proofs.Common.{◌≡◌, Bool, true, false, Option, Some, None, refl}
+use Rattle.snoop_model.proofs.Common.{all_payloads, all_protocols, all_states, all_states-at, arrival, awaited_request, CacheAction, CacheState, GetM, GetS, is_some, missed_request, PutM, Request}
 use Rattle.snoop_rules.specs.declared.names.CacheState.TheVariants.{IsD}
-use Rattle.snoop_rules.specs.declared.names.CacheEvent.TheVariants as event
-use Rattle.snoop_rules.specs.declared.names.Payload.TheVariants as payload
-use Rattle.snoop_model.proofs.Tables.Rows.{awaited_rule, may_await}
+use Rattle.snoop_rules.specs.declared.names.CacheAction.TheVariants as action
+use Rattle.snoop_rules.specs.contracts.names.Request.{the_type as requests}
+use Rattle.snoop_model.proofs.Tables.{Tested.◌also◌, Tested.Tested, Tested.each_of, Tested.each_payload, Tested.each_protocol, Tested.equal, Tested.given, Tested.holds, RespondTests.row_for}
 
 -- a load or a store has missed
 abbrev pub has_missed : CacheState → Bool
 has_missed s = is_some (missed_request s)
 
--- an Ask leaves what its core awaits
-pub awaited-asked : (p : Protocol) (s : CacheState) (asking : Op) (a : CacheAction) (n : CacheState) (r : Request) → Cell p s (asked asking) a n
-    → awaited_request n ≡ Some r → awaited_request s ≡ Some r
-awaited-asked p s op.Evict a n r row awaits = awaited_rule p s event.Evict a n row r awaits
-awaited-asked p s _ a n r row awaits = awaited_rule p s _ a n row r awaits
+-- data performs the operation that has missed
+abbrev pub fills : Option Request → CacheAction → Bool
+fills (Some GetS) action.FillLoad = true
+fills (Some GetM) action.FillStore = true
+fills _ _ = false
 
--- after an Order only its core awaits data of the block, that of its request
-pub awaited-ordered : (p : Protocol) (s : CacheState) (k core : ℕ) (q : Request) (a : CacheAction) (n : CacheState) (r : Request)
-    → Cell p s (seen_by k core q) a n → awaited_request n ≡ Some r → (core ≡ k) × (q ≡ r)
-awaited-ordered p s k core q a n r row awaits =
-    let (mine, same) = by_request (k == core) q (awaited_rule p s (seen_by k core q) a n row r awaits) in
-    (sym (eqb-true k core mine), same)
-  where
-    by_request : (mine : Bool) (q : Request) → may_await (if mine then own q else other q) (awaited_request s) ≡ Some r → (mine ≡ true) × (q ≡ r)
-    by_request true PutM is = cc
-    by_request true _ is = (refl, same_Some _ _ is)
-    by_request false PutM is = cc
-    by_request false _ is = cc
+-- and is awaited no more
+abbrev every_data : Tested
+every_data = each_protocol λ p. each_of all_states all_states-at λ s. each_payload λ message. given (row_for p s (arrival message)) λ row.
+    holds (fills (missed_request s) row.action) also equal requests tt (awaited_request row.next) None
 
--- data that has come is awaited no more
-pub awaited-filled : (p : Protocol) (s : CacheState) (message : Payload) (e : CacheEvent) (a : CacheAction) (n : CacheState) (r : Request)
-    → arrival message ≡ Some e → Cell p s e a n → awaited_request n ≡ Some r → ⊥
-awaited-filled p s payload.Data e a n r is row awaits = let rule = awaited_rule p s e a n row r awaits in cc
-awaited-filled p s _ e a n r is row awaits = let rule = awaited_rule p s e a n row r awaits in cc
+pub data_rule : every_data.claim
+unfolding all_protocols all_states all_payloads
+data_rule = every_data.sound refl
 
 -- no data comes for a PutM
 pub awaited-get : (s : CacheState) → awaited_request s ≡ Some PutM → ⊥

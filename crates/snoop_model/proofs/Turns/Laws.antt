@@ -10,26 +10,11 @@ use Rattle.snoop_model.proofs.OneBlock.OfBlocks.{same_everywhere}
 use Rattle.snoop_model.proofs.Queues.Moves.{none_there, starts_well, keeps_well, queued_waits, waits_queued}
 use Rattle.snoop_model.proofs.Once.Owed.{owes}
 use Rattle.snoop_rules.specs.declared.names.CacheState.TheVariants.{I}
-use Rattle.snoop_model.proofs.Tables.{Tested.Tested, Tested.each_cell, Tested.holds, StateTests.some_of, WaitingRows.has_missed}
-
--- the core waits in a state, for its own request to be ordered or for data
-abbrev pub is_busy : CacheState → Bool
-is_busy state = is_some (waiting_request state) || is_some (awaited_request state)
-
-abbrev is_stall : CacheAction → Bool
-is_stall action.Stall = true
-is_stall _ = false
+use Rattle.snoop_model.proofs.Tables.{Rows.action_rule, Rows.is_busy, StateTests.some_of, WaitingRows.has_missed}
 
 -- a stall comes only where the core waits
-abbrev stalls : Tested
-stalls = each_cell λ p s e a n. holds (not (is_stall a) || is_busy s)
-
-stalls_wait : stalls.claim
-unfolding each_row all_protocols all_states all_events
-stalls_wait = stalls.sound refl
-
 pub stall_busy : (p : Protocol) (s : CacheState) (e : CacheEvent) (n : CacheState) → Cell p s e action.Stall n → is_busy s ≡ true
-stall_busy p s e n h = stalls_wait p s e action.Stall n h
+stall_busy p s e n h = action_rule p s e action.Stall n h
 
 -- for one of the two, or the other
 pub busy_cases : (s : CacheState) → is_busy s ≡ true → ((request : Request) × (waiting_request s ≡ Some request)) ⊎ ((request : Request) × (awaited_request s ≡ Some request))
