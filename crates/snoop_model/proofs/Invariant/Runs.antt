@@ -6,7 +6,7 @@ use Rattle.snoop_rules.specs.declared.names.CacheAction.TheVariants as action
 use Rattle.snoop_history.specs.declared.items.Item.TheVariants as item
 use Rattle.snoop_history.proofs.Legal.{flat-grows, legal-grows}
 use Rattle.snoop_model.proofs.Lists.{Writes.each_set, Facts.replicated}
-use Rattle.snoop_model.proofs.OneBlock.{Facts.each_held, Operation.did_in, Operation.flat_after, Operation.IsLawful, OfBlocks.changed, OfBlocks.in_pictures, OfBlocks.each_picture, OfBlocks.shaped_after, AskStep.ask_keeps, OrderStep.order_keeps, RespondStep.respond_keeps}
+use Rattle.snoop_model.proofs.OneBlock.{Facts.each_held, Operation.did_in, Operation.operations_moved, Operation.flat_after, Operation.IsLawful, OfBlocks.changed, OfBlocks.in_pictures, OfBlocks.each_picture, OfBlocks.shaped_after, AskStep.ask_keeps, OrderStep.order_keeps, RespondStep.respond_keeps}
 use Rattle.snoop_model.proofs.Lines.Answered.{by_request, arrives_length, still_waiting}
 use Rattle.snoop_trace.specs.declared.protocol.Protocol.TheVariants as protocol
 use Rattle.snoop_rules.specs.declared.names.CacheState.TheVariants.{I}
@@ -55,8 +55,7 @@ IsLogged s did = IsWithin s did.core did.block × IsWord s.shape did.word
 
 -- so are those of a log, with those of the move's item
 all_logged : (P : Did → Type 0) (log : List Item) (entry : Option Item) → All P (operations log) → IfSome (did_in entry) P → All P (operations (log ++ option_to_list entry))
-all_logged P log None was now = rw append-nil was
-all_logged P log (Some entry) was now = rw operations-push (All-append P (operations log) (option_to_list (operation_of entry)) was (one (operation_of entry) now))
+all_logged P log entry was now = rw operations_moved (All-append P (operations log) (option_to_list (did_in entry)) was (one (did_in entry) now))
   where
     one : (did : Option Did) → IfSome did P → All P (option_to_list did)
     one None here = All-nil P

@@ -1,13 +1,12 @@
 -- What waited, or was asked, waits or is its core's last operation: by `once` alone.
 use Rattle.std.proofs.Common.{◌≡◌, ℕ, zero, suc, ◌⊎◌, inl, inr, ◌==◌, List, [], ◌∷◌, ◌++◌, map, Option, Some, None, refl, ap, sym, ◌∙◌, arith, append-nil}
-use Rattle.snoop_model.proofs.Common.{Access, answers_of, answers_of-push, append_cancel_left, asked_access, cases_Bool, cons_option, Contains, Contains-append_cases, Contains-append_left, Contains-append_right, Contains-permutation, Did, did_access, eqb-true, filter, FirstMove, held_by, IsLast, IsOwed, IsPermutation, IsPermutation-sym, Item, last_or-append, map-append, of_core, Ok, OnceMore, option_to_list, Owes, picture_of, Reply, same_Some, Situation, Step, waiting_at}
+use Rattle.snoop_model.proofs.Common.{filter-append, operations, Access, answers_of, answers_of-push, append_cancel_left, asked_access, cases_Bool, cons_option, Contains, Contains-append_cases, Contains-append_left, Contains-append_right, Contains-permutation, Did, did_access, eqb-true, filter, FirstMove, held_by, IsLast, IsOwed, IsPermutation, IsPermutation-sym, Item, last_or-append, map-append, of_core, Ok, OnceMore, option_to_list, Owes, picture_of, Reply, same_Some, Situation, Step, waiting_at}
 use Rattle.snoop_model.proofs.Runs.Shape.{on_stays}
-use Rattle.snoop_model.proofs.OneBlock.Operation.{did_in}
+use Rattle.snoop_model.proofs.OneBlock.Operation.{did_in, operations_moved}
 
 -- a core's operations with one item more
 pub answers_are : (log : List Item) (entry : Option Item) (core : ℕ) → answers_of (log ++ option_to_list entry) core ≡ answers_of log core ++ of_core core (did_in entry)
-answers_are log None core = rw (append-nil log, append-nil (answers_of log core)) refl
-answers_are log (Some entry) core = answers_of-push log entry core
+answers_are log entry core = rw operations_moved (filter-append (λ did. did.core == core) (operations log) (option_to_list (did_in entry)))
 
 pub one_or_none : (core : ℕ) (o : Option Did) → (of_core core o ≡ []) ⊎ ((d : Did) × (of_core core o ≡ d ∷ []))
 one_or_none core None = inl refl
@@ -77,6 +76,3 @@ module _ (s t : Situation) (step : Step) (answer : Reply) (move : FirstMove s st
     | inl here ↦ inr (is_last here)
     | inr waits ↦ inl (in_one _ wanted waits)
   ]
-
-pub owes : Owes
-owes s t step answer move once core block wanted was = owed_after s t step answer move once core block wanted was

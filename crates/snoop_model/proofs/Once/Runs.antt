@@ -1,5 +1,5 @@
 -- Each load and store that a run asks is done once, or waits.
-use Rattle.std.proofs.Common.{◌≡◌, ℕ, Bool, true, false, ◌<◌, ◌&&◌, cond, eqb, List, [], ◌∷◌, ◌++◌, length, Option, Some, None, refl, inl, inr, ap, sym, ◌∙◌, append-nil, append_assoc}
+use Rattle.std.proofs.Common.{arith, ◌≡◌, ℕ, Bool, true, false, ◌<◌, ◌&&◌, cond, eqb, List, [], ◌∷◌, ◌++◌, length, Option, Some, None, refl, inl, inr, ap, sym, ◌∙◌, append-nil, append_assoc}
 use Rattle.snoop_model.proofs.Lists.{Writes.each_set, Facts.either_way}
 use Rattle.snoop_model.proofs.Common.{Access, accesses_in, after_order, Ask, asked, asked_access, CacheAction, CacheState, came_of, Cell, Did, did_access, eq-eqb, Err, Extent, filter, filter-append, filter_map, filter_map-append, Goes, held_at, held_by, IfSome, Invariant, IsPermutation, IsPermutation-append_comm, IsPermutation-append_left, IsPermutation-append_right, IsPermutation-refl, IsPermutation-trans, IsProper, Item, kept_waiting, Line, map, map-append, MoveOn, ne_eqb, next_did, nothing_held, of_core, Ok, Once, OnceMore, Op, operation_of, option_map, option_to_list, Order, Performs, Picture, picture_of, Protocol, queues_after, Refused, Reply, reset, Respond, Result, RunBy, Situation, slice_set, Step, taken, Takes, waiting_at, with_line, ◌==◌}
 use Rattle.snoop_trace.specs.declared.step.Op.TheVariants as op
@@ -24,15 +24,9 @@ IsBy core block did = IfSome did (λ d. (d.core ≡ core) × (d.block ≡ block)
 accesses_one : (core block c b : ℕ) (entry : Option Item) → IsBy c b (did_in entry) → accesses_in (option_to_list entry) core block ≡ option_to_list (cond (eqb b block && eqb c core) (done (did_in entry)) None)
 accesses_one core block c b entry by = rw (answers_are [] entry core) (of_one (did_in entry) by)
   where
-    of_did : (did : Did) (x y : Bool) → (did.block == block) ≡ x → map did_access (filter (λ d. d.block == block) (cond y (did ∷ []) [])) ≡ option_to_list (cond (x && y) (Some (did_access did)) None)
-    of_did did true true e = rw e refl
-    of_did did false true e = rw e refl
-    of_did did true false e = refl
-    of_did did false false e = refl
-
     of_one : (did : Option Did) → IsBy c b did → map did_access (filter (λ d. d.block == block) (of_core core did)) ≡ option_to_list (cond (eqb b block && eqb c core) (done did) None)
     of_one None by = ap option_to_list (either_way (eqb b block && eqb c core) None)
-    of_one (Some did) by = rw (← by.0, ← by.1) (of_did did (did.block == block) (did.core == core) refl)
+    of_one (Some did) by = rw (← by.0, ← by.1) (grind arith)
 
 -- where nothing is done, asked or changed, what waited waits
 unchanged : (waits : List Access) → IsPermutation (waits ++ []) waits

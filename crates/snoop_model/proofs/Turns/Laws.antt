@@ -8,7 +8,7 @@ use Rattle.snoop_model.specs.Turns.Turn.{step_under_way, turn_of}
 use Rattle.snoop_model.proofs.Lists.{Facts.one_if, Writes.set_cases, Writes.all_first, Writes.all_issued, Writes.all_ordered, Writes.sum_issued, Writes.sum_ordered, Writes.one_small, Writes.count_set}
 use Rattle.snoop_model.proofs.OneBlock.OfBlocks.{same_everywhere}
 use Rattle.snoop_model.proofs.Queues.Moves.{none_there, starts_well, keeps_well, queued_waits, waits_queued}
-use Rattle.snoop_model.proofs.Once.Owed.{owes}
+use Rattle.snoop_model.proofs.Once.Owed.{owed_after}
 use Rattle.snoop_rules.specs.declared.names.CacheState.TheVariants.{I}
 use Rattle.snoop_model.proofs.Tables.{Rows.action_rule, Rows.is_busy, StateTests.some_of, WaitingRows.has_missed}
 
@@ -52,11 +52,9 @@ never_refused : NeverRefused
 never_refused s under_way core block word asking false step serving kept has_core has_block has_word idle is cause refused = ask_goes cause (rw (← (same_Some _ _ is)) at refused)
   where
     ask_goes : (cause : Refused) → Refuses s (Ask core block word asking) cause → ⊥
-    ask_goes NoCore h = absurd (omega arith)
-    ask_goes NoBlock h = elim h.1 [ inl l ↦ absurd (omega arith) | inr none ↦ absurd (none has_word) ]
     ask_goes (Stalled state) h =
         none-some block (sym idle ∙ busy_under_way s under_way serving kept core block (stall_busy s.protocol (state_of s core block) (asked asking) h.2.0 h.2.1))
-    ask_goes _ h = absurd h
+    ask_goes _ h = grind arith
 never_refused s under_way core block word asking true step serving kept has_core has_block has_word its is cause refused =
     elim (under_way_step (waiting_request (state_of s core block)) (picture_of s block).transaction core block step is) [
       | inl p ↦ order_goes p.1 p.2.0 p.2.1 cause (rw p.0 at refused)
@@ -64,24 +62,17 @@ never_refused s under_way core block word asking true step serving kept has_core
     ]
   where
     order_goes : (picture_of s block).transaction ≡ None → (q : Request) → Waits s core block q → (cause : Refused) → Refuses s (Order core) cause → ⊥
-    order_goes free q waits NoCore h = absurd (omega arith)
     order_goes free q waits NothingWaiting h = h.1 block q waits
     order_goes free q waits (BusTaken b) h =
         let same : block ≡ b = same_Some _ _ (sym its ∙ all_first (λ x. under_way core ≡ Some x) (queue_of s.queues core) b (serving.waits core) h.1) in
         let clash : false ≡ true = rw (← same, free) at h.2 in
         cc
-    order_goes free q waits _ h = absurd h
+    order_goes free q waits _ h = grind arith
 
     respond_goes : (o : Open) → (picture_of s block).transaction ≡ Some o → (cause : Refused) → Refuses s (Respond block) cause → ⊥
-    respond_goes o open_here NoBlock h = absurd (omega arith)
-    respond_goes o open_here NoTransaction h = none-some o (sym h.1 ∙ open_here)
-    respond_goes o open_here _ h = absurd h
+    respond_goes o open_here _ h = grind arith
 
 module _ {s : Situation} {under_way : ℕ → Option ℕ} (serving : IsServing under_way s) where
-  asked_waits : (act : CacheAction) (core block : ℕ) → under_way core ≡ Some block → (k : ℕ) → All (λ b. under_way k ≡ Some b) (queue_of (queues_after act s.queues core block) k)
-  asked_waits (action.Issue request) core block its = all_issued (λ c b. under_way c ≡ Some b) s.queues core block serving.waits its
-  asked_waits _ core block its = serving.waits
-
   -- an open transaction where one block's picture was written
   set_opened : (place : ℕ) (next : Picture) → ((o : Open) → next.transaction ≡ Some o → under_way o.core ≡ Some place)
       → (block : ℕ) (o : Open) → (slice_index_or (slice_set s.pictures place next) block nothing_there).transaction ≡ Some o → under_way o.core ≡ Some block
@@ -89,6 +80,22 @@ module _ {s : Situation} {under_way : ℕ → Option ℕ} (serving : IsServing u
     | inl p ↦ rw p.0 (its o (ap (λ (x : Picture). x.transaction) (sym p.1) ∙ is))
     | inr e ↦ serving.opened block o (ap (λ (x : Picture). x.transaction) (sym e) ∙ is)
   ]
+
+  -- an Ask, if one that issues is of a core that has the block under way
+  asked_serves : (core on word : ℕ) (asking : Op) (answer : Reply) (t : Situation) (m : FirstMove s (Ask core on word asking) answer t)
+      → ((request : Request) → answer ≡ Issued request → under_way core ≡ Some m.0) → IsServing under_way t
+  asked_serves core on word asking answer t m its = elim m.1.1.moves [
+    | inl absent ↦ rw absent.3 serving
+    | inr asks ↦ rw asks.after (record {
+      waits = queued asks.row.action asks.row.next asks.held asks.entry asks.taken;
+      opened = set_opened m.0 (with_line (picture_of s m.0) core asks.held) (serving.opened m.0);
+    })
+  ]
+    where
+      queued : (act : CacheAction) (next : CacheState) (held : Line) (entry : Option Item) → Takes act next s.log core m.0 word asking (held_by (picture_of s m.0) core) held answer entry
+          → (k : ℕ) → All (λ b. under_way k ≡ Some b) (queue_of (queues_after act s.queues core m.0) k)
+      queued (action.Issue request) next held entry taken = all_issued (λ c b. under_way c ≡ Some b) s.queues core m.0 serving.waits (its request taken.1)
+      queued _ next held entry taken = serving.waits
 
 -- more works may be under way
 more_served : {s : Situation} {before after : ℕ → Option ℕ} → IsServing before s → ((core block : ℕ) → before core ≡ Some block → after core ≡ Some block) → IsServing after s
@@ -98,15 +105,8 @@ more_served {s} serving extends = record {
 }
 
 serves_on : ServesOn
-serves_on s t before after (Ask core on word asking) answer serving move extends its = elim move.1.1.moves [
-  | inl absent ↦ rw absent.3 (more_served serving extends)
-  | inr asks ↦
-      let now = more_served serving extends in
-      rw asks.after (record {
-        waits = asked_waits now asks.row.action core move.0 (rw (← move.1.1.on_block) its);
-        opened = set_opened now move.0 (with_line (picture_of s move.0) core asks.held) (now.opened move.0);
-      })
-]
+serves_on s t before after (Ask core on word asking) answer serving move extends its =
+    asked_serves (more_served serving extends) core on word asking answer t move (λ request is. rw (← move.1.1.on_block) its)
 serves_on s t before after (Order core) answer serving move extends its =
     let now = more_served serving extends in
     let orders = move.1.1.orders in
@@ -194,27 +194,12 @@ idle_turn core block (Some r) o none_waits none_open = absurd (none_waits r refl
 idle_turn core block None None none_waits none_open = refl
 idle_turn core block None (Some t) none_waits none_open = rw (ne_eqb t.core core (none_open t refl)) refl
 
--- the queues and the transactions are as before
-same_queues : (s t : Situation) (core block word : ℕ) (asking : Op) (answer : Reply) → FirstMove s (Ask core block word asking) answer t → ((request : Request) → answer ≢ Issued request) → (t.queues ≡ s.queues) × ((b : ℕ) → (picture_of t b).transaction ≡ (picture_of s b).transaction)
-same_queues s t core block word asking answer m other = elim m.1.1.moves [
-  | inl absent ↦ rw absent.3 (refl, λ b. refl)
-  | inr a ↦
-      let transactions = same_everywhere s m.0 (with_line (picture_of s m.0) core a.held) s.queues s.log (λ (x : Picture). x.transaction) refl in
-      rw a.after (no_issue a.row.action a.row.next a.held a.entry a.taken, transactions)
-]
-  where
-    no_issue : (act : CacheAction) (next : CacheState) (held : Line) (entry : Option Item) → Takes act next s.log core m.0 word asking (held_by (picture_of s m.0) core) held answer entry
-        → queues_after act s.queues core m.0 ≡ s.queues
-    no_issue (action.Issue request) next held entry taken = absurd (other request taken.1)
-    no_issue _ next held entry taken = refl
-
 asked_once : EndsAtOnce
 asked_once s t under_way core block word asking answer serving idle kept m other =
-    let same = same_queues s t core block word asking answer m other in
+    let now = asked_serves serving core block word asking answer t m (λ request is. absurd (other request is)) in
     idle_turn core block (waiting_request (state_of t core block)) (picture_of t block).transaction
-    (λ r w. none-some block (sym idle ∙ All-contains (λ b. under_way core ≡ Some b) (queue_of s.queues core) block (serving.waits core)
-    (subst (λ q. Contains (queue_of q core) block) same.0 (waits_queued t kept.queued core block r w))))
-    (λ o is c. none-some block (sym (ap under_way c ∙ idle) ∙ serving.opened block o (sym (same.1 block) ∙ is)))
+    (λ r w. none-some block (sym idle ∙ All-contains (λ b. under_way core ≡ Some b) (queue_of t.queues core) block (now.waits core) (waits_queued t kept.queued core block r w)))
+    (λ o is c. none-some block (sym (ap under_way c ∙ idle) ∙ now.opened block o is))
 
 pub turn_rule : TurnLaws
 turn_rule = record {
@@ -225,7 +210,7 @@ turn_rule = record {
   ends = ends;
   comes_to_rest = comes_to_rest;
   pays = pays;
-  owes = owes;
+  owes = owed_after;
   closed_is_last = closed_is_last;
   ends_at_once = asked_once;
 }
