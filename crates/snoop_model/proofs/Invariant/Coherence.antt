@@ -1,7 +1,7 @@
 -- What the invariant says of a situation: one writer, current copies and memory, all rows, one sender.
-use Rattle.std.proofs.Common.{◌≡◌, ◌≢◌, ℕ, true, false, List, [], Option, Some, None, refl, inl, inr, sym, ◌∙◌, arith, rules}
+use Rattle.std.proofs.Common.{length, ◌≡◌, ◌≢◌, ℕ, true, false, List, [], Option, Some, None, refl, inl, inr, sym, ◌∙◌, arith, rules}
 use Rattle.snoop_model.proofs.Lists.Facts.{if_some}
-use Rattle.snoop_model.proofs.Common.{and_parts, arrival, arrival_at_memory, Ask, asked, awaited_request, BlockInvariant, both_ways, CacheEvent, CacheState, CanOrder, carries_value, cases_Bool, cases_lt, Cell, data_under_way, eq-eqb, false_from_ne_true, fits, flat_words, ForSome, get_or_past, HasOpen, held_by, IfSome, in_protocol, Invariant, is_clean, is_owner, is_put_m, is_some, IsSome, IsSomeAnd, IsWellKept, IsWithin, keeps, Line, MemEvent, none-some, nothing_held, nothing_there, Op, Open, Order, OrdersFollowSenderTable, own_open, owns, Picture, picture_of, Protocol, Request, Respond, seen_by, Situation, state_of, Step, talk_of, wait_fits, waiting_request, Waits, ◌<◌, ◌↔◌, ◌≤◌}
+use Rattle.snoop_model.proofs.Common.{FollowsSenderTable, and_parts, arrival, arrival_at_memory, Ask, asked, awaited_request, BlockInvariant, both_ways, CacheEvent, CacheState, CanOrder, carries_value, cases_Bool, cases_lt, Cell, data_under_way, eq-eqb, false_from_ne_true, fits, flat_words, ForSome, get_or_past, HasOpen, held_by, IfSome, in_protocol, Invariant, is_clean, is_owner, is_put_m, is_some, IsSome, IsSomeAnd, IsWellKept, IsWithin, keeps, Line, MemEvent, none-some, nothing_held, nothing_there, Op, Open, Order, OrdersFollowSenderTable, own_open, owns, Picture, picture_of, Protocol, Request, Respond, seen_by, Situation, state_of, Step, talk_of, wait_fits, waiting_request, Waits, ◌<◌, ◌↔◌, ◌≤◌}
 use Rattle.snoop_trace.specs.declared.step.Op.TheVariants as op
 use Rattle.snoop_trace.specs.declared.protocol.Protocol.TheVariants.{Msi, Mesi}
 use Rattle.snoop_rules.specs.declared.names.CacheState.TheVariants as state
@@ -12,8 +12,8 @@ use Rattle.snoop_rules.specs.Possible.{MayLoad, MayStore}
 use Rattle.snoop_rules.specs.Takers.{other as another}
 use Rattle.snoop_model.specs.Moves.LookUps.{HasRow, HasMemRow, ConsultsCache, ConsultsMemory, FindsRows}
 use Rattle.snoop_model.specs.Pictures.OneWriter.{OneWriter}
-use Rattle.snoop_model.proofs.Tables.{StateTests.some_of, AskTests.ask_rule, AskTests.is_idle_evict, Rows.hit_keeps, RespondTests.memory_row_for, RespondTests.row_for, SenderLines.led_line, WaitingRows.awaited-get, StateTests.brings_data, StateTests.claims_rule}
-use Rattle.snoop_model.proofs.OneBlock.{OrderStep.seen_other, Facts.one_writer, Facts.fits_waits, Facts.fits_is_owner, Facts.each_held, Possible.Answerable, Possible.Possible, Possible.order_possible, Possible.ask_possible, Possible.respond_possible}
+use Rattle.snoop_model.proofs.Tables.{StateTests.some_of, AskTests.ask_rule, AskTests.is_idle_evict, Rows.hit_keeps, RespondTests.memory_row_for, RespondTests.row_for, RespondTests.awaited-get, StateTests.brings_data, StateTests.claims_rule}
+use Rattle.snoop_model.proofs.OneBlock.{OrderStep.seen_other, Facts.one_writer, Facts.fits_waits, Facts.fits_is_owner, Facts.each_held, Possible.order_possible, Possible.ask_possible, RespondStep.Closing, RespondStep.close, RespondStep.answered}
 
 -- an owner may write
 owner_stores : (p : Protocol) (s : CacheState) → in_protocol p s ≡ true → is_owner s ≡ true → MayStore p s
@@ -169,7 +169,8 @@ module _ (s : Situation) (g : Invariant s) where
   pub waits_within : (core block : ℕ) (q : Request) → Waits s core block q → IsWithin s core block
   waits_within core block q = held_within core block (λ x. waiting_request x.state ≡ Some q) (λ h. cc)
 
-  possible_order : (core block : ℕ) (q : Request) → CanOrder s core block q → Possible s.protocol (picture_of s block) core q
+  possible_order : (core block : ℕ) (q : Request) → CanOrder s core block q
+      → ((k : ℕ) → k < length (picture_of s block).caches → HasRow s.protocol (state_of s k block) (seen_by k core q)) × FollowsSenderTable s.protocol (picture_of s block) core q
   possible_order core block q ready =
       let within = waits_within core block q ready.0 in
       let long = g.shaped.row block within.1 in
@@ -177,26 +178,17 @@ module _ (s : Situation) (g : Invariant s) where
 
   -- an Order of any request that waits on a free block has exactly one sender, and is a line of the table
   pub orders_follow_sender_table : OrdersFollowSenderTable s.protocol s
-  orders_follow_sender_table core block q ready =
-      let x = possible_order core block q ready in
-      record {
-        from = x.from;
-        payload = x.payload;
-        next = x.cell_of_memory.next;
-        sent = x.sender;
-        ordered = (x.cell_of_memory, x.memory_row, refl);
-        is_line = led_line s.protocol (picture_of s block) core q x.from x.payload x.cell_of_memory.next x.order_line;
-      }
+  orders_follow_sender_table core block q ready = (possible_order core block q ready).1
 
   -- a core has a row for a request that is ordered
   seen_row : (core block : ℕ) (q : Request) → CanOrder s core block q → (k : ℕ) → HasRow s.protocol (state_of s k block) (seen_by k core q)
   seen_row core block q ready k = each_line k block (λ x. (k ≡ core → waiting_request x.state ≡ Some q) → HasRow s.protocol x.state (seen_by k core q))
-      (λ within waits. (possible_order core block q ready).rows k (rw (g.shaped.row block within.1) within.0))
+      (λ within waits. (possible_order core block q ready).0 k (rw (g.shaped.row block within.1) within.0))
       (λ waits. rw (seen_other k core q (λ same. none-some q (waits same))) (nothing_seen s.protocol q))
       (λ same. rw same ready.0)
 
-  response_possible : (block : ℕ) (closing : Open) → (picture_of s block).transaction ≡ Some closing → Answerable s.protocol (picture_of s block) closing
-  response_possible block closing opened = respond_possible s.protocol s.shape.cores (flat_words s.log block) (picture_of s block) closing (g.blocks block (opened_within block closing opened)) opened
+  respond_rows : (block : ℕ) (o : Open) (opened : (picture_of s block).transaction ≡ Some o) → Closing (g.blocks block (opened_within block o opened)) o
+  respond_rows block o opened = close (g.blocks block (opened_within block o opened)) o opened
 
   finds_cache : (step : Step) (core block : ℕ) (event : Option CacheEvent) → ConsultsCache s step core block event → IsSomeAnd event (HasRow s.protocol (state_of s core block))
   finds_cache (Ask asker on word asking) core block event looks =
@@ -209,15 +201,15 @@ module _ (s : Situation) (g : Invariant s) where
   finds_cache (Order requestor) core block event looks = rw looks.1.1 (seen_row requestor block looks.0 looks.1.0 core)
   finds_cache (Respond on) core block event (closing, looks) =
       rw (looks.4, looks.2) (has_row (row_for s.protocol (state_of s closing.core block)) refl (arrival closing.payload)
-      ((response_possible block closing looks.1).requestor (not_put closing.request looks.3)))
+      (let (row, is_row, _) = answered (respond_rows block closing looks.1) (not_put closing.request looks.3) in (row, is_row)))
 
   finds_memory : (step : Step) (block : ℕ) (event : Option MemEvent) → ConsultsMemory s step block event → IsSomeAnd event (HasMemRow s.protocol (picture_of s block).memory.state)
   finds_memory (Ask asker on word asking) block event looks = absurd looks
   finds_memory (Order requestor) block event looks =
-      let x = possible_order requestor block looks.0 looks.1.0 in
-      rw looks.1.1 (x.cell_of_memory, x.memory_row)
+      let x = orders_follow_sender_table requestor block looks.0 looks.1.0 in
+      rw looks.1.1 (x.ordered.0, x.ordered.1)
   finds_memory (Respond on) block event (closing, looks) =
-      rw looks.3 (has_row (memory_row_for s.protocol (picture_of s block).memory.state) refl (arrival_at_memory closing.payload) (let found = (response_possible block closing looks.1).memory in (found.0, rw looks.2 at found.1)))
+      rw looks.3 (has_row (memory_row_for s.protocol (picture_of s block).memory.state) refl (arrival_at_memory closing.payload) (let found = respond_rows block closing looks.1 in (found.memory, rw looks.2 at found.is_memory)))
 
   -- no step meets an impossible cell
   pub finds_rows : (step : Step) → FindsRows s step

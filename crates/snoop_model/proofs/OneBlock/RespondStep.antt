@@ -17,8 +17,8 @@ pub record Closing {p : Protocol} {n : ℕ} {flat : List ℕ} {before : Picture}
   pub is_next : claims_of p memory.next None ≡ Some next
   pub tests : (respond_claims p o.request o.payload good.claims memory next).claim
 
-pub closing : {p : Protocol} {n : ℕ} {flat : List ℕ} {before : Picture} (good : BlockInvariant p n flat before) (o : Open) → before.transaction ≡ Some o → Closing good o
-closing {p} {n} {flat} {before} good o opened =
+pub close : {p : Protocol} {n : ℕ} {flat : List ℕ} {before : Picture} (good : BlockInvariant p n flat before) (o : Open) → before.transaction ≡ Some o → Closing good o
+close {p} {n} {flat} {before} good o opened =
     let (memory, is_memory, (next, is_next, tests)) = respond_rule p before.memory.state _ _ _ (rw opened at good.is_claims) in
     record { opened = opened; memory = memory; is_memory = is_memory; next = next; is_next = is_next; tests = tests }
 
@@ -57,7 +57,7 @@ module _ (s : Situation) (block : ℕ) (o : Open) (did : Option Did) (new : Situ
   before = picture_of s block
 
   found : Closing g o
-  found = closing g o r.opened
+  found = close g o r.opened
 
   abbrev gained : Bool
   gained = gains g.claims found.next

@@ -8,8 +8,8 @@ use Rattle.snoop_rules.specs.declared.names.CacheAction.TheVariants as action
 use Rattle.snoop_rules.specs.declared.names.Request.TheVariants as request
 use Rattle.snoop_model.specs.declared.replies.Refused.TheVariants.{NoCore, NoBlock, Stalled, NothingWaiting, BusTaken, NoTransaction}
 use Rattle.snoop_model.proofs.Lines.TheSender.{IsBelow, sends_below}
-use Rattle.snoop_model.proofs.Tables.{SentBy.payload_from, SentBy.sends_is, SentBy.sends_row, WaitingRows.data_rule, WaitingRows.fills, RespondTests.settled_so, RespondTests.row_for, StateTests.some_of, Rows.is_evict, Rows.asked_answers, Rows.hit_keeps, AskTests.is_idle_evict}
-use Rattle.snoop_model.proofs.OneBlock.{OfBlocks.same_picture, OfBlocks.same_memory, Possible.ask_possible, Possible.respond_possible}
+use Rattle.snoop_model.proofs.Tables.{SentBy.payload_from, SentBy.sends_is, SentBy.sends_row, RespondTests.data_rule, RespondTests.fills, RespondTests.settled_so, RespondTests.row_for, StateTests.some_of, Rows.is_evict, Rows.asked_answers, Rows.hit_keeps, AskTests.is_idle_evict}
+use Rattle.snoop_model.proofs.OneBlock.{OfBlocks.same_picture, OfBlocks.same_memory, Possible.ask_possible, RespondStep.close, RespondStep.answered}
 use Rattle.snoop_model.proofs.Steps.Next.{Next, value_of, words_after, has_word, after_ask, by_row, next_asked, sender_below, line_after, next_picture, next_ordered, filled, brought, next_closed, next_of, next_first}
 use Rattle.snoop_model.proofs.Invariant.Coherence.{orders_follow_sender_table, finds_rows, idle_evict, waits_within}
 use Rattle.snoop_model.proofs.Queues.Moves.{none_there, AreQueued, first_waits, none_waits}
@@ -36,12 +36,11 @@ module _ (s : Situation) (core block word : ℕ) (asking : Op) where
   takes_is action.Drop next held answer entry t = rw (t.0, t.1, t.2) refl
   takes_is _ next held answer entry t = absurd t
 
-  in_place : block < s.shape.blocks → HasWord s.shape word asking → (ltb block s.shape.blocks && has_word s.shape word asking) ≡ true
-  in_place within has = and_from _ _ (lt-ltb block s.shape.blocks within) ((word_decides s.shape word asking).1 has)
+  place : Decides (ltb block s.shape.blocks && has_word s.shape word asking) ((block < s.shape.blocks) × HasWord s.shape word asking)
+  place = Decides-and _ _ (Decides-ltb block s.shape.blocks) (word_decides s.shape word asking)
 
   no_place : (s.shape.blocks ≤ block) ⊎ (¬ HasWord s.shape word asking) → (ltb block s.shape.blocks && has_word s.shape word asking) ≡ false
-  no_place (inl past) = and_left _ _ (le-ltb block s.shape.blocks past)
-  no_place (inr none) = and_right _ _ (false_from_ne_true _ (λ e. none ((word_decides s.shape word asking).0 e)))
+  no_place nowhere = false_from_ne_true _ (λ e. let (within, has) = place.0 e in elim nowhere [ inl past ↦ absurd (omega arith) | inr none ↦ none has ])
 
 -- An Order.
 module _ (p : Protocol) (before : Picture) (core : ℕ) (q : Request) where
@@ -71,7 +70,7 @@ module _ (closing : Open) (p : Protocol) (log : List Item) (old new : List Line)
 move_is : (s : Situation) (step : Step) (answer : Reply) (new : Situation) → FirstMove s step answer new
     → ◌≡◌ {A = Next} (Ok answer, new) (next_of s step)
 move_is s (Ask core on word asking) answer new (block, (first, m)) =
-    rw (m.on_block, lt-ltb core s.shape.cores m.within.0, in_place s core block word asking m.within.1 m.has_word) (elim m.moves [
+    rw (m.on_block, lt-ltb core s.shape.cores m.within.0, (place s core block word asking).1 (m.within.1, m.has_word)) (elim m.moves [
       | inl a ↦ rw (a.2, a.3, a.1, a.0) refl
       | inr a ↦ rw (a.after, a.is_row) (takes_is s core block word asking a.row.action a.row.next a.held answer a.entry a.taken)
     ])
@@ -102,7 +101,7 @@ module _ (s : Situation) (queued : AreQueued s) where
   refused_is (Ask core block word asking) NoCore h = rw (le-ltb core s.shape.cores h) refl
   refused_is (Ask core block word asking) NoBlock h = rw (lt-ltb core s.shape.cores h.0, no_place s core block word asking h.1) refl
   refused_is (Ask core block word asking) (Stalled held) h =
-      rw (lt-ltb core s.shape.cores h.0.0, in_place s core block word asking h.0.1 h.3, h.1, h.2.1) refl
+      rw (lt-ltb core s.shape.cores h.0.0, (place s core block word asking).1 (h.0.1, h.3), h.1, h.2.1) refl
   refused_is (Order core) NoCore h = rw (le-ltb core s.shape.cores h) refl
   refused_is (Order core) NothingWaiting h =
       let empty = none_there (slice_get (queue_of s.queues core) 0) (λ block is. let waits = first_waits s queued core block is in h.1 block waits.0 waits.1) in
@@ -235,13 +234,13 @@ module _ (s : Situation) (g : Invariant s) where
   closes block within o opened =
       let before : Picture = picture_of s block in
       let good = g.blocks block within in
-      let rows = respond_possible s.protocol s.shape.cores (flat_words s.log block) before o good opened in
-      let settles = (settled_so (takes_payload o.request before.memory.state) s.protocol (arrival_at_memory o.payload) before.memory.state rows.memory.0.action rows.memory.0.next).1 rows.memory.1 in
+      let found = close good o opened in
+      let settles = (settled_so (takes_payload o.request before.memory.state) s.protocol (arrival_at_memory o.payload) before.memory.state found.memory.action found.memory.next).1 found.is_memory in
       let responds : Responds s block o _ (next_closed s block o).1 = record {
         opened = opened;
         next = _;
-        requestor = brings s.protocol s.log before.caches o o.request rows.requestor (good.proper o.core (good.requestor_in o opened));
-        memory = rw rows.memory.1 (record { act = rows.memory.0.action; settled = settles; value = refl });
+        requestor = brings s.protocol s.log before.caches o o.request (λ get. let (row, is_row, _) = answered found get in (row, is_row)) (good.proper o.core (good.requestor_in o opened));
+        memory = rw found.is_memory (record { act = found.memory.action; settled = settles; value = refl });
         closed = refl;
         after = refl;
       } in
@@ -253,11 +252,11 @@ module _ (s : Situation) (g : Invariant s) where
       cond_both (ltb core s.shape.cores) _ _ Goes (λ below.
       let in_cores = ltb-true core s.shape.cores below in
       cond_both (ltb block s.shape.blocks && has_word s.shape word asking) _ _ Goes (λ there.
-      let (within, has) = and_parts _ _ there in
-      goes_within s core block word asking (in_cores, ltb-true block s.shape.blocks within) ((word_decides s.shape word asking).0 has) g) (λ nowhere.
-      let none : (s.shape.blocks ≤ block) ⊎ (¬ HasWord s.shape word asking) = elim (and_cases _ _ nowhere) [
-        | inl past ↦ inl (ltb-false block s.shape.blocks past)
-        | inr wordless ↦ inr (λ has. both_ways _ wordless ((word_decides s.shape word asking).1 has))
+      let (within, has) = (place s core block word asking).0 there in
+      goes_within s core block word asking (in_cores, within) has g) (λ nowhere.
+      let none : (s.shape.blocks ≤ block) ⊎ (¬ HasWord s.shape word asking) = elim (cases_lt block s.shape.blocks) [
+        | inl within ↦ inr (λ has. both_ways _ nowhere ((place s core block word asking).1 (within, has)))
+        | inr past ↦ inl past
       ] in
       ((in_cores, none), refl))) (λ past. (ltb-false core s.shape.cores past, refl))
   goes_next queued (Order core) =

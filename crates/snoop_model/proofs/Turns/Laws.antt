@@ -10,7 +10,7 @@ use Rattle.snoop_model.proofs.OneBlock.OfBlocks.{same_everywhere}
 use Rattle.snoop_model.proofs.Queues.Moves.{none_there, starts_well, keeps_well, queued_waits, waits_queued}
 use Rattle.snoop_model.proofs.Once.Owed.{owed_after}
 use Rattle.snoop_rules.specs.declared.names.CacheState.TheVariants.{I}
-use Rattle.snoop_model.proofs.Tables.{Rows.action_rule, Rows.is_busy, StateTests.some_of, WaitingRows.has_missed}
+use Rattle.snoop_model.proofs.Tables.{Rows.action_rule, Rows.is_busy, StateTests.some_of, RespondTests.has_missed}
 
 -- a stall comes only where the core waits
 pub stall_busy : (p : Protocol) (s : CacheState) (e : CacheEvent) (n : CacheState) → Cell p s e action.Stall n → is_busy s ≡ true
