@@ -6,7 +6,7 @@ use Rattle.snoop_rules.specs.declared.names.CacheAction.TheVariants as action
 use Rattle.snoop_history.specs.declared.items.Item.TheVariants as item
 use Rattle.snoop_history.proofs.Legal.{flat-grows, legal-grows}
 use Rattle.snoop_model.proofs.Lists.{Writes.each_set, Facts.replicated}
-use Rattle.snoop_model.proofs.OneBlock.{Facts.each_held, Operation.did_in, Operation.operations_moved, Operation.flat_after, Operation.IsLawful, OfBlocks.changed, OfBlocks.in_pictures, OfBlocks.each_picture, OfBlocks.shaped_after, AskStep.ask_keeps, OrderStep.order_keeps, RespondStep.respond_keeps}
+use Rattle.snoop_model.proofs.OneBlock.{Facts.each_held, Operation.did_in, Operation.operations_moved, Operation.performed_so, Operation.flat_after, Operation.IsLawful, OfBlocks.changed, OfBlocks.in_pictures, OfBlocks.each_picture, OfBlocks.shaped_after, AskStep.ask_keeps, OrderStep.order_keeps, RespondStep.respond_keeps}
 use Rattle.snoop_model.proofs.Lines.Answered.{by_request, arrives_length, still_waiting}
 use Rattle.snoop_trace.specs.declared.protocol.Protocol.TheVariants as protocol
 use Rattle.snoop_rules.specs.declared.names.CacheState.TheVariants.{I}
@@ -104,17 +104,12 @@ issued_access : (s : Situation) (word : ℕ) (asking : Op) (access : Access) →
 issued_access s word op.Evict access within e = cc
 issued_access s word _ access within e = rw (← same_Some _ _ e) within
 
--- a hit is of a load or a store, whose word there is
-hit_word : (shape : Extent) (word : ℕ) (asking : Op) (before : List ℕ) (value : ℕ) (after : List ℕ) → HasWord shape word asking → Performs word asking before value after → IsWord shape word
-hit_word shape word op.Evict before value after there h = absurd h
-hit_word shape word _ before value after there h = there
-
 -- what waits after an Ask, and its item
 module _ (s : Situation) (core block word : ℕ) (asking : Op) (next : CacheState) (old new : Line) (answer : Reply) (entry : Option Item) (there : HasWord s.shape word asking) where
   takes_so : (a : CacheAction) → Takes a next s.log core block word asking old new answer entry → AccessWithin s.shape old → IsWithin s core block → IsLawful (flat_words s.log block) (did_in entry)
       → AccessWithin s.shape new × IsNextOn s block entry
   takes_so action.Hit t was within lawful =
-      let has = hit_word s.shape word asking t.1.0.before t.0 t.1.0.after there t.1.0.performed in
+      let has = issued_access s word asking _ there (performed_so word asking t.1.0.before t.0 t.1.0.after s.log core block true t.1.0.performed).1 in
       (rw t.1.0.held was, rw t.1.2 (refl, next_lawful s.log core block word asking t.0 true has.1 (rw t.1.2 at lawful), (within, has)))
   takes_so (action.Issue r) t was within lawful = (rw t.0 (λ access. issued_access s word asking access there), rw t.2 tt)
   takes_so action.Drop t was within lawful = (rw t.0 was, rw t.2 tt)

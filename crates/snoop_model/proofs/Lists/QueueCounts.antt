@@ -40,18 +40,12 @@ module _ (queues : List (List ℕ)) (core block : ℕ) where
   pub issued_own : core < length queues → times block (queue_of (after_issue queues core block) core) ≡ times block (queue_of queues core) + 1
   issued_own within = rw get_or-set_same (times_push block block (queue_of queues core) ∙ rw (eq-eqb block block refl) refl)
 
-  pub issued_others : (k : ℕ) → k ≢ core → queue_of (after_issue queues core block) k ≡ queue_of queues k
-  issued_others k apart = get_or-set_other queues core k _ [] apart
-
   pub issued_elsewhere : (k b : ℕ) → b ≢ block → times b (queue_of (after_issue queues core block) k) ≡ times b (queue_of queues k)
   issued_elsewhere k b apart = same_set (times b) queues core _ [] (rw (times_push, ne_eqb block b (λ e. apart (sym e))) (omega arith)) k
 
   -- an Order takes it out
   pub ordered_own : core < length queues → times block (queue_of (after_order queues core block) core) ≡ 0
   ordered_own within = rw get_or-set_same (times_gone block (queue_of queues core))
-
-  pub ordered_others : (k : ℕ) → k ≢ core → queue_of (after_order queues core block) k ≡ queue_of queues k
-  ordered_others k apart = get_or-set_other queues core k _ [] apart
 
   pub ordered_elsewhere : (k b : ℕ) → b ≢ block → times b (queue_of (after_order queues core block) k) ≡ times b (queue_of queues k)
   ordered_elsewhere k b apart = same_set (times b) queues core _ [] (times_left b block (queue_of queues core) apart) k

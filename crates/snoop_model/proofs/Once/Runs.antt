@@ -6,7 +6,7 @@ use Rattle.snoop_trace.specs.declared.step.Op.TheVariants as op
 use Rattle.snoop_rules.specs.declared.names.CacheAction.TheVariants as action
 use Rattle.snoop_history.specs.declared.items.Item.TheVariants as item
 use Rattle.snoop_model.proofs.Tables.Rows.{issue-missed, drop_evicts}
-use Rattle.snoop_model.proofs.OneBlock.{Operation.did_in, OfBlocks.changed, OfBlocks.each_picture, OfBlocks.in_pictures}
+use Rattle.snoop_model.proofs.OneBlock.{Operation.did_in, Operation.performed_so, OfBlocks.changed, OfBlocks.each_picture, OfBlocks.in_pictures}
 use Rattle.snoop_model.proofs.Lines.Answered.{by_request}
 use Rattle.snoop_model.proofs.Queues.Moves.{each_taken}
 use Rattle.snoop_model.proofs.Once.Owed.{answers_are, cons_one}
@@ -31,13 +31,6 @@ accesses_one core block c b entry by = rw (answers_are [] entry core) (of_one (d
 -- where nothing is done, asked or changed, what waited waits
 unchanged : (waits : List Access) → IsPermutation (waits ++ []) waits
 unchanged waits = rw (append-nil waits) (IsPermutation-refl waits)
-
--- the operation that was done is the one that was asked, and no eviction
-performed_so : (word : ℕ) (asking : Op) (before : List ℕ) (value : ℕ) (after : List ℕ) (log : List Item) (core block : ℕ) (hit : Bool) → Performs word asking before value after
-    → (did_access (next_did log core block word asking value hit) ≡ record { word = word; op = asking }) × (kept_waiting word asking ≡ Some (record { word = word; op = asking }))
-performed_so word op.Load before value after log core block hit h = (refl, refl)
-performed_so word (op.Store stored) before value after log core block hit h = rw h.0 (refl, refl)
-performed_so word op.Evict before value after log core block hit h = absurd h
 
 -- an Ask of one line
 module _ (p : Protocol) (next : CacheState) (log : List Item) (core block word : ℕ) (asking : Op) (old new : Line) (answer : Reply) (entry : Option Item) (proper : IsProper old) where

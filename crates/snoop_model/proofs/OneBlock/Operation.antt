@@ -1,6 +1,7 @@
 -- What a move's operation, if it has one, does to its block's words in flat memory.
-use Rattle.std.proofs.Common.{append-nil, refl, ◌++◌, ◌≡◌, List, ℕ, true, cond, Option, Some, None, slice_set}
-use Rattle.snoop_model.proofs.Common.{Did, Item, operation_of, operations, operations-push, option_to_list, word_at, ⊤}
+use Rattle.std.proofs.Common.{Bool, append-nil, refl, ◌++◌, ◌≡◌, List, ℕ, true, cond, Option, Some, None, slice_set}
+use Rattle.snoop_trace.specs.declared.step.Op.TheVariants as op
+use Rattle.snoop_model.proofs.Common.{did_access, kept_waiting, next_did, Op, Performs, Did, Item, operation_of, operations, operations-push, option_to_list, word_at, ⊤}
 
 abbrev pub did_in : Option Item → Option Did
 did_in None = None
@@ -19,3 +20,10 @@ IsLawful flat (Some did) = did.load ≡ true → did.value ≡ word_at flat did.
 pub operations_moved : (log : List Item) (entry : Option Item) → operations (log ++ option_to_list entry) ≡ operations log ++ option_to_list (did_in entry)
 operations_moved log None = rw (append-nil log, append-nil (operations log)) refl
 operations_moved log (Some entry) = operations-push log entry
+
+-- the operation that was done is the one that was asked, and no eviction
+pub performed_so : (word : ℕ) (asking : Op) (before : List ℕ) (value : ℕ) (after : List ℕ) (log : List Item) (core block : ℕ) (hit : Bool) → Performs word asking before value after
+    → (did_access (next_did log core block word asking value hit) ≡ record { word = word; op = asking }) × (kept_waiting word asking ≡ Some (record { word = word; op = asking }))
+performed_so word op.Load before value after log core block hit h = (refl, refl)
+performed_so word (op.Store stored) before value after log core block hit h = rw h.0 (refl, refl)
+performed_so word op.Evict before value after log core block hit h = absurd h

@@ -1,8 +1,8 @@
 -- A machine is well kept at reset, and stays so at each kind of move; so a core waits on the blocks in its queue, and on no others.
 use Rattle.std.proofs.Common.{◌≡◌, ◌≢◌, ℕ, ◌<◌, ◌++◌, List, [], length, Option, Some, None, refl, sym, ◌∙◌, arith, inl, inr, ◌∷◌}
-use Rattle.snoop_model.proofs.Common.{eqb-true, Access, after_issue, after_order, ArrivesFor, Ask, asked, awaited_request, CacheAction, CacheState, cases_Bool, cases_lt, Cell, Contains, Did, eq-eqb, FillsRequestor, get_or-set_same, get_or_past, held_at, held_by, if◌then◌else◌, is_some, IsSome, IsWellKept, IsWithin, Item, KeepsWell, length-set, Line, missed_request, MoveOn, ne_eqb, none-some, nothing_held, Op, Open, option_to_list, Order, Picture, picture_of, Protocol, queue_of, queues_after, Reply, Request, reset, Respond, Responds, same_Some, Situation, slice_get, slice_get-get_or, StandsFirst, StartsWell, state_of, Step, Takes, TakesRows, waiting_request, Waits, WaitsOnNone, with_line, ◌==◌}
+use Rattle.snoop_model.proofs.Common.{get_or-set_other, get_or_from_slice_get, slice_get_within, eqb-true, Access, after_issue, after_order, ArrivesFor, Ask, asked, awaited_request, CacheAction, CacheState, cases_Bool, cases_lt, Cell, Contains, Did, eq-eqb, FillsRequestor, get_or-set_same, get_or_past, held_at, held_by, if◌then◌else◌, is_some, IsSome, IsWellKept, IsWithin, Item, KeepsWell, length-set, Line, missed_request, MoveOn, ne_eqb, none-some, nothing_held, Op, Open, option_to_list, Order, Picture, picture_of, Protocol, queue_of, queues_after, Reply, Request, reset, Respond, Responds, same_Some, Situation, slice_get, slice_get-get_or, StandsFirst, StartsWell, state_of, Step, Takes, TakesRows, waiting_request, Waits, WaitsOnNone, with_line, ◌==◌}
 use Rattle.snoop_rules.specs.declared.names.CacheAction.TheVariants as action
-use Rattle.snoop_model.proofs.Lists.{Facts.one_if, Facts.replicated, Writes.each_set, QueueCounts.times, QueueCounts.issued_own, QueueCounts.issued_others, QueueCounts.issued_elsewhere, QueueCounts.ordered_own, QueueCounts.ordered_others, QueueCounts.ordered_elsewhere, QueueCounts.counted_in, QueueCounts.in_counted}
+use Rattle.snoop_model.proofs.Lists.{Facts.one_if, Facts.replicated, Writes.each_set, QueueCounts.times, QueueCounts.issued_own, QueueCounts.issued_elsewhere, QueueCounts.ordered_own, QueueCounts.ordered_elsewhere, QueueCounts.counted_in, QueueCounts.in_counted}
 use Rattle.snoop_model.proofs.Tables.{Rows.issue-waits, Rows.issue-missed, Rows.asked_missed, Rows.action_rule, Rows.order_rule, Rows.fill-waits, Rows.awaited-asked, RespondTests.data_rule, RespondTests.awaited-get, StateTests.some_of}
 use Rattle.snoop_model.proofs.OneBlock.{Facts.by_core, Facts.each_held, OfBlocks.changed, OfBlocks.in_pictures, OfBlocks.each_picture, OfBlocks.shaped_after}
 use Rattle.snoop_model.proofs.Lines.Answered.{by_request, filled_or_same, arrives_length, still_waiting}
@@ -86,7 +86,7 @@ module _ (s : Situation) (kept : IsWellKept s) (core block word : ℕ) (asking :
       let missed = (issue-missed s.protocol line.state (asked asking) request next row).1 in
       let in_queues : core < length s.queues = rw kept.shaped.queues within.0 in
       one_line (action.Issue request) (after_issue s.queues core block) row (rw taken.0 refl) (length-set s.queues core _)
-      (rw (is, issued_own s.queues core block in_queues, kept.queued core block, was) refl) (issued_others s.queues core block) (issued_elsewhere s.queues core block)
+      (rw (is, issued_own s.queues core block in_queues, kept.queued core block, was) refl) (λ k apart. get_or-set_other s.queues core k _ [] apart) (issued_elsewhere s.queues core block)
       (rw taken.0 (λ access h. rw (missed, ← asked_missed word asking, h) refl))
   kept_taken _ row taken = absurd taken
 
@@ -164,7 +164,7 @@ on_kept block s t (Order core) answer kept m =
       as_many = length-set s.queues core _;
       here = by_core core (λ k. times block (queue_of (after_order s.queues core block) k) ≡ waits (held_by next k).state)
           (rw (own_waits s.protocol core m.request before.caches next.caches taken in_row) (ordered_own s.queues core block in_queues))
-          (λ k apart. rw (ordered_others s.queues core block k apart, others_wait s.protocol core m.request before.caches next.caches taken k apart) (kept.queued k block));
+          (λ k apart. rw (get_or-set_other s.queues core k _ [] apart, others_wait s.protocol core m.request before.caches next.caches taken k apart) (kept.queued k block));
       elsewhere = ordered_elsewhere s.queues core block;
       awaited = λ k. each_held next.caches k (IsAwaited next.transaction k)
           (λ below.
@@ -235,13 +235,10 @@ pub none_there : {A : Type 0} (found : Option A) → ((a : A) → found ≡ Some
 none_there None h = refl
 none_there (Some a) h = absurd (h a refl)
 
-first_in : (queue : List ℕ) (block : ℕ) → slice_get queue 0 ≡ Some block → Contains queue block
-first_in [] block e = cc
-first_in (x ∷ queue) block e = (0, omega arith, same_Some _ _ e)
-
 -- it waits on the block that stands first, and on none where none does
 pub first_waits : (s : Situation) → AreQueued s → (core block : ℕ) → StandsFirst s core block → (request : Request) × Waits s core block request
-first_waits s queued core block first = queued_waits s queued core block (first_in (queue_of s.queues core) block first)
+first_waits s queued core block first =
+    queued_waits s queued core block (0, slice_get_within (queue_of s.queues core) 0 block first, get_or_from_slice_get (queue_of s.queues core) 0 block block first)
 
 pub none_waits : (s : Situation) → AreQueued s → (core : ℕ) → slice_get (queue_of s.queues core) 0 ≡ None → WaitsOnNone s core
 none_waits s queued core none block request waits =

@@ -127,21 +127,10 @@ ends : Ends
 ends s before after core block word asking serving kept works none others =
     let left = none_left (waiting_request (state_of s core block)) (picture_of s block).transaction core block none in
     record {
-      waits = λ k. elim (cases_eq k core) [
-        | inl e ↦ λ i d lt.
-            (let x : ℕ = slice_index_or (queue_of s.queues k) i d in
-            let same : x ≡ block = cc (serving.waits k i d lt, works, e) in
-            let w = queued_waits s kept.queued k x (Contains-get_or (queue_of s.queues k) i d lt) in
-            let here : waiting_request (state_of s core block) ≡ Some w.0 = rw (← same, ← e) w.1 in
-            absurd (none-some w.0 (sym left.0 ∙ here)))
-        | inr ne ↦ rw (others k ne) (serving.waits k)
-      ];
-      opened = λ b o is. elim (cases_eq o.core core) [
-        | inl e ↦
-            (let same : b ≡ block = cc (serving.opened b o is, works, e) in
-            absurd (left.1 o (rw same at is) e))
-        | inr ne ↦ others o.core ne ∙ serving.opened b o is
-      ];
+      waits = λ k i d lt.
+          let w = queued_waits s kept.queued k (slice_index_or (queue_of s.queues k) i d) (Contains-get_or (queue_of s.queues k) i d lt) in
+          others k (λ e. none-some w.0 (cc (left.0, w.1, e, serving.waits k i d lt, works))) ∙ serving.waits k i d lt;
+      opened = λ b o is. others o.core (λ e. left.1 o (cc (serving.opened b o is, works, e, is)) e) ∙ serving.opened b o is;
     }
 
 comes_to_rest : ComesToRest
