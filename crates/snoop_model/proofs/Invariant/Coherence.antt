@@ -12,32 +12,16 @@ use Rattle.snoop_rules.specs.Possible.{MayLoad, MayStore}
 use Rattle.snoop_rules.specs.Takers.{other as another}
 use Rattle.snoop_model.specs.Moves.LookUps.{HasRow, HasMemRow, ConsultsCache, ConsultsMemory, FindsRows}
 use Rattle.snoop_model.specs.Pictures.OneWriter.{OneWriter}
-use Rattle.snoop_model.proofs.Tables.{StateTests.some_of, AskTests.ask_rule, AskTests.is_idle_evict, Rows.hit_keeps, RespondTests.memory_row_for, RespondTests.row_for, RespondTests.awaited-get, StateTests.brings_data, StateTests.claims_rule}
-use Rattle.snoop_model.proofs.OneBlock.{OrderStep.seen_other, Facts.one_writer, Facts.fits_waits, Facts.fits_is_owner, Facts.each_held, Possible.order_possible, Possible.ask_possible, RespondStep.Closing, RespondStep.close, RespondStep.answered}
-
--- an owner may write
-owner_stores : (p : Protocol) (s : CacheState) → in_protocol p s ≡ true → is_owner s ≡ true → MayStore p s
-unfolding in_protocol is_clean is_owner
-owner_stores Msi state.M known owns = (_, refl)
-owner_stores Mesi state.E known owns = (_, refl)
-owner_stores Mesi state.EiA known owns = (_, refl)
-owner_stores _ s known owns = (s, cc)
-
--- a core that keeps words may load
-keeper_loads : (p : Protocol) (s : CacheState) → in_protocol p s ≡ true → keeps s ≡ true → MayLoad p s
-unfolding in_protocol is_clean
-keeper_loads Msi state.S known kept = (_, refl)
-keeper_loads Mesi state.S known kept = (_, refl)
-keeper_loads _ s known kept = (s, cc)
+use Rattle.snoop_model.proofs.Tables.{StateTests.some_of, AskTests.ask_rule, AskTests.fit_rule, AskTests.is_hit-true, AskTests.is_idle_evict, Rows.hit_keeps, RespondTests.memory_row_for, RespondTests.row_for, RespondTests.awaited-get, StateTests.brings_data, StateTests.claims_rule}
+use Rattle.snoop_model.proofs.OneBlock.{OrderStep.seen_other, Facts.one_writer, Facts.each_held, Possible.order_possible, Possible.ask_possible, RespondStep.Closing, RespondStep.close, RespondStep.answered}
 
 -- where no core may write the block, none owns it
 nobody_owns : {p : Protocol} {n : ℕ} {value : List ℕ} {picture : Picture} (g : BlockInvariant p n value picture) → ((core : ℕ) → ¬ MayStore p (held_by picture core).state) → g.claims.owned ≡ false
-unfolding fits
 nobody_owns {p} {n} {value} {picture} g idle = sym g.is_owned ∙ false_from_ne_true (is_some g.owner) (λ e.
     let (o, is) = some_of g.owner e in
-    let fit = g.states o (g.owner_in o is) in
     let owning : (x : ℕ) → g.owner ≡ Some x → owns g.owner x ≡ true = λ x its. rw (its, eq-eqb x x refl) refl in
-    idle o (owner_stores p _ (and_parts _ _ fit).0 (fits_is_owner p g.claims.shared (owns g.owner o) (own_open picture.transaction o) _ fit ∙ owning o is)))
+    let (row, is_row, hit) = (fit_rule _ _ _ _ _ (g.states o (g.owner_in o is))).0 (owning o is) in
+    idle o (row.next, rw (← is_hit-true row.action hit) is_row))
 
 no_data : (found : Option Open) → data_under_way found ≡ None → brings_data (talk_of found) ≡ false
 no_data None none = refl
@@ -49,12 +33,6 @@ data_is (Some o) value carried = elim (cases_Bool (carries_value o.payload)) [
   | inl e ↦ rw e (carried o refl e)
   | inr e ↦ rw e tt
 ]
-
--- the requestor of an open GetS or GetM is in a state that waits for its data
-open_awaits : (q : Request) (s : CacheState) → q ≢ request.PutM → wait_fits (Some q) s ≡ true → awaited_request s ≡ Some q
-unfolding wait_fits
-open_awaits request.GetS state.IsD get fit = refl
-open_awaits _ _ get fit = search rules
 
 pub idle_evict : (s : CacheState) (o : Op) → is_idle_evict s (asked o) ≡ true → (o ≡ op.Evict) × (s ≡ state.I)
 idle_evict state.I op.Evict h = (refl, refl)
@@ -120,11 +98,11 @@ module _ (s : Situation) (g : Invariant s) where
 
   -- no core keeps words that it may not read
   pub kept_read : (core block : ℕ) → IsSome (held_by (picture_of s block) core).kept → MayLoad s.protocol (state_of s core block)
-  unfolding fits
   kept_read core block is =
       let within = held_within core block (λ x. IsSome x.kept) (λ h. cc) is in
       let good = g.blocks block within.1 in
-      keeper_loads s.protocol (state_of s core block) (and_parts _ _ (good.states core within.0)).0 (sym (good.proper core within.0).kept ∙ is)
+      let (row, is_row, hit) = (fit_rule _ _ _ _ _ (good.states core within.0)).1.0 (sym (good.proper core within.0).kept ∙ is) in
+      (row.next, rw (← is_hit-true row.action hit) is_row)
 
   -- data under way has flat memory's value
   pub data_current : (block : ℕ) → block < s.shape.blocks → IfSome (data_under_way (picture_of s block).transaction) (λ words. words ≡ flat_words s.log block)
@@ -161,8 +139,7 @@ module _ (s : Situation) (g : Invariant s) where
         let good = g.blocks block (opened_within block o is.0) in
         let there : core < s.shape.cores = rw (← is.1) (good.requestor_in o is.0) in
         let its : own_open (picture_of s block).transaction core ≡ Some q = rw (is.0, is.1, eq-eqb core core refl, is.2) refl in
-        let fit = fits_waits s.protocol good.claims.shared (owns good.owner core) (own_open (picture_of s block).transaction core) (state_of s core block) (good.states core there) in
-        open_awaits q (state_of s core block) open_get.1 (rw its at fit),
+        (fit_rule _ _ _ _ _ (good.states core there)).1.1 q its (not_put q open_get.1),
   )
 
   -- a core that waits is within the shape, and so is its block

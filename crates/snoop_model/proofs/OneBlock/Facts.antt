@@ -16,14 +16,6 @@ pub owns_owned : (owner : Option ℕ) (d : ℕ) (b : Bool) → is_some owner ≡
 owns_owned None d b e = refl
 owns_owned (Some o) d b e = rw (← e) (or_right (not (eqb d o)) true refl)
 
-pub fits_is_owner : (p : Protocol) (shared ow : Bool) (w : Option Request) (s : CacheState) → fits p shared ow w s ≡ true → is_owner s ≡ ow
-unfolding fits
-fits_is_owner p shared ow w s h = same_is _ _ (and_parts _ _ (and_parts _ _ h).1).0
-
-pub fits_waits : (p : Protocol) (shared ow : Bool) (w : Option Request) (s : CacheState) → fits p shared ow w s ≡ true → wait_fits w s ≡ true
-unfolding fits
-fits_waits p shared ow w s h = (and_parts (not (is_sharer s) || shared) _ (and_parts (same (is_owner s) ow) _ (and_parts (in_protocol p s) _ h).1).1).1
-
 -- what the invariant says of one core's line, where the block's words and memory's are these
 pub record LineFits (p : Protocol) (shared owning : Bool) (wait : Option Request) (words memory : List ℕ) (line : Line) : Type 0 where
   pub fit : fits p shared owning wait line.state ≡ true

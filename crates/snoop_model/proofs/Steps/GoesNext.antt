@@ -1,14 +1,14 @@
 -- Each step that goes comes to what is computed of it, and from every situation of a run each step goes so.
-use Rattle.std.proofs.Common.{◌≡◌, ℕ, zero, suc, ◌<◌, ◌≤◌, ◌&&◌, Bool, true, false, List, length, Option, Some, None, refl, ◌⊎◌, inl, inr, ap, ◌∙◌, arith}
+use Rattle.std.proofs.Common.{sym, ◌≡◌, ℕ, zero, suc, ◌<◌, ◌≤◌, ◌&&◌, Bool, true, false, List, length, Option, Some, None, refl, ◌⊎◌, inl, inr, ap, ◌∙◌, arith}
 use Rattle.std.specs.Bool.{Decides}
 use Rattle.snoop_model.proofs.Lists.Facts.{option_both}
-use Rattle.snoop_model.proofs.Common.{option_and_then_some, cond_both, waiting_request, cell_of, Access, all_payloads, all_protocols, all_states, all_states-at, and_cases, and_from, and_left, and_parts, and_right, arrival, arrival_at_memory, ArrivesFor, Ask, asked, both_ways, CacheAction, CacheCell, CacheEvent, CacheState, CanOrder, cases_Bool, cases_eq, cases_lt, Cell, Decides-and, Decides-ltb, Did, Err, Extent, false_from_ne_true, fill_by_all, FillsRequestor, FirstMove, flat_words, get_or-map-range_with_len, GoesFirst, HasWord, held_at, held_by, Hits, if◌then◌else◌, Invariant, is_load, is_put_m, is_some, IsOnlySender, IsProper, IsWithin, Item, le-ltb, length-map-range_with_len, Line, lt-ltb, ltb, ltb-false, ltb-true, MemAction, MemCell, MemEvent, MemState, missed_request, nothing_held, Ok, Op, Open, option_map, option_map_or, Order, Orders, Payload, Performs, Picture, picture_of, Protocol, queue_of, Refused, Refuses, Reply, Request, request_for, Respond, Responds, Result, seen_by, Situation, slice_get, StandsFirst, state_of, Step, Takes, takes_payload, unwrap_or, word_places, written, zero_words}
+use Rattle.snoop_model.proofs.Common.{none-some, option_and_then_some, cond_both, waiting_request, cell_of, Access, all_payloads, all_protocols, all_states, all_states-at, and_cases, and_from, and_left, and_parts, and_right, arrival, arrival_at_memory, ArrivesFor, Ask, asked, both_ways, CacheAction, CacheCell, CacheEvent, CacheState, CanOrder, cases_Bool, cases_eq, cases_lt, Cell, Decides-and, Decides-ltb, Did, Err, Extent, false_from_ne_true, fill_by_all, FillsRequestor, FirstMove, flat_words, get_or-map-range_with_len, GoesFirst, HasWord, held_at, held_by, Hits, if◌then◌else◌, Invariant, is_load, is_put_m, is_some, IsOnlySender, IsProper, IsWithin, Item, le-ltb, length-map-range_with_len, Line, lt-ltb, ltb, ltb-false, ltb-true, MemAction, MemCell, MemEvent, MemState, missed_request, nothing_held, Ok, Op, Open, option_map, option_map_or, Order, Orders, Payload, Performs, Picture, picture_of, Protocol, queue_of, Refused, Refuses, Reply, Request, request_for, Respond, Responds, Result, seen_by, Situation, slice_get, StandsFirst, state_of, Step, Takes, takes_payload, unwrap_or, word_places, written, zero_words}
 use Rattle.snoop_trace.specs.declared.step.Op.TheVariants as op
 use Rattle.snoop_rules.specs.declared.names.CacheAction.TheVariants as action
 use Rattle.snoop_rules.specs.declared.names.Request.TheVariants as request
 use Rattle.snoop_model.specs.declared.replies.Refused.TheVariants.{NoCore, NoBlock, Stalled, NothingWaiting, BusTaken, NoTransaction}
 use Rattle.snoop_model.proofs.Lines.TheSender.{IsBelow, sends_below}
-use Rattle.snoop_model.proofs.Tables.{SentBy.payload_from, SentBy.sends_is, SentBy.sends_row, RespondTests.data_rule, RespondTests.fills, RespondTests.settled_so, RespondTests.row_for, StateTests.some_of, Rows.is_evict, Rows.asked_answers, Rows.hit_keeps, AskTests.is_idle_evict}
+use Rattle.snoop_model.proofs.Tables.{SentBy.payload_from, SentBy.sends_is, SentBy.sends_row, RespondTests.data_rule, RespondTests.fills, RespondTests.settled_so, RespondTests.row_for, StateTests.some_of, Rows.is_evict, Rows.action_rule, Rows.serving-asked, Rows.hit_keeps, AskTests.is_idle_evict}
 use Rattle.snoop_model.proofs.OneBlock.{OfBlocks.same_picture, OfBlocks.same_memory, Possible.ask_possible, RespondStep.close, RespondStep.answered}
 use Rattle.snoop_model.proofs.Steps.Next.{Next, value_of, words_after, has_word, after_ask, by_row, next_asked, sender_below, line_after, next_picture, next_ordered, filled, brought, next_closed, next_of, next_first}
 use Rattle.snoop_model.proofs.Invariant.Coherence.{orders_follow_sender_table, finds_rows, idle_evict, waits_within}
@@ -151,7 +151,7 @@ module _ (s : Situation) (core block word : ℕ) (asking : Op) (within : IsWithi
   goes_by action.Stall next row proper = ((within, refl, (next, row), has), refl)
   goes_by (action.Issue r) next row proper = taken (action.Issue r) next row _ _ None (refl, refl, refl)
   goes_by action.Drop next row proper = taken action.Drop next row _ _ None (refl, refl, refl)
-  goes_by _ next row proper = let clash = asked_answers s.protocol (state_of s core block) asking _ next row in cc
+  goes_by _ next row proper = absurd (none-some _ (sym (action_rule s.protocol (state_of s core block) (asked asking) _ next row).0 ∙ serving-asked asking))
 
   goes_within : Invariant s → (let n = next_asked s core block word asking in GoesFirst s (Ask core block word asking) n.0 n.1)
   goes_within g =

@@ -1,9 +1,11 @@
 -- Tests of the rows of an Ask, computed over the whole tables.
-use Rattle.std.proofs.Common.{◌≡◌, ◌&&◌, Bool, true, false, Option, refl}
-use Rattle.snoop_model.proofs.Common.{all_events, all_events-at, all_protocols, all_requests, all_requests-at, all_states, asked, CacheCell, CacheEvent, CacheState, cell_of, fits, in_protocol, is_clean, is_owner, is_sharer, Op, Protocol, Request, request_for, same, wait_fits}
+use Rattle.std.proofs.Common.{Some, ◌≡◌, ◌&&◌, Bool, true, false, Option, refl}
+use Rattle.snoop_model.proofs.Common.{awaited_request, is_put_m, keeps, CacheAction, all_events, all_events-at, all_protocols, all_requests, all_requests-at, all_states, asked, CacheCell, CacheEvent, CacheState, cell_of, fits, in_protocol, is_clean, is_owner, is_sharer, Op, Protocol, Request, request_for, same, wait_fits}
+use Rattle.snoop_rules.specs.declared.names.CacheAction.TheVariants as action
+use Rattle.snoop_rules.specs.contracts.names.Request.{the_type as requests}
 use Rattle.snoop_rules.specs.declared.names.CacheState.TheVariants as state
 use Rattle.snoop_rules.specs.declared.names.CacheEvent.TheVariants as event
-use Rattle.snoop_model.proofs.Tables.{Tested.◌also◌, Tested.Tested, Tested.each_bool, Tested.each_fitting, Tested.each_of, Tested.each_option, Tested.each_protocol, Tested.fails, Tested.found, Tested.given, Tested.holds, Tested.provided, Tested.unless, StateTests.is_hit, StateTests.carries, Rows.serving, Rows.serving-asked}
+use Rattle.snoop_model.proofs.Tables.{Tested.◌also◌, Tested.Tested, Tested.equal, Tested.each_bool, Tested.each_fitting, Tested.each_of, Tested.each_option, Tested.each_protocol, Tested.fails, Tested.found, Tested.given, Tested.holds, Tested.provided, Tested.unless, StateTests.is_hit, StateTests.carries, Rows.serving, Rows.serving-asked}
 
 abbrev pub is_store : CacheEvent → Bool
 is_store event.Store = true
@@ -34,3 +36,18 @@ every_rule = every_ask.sound refl
 
 pub ask_rule : (p : Protocol) (shared ow : Bool) (w : Option Request) (s : CacheState) (o : Op) → fits p shared ow w s ≡ true → (ask_claims p shared ow w s (asked o)).claim
 ask_rule p shared ow w s o fit = every_rule p shared w s ow fit (asked o) (request_for o) (serving-asked o)
+
+pub is_hit-true : (a : CacheAction) → is_hit a ≡ true → a ≡ action.Hit
+is_hit-true action.Hit h = refl
+is_hit-true _ h = cc
+
+-- a core whose state fits may store where it owns the block, and load where it keeps words, and after its own GetS or GetM it awaits the data
+abbrev every_fit : Tested
+every_fit = each_protocol λ p. each_bool λ shared. each_option all_requests all_requests-at λ w. each_fitting p shared w λ s owns.
+    provided owns (λ _. found (cell_of p s event.Store) (λ row. holds (is_hit row.action)))
+    also provided (keeps s) (λ _. found (cell_of p s event.Load) (λ row. holds (is_hit row.action)))
+    also given w (λ q. unless (is_put_m q) (λ _. equal requests tt (awaited_request s) (Some q)))
+
+pub fit_rule : every_fit.claim
+unfolding all_protocols all_states all_requests fits is_owner is_sharer is_clean wait_fits in_protocol same
+fit_rule = every_fit.sound refl

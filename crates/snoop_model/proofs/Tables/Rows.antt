@@ -24,14 +24,6 @@ abbrev pub is_evict : CacheEvent → Bool
 is_evict event.Evict = true
 is_evict _ = false
 
--- an action that answers what is asked
-abbrev pub answers : CacheAction → Bool
-answers action.Hit = true
-answers action.Stall = true
-answers (action.Issue q) = true
-answers action.Drop = true
-answers _ = false
-
 -- the request that has missed once one is issued at this event
 abbrev pub missed_at : CacheEvent → Option Request
 missed_at event.Load = Some GetS
@@ -47,7 +39,7 @@ serving e = missed_at e
 abbrev pub is_busy : CacheState → Bool
 is_busy state = is_some (waiting_request state) || is_some (awaited_request state)
 
--- what an action does to what is kept, to what has missed and to what waits: an issue, of the request that serves, begins to wait where nothing did; a fill ends what has missed; a hit, of kept words, and an Evict's drop, to I, leave both; a stall comes only where the core waits
+-- what an action does to what is kept, to what has missed and to what waits: an issue, of the request that serves, begins to wait where nothing did; a fill ends what has missed; a hit, of kept words, and an Evict's drop, to I, leave both; a stall comes only where the core waits; nothing else answers what is asked
 abbrev pub action_claims : CacheState → CacheEvent → CacheState → CacheAction → Tested
 action_claims s e n (action.Issue q) =
     alike (keeps n) (keeps s && not (given_up n)) also (same_request (waiting_request s) None also same_request (waiting_request n) (Some q))
@@ -58,13 +50,13 @@ action_claims s e n action.Drop =
     alike (keeps n) (keeps s && not (given_up n)) also same_request (missed_request s) (missed_request n) also same_request (waiting_request n) (waiting_request s)
     also (holds (is_evict e) also equal states tt (Some n) (Some I))
 action_claims s e n action.Stall = holds (is_busy s)
-action_claims s e n action.FillLoad = holds (keeps n) also same_request (missed_request n) None also same_request (waiting_request n) (waiting_request s)
-action_claims s e n action.FillStore = holds (keeps n) also same_request (missed_request n) None also same_request (waiting_request n) (waiting_request s)
-action_claims s e n _ = holds true
+action_claims s e n action.FillLoad = same_request (serving e) None also holds (keeps n) also same_request (missed_request n) None also same_request (waiting_request n) (waiting_request s)
+action_claims s e n action.FillStore = same_request (serving e) None also holds (keeps n) also same_request (missed_request n) None also same_request (waiting_request n) (waiting_request s)
+action_claims s e n _ = same_request (serving e) None also holds true
 
--- what is claimed of a row: what its action does, and that it answers what is asked, after which the core awaits what it awaited
+-- what is claimed of a row: what its action does, and that after what is asked the core awaits what it awaited
 abbrev row_claims : Protocol → CacheState → CacheEvent → CacheAction → CacheState → Tested
-row_claims p s e a n = action_claims s e n a also given (serving e) (λ _. holds (answers a) also given (awaited_request n) (λ r. same_request (awaited_request s) (Some r)))
+row_claims p s e a n = action_claims s e n a also given (serving e) (λ _. given (awaited_request n) (λ r. same_request (awaited_request s) (Some r)))
 
 rule : (each_cell row_claims).claim
 unfolding each_row all_protocols all_states all_events same
@@ -99,22 +91,18 @@ module _ (p : Protocol) (s : CacheState) (e : CacheEvent) (a : CacheAction) (n :
   fill_facts _ fill row = rw fill at (action_rule p s e a n row)
 
   pub fill-waits : (asking : Op) → IsFill asking → Cell p s e a n → waiting_request n ≡ waiting_request s
-  fill-waits asking fill row = (fill_facts asking fill row).1.1
+  fill-waits asking fill row = (fill_facts asking fill row).1.1.1
 
   pub IsProper-fill : (asking : Op) (after : List ℕ) → IsFill asking → Cell p s e a n → IsProper (record { state = n; kept = Some after; waiting = None })
-  IsProper-fill asking after fill row = let f = fill_facts asking fill row in record { kept = sym f.0; waiting = sym f.1.0 }
+  IsProper-fill asking after fill row = let f = fill_facts asking fill row in record { kept = sym f.1.0; waiting = sym f.1.1.0 }
 
 pub serving-asked : (asking : Op) → serving (asked asking) ≡ Some (request_for asking)
 serving-asked op.Evict = refl
 serving-asked _ = refl
 
-module _ (p : Protocol) (s : CacheState) (asking : Op) (a : CacheAction) (n : CacheState) (row : Cell p s (asked asking) a n) where
-  pub asked_answers : answers a ≡ true
-  asked_answers = ((rule p s (asked asking) a n row).1 (request_for asking) (serving-asked asking)).0
-
-  -- an Ask leaves what its core awaits
-  pub awaited-asked : (r : Request) → awaited_request n ≡ Some r → awaited_request s ≡ Some r
-  awaited-asked = ((rule p s (asked asking) a n row).1 (request_for asking) (serving-asked asking)).1
+-- an Ask leaves what its core awaits
+pub awaited-asked : (p : Protocol) (s : CacheState) (asking : Op) (a : CacheAction) (n : CacheState) → Cell p s (asked asking) a n → (r : Request) → awaited_request n ≡ Some r → awaited_request s ≡ Some r
+awaited-asked p s asking a n row = (rule p s (asked asking) a n row).1 (request_for asking) (serving-asked asking)
 
 is_some-kept_on : (next : CacheState) (kept : Option (List ℕ)) (b : Bool) → is_some kept ≡ b → is_some (kept_on next kept) ≡ (b && not (given_up next))
 is_some-kept_on I kept b h = sym (and-false b)
