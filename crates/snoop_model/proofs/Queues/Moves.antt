@@ -117,7 +117,7 @@ arrives_waits closing p log old new did arrives k = elim (by_request closing.req
   | inl put ↦ rw put.1 refl
   | inr f ↦ elim (filled_or_same f k) [
     | inl e ↦ rw (e.1, f.fills.held, e.0) (fill-waits p (held_at old closing.core).state f.fills.event f.fills.row.action f.fills.row.next f.asking.op f.fills.fill f.fills.is_row)
-    | inr e ↦ rw e refl
+    | inr e ↦ rw e.0 refl
   ]
 ]
 
@@ -126,9 +126,10 @@ none_awaits : (s : Situation) (kept : IsWellKept s) (block : ℕ) (closing : Ope
     → (k : ℕ) (q : Request) → awaited_request (held_by r.next k).state ≡ Some q → ⊥
 none_awaits s kept block closing did t r k q h = elim (by_request closing.request r.requestor) [
   | inl put ↦ let was = rw put.1 at h in awaited-get (state_of s k block) (cc (was, (its was).1, put.0))
-  | inr f ↦
-      let same : closing.core ≡ k = elim (filled_or_same f k) [ inl e ↦ sym e.0 | inr e ↦ (its (rw e at h)).0 ] in
-      filled f (rw (← same) at h)
+  | inr f ↦ elim (filled_or_same f k) [
+    | inl e ↦ none-some q (sym (data_rule s.protocol (state_of s closing.core block) closing.payload f.fills.row (rw f.fills.arrives f.fills.is_row)).1 ∙ rw (e.1, f.fills.held) at h)
+    | inr e ↦ let was = rw e.0 at h in none-some q (rw (e.1 (sym (its was).0)) at was)
+  ]
 ]
   where
     -- what it awaited was of this transaction
@@ -137,14 +138,6 @@ none_awaits s kept block closing did t r k q h = elim (by_request closing.reques
         let had = kept.awaits k block q was in
         let same : had.0 ≡ closing = same_Some _ _ (sym had.1.0 ∙ r.opened) in
         rw (← same) (had.1.1, had.1.2)
-
-    -- and a line that is filled awaits no more
-    filled : (f : FillsRequestor closing s.protocol s.log (picture_of s block).caches r.next.caches did) → awaited_request (held_by r.next closing.core).state ≡ Some q → ⊥
-    filled f = each_held r.next.caches closing.core (λ x. awaited_request x.state ≡ Some q → ⊥)
-        (λ below. let inside : closing.core < length (picture_of s block).caches = rw (f.held, length-set) at below in
-        rw (f.held, get_or-set_same (picture_of s block).caches closing.core f.line nothing_held inside, f.fills.held)
-        (λ awaits. none-some q (sym (data_rule s.protocol (state_of s closing.core block) closing.payload f.fills.row (rw f.fills.arrives f.fills.is_row)).1 ∙ awaits)))
-        (λ h. cc)
 
 pub on_kept : (block : ℕ) (s t : Situation) (step : Step) (answer : Reply) → IsWellKept s → MoveOn block s step answer t → IsWellKept t
 on_kept block s t (Ask core on word asking) answer kept m = elim m.moves [
