@@ -13,7 +13,7 @@ use Rattle.snoop_rules.specs.Takers.{other as another}
 use Rattle.snoop_model.specs.Moves.LookUps.{HasRow, HasMemRow, ConsultsCache, ConsultsMemory, FindsRows}
 use Rattle.snoop_model.specs.Pictures.OneWriter.{OneWriter}
 use Rattle.snoop_model.proofs.Tables.{StateTests.some_of, AskTests.ask_rule, AskTests.fit_rule, AskTests.is_hit-true, AskTests.is_idle_evict, Rows.hit_keeps, RespondTests.memory_row_for, RespondTests.row_for, RespondTests.awaited-get, StateTests.brings_data, StateTests.claims_rule}
-use Rattle.snoop_model.proofs.OneBlock.{OrderStep.seen_other, Facts.one_writer, Facts.each_held, Possible.order_possible, Possible.ask_possible, RespondStep.Closing, RespondStep.close, RespondStep.answered}
+use Rattle.snoop_model.proofs.OneBlock.{OrderStep.seen_other, Facts.owned_alone, Facts.each_held, Possible.order_possible, Possible.ask_possible, RespondStep.Closing, RespondStep.close, RespondStep.answered}
 
 -- where no core may write the block, none owns it
 nobody_owns : {p : Protocol} {n : ℕ} {value : List ℕ} {picture : Picture} (g : BlockInvariant p n value picture) → ((core : ℕ) → ¬ MayStore p (held_by picture core).state) → g.claims.owned ≡ false
@@ -87,7 +87,7 @@ module _ (s : Situation) (g : Invariant s) where
           let ow = owns good.owner core in
           let (_, rule) = ask_rule _ _ _ _ _ (op.Store 0) (good.states core within.0) in
           let (owning, _) = (rule (record { action = action.Hit; next = writes.0 }) writes.1).1.1 refl in
-          both_ways _ (one_writer good core owning other (keeper_within other block keeping).0 apart) keeping
+          both_ways _ ((owned_alone good core owning).2 other (keeper_within other block keeping).0 apart) keeping
 
   -- each reader keeps flat memory's value
   pub readers_current : (core block : ℕ) → MayLoad s.protocol (state_of s core block) → (held_by (picture_of s block) core).kept ≡ Some (flat_words s.log block)

@@ -4,24 +4,9 @@ use Rattle.snoop_model.proofs.Common.{both_ways, same_Some, Protocol, Op, CacheA
 use Rattle.snoop_trace.specs.declared.step.Op.TheVariants as op
 use Rattle.snoop_rules.specs.declared.names.CacheEvent.TheVariants as event
 use Rattle.snoop_rules.specs.declared.names.CacheAction.TheVariants as action
-use Rattle.snoop_model.proofs.OneBlock.{Operation.did_in, Operation.flat_after, Operation.IsLawful, Facts.LineFits, Facts.carried_line, Facts.line_of, Facts.one_writer, Facts.owned_alone, Facts.still_fits}
+use Rattle.snoop_model.proofs.OneBlock.{Operation.did_in, Operation.flat_after, Operation.IsLawful, Facts.LineFits, Facts.carried_line, Facts.line_of, Facts.owned_alone, Facts.still_fits}
 use Rattle.snoop_model.proofs.Lists.Writes.{each_set}
 use Rattle.snoop_model.proofs.Tables.{Rows.hit_keeps, Rows.IsProper-issue, Rows.IsProper-hit, Rows.IsProper-drop, AskTests.ask_rule, AskTests.asked_row, StateTests.kept_reader}
-
--- an operation that changes the block's words is of a core that owns it
-module _ {p : Protocol} {n : ℕ} {flat : List ℕ} {picture : Picture} (g : BlockInvariant p n flat picture)
-    (c : ℕ) (words : List ℕ) (changed : (words ≡ flat) ⊎ (owns g.owner c ≡ true)) where
-  unchanged : (b : Bool) → (owns g.owner c ≡ true → b ≡ false) → b ≡ true → words ≡ flat
-  unchanged b unless h = elim changed [ inl same ↦ same | inr owning ↦ absurd (both_ways b (unless owning) h) ]
-
-  other_fits : (d : ℕ) → d < n → d ≢ c → LineFits p g.claims.shared (owns g.owner d) (own_open picture.transaction d) words picture.memory.value (held_by picture d)
-  other_fits d d_in apart = still_fits (held_by picture d) (line_of g d d_in) (unchanged _ (λ owning. one_writer g c owning d d_in apart)) (λ is. is) (g.states d d_in)
-
-  still_fresh : g.claims.fresh ≡ true → picture.memory.value ≡ words
-  still_fresh h = g.fresh h ∙ sym (unchanged _ (λ owning. (owned_alone g c owning).0) h)
-
-  still_carried : (o : Open) → picture.transaction ≡ Some o → carries_value o.payload ≡ true → o.value ≡ words
-  still_carried o is_o carrying = g.carried o is_o carrying ∙ sym (unchanged _ (λ owning. rw is_o at (owned_alone g c owning).1) carrying)
 
 module _ (s : Situation) (core block word : ℕ) (asking : Op) (answer : Reply) (new : Situation) (asks : Asks s core block word asking answer new)
     (n : ℕ) (flat : List ℕ) (g : BlockInvariant s.protocol n flat (picture_of s block)) (asker_in : core < n) (in_row : core < length (picture_of s block).caches) where
@@ -63,9 +48,12 @@ module _ (s : Situation) (core block word : ℕ) (asking : Op) (answer : Reply) 
       let words = flat_after flat (did_in asks.entry) in
       let (_, rule) = ask_rule _ _ _ _ _ asking (g.states core asker_in) in
       let (line, changed, lawful) = asker asks.row.action asking asks.is_row (rule asks.row asks.is_row) asks.taken in
+      let unchanged : (b : Bool) → (owns g.owner core ≡ true → b ≡ false) → b ≡ true → words ≡ flat =
+      λ b unless h. elim changed [ inl same ↦ same | inr owning ↦ absurd (both_ways b (unless owning) h) ] in
       let lines = each_set before.caches core asks.held nothing_held
       (λ d x. d < n → LineFits s.protocol g.claims.shared (owns g.owner d) (own_open before.transaction d) words before.memory.value x)
-      in_row (λ c_in. line) (λ d apart d_in. other_fits g core words changed d d_in apart) in
+      in_row (λ c_in. line) (λ d apart d_in.
+      still_fits (held_by before d) (line_of g d d_in) (unchanged _ (λ owning. (owned_alone g core owning).2 d d_in apart)) (λ is. is) (g.states d d_in)) in
       let good : BlockInvariant s.protocol n words (with_line before core asks.held) = record {
         claims = g.claims;
         is_claims = g.is_claims;
@@ -75,8 +63,8 @@ module _ (s : Situation) (core block word : ℕ) (asking : Op) (answer : Reply) 
         states = λ d d_in. (lines d d_in).fit;
         kept = λ d d_in. (lines d d_in).kept;
         clean = λ d d_in. (lines d d_in).clean;
-        fresh = still_fresh g core words changed;
-        carried = still_carried g core words changed;
+        fresh = λ h. g.fresh h ∙ sym (unchanged _ (λ owning. (owned_alone g core owning).0) h);
+        carried = λ o is_o carrying. g.carried o is_o carrying ∙ sym (unchanged _ (λ owning. rw is_o at (owned_alone g core owning).1) carrying);
         requestor_in = g.requestor_in;
         sender_in = g.sender_in;
         proper = λ d d_in. (lines d d_in).proper;

@@ -38,9 +38,6 @@ pub owner_is : (owner : Option ℕ) (d : ℕ) → owns owner d ≡ true → owne
 owner_is None d h = cc
 owner_is (Some o) d h = rw (eqb-true d o h) refl
 
-pub owns_one : (owner : Option ℕ) (c d : ℕ) → owns owner c ≡ true → d ≢ c → owns owner d ≡ false
-owns_one owner c d h apart = rw (owner_is owner c h) (ne_eqb d c apart)
-
 -- two cores do not both own
 pub owns_apart : (owner : Option ℕ) (c d : ℕ) → d ≢ c → not (owns owner d && owns owner c) ≡ true
 owns_apart None c d apart = refl
@@ -55,11 +52,7 @@ module _ {p : Protocol} {n : ℕ} {flat : List ℕ} {picture : Picture} (g : Blo
       → (g.claims.fresh ≡ false) × (brings_data (talk_of picture.transaction) ≡ false) × ((d : ℕ) → d < n → d ≢ c → keeps (held_by picture d).state ≡ false)
   owned_alone c owning =
       let (unfresh, (no_data, blind)) = (claims_rule p picture.memory.state (talk_of picture.transaction) g.claims g.is_claims).0 (sym g.is_owned ∙ rw (owner_is g.owner c owning) refl) in
-      (unfresh, no_data, λ d d_in apart. of_open p g.claims.shared picture.transaction _ blind d _ _ (g.states d d_in) (owns_one g.owner c d owning apart))
-
-  -- one writer alone, or only readers
-  pub one_writer : (c : ℕ) → owns g.owner c ≡ true → (d : ℕ) → d < n → d ≢ c → keeps (held_by picture d).state ≡ false
-  one_writer c owning = (owned_alone c owning).2
+      (unfresh, no_data, λ d d_in apart. of_open p g.claims.shared picture.transaction _ blind d _ _ (g.states d d_in) (rw (owner_is g.owner c owning) (ne_eqb d c apart)))
 
 -- whether a sender, memory or a core, is this one
 abbrev pub is_it : Option ℕ → Option ℕ → Bool

@@ -33,11 +33,6 @@ written_flat : (a : MemAction) (v old flat : List ℕ) → (writes a ≡ true �
 written_flat mem_action.Write v old flat new stays = new refl
 written_flat _ v old flat new stays = stays refl
 
--- whether a core owns the block then, if the requestor does in the owner's place where none owned it
-owned_after : (before after : Bool) (c : ℕ) (owner : Option ℕ) → is_some owner ≡ before → (not before || after) ≡ true
-    → is_some (cond (not before && after) (Some c) owner) ≡ after
-owned_after before after c owner is h = grind arith
-
 -- the words that the operation leaves are those in flat memory after it
 module _ (flat : List ℕ) (log : List Item) (core block word value : ℕ) (came after : List ℕ) where
   abbrev done : Op → Option Did
@@ -94,7 +89,7 @@ module _ (s : Situation) (block : ℕ) (o : Open) (did : Option Did) (new : Situ
         is_claims = simp r.closed (rw memory_is at found.is_next);
         owner = cond gained (Some o.core) g.owner;
         owner_in = cond_both gained (Some o.core) g.owner (OwnerIn n) (λ is. core_in n o.core (g.requestor_in o r.opened)) (λ is. g.owner_in);
-        is_owned = owned_after g.claims.owned found.next.owned o.core g.owner g.is_owned found.tests.1.0;
+        is_owned = grind (arith, g.is_owned, found.tests.1.0);
         states = λ d d_in. simp r.closed (lines d d_in).fit;
         kept = λ d d_in. (lines d d_in).kept;
         clean = λ d d_in. (lines d d_in).clean;
