@@ -1,9 +1,8 @@
 -- What the invariant says of a situation: one writer, current copies and memory, all rows, one sender.
-use Rattle.std.proofs.Common.{length, ◌≡◌, ◌≢◌, ℕ, true, false, List, [], Option, Some, None, refl, inl, inr, sym, ◌∙◌, arith, rules}
+use Rattle.std.proofs.Common.{length, ◌≡◌, ◌≢◌, ℕ, true, false, List, [], Option, Some, None, refl, inl, inr, sym, ◌∙◌, arith}
 use Rattle.snoop_model.proofs.Lists.Facts.{if_some}
-use Rattle.snoop_model.proofs.Common.{FollowsSenderTable, and_parts, arrival, arrival_at_memory, Ask, asked, awaited_request, BlockInvariant, both_ways, CacheEvent, CacheState, CanOrder, carries_value, cases_Bool, cases_lt, Cell, data_under_way, eq-eqb, false_from_ne_true, fits, flat_words, ForSome, get_or_past, HasOpen, held_by, IfSome, in_protocol, Invariant, is_clean, is_owner, is_put_m, is_some, IsSome, IsSomeAnd, IsWellKept, IsWithin, keeps, Line, MemEvent, none-some, nothing_held, nothing_there, Op, Open, Order, OrdersFollowSenderTable, own_open, owns, Picture, picture_of, Protocol, Request, Respond, seen_by, Situation, state_of, Step, talk_of, wait_fits, waiting_request, Waits, ◌<◌, ◌↔◌, ◌≤◌}
+use Rattle.snoop_model.proofs.Common.{ne_eqb, FollowsSenderTable, arrival, arrival_at_memory, Ask, asked, awaited_request, BlockInvariant, both_ways, CacheEvent, CacheState, CanOrder, carries_value, cases_Bool, cases_lt, Cell, data_under_way, eq-eqb, false_from_ne_true, flat_words, ForSome, get_or_past, HasOpen, held_by, IfSome, Invariant, is_put_m, is_some, IsSome, IsSomeAnd, IsWellKept, IsWithin, keeps, Line, MemEvent, none-some, nothing_held, nothing_there, Op, Open, Order, OrdersFollowSenderTable, own_open, owns, Picture, picture_of, Protocol, Request, Respond, seen_by, Situation, state_of, Step, talk_of, waiting_request, Waits, ◌<◌, ◌↔◌, ◌≤◌}
 use Rattle.snoop_trace.specs.declared.step.Op.TheVariants as op
-use Rattle.snoop_trace.specs.declared.protocol.Protocol.TheVariants.{Msi, Mesi}
 use Rattle.snoop_rules.specs.declared.names.CacheState.TheVariants as state
 use Rattle.snoop_rules.specs.declared.names.CacheEvent.TheVariants as event
 use Rattle.snoop_rules.specs.declared.names.CacheAction.TheVariants as action
@@ -13,7 +12,7 @@ use Rattle.snoop_rules.specs.Takers.{other as another}
 use Rattle.snoop_model.specs.Moves.LookUps.{HasRow, HasMemRow, ConsultsCache, ConsultsMemory, FindsRows}
 use Rattle.snoop_model.specs.Pictures.OneWriter.{OneWriter}
 use Rattle.snoop_model.proofs.Tables.{StateTests.some_of, AskTests.ask_rule, AskTests.fit_rule, AskTests.is_hit-true, AskTests.is_idle_evict, Rows.hit_keeps, RespondTests.memory_row_for, RespondTests.row_for, RespondTests.awaited-get, StateTests.brings_data, StateTests.claims_rule}
-use Rattle.snoop_model.proofs.OneBlock.{OrderStep.seen_other, Facts.owned_alone, Facts.each_held, Possible.order_possible, Possible.ask_possible, RespondStep.Closing, RespondStep.close, RespondStep.answered}
+use Rattle.snoop_model.proofs.OneBlock.{Facts.owned_alone, Facts.each_held, Possible.order_possible, Possible.ask_possible, RespondStep.Closing, RespondStep.close, RespondStep.answered}
 
 -- where no core may write the block, none owns it
 nobody_owns : {p : Protocol} {n : ℕ} {value : List ℕ} {picture : Picture} (g : BlockInvariant p n value picture) → ((core : ℕ) → ¬ MayStore p (held_by picture core).state) → g.claims.owned ≡ false
@@ -161,7 +160,7 @@ module _ (s : Situation) (g : Invariant s) where
   seen_row : (core block : ℕ) (q : Request) → CanOrder s core block q → (k : ℕ) → HasRow s.protocol (state_of s k block) (seen_by k core q)
   seen_row core block q ready k = each_line k block (λ x. (k ≡ core → waiting_request x.state ≡ Some q) → HasRow s.protocol x.state (seen_by k core q))
       (λ within waits. (possible_order core block q ready).0 k (rw (g.shaped.row block within.1) within.0))
-      (λ waits. rw (seen_other k core q (λ same. none-some q (waits same))) (nothing_seen s.protocol q))
+      (λ waits. rw (ne_eqb k core (λ same. none-some q (waits same))) (nothing_seen s.protocol q))
       (λ same. rw same ready.0)
 
   respond_rows : (block : ℕ) (o : Open) (opened : (picture_of s block).transaction ≡ Some o) → Closing (g.blocks block (opened_within block o opened)) o

@@ -1,8 +1,7 @@
 -- What every machine keeps makes it safe, and its steps keep it.
 use Rattle.std.proofs.Common.{◌≡◌, ℕ, List, ◌<◌, ◌≤◌, Option, Some, None, refl, ap, sym, ◌∙◌, arith, inl, inr, ◌⊎◌, true}
-use Rattle.snoop_model.proofs.Common.{arrival_at_memory, Ask, asked, CacheAction, CacheCell, CacheState, Cell, cell_of, Extent, flat, flat_words, Goes, HasOpen, held_by, IfSome, Invariant, is_clean, is_some, IsOpenByTable, IsProper, IsSenderLine, IsWellKept, Item, MemCell, takes_payload, keeps, Line, MoveOn, nothing_held, Op, option_map, Order, Orders, Picture, picture_of, Protocol, Refused, Refuses, Reply, Request, reset, Respond, Result, RunBy, same_Some, Situation, state_of, Step, Takes, Waits, with_line, with_picture, word_at}
+use Rattle.snoop_model.proofs.Common.{arrival_at_memory, Ask, asked, CacheAction, CacheState, Cell, Extent, flat, flat_words, Goes, HasOpen, held_by, IfSome, Invariant, is_clean, is_some, IsOpenByTable, IsProper, IsSenderLine, IsWellKept, Item, MemCell, takes_payload, keeps, Line, MoveOn, nothing_held, Op, option_map, Order, Orders, Picture, picture_of, Protocol, Refused, Refuses, Reply, Request, reset, Respond, Result, RunBy, same_Some, Situation, state_of, Step, Takes, Waits, with_line, with_picture, word_at}
 use Rattle.snoop_trace.specs.declared.step.Op.TheVariants as op
-use Rattle.snoop_trace.specs.declared.protocol.Protocol.TheVariants.{Msi, Mesi}
 use Rattle.snoop_rules.specs.declared.names.CacheState.TheVariants as state
 use Rattle.snoop_rules.specs.declared.names.CacheAction.TheVariants as action
 use Rattle.snoop_model.specs.declared.replies.Reply.TheVariants.{Gone}
@@ -11,7 +10,7 @@ use Rattle.snoop_model.specs.Coherent.{IsCoherent}
 use Rattle.snoop_model.specs.Runs.Safe.{IsSafe}
 use Rattle.snoop_model.specs.Invariant.MachineKeeps.{AreOnSenderLines, MachineKeeps}
 use Rattle.snoop_model.proofs.Lists.Facts.{if_some}
-use Rattle.snoop_model.proofs.Tables.{Rows.drop_leaves, Rows.IsProper-drop, SentBy.sends_is, RespondTests.settled_so}
+use Rattle.snoop_model.proofs.Tables.{Rows.action_rule, Rows.IsProper-drop, SentBy.sends_is, RespondTests.settled_so}
 use Rattle.snoop_model.proofs.OneBlock.{AfterMoves.ask_line, AfterMoves.respond_here, OfBlocks.in_pictures, OfBlocks.each_picture}
 use Rattle.snoop_model.proofs.Invariant.{Coherence.has_one_writer, Coherence.kept_read, Coherence.readers_current, Coherence.data_current, Coherence.memory_current, Coherence.names_its_block, Coherence.data_awaited, Coherence.each_line, Coherence.held_within, Coherence.finds_rows, Coherence.orders_follow_sender_table, Runs.reset_invariant, Runs.reset_open, Runs.nothing_proper, Runs.nothing_waits, Runs.goes_kept, Runs.word_flat, Runs.move_keeps}
 use Rattle.snoop_model.proofs.Queues.Moves.{on_kept, starts_well}
@@ -67,7 +66,7 @@ module _ (s : Situation) (g : Invariant s) where
       left (action.Issue request) next row held entry t = (let clash = t.1 in cc)
       left action.Drop next row held entry t =
           let old = held_by (picture_of s block) core in
-          let gone = drop_leaves s.protocol old.state (asked op.Evict) next row in
+          let gone : next ≡ state.I = same_Some _ _ (action_rule s.protocol old.state (asked op.Evict) action.Drop next row).1.1.1.1 in
           let proper = rw gone at (IsProper-drop s.protocol old (asked op.Evict) next (all_proper core block) row) in
           rw (t.0, gone, nothing_waits old.waiting proper.waiting) refl
       left _ next row held entry t = absurd t

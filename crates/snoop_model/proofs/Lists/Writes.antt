@@ -1,6 +1,6 @@
 -- What a write in one place does to a list of lists, and to sums over it.
 use Rattle.std.proofs.Common.{◌≡◌, ◌≢◌, ℕ, zero, suc, ◌+◌, ◌<◌, ◌≤◌, List, [], ◌∷◌, ◌++◌, length, filter, not, Bool, false, Some, refl, ap, arith, inl, inr, ◌⊎◌, slice_index_or, slice_set, slice_get, All, ◌==◌, sum_by, count_by, eq-eqb, get_or-set_same, get_or-set_other}
-use Rattle.snoop_model.proofs.Common.{after_issue, after_order, All-filter, All-push, cond_both, count_by-le-length, get_or_from_slice_get, get_or_past, length-filter, length_push, queue_of, same_Some, set_past, slice_get_within, sum_by-set}
+use Rattle.snoop_model.proofs.Common.{after_issue, after_order, cond_both, count_by-le-length, get_or_from_slice_get, get_or_past, length-filter, length_push, queue_of, same_Some, set_past, slice_get_within, sum_by-set}
 use Rattle.snoop_model.proofs.Lists.Facts.{one_if}
 
 -- what stands in a place after a write
@@ -16,7 +16,7 @@ pub each_set : {A : Type 0} (xs : List A) (i : ℕ) (a d : A) (P : ℕ → A →
 each_set xs i a d P inside here others k = grind (arith, get_or-set_same xs i a d, get_or-set_other xs i k a d, others k)
 
 -- what holds of each value, and of the new one, holds of each then
-each_still : {A : Type 0} (xs : List A) (i : ℕ) (a d : A) (P : ℕ → A → Type 0) → ((k : ℕ) → P k (slice_index_or xs k d)) → P i a → (k : ℕ)
+pub each_still : {A : Type 0} (xs : List A) (i : ℕ) (a d : A) (P : ℕ → A → Type 0) → ((k : ℕ) → P k (slice_index_or xs k d)) → P i a → (k : ℕ)
     → P k (slice_index_or (slice_set xs i a) k d)
 each_still xs i a d P all here k = elim (set_cases xs i k a d) [ inl p ↦ rw (p.1, p.0) here | inr e ↦ rw e (all k) ]
 
@@ -27,17 +27,6 @@ same_set f xs i a d same = each_still xs i a d (λ k x. f x ≡ f (slice_index_o
 
 pub all_first : {A : Type 0} (P : A → Type 0) (xs : List A) (x : A) → All P xs → slice_get xs 0 ≡ Some x → P x
 all_first P xs x all h = rw (get_or_from_slice_get xs 0 x x h) at (all 0 x (slice_get_within xs 0 x h))
-
-pub first_within : {A : Type 0} (xs : List (List A)) (i : ℕ) (x : A) → slice_get (slice_index_or xs i []) 0 ≡ Some x → i < length xs
-first_within xs i x h = grind (arith, get_or_past, slice_get_within (slice_index_or xs i []) 0 x h)
-
--- what holds of each block of each core's line still holds after an issue and after an Order
-module _ (P : ℕ → ℕ → Type 0) (lines : List (List ℕ)) (core block : ℕ) (all : (k : ℕ) → All (P k) (queue_of lines k)) where
-  pub all_issued : P core block → (k : ℕ) → All (P k) (queue_of (after_issue lines core block) k)
-  all_issued here = each_still lines core _ [] (λ k line. All (P k) line) all (All-push (P core) (queue_of lines core) block (all core) here)
-
-  pub all_ordered : (k : ℕ) → All (P k) (queue_of (after_order lines core block) k)
-  all_ordered = each_still lines core _ [] (λ k line. All (P k) line) all (All-filter (λ b. not (b == block)) (P core) (queue_of lines core) (all core))
 
 -- a sum before and after a write, which past the end of the list does nothing
 sum_set : {A : Type 0} (f : A → ℕ) (xs : List A) (i : ℕ) (a d : A) → f d ≡ 0 → sum_by f (slice_set xs i a) + f (slice_index_or xs i d) ≤ sum_by f xs + f a
@@ -56,8 +45,9 @@ left_shorter (x ∷ xs) block h =
 
 pub sum_ordered : (lines : List (List ℕ)) (core block : ℕ) → slice_get (queue_of lines core) 0 ≡ Some block → sum_by length (after_order lines core block) + 1 ≤ sum_by length lines
 sum_ordered lines core block first =
+    let within : core < length lines = grind (arith, get_or_past, slice_get_within (queue_of lines core) 0 block first) in
     let left : List ℕ = filter (λ b. not (b == block)) (queue_of lines core) in
-    omega (arith, sum_by-set (λ (l : List ℕ). length l) lines core left [] (first_within lines core block first), left_shorter (queue_of lines core) block first)
+    omega (arith, sum_by-set (λ (l : List ℕ). length l) lines core left [] within, left_shorter (queue_of lines core) block first)
 
 pub one_small : (t : Bool) → one_if t ≤ 1
 one_small t = cond_both t 1 0 (λ n. n ≤ 1) (λ is. omega arith) (λ is. omega arith)

@@ -1,6 +1,6 @@
 -- An Ask keeps the invariant, and a load that it performs gives the flat value.
-use Rattle.std.proofs.Common.{◌≡◌, ◌≢◌, ◌<◌, ◌⊎◌, ◌∙◌, ℕ, Bool, false, List, true, length, Some, refl, inl, inr, sym}
-use Rattle.snoop_model.proofs.Common.{both_ways, same_Some, Protocol, Op, CacheAction, Cell, asked, carries_value, Open, Reply, Line, Picture, held_by, nothing_held, with_line, Situation, picture_of, Takes, Asks, BlockInvariant, own_open, owns}
+use Rattle.std.proofs.Common.{◌≡◌, ◌<◌, ◌⊎◌, ◌∙◌, ℕ, Bool, false, List, true, length, refl, inl, inr, sym}
+use Rattle.snoop_model.proofs.Common.{both_ways, same_Some, Op, CacheAction, Cell, asked, Reply, Line, Picture, held_by, nothing_held, with_line, Situation, picture_of, Takes, Asks, BlockInvariant, own_open, owns}
 use Rattle.snoop_trace.specs.declared.step.Op.TheVariants as op
 use Rattle.snoop_rules.specs.declared.names.CacheEvent.TheVariants as event
 use Rattle.snoop_rules.specs.declared.names.CacheAction.TheVariants as action

@@ -1,8 +1,8 @@
 -- What follows from the invariant of one block.
 use Rattle.std.proofs.Common.{arith, ◌≡◌, ◌≢◌, ◌<◌, ◌&&◌, ◌||◌, ◌∙◌, ℕ, List, Bool, true, false, not, eqb, Option, Some, None, refl, inl, inr, sym, subst, length, is_some, eq-eqb, eqb-true, ne_eqb}
-use Rattle.snoop_model.proofs.Common.{and_parts, BlockInvariant, CacheState, cases_eq, cases_lt, eqb_tells, fits, get_or_past, held_at, held_by, in_protocol, is_clean, is_owner, is_sharer, IsProper, keeps, Line, nothing_held, or_right, own_open, owns, Picture, Protocol, Request, same, same_Some, talk_of, wait_fits}
+use Rattle.snoop_model.proofs.Common.{BlockInvariant, cases_eq, cases_lt, eqb_tells, fits, get_or_past, held_at, held_by, is_clean, IsProper, keeps, Line, nothing_held, or_right, own_open, owns, Picture, Protocol, Request, same, same_Some, talk_of}
 use Rattle.snoop_model.proofs.Lines.TheSender.{IsBelow}
-use Rattle.snoop_model.proofs.Tables.{Tested.of_open, Tested.same_is, StateTests.brings_data, StateTests.carries, StateTests.clean_reads, StateTests.claims_rule}
+use Rattle.snoop_model.proofs.Tables.{Tested.of_open, StateTests.brings_data, StateTests.carries, StateTests.clean_reads, StateTests.claims_rule}
 
 -- what holds of one core and of each other holds of each
 pub by_core : (c : ℕ) (P : ℕ → Type 0) → P c → ((d : ℕ) → d ≢ c → P d) → (d : ℕ) → P d

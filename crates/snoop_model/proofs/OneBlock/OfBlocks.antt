@@ -28,13 +28,9 @@ module _ (s : Situation) (block : ℕ) (next : Picture) (queues : List (List ℕ
       → P b (picture_of (changed s block next queues log) b)
   each_picture P within others here = each_set s.pictures block next nothing_there P within here others
 
-  -- what the new picture leaves as it was is so of every block
-  pub same_everywhere : {A : Type 0} (f : Picture → A) → f next ≡ f (picture_of s block) → (b : ℕ) → f (picture_of (changed s block next queues log) b) ≡ f (picture_of s b)
-  same_everywhere f same b = same_set f s.pictures block next nothing_there same b
-
   pub shaped_after : IsShaped s → length next.caches ≡ length (picture_of s block).caches → length queues ≡ length s.queues → IsShaped (changed s block next queues log)
   shaped_after shaped as_wide as_many = record {
     pictures = length-set s.pictures block next ∙ shaped.pictures;
-    row = λ b within. same_everywhere (λ (x : Picture). length x.caches) as_wide b ∙ shaped.row b within;
+    row = λ b within. same_set (λ (x : Picture). length x.caches) s.pictures block next nothing_there as_wide b ∙ shaped.row b within;
     queues = as_many ∙ shaped.queues;
   }

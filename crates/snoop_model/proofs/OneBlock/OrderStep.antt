@@ -1,6 +1,6 @@
 -- An Order finds all its rows and one sender, and keeps the invariant.
-use Rattle.std.proofs.Common.{◌≡◌, ◌≢◌, ◌<◌, ◌∙◌, ℕ, length, List, Bool, true, false, not, cond, eqb, Option, Some, None, refl, inl, inr, ap, sym, is_some, eq-eqb, ne_eqb}
-use Rattle.snoop_model.proofs.Common.{and_from, or_cases, same_Some, Protocol, CacheCell, MemCell, Request, Payload, cell_of, memory_cell_of, own, other, seen_by, at_memory, carries_value, waiting_request, Open, Picture, held_by, Situation, picture_of, keeps, Orders, sender_of, is_put_m, Sends, value_sent, Claims, claims_of, fits, BlockInvariant, own_open, owns, cond_both, cond_some}
+use Rattle.std.proofs.Common.{◌≡◌, ◌<◌, ◌∙◌, ℕ, length, List, Bool, true, false, not, cond, eqb, Option, Some, None, refl, inl, inr, ap, sym, is_some, eq-eqb, ne_eqb}
+use Rattle.snoop_model.proofs.Common.{and_from, or_cases, same_Some, Protocol, CacheCell, MemCell, Request, Payload, cell_of, memory_cell_of, own, seen_by, at_memory, carries_value, waiting_request, Open, Picture, held_by, Situation, picture_of, keeps, Orders, sender_of, is_put_m, Sends, value_sent, Claims, claims_of, fits, BlockInvariant, own_open, owns, cond_both, cond_some}
 use Rattle.snoop_model.proofs.Lists.Facts.{of_choice}
 use Rattle.snoop_model.proofs.Lines.TheSender.{IsBelow, sends_below}
 use Rattle.snoop_model.proofs.Tables.{Tested.Tested, StateTests.carries, StateTests.kept_reader, OrderTests.end_claims, OrderTests.order_rule, OrderTests.payload_of, OrderTests.sends_so, Rows.IsProper-order, SenderLines.follows_sender_table, SentBy.payload_from, SentBy.sends_is, SentBy.sends_row, SentBy.memory_sends_row}
@@ -24,9 +24,6 @@ look {p} {flat} {before} good calm c q c_in waits =
     let (memory, is_memory, (row, is_row, (next, is_next, ends))) =
     order_rule p before.memory.state good.claims (rw calm at good.is_claims) _ _ (rw calm at (good.states c c_in)) (owns_owned good.owner c _ good.is_owned) q waits in
     record { requestor_in = c_in; calm = calm; memory = memory; is_memory = is_memory; row = row; is_row = is_row; next = next; is_next = is_next; ends = ends }
-
-pub seen_other : (d c : ℕ) (q : Request) → d ≢ c → seen_by d c q ≡ other q
-seen_other d c q apart = rw (ne_eqb d c apart) refl
 
 -- what an Order finds of a picture that keeps its invariant
 module _ {p : Protocol} {flat : List ℕ} {before : Picture} {good : BlockInvariant p (length before.caches) flat before} {c : ℕ} {q : Request} (l : Looked good c q) where

@@ -1,8 +1,8 @@
 -- Each step finds its rows, and an Order exactly one sender.
 use Rattle.snoop_model.specs.Moves.LookUps.{HasRow}
-use Rattle.std.proofs.Common.{refl, ◌≡◌, ◌<◌, ℕ, length, List, true, false, Option, Some, None}
-use Rattle.snoop_model.proofs.Common.{FollowsSenderTable, Protocol, Op, CacheCell, MemCell, Request, Payload, cell_of, memory_cell_of, asked, seen_by, at_memory, arrival, arrival_at_memory, takes_payload, waiting_request, Open, Picture, held_by, sender_of, is_put_m, IsOnlySender, BlockInvariant}
-use Rattle.snoop_model.proofs.Tables.{SenderLines.led_line, AskTests.ask_rule, AskTests.is_idle_evict, RespondTests.settled_row, RespondTests.row_for}
+use Rattle.std.proofs.Common.{refl, ◌≡◌, ◌<◌, ℕ, length, List, false, Some, None}
+use Rattle.snoop_model.proofs.Common.{FollowsSenderTable, Protocol, Op, CacheCell, Request, cell_of, asked, seen_by, waiting_request, Picture, held_by, BlockInvariant}
+use Rattle.snoop_model.proofs.Tables.{SenderLines.led_line, AskTests.ask_rule, AskTests.is_idle_evict}
 use Rattle.snoop_model.proofs.OneBlock.{Facts.below_owner, Facts.is_itself, OrderStep.each_row, OrderStep.look, OrderStep.meant, OrderStep.meant_in, OrderStep.sender_told, OrderStep.sends, OrderStep.sends_if_meant, OrderStep.sent}
 
 -- an Order finds each core's row and exactly one sender, and is a line of the table of Orders

@@ -1,8 +1,8 @@
 -- A machine is well kept at reset, and stays so at each kind of move; so a core waits on the blocks in its queue, and on no others.
 use Rattle.std.proofs.Common.{◌≡◌, ◌≢◌, ℕ, ◌<◌, ◌++◌, List, [], length, Option, Some, None, refl, sym, ◌∙◌, arith, inl, inr, ◌∷◌}
-use Rattle.snoop_model.proofs.Common.{get_or-set_other, get_or_from_slice_get, slice_get_within, eqb-true, Access, after_issue, after_order, ArrivesFor, Ask, asked, awaited_request, CacheAction, CacheState, cases_Bool, cases_lt, Cell, Contains, Did, eq-eqb, FillsRequestor, get_or-set_same, get_or_past, held_at, held_by, if◌then◌else◌, is_some, IsSome, IsWellKept, IsWithin, Item, KeepsWell, length-set, Line, missed_request, MoveOn, ne_eqb, none-some, nothing_held, Op, Open, option_to_list, Order, Picture, picture_of, Protocol, queue_of, queues_after, Reply, Request, reset, Respond, Responds, same_Some, Situation, slice_get, slice_get-get_or, StandsFirst, StartsWell, state_of, Step, Takes, TakesRows, waiting_request, Waits, WaitsOnNone, with_line, ◌==◌}
+use Rattle.snoop_model.proofs.Common.{get_or-set_other, get_or_from_slice_get, slice_get_within, eqb-true, Access, after_issue, after_order, ArrivesFor, Ask, asked, awaited_request, CacheAction, CacheState, cases_Bool, cases_lt, Cell, Contains, Did, eq-eqb, get_or-set_same, get_or_past, held_at, held_by, if◌then◌else◌, is_some, IsSome, IsWellKept, IsWithin, Item, KeepsWell, length-set, Line, missed_request, MoveOn, ne_eqb, none-some, nothing_held, Op, Open, option_to_list, Order, Picture, picture_of, Protocol, queue_of, queues_after, Reply, Request, reset, Respond, Responds, same_Some, Situation, slice_get, slice_get-get_or, StandsFirst, StartsWell, state_of, Step, Takes, TakesRows, waiting_request, Waits, WaitsOnNone, with_line, ◌==◌}
 use Rattle.snoop_rules.specs.declared.names.CacheAction.TheVariants as action
-use Rattle.snoop_model.proofs.Lists.{Facts.one_if, Facts.replicated, Writes.each_set, QueueCounts.times, QueueCounts.issued_own, QueueCounts.issued_elsewhere, QueueCounts.ordered_own, QueueCounts.ordered_elsewhere, QueueCounts.counted_in, QueueCounts.in_counted}
+use Rattle.snoop_model.proofs.Lists.{Facts.one_if, Facts.replicated, Writes.each_set, Writes.same_set, QueueCounts.times_push, QueueCounts.times_gone, QueueCounts.times_left, QueueCounts.times, QueueCounts.counted_in, QueueCounts.in_counted}
 use Rattle.snoop_model.proofs.Tables.{Rows.issue-waits, Rows.issue-missed, Rows.asked_missed, Rows.action_rule, Rows.order_rule, Rows.fill-waits, Rows.awaited-asked, RespondTests.data_rule, RespondTests.awaited-get, StateTests.some_of}
 use Rattle.snoop_model.proofs.OneBlock.{Facts.by_core, Facts.each_held, OfBlocks.changed, OfBlocks.in_pictures, OfBlocks.each_picture, OfBlocks.shaped_after}
 use Rattle.snoop_model.proofs.Lines.Answered.{by_request, filled_or_same, arrives_length, still_waiting}
@@ -86,7 +86,7 @@ module _ (s : Situation) (kept : IsWellKept s) (core block word : ℕ) (asking :
       let missed = (issue-missed s.protocol line.state (asked asking) request next row).1 in
       let in_queues : core < length s.queues = rw kept.shaped.queues within.0 in
       one_line (action.Issue request) (after_issue s.queues core block) row (rw taken.0 refl) (length-set s.queues core _)
-      (rw (is, issued_own s.queues core block in_queues, kept.queued core block, was) refl) (λ k apart. get_or-set_other s.queues core k _ [] apart) (issued_elsewhere s.queues core block)
+      (rw (is, get_or-set_same s.queues core (queue_of s.queues core ++ block ∷ []) [] in_queues, times_push block block (queue_of s.queues core), eq-eqb block block refl, kept.queued core block, was) refl) (λ k apart. get_or-set_other s.queues core k _ [] apart) (λ k b apart. same_set (times b) s.queues core _ [] (rw (times_push b block (queue_of s.queues core), ne_eqb block b (λ e. apart (sym e))) (omega arith)) k)
       (rw taken.0 (λ access h. rw (missed, ← asked_missed word asking, h) refl))
   kept_taken _ row taken = absurd taken
 
@@ -156,9 +156,9 @@ on_kept block s t (Order core) answer kept m =
       as_wide = taken.same_length;
       as_many = length-set s.queues core _;
       here = by_core core (λ k. times block (queue_of (after_order s.queues core block) k) ≡ waits (held_by next k).state)
-          (rw (own_waits s.protocol core m.request before.caches next.caches taken in_row) (ordered_own s.queues core block in_queues))
+          (rw (own_waits s.protocol core m.request before.caches next.caches taken in_row, get_or-set_same s.queues core _ [] in_queues) (times_gone block (queue_of s.queues core)))
           (λ k apart. rw (get_or-set_other s.queues core k _ [] apart, others_wait s.protocol core m.request before.caches next.caches taken k apart) (kept.queued k block));
-      elsewhere = ordered_elsewhere s.queues core block;
+      elsewhere = λ k b apart. same_set (times b) s.queues core _ [] (times_left b block (queue_of s.queues core) apart) k;
       awaited = λ k. each_held next.caches k (IsAwaited next.transaction k)
           (λ below.
           let (row, is_row, moved) = taken.rows k (rw (← taken.same_length) below) in

@@ -1,8 +1,8 @@
 -- Each step that goes comes to what is computed of it, and from every situation of a run each step goes so.
-use Rattle.std.proofs.Common.{sym, ◌≡◌, ℕ, zero, suc, ◌<◌, ◌≤◌, ◌&&◌, Bool, true, false, List, length, Option, Some, None, refl, ◌⊎◌, inl, inr, ap, ◌∙◌, arith}
+use Rattle.std.proofs.Common.{sym, ◌≡◌, ℕ, zero, suc, ◌<◌, ◌≤◌, ◌&&◌, true, false, List, length, Option, Some, None, refl, ◌⊎◌, inl, inr, ap, ◌∙◌, arith}
 use Rattle.std.specs.Bool.{Decides}
 use Rattle.snoop_model.proofs.Lists.Facts.{option_both}
-use Rattle.snoop_model.proofs.Common.{none-some, option_and_then_some, cond_both, waiting_request, cell_of, Access, all_payloads, all_protocols, all_states, all_states-at, and_cases, and_from, and_left, and_parts, and_right, arrival, arrival_at_memory, ArrivesFor, Ask, asked, both_ways, CacheAction, CacheCell, CacheEvent, CacheState, CanOrder, cases_Bool, cases_eq, cases_lt, Cell, Decides-and, Decides-ltb, Did, Err, Extent, false_from_ne_true, fill_by_all, FillsRequestor, FirstMove, flat_words, get_or-map-range_with_len, GoesFirst, HasWord, held_at, held_by, Hits, if◌then◌else◌, Invariant, is_load, is_put_m, is_some, IsOnlySender, IsProper, IsWithin, Item, le-ltb, length-map-range_with_len, Line, lt-ltb, ltb, ltb-false, ltb-true, MemAction, MemCell, MemEvent, MemState, missed_request, nothing_held, Ok, Op, Open, option_map, option_map_or, Order, Orders, Payload, Performs, Picture, picture_of, Protocol, queue_of, Refused, Refuses, Reply, Request, request_for, Respond, Responds, Result, seen_by, Situation, slice_get, StandsFirst, state_of, Step, Takes, takes_payload, unwrap_or, word_places, written, zero_words}
+use Rattle.snoop_model.proofs.Common.{none-some, option_and_then_some, cond_both, waiting_request, cell_of, arrival, arrival_at_memory, ArrivesFor, Ask, asked, both_ways, CacheAction, CacheCell, CacheState, CanOrder, cases_Bool, cases_eq, cases_lt, Cell, Decides-and, Decides-ltb, Did, Err, Extent, false_from_ne_true, fill_by_all, FillsRequestor, FirstMove, flat_words, get_or-map-range_with_len, GoesFirst, HasWord, held_at, held_by, Hits, if◌then◌else◌, Invariant, is_load, is_put_m, is_some, IsOnlySender, IsProper, IsWithin, Item, le-ltb, length-map-range_with_len, Line, lt-ltb, ltb, ltb-false, ltb-true, nothing_held, Ok, Op, Open, option_map_or, Order, Orders, Payload, Performs, Picture, picture_of, Protocol, queue_of, Refused, Refuses, Reply, Request, request_for, Respond, Responds, Result, seen_by, Situation, slice_get, state_of, Step, Takes, takes_payload, unwrap_or, word_places, zero_words}
 use Rattle.snoop_trace.specs.declared.step.Op.TheVariants as op
 use Rattle.snoop_rules.specs.declared.names.CacheAction.TheVariants as action
 use Rattle.snoop_rules.specs.declared.names.Request.TheVariants as request
@@ -38,9 +38,6 @@ module _ (s : Situation) (core block word : ℕ) (asking : Op) where
 
   place : Decides (ltb block s.shape.blocks && has_word s.shape word asking) ((block < s.shape.blocks) × HasWord s.shape word asking)
   place = Decides-and _ _ (Decides-ltb block s.shape.blocks) (word_decides s.shape word asking)
-
-  no_place : (s.shape.blocks ≤ block) ⊎ (¬ HasWord s.shape word asking) → (ltb block s.shape.blocks && has_word s.shape word asking) ≡ false
-  no_place nowhere = false_from_ne_true _ (λ e. let (within, has) = place.0 e in elim nowhere [ inl past ↦ absurd (omega arith) | inr none ↦ none has ])
 
 -- An Order.
 module _ (p : Protocol) (before : Picture) (core : ℕ) (q : Request) where
@@ -99,7 +96,10 @@ move_is s (Respond on) answer new (block, (first, m)) =
 module _ (s : Situation) (queued : AreQueued s) where
   refused_is : (step : Step) (cause : Refused) → Refuses s step cause → ◌≡◌ {A = Next} (Err cause, s) (next_of s step)
   refused_is (Ask core block word asking) NoCore h = rw (le-ltb core s.shape.cores h) refl
-  refused_is (Ask core block word asking) NoBlock h = rw (lt-ltb core s.shape.cores h.0, no_place s core block word asking h.1) refl
+  refused_is (Ask core block word asking) NoBlock h =
+      let there = (place s core block word asking).0 in
+      let nowhere = false_from_ne_true _ (λ e. elim h.1 [ inl past ↦ let within = (there e).0 in absurd (omega arith) | inr none ↦ none (there e).1 ]) in
+      rw (lt-ltb core s.shape.cores h.0, nowhere) refl
   refused_is (Ask core block word asking) (Stalled held) h =
       rw (lt-ltb core s.shape.cores h.0.0, (place s core block word asking).1 (h.0.1, h.3), h.1, h.2.1) refl
   refused_is (Order core) NoCore h = rw (le-ltb core s.shape.cores h) refl

@@ -14,16 +14,12 @@ row_for p s found = option_and_then (cell_of p s) found
 abbrev pub memory_row_for : Protocol → MemState → Option MemEvent → Option MemCell
 memory_row_for p m found = option_and_then (memory_cell_of p m) found
 
--- memory takes its row for a message, or stays as it is
-abbrev pub SettlesIf : Bool → Protocol → Option MemEvent → MemState → MemAction → MemState → Type 0
-SettlesIf takes p found old act new = MatchBool takes (IsSomeAnd found (λ event. MemoryCell p old event act new)) ((act ≡ mem_action.None) × (new ≡ old))
-
--- the same as a row: that for the message, or one that does nothing
+-- memory's row for a message, or one that does nothing
 abbrev pub settled_if : Bool → Protocol → Option MemEvent → MemState → Option MemCell
 settled_if takes p found old = cond takes (memory_row_for p old found) (Some (record { action = mem_action.None; next = old }))
 
 pub settled_so : (takes : Bool) (p : Protocol) (found : Option MemEvent) (old : MemState) (act : MemAction) (new : MemState)
-    → SettlesIf takes p found old act new ↔ (settled_if takes p found old ≡ Some (record { action = act; next = new }))
+    → MatchBool takes (IsSomeAnd found (λ event. MemoryCell p old event act new)) ((act ≡ mem_action.None) × (new ≡ old)) ↔ (settled_if takes p found old ≡ Some (record { action = act; next = new }))
 settled_so true p None old act new = (λ settled. absurd settled, λ h. cc)
 settled_so true p (Some event) old act new = (λ settled. settled, λ h. h)
 settled_so false p found old act new =

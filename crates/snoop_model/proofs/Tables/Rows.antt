@@ -157,10 +157,6 @@ pub drop_evicts : (p : Protocol) (s : CacheState) (asking : Op) (n : CacheState)
 drop_evicts p s op.Evict n row = refl
 drop_evicts p s _ n row = let evicts = (action_rule p s _ action.Drop n row).1.1.1.0 in cc
 
--- and leaves the block in I
-pub drop_leaves : (p : Protocol) (s : CacheState) (e : CacheEvent) (n : CacheState) → Cell p s e action.Drop n → n ≡ I
-drop_leaves p s e n row = same_Some _ _ (action_rule p s e action.Drop n row).1.1.1.1
-
 pub IsProper-drop : (p : Protocol) (old : Line) (e : CacheEvent) (n : CacheState) → IsProper old → Cell p old.state e action.Drop n → IsProper (moves_to n old)
 IsProper-drop p old e n proper row = let (kept, (missed, _)) = action_rule p old.state e action.Drop n row in IsProper-move old n proper kept missed
 

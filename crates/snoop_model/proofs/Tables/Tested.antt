@@ -44,25 +44,19 @@ abbrev pub when : Bool → (Bool → Bool) → Bool
 when true f = f true
 when false f = true
 
-pub when_at : (b : Bool) (f : Bool → Bool) → when b f ≡ true → b ≡ true → f true ≡ true
-when_at b f h e = rw e at h
-
 abbrev pub provided : Bool → (Bool → Tested) → Tested
-provided b c = record { claim = b ≡ true → (c true).claim; test = when b (λ x. (c x).test); sound = λ h e. (c true).sound (when_at b (λ x. (c x).test) h e) }
+provided b c = record { claim = b ≡ true → (c true).claim; test = when b (λ x. (c x).test); sound = λ h e. (c true).sound (rw e at h) }
 
 abbrev pub unless : Bool → (Bool → Tested) → Tested
-unless b c = record { claim = b ≡ false → (c true).claim; test = when (not b) (λ x. (c x).test); sound = λ h e. (c true).sound (when_at (not b) (λ x. (c x).test) h (rw e)) }
+unless b c = record { claim = b ≡ false → (c true).claim; test = when (not b) (λ x. (c x).test); sound = λ h e. (c true).sound (rw e at h) }
 
 -- a claim of the value, if there is one
 abbrev pub test_of : {A : Type 0} → Bool → Option A → (A → Bool) → Bool
 test_of none None f = none
 test_of none (Some a) f = f a
 
-pub given_at : {A : Type 0} (o : Option A) (f : A → Bool) → test_of true o f ≡ true → (a : A) → o ≡ Some a → f a ≡ true
-given_at o f h a e = rw e at h
-
 abbrev pub given : {A : Type 0} → Option A → (A → Tested) → Tested
-given {A} o c = record { claim = (a : A) → o ≡ Some a → (c a).claim; test = test_of true o (λ a. (c a).test); sound = λ h a e. (c a).sound (given_at o (λ x. (c x).test) h a e) }
+given {A} o c = record { claim = (a : A) → o ≡ Some a → (c a).claim; test = test_of true o (λ a. (c a).test); sound = λ h a e. (c a).sound (rw e at h) }
 
 -- there is a value, of which the claim holds
 pub found_at : {A : Type 0} (o : Option A) (f : A → Bool) → test_of false o f ≡ true → (a : A) × (o ≡ Some a) × (f a ≡ true)

@@ -1,12 +1,11 @@
 -- All laws of turns that follow the turn rule: what they keep, that they are never refused, what they cost, and when a work is over.
-use Rattle.std.proofs.Common.{◌≡◌, ◌≢◌, ℕ, ◌+◌, ◌≤◌, true, false, List, length, Option, Some, None, refl, sym, ◌∙◌, ap, subst, arith, inl, inr, ◌⊎◌, Bool, not, ◌||◌}
-use Rattle.snoop_model.proofs.Common.{Access, All, All-contains, All-weaker, all_events, all_protocols, all_states, Ask, asked, awaited_request, CacheAction, CacheEvent, CacheState, cases_eq, Cell, ClosedIsLast, ComesToRest, cond_some, Contains, Contains-get_or, each_row, Ends, EndsAtOnce, eq-eqb, FirstMove, has_transaction, held_by, is_some, IsServing, IsWellKept, Item, Line, ne_eqb, NeverRefused, none-some, nothing_there, Op, Open, or_cases, Order, Pays, Picture, picture_of, Protocol, queue_of, queues_after, Refused, Refuses, Reply, Request, Respond, same_Some, ServesOn, Situation, slice_index_or, slice_set, state_of, Step, sum_by, Takes, TurnLaws, waiting_request, Waits, with_line, ◌==◌}
+use Rattle.std.proofs.Common.{[], ◌≡◌, ◌≢◌, ℕ, ◌+◌, ◌≤◌, true, false, List, length, Option, Some, None, refl, sym, ◌∙◌, ap, arith, inl, inr, ◌⊎◌, not}
+use Rattle.snoop_model.proofs.Common.{All-filter, All-push, Access, All, All-contains, All-weaker, Ask, asked, awaited_request, CacheAction, CacheEvent, CacheState, Cell, ClosedIsLast, ComesToRest, cond_some, Contains-get_or, Ends, EndsAtOnce, eq-eqb, FirstMove, has_transaction, held_by, IsServing, IsWellKept, Item, Line, ne_eqb, NeverRefused, none-some, nothing_there, Op, Open, or_cases, Order, Pays, Picture, picture_of, Protocol, queue_of, queues_after, Refused, Refuses, Reply, Request, Respond, same_Some, ServesOn, Situation, slice_index_or, slice_set, state_of, Step, sum_by, Takes, TurnLaws, waiting_request, Waits, with_line, ◌==◌}
 use Rattle.snoop_rules.specs.declared.names.CacheAction.TheVariants as action
 use Rattle.snoop_model.specs.declared.replies.Reply.TheVariants.{Issued}
-use Rattle.snoop_model.specs.declared.replies.Refused.TheVariants.{NoCore, NoBlock, Stalled, NothingWaiting, BusTaken, NoTransaction}
+use Rattle.snoop_model.specs.declared.replies.Refused.TheVariants.{Stalled, NothingWaiting, BusTaken}
 use Rattle.snoop_model.specs.Turns.Turn.{step_under_way, turn_of}
-use Rattle.snoop_model.proofs.Lists.{Facts.one_if, Writes.set_cases, Writes.all_first, Writes.all_issued, Writes.all_ordered, Writes.sum_issued, Writes.sum_ordered, Writes.one_small, Writes.count_set}
-use Rattle.snoop_model.proofs.OneBlock.OfBlocks.{same_everywhere}
+use Rattle.snoop_model.proofs.Lists.{Facts.one_if, Writes.set_cases, Writes.all_first, Writes.each_still, Writes.sum_issued, Writes.sum_ordered, Writes.one_small, Writes.count_set}
 use Rattle.snoop_model.proofs.Queues.Moves.{none_there, starts_well, keeps_well, queued_waits, waits_queued}
 use Rattle.snoop_model.proofs.Once.Owed.{owed_after}
 use Rattle.snoop_rules.specs.declared.names.CacheState.TheVariants.{I}
@@ -94,7 +93,8 @@ module _ {s : Situation} {under_way : ℕ → Option ℕ} (serving : IsServing u
     where
       queued : (act : CacheAction) (next : CacheState) (held : Line) (entry : Option Item) → Takes act next s.log core m.0 word asking (held_by (picture_of s m.0) core) held answer entry
           → (k : ℕ) → All (λ b. under_way k ≡ Some b) (queue_of (queues_after act s.queues core m.0) k)
-      queued (action.Issue request) next held entry taken = all_issued (λ c b. under_way c ≡ Some b) s.queues core m.0 serving.waits (its request taken.1)
+      queued (action.Issue request) next held entry taken = each_still s.queues core _ [] (λ k queue. All (λ b. under_way k ≡ Some b) queue) serving.waits
+          (All-push (λ b. under_way core ≡ Some b) (queue_of s.queues core) m.0 (serving.waits core) (its request taken.1))
       queued _ next held entry taken = serving.waits
 
 -- more works may be under way
@@ -111,7 +111,8 @@ serves_on s t before after (Order core) answer serving move extends its =
     let now = more_served serving extends in
     let orders = move.1.1.orders in
     rw orders.after (record {
-      waits = all_ordered (λ c b. after c ≡ Some b) s.queues core move.0 now.waits;
+      waits = each_still s.queues core _ [] (λ k queue. All (λ b. after k ≡ Some b) queue) now.waits
+          (All-filter (λ b. not (b == move.0)) (λ b. after core ≡ Some b) (queue_of s.queues core) (now.waits core));
       opened = set_opened now move.0 orders.next (λ o is. rw (ap (λ (x : Open). x.core) (same_Some _ _ (sym is ∙ orders.opened)))
           (all_first (λ b. after core ≡ Some b) (queue_of s.queues core) move.0 (now.waits core) move.1.0));
     })
