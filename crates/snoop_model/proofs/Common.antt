@@ -33,3 +33,6 @@ pub use Rattle.std.proofs.Math.Dec.{ltb}
 pub use Rattle.std.proofs.lemmas.Bool.Decides.{Decides-and, Decides-ltb, eqb_tells}
 pub use Rattle.std.specs.List.Sorted.{IsPermutation}
 pub use denote.Enum.Bare.{Bare, same_true, sameb}
+pub use Rattle.snoop_rules.specs.declared.names.CacheState.TheVariants.{I, ImAd, IiA, IsD}
+pub use Rattle.snoop_rules.specs.contracts.names.{CacheState.the_type as states, MemState.the_type as memories, Payload.the_type as payloads, Request.the_type as requests}
+pub use Rattle.snoop_model.specs.declared.replies.{Refused.TheVariants.BusTaken, Refused.TheVariants.NoBlock, Refused.TheVariants.NoCore, Refused.TheVariants.NoMemory, Refused.TheVariants.NothingWaiting, Refused.TheVariants.NoTransaction, Refused.TheVariants.Stalled, Reply.TheVariants.Gone, Reply.TheVariants.Issued}

@@ -1,12 +1,11 @@
 -- What the invariant says of a situation: one writer, current copies and memory, all rows, one sender.
 use Rattle.std.proofs.Common.{length, ◌≡◌, ◌≢◌, ℕ, true, false, List, [], Option, Some, None, refl, inl, inr, sym, ◌∙◌, arith}
 use Rattle.snoop_model.proofs.Lists.Facts.{if_some}
-use Rattle.snoop_model.proofs.Common.{ne_eqb, FollowsSenderTable, arrival, arrival_at_memory, Ask, asked, awaited_request, BlockInvariant, both_ways, CacheEvent, CacheState, CanOrder, carries_value, cases_Bool, cases_lt, Cell, data_under_way, eq-eqb, false_from_ne_true, flat_words, ForSome, get_or_past, HasOpen, held_by, IfSome, Invariant, is_put_m, is_some, IsSome, IsSomeAnd, IsWellKept, IsWithin, keeps, Line, MemEvent, none-some, nothing_held, nothing_there, Op, Open, Order, OrdersFollowSenderTable, own_open, owns, Picture, picture_of, Protocol, Request, Respond, seen_by, Situation, state_of, Step, talk_of, waiting_request, Waits, ◌<◌, ◌↔◌, ◌≤◌}
+use Rattle.snoop_model.proofs.Common.{arrival, arrival_at_memory, Ask, asked, awaited_request, BlockInvariant, both_ways, CacheEvent, CacheState, CanOrder, carries_value, cases_Bool, cases_lt, Cell, data_under_way, eq-eqb, false_from_ne_true, flat_words, FollowsSenderTable, ForSome, get_or_past, GetS, HasOpen, held_by, IfSome, Invariant, is_put_m, is_some, IsSome, IsSomeAnd, IsWellKept, IsWithin, keeps, Line, MemEvent, ne_eqb, none-some, nothing_held, nothing_there, Op, Open, Order, OrdersFollowSenderTable, own_open, owns, Picture, picture_of, Protocol, PutM, Request, Respond, seen_by, Situation, state_of, Step, talk_of, waiting_request, Waits, ◌<◌, ◌↔◌, ◌≤◌}
 use Rattle.snoop_trace.specs.declared.step.Op.TheVariants as op
 use Rattle.snoop_rules.specs.declared.names.CacheState.TheVariants as state
 use Rattle.snoop_rules.specs.declared.names.CacheEvent.TheVariants as event
 use Rattle.snoop_rules.specs.declared.names.CacheAction.TheVariants as action
-use Rattle.snoop_rules.specs.declared.names.Request.TheVariants as request
 use Rattle.snoop_rules.specs.Possible.{MayLoad, MayStore}
 use Rattle.snoop_rules.specs.Takers.{other as another}
 use Rattle.snoop_model.specs.Moves.LookUps.{HasRow, HasMemRow, ConsultsCache, ConsultsMemory, FindsRows}
@@ -42,7 +41,7 @@ nothing_asked p op.Evict busy = absurd (busy (refl, refl))
 nothing_asked p _ busy = (_, refl)
 
 nothing_seen : (p : Protocol) (q : Request) → HasRow p state.I (another q)
-nothing_seen p request.GetS = (_, refl)
+nothing_seen p GetS = (_, refl)
 nothing_seen p _ = (_, refl)
 
 -- where there is a row, there is an event that has it
@@ -50,8 +49,8 @@ has_row : {E R : Type 0} (rows : Option E → Option R) → rows None ≡ None �
 has_row rows none None row = let h = row.1 in cc
 has_row rows none (Some e) row = row
 
-not_put : (q : Request) → q ≢ request.PutM → is_put_m q ≡ false
-not_put request.PutM get = absurd (get refl)
+not_put : (q : Request) → q ≢ PutM → is_put_m q ≡ false
+not_put PutM get = absurd (get refl)
 not_put _ get = refl
 
 module _ (s : Situation) (g : Invariant s) where
@@ -130,7 +129,7 @@ module _ (s : Situation) (g : Invariant s) where
       (λ o is. (g.opened block o is, (g.blocks block (opened_within block o is)).requestor_in o is, if_some o.from _ (sender_within block o is)))
 
   -- a core waits for data exactly where the block's open transaction is its GetS or GetM
-  pub data_awaited : IsWellKept s → (core block : ℕ) (q : Request) → (awaited_request (state_of s core block) ≡ Some q) ↔ (HasOpen s core block q × (q ≢ request.PutM))
+  pub data_awaited : IsWellKept s → (core block : ℕ) (q : Request) → (awaited_request (state_of s core block) ≡ Some q) ↔ (HasOpen s core block q × (q ≢ PutM))
   data_awaited kept core block q = (
     λ waits. (kept.awaits core block q waits, λ put. awaited-get (state_of s core block) (rw put at waits)),
     λ open_get.

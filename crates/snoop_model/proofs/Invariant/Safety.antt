@@ -1,11 +1,9 @@
 -- What every machine keeps makes it safe, and its steps keep it.
 use Rattle.std.proofs.Common.{◌≡◌, ℕ, List, ◌<◌, ◌≤◌, Option, Some, None, refl, ap, sym, ◌∙◌, arith, inl, inr, ◌⊎◌, true}
-use Rattle.snoop_model.proofs.Common.{arrival_at_memory, Ask, asked, CacheAction, CacheState, Cell, Extent, flat, flat_words, Goes, HasOpen, held_by, IfSome, Invariant, is_clean, is_some, IsOpenByTable, IsProper, IsSenderLine, IsWellKept, Item, MemCell, takes_payload, keeps, Line, MoveOn, nothing_held, Op, option_map, Order, Orders, Picture, picture_of, Protocol, Refused, Refuses, Reply, Request, reset, Respond, Result, RunBy, same_Some, Situation, state_of, Step, Takes, Waits, with_line, with_picture, word_at}
+use Rattle.snoop_model.proofs.Common.{arrival_at_memory, Ask, asked, CacheAction, CacheState, Cell, Extent, flat, flat_words, Goes, Gone, HasOpen, held_by, IfSome, Invariant, is_clean, is_some, IsOpenByTable, IsProper, IsSenderLine, IsWellKept, Item, keeps, Line, MemCell, MoveOn, nothing_held, Op, option_map, Order, Orders, Picture, picture_of, Protocol, Refused, Refuses, Reply, Request, reset, Respond, Result, RunBy, same_Some, Situation, Stalled, state_of, Step, Takes, takes_payload, Waits, with_line, with_picture, word_at}
 use Rattle.snoop_trace.specs.declared.step.Op.TheVariants as op
 use Rattle.snoop_rules.specs.declared.names.CacheState.TheVariants as state
 use Rattle.snoop_rules.specs.declared.names.CacheAction.TheVariants as action
-use Rattle.snoop_model.specs.declared.replies.Reply.TheVariants.{Gone}
-use Rattle.snoop_model.specs.declared.replies.Refused.TheVariants.{Stalled}
 use Rattle.snoop_model.specs.Coherent.{IsCoherent}
 use Rattle.snoop_model.specs.Runs.Safe.{IsSafe}
 use Rattle.snoop_model.specs.Invariant.MachineKeeps.{AreOnSenderLines, MachineKeeps}

@@ -2,11 +2,9 @@
 use Rattle.std.proofs.Common.{sym, ◌≡◌, ℕ, zero, suc, ◌<◌, ◌≤◌, ◌&&◌, true, false, List, length, Option, Some, None, refl, ◌⊎◌, inl, inr, ap, ◌∙◌, arith}
 use Rattle.std.specs.Bool.{Decides}
 use Rattle.snoop_model.proofs.Lists.Facts.{option_both}
-use Rattle.snoop_model.proofs.Common.{none-some, option_and_then_some, cond_both, waiting_request, cell_of, arrival, arrival_at_memory, ArrivesFor, Ask, asked, both_ways, CacheAction, CacheCell, CacheState, CanOrder, cases_Bool, cases_eq, cases_lt, Cell, Decides-and, Decides-ltb, Did, Err, Extent, false_from_ne_true, fill_by_all, FillsRequestor, FirstMove, flat_words, get_or-map-range_with_len, GoesFirst, HasWord, held_at, held_by, Hits, if◌then◌else◌, Invariant, is_load, is_put_m, is_some, IsOnlySender, IsProper, IsWithin, Item, le-ltb, length-map-range_with_len, Line, lt-ltb, ltb, ltb-false, ltb-true, nothing_held, Ok, Op, Open, option_map_or, Order, Orders, Payload, Performs, Picture, picture_of, Protocol, queue_of, Refused, Refuses, Reply, Request, request_for, Respond, Responds, Result, seen_by, Situation, slice_get, state_of, Step, Takes, takes_payload, unwrap_or, word_places, zero_words}
+use Rattle.snoop_model.proofs.Common.{arrival, arrival_at_memory, ArrivesFor, Ask, asked, both_ways, BusTaken, CacheAction, CacheCell, CacheState, CanOrder, cases_Bool, cases_eq, cases_lt, Cell, cell_of, cond_both, Decides-and, Decides-ltb, Did, Err, Extent, false_from_ne_true, fill_by_all, FillsRequestor, FirstMove, flat_words, get_or-map-range_with_len, GoesFirst, HasWord, held_at, held_by, Hits, if◌then◌else◌, Invariant, is_load, is_put_m, is_some, IsOnlySender, IsProper, IsWithin, Item, le-ltb, length-map-range_with_len, Line, lt-ltb, ltb, ltb-false, ltb-true, NoBlock, NoCore, none-some, nothing_held, NothingWaiting, NoTransaction, Ok, Op, Open, option_and_then_some, option_map_or, Order, Orders, Payload, Performs, Picture, picture_of, Protocol, PutM, queue_of, Refused, Refuses, Reply, Request, request_for, Respond, Responds, Result, seen_by, Situation, slice_get, Stalled, state_of, Step, Takes, takes_payload, unwrap_or, waiting_request, word_places, zero_words}
 use Rattle.snoop_trace.specs.declared.step.Op.TheVariants as op
 use Rattle.snoop_rules.specs.declared.names.CacheAction.TheVariants as action
-use Rattle.snoop_rules.specs.declared.names.Request.TheVariants as request
-use Rattle.snoop_model.specs.declared.replies.Refused.TheVariants.{NoCore, NoBlock, Stalled, NothingWaiting, BusTaken, NoTransaction}
 use Rattle.snoop_model.proofs.Lines.TheSender.{IsBelow, sends_below}
 use Rattle.snoop_model.proofs.Tables.{SentBy.payload_from, SentBy.sends_is, SentBy.sends_row, RespondTests.data_rule, RespondTests.fills, RespondTests.settled_so, RespondTests.row_for, StateTests.some_of, Rows.is_evict, Rows.action_rule, Rows.serving-asked, Rows.hit_keeps, AskTests.is_idle_evict}
 use Rattle.snoop_model.proofs.OneBlock.{OfBlocks.same_picture, OfBlocks.same_memory, Possible.ask_possible, RespondStep.close, RespondStep.answered}
@@ -58,7 +56,7 @@ module _ (p : Protocol) (before : Picture) (core : ℕ) (q : Request) where
 -- A Respond.
 module _ (closing : Open) (p : Protocol) (log : List Item) (old new : List Line) (did : Option Did) where
   arrives_is : (q : Request) → ArrivesFor q closing p log old new did → (new, did) ≡ brought closing p log old q
-  arrives_is request.PutM a = rw (a.0, a.1) refl
+  arrives_is PutM a = rw (a.0, a.1) refl
   arrives_is _ f =
       let does = performs_is f.asking.word f.asking.op closing.value f.value f.fills.after f.fills.performed in
       rw (f.held, f.logged, f.fills.held, f.fills.waited, f.fills.arrives, f.fills.is_row, does.0, does.1) refl
@@ -225,7 +223,7 @@ module _ (p : Protocol) (log : List Item) (old : List Line) (o : Open) where
 
   brings : (q : Request) → (is_put_m q ≡ false → (r : CacheCell) × (row_for p asker.state (arrival o.payload) ≡ Some r)) → IsProper asker
       → (let n = brought o p log old q in ArrivesFor q o p log old n.0 n.1)
-  brings request.PutM row proper = (refl, refl)
+  brings PutM row proper = (refl, refl)
   brings _ row proper = let found = row refl in fills_requestor found.0 found.1 proper
 
 -- each step goes as it is computed

@@ -1,8 +1,7 @@
 -- Tests of the rows of an Ask, computed over the whole tables.
 use Rattle.std.proofs.Common.{Some, ◌≡◌, ◌&&◌, Bool, true, false, Option, refl}
-use Rattle.snoop_model.proofs.Common.{awaited_request, is_put_m, keeps, CacheAction, all_events, all_events-at, all_protocols, all_requests, all_requests-at, all_states, asked, CacheCell, CacheEvent, CacheState, cell_of, fits, in_protocol, is_clean, is_owner, is_sharer, Op, Protocol, Request, request_for, same, wait_fits}
+use Rattle.snoop_model.proofs.Common.{all_events, all_events-at, all_protocols, all_requests, all_requests-at, all_states, asked, awaited_request, CacheAction, CacheCell, CacheEvent, CacheState, cell_of, fits, in_protocol, is_clean, is_owner, is_put_m, is_sharer, keeps, Op, Protocol, Request, request_for, requests, same, wait_fits}
 use Rattle.snoop_rules.specs.declared.names.CacheAction.TheVariants as action
-use Rattle.snoop_rules.specs.contracts.names.Request.{the_type as requests}
 use Rattle.snoop_rules.specs.declared.names.CacheState.TheVariants as state
 use Rattle.snoop_rules.specs.declared.names.CacheEvent.TheVariants as event
 use Rattle.snoop_model.proofs.Tables.{Tested.◌also◌, Tested.Tested, Tested.equal, Tested.each_bool, Tested.each_fitting, Tested.each_of, Tested.each_option, Tested.each_protocol, Tested.fails, Tested.found, Tested.given, Tested.holds, Tested.provided, Tested.unless, StateTests.is_hit, StateTests.carries, Rows.serving, Rows.serving-asked}

@@ -1,10 +1,8 @@
 -- A test of the rows of a Respond, computed over the whole tables.
 use Rattle.std.proofs.Common.{option_and_then, ◌≡◌, ◌&&◌, ◌||◌, Bool, true, false, not, cond, Option, Some, None, refl, ap, sym, MatchBool, IsSomeAnd, ◌↔◌}
-use Rattle.snoop_model.proofs.Common.{all_states-at, awaited_request, GetM, GetS, PutM, is_some, missed_request, all_memories, all_payloads, all_protocols, all_requests, all_states, arrival, arrival_at_memory, CacheAction, CacheCell, CacheEvent, CacheState, carries_value, cell_of, Claims, claims_of, fits, in_protocol, is_clean, is_get_m, is_owner, is_put_m, is_sharer, keeps, MemAction, MemCell, MemEvent, memory_cell_of, MemoryCell, MemState, Payload, Protocol, Request, same, same_Some, takes_payload, wait_fits}
+use Rattle.snoop_model.proofs.Common.{all_memories, all_payloads, all_protocols, all_requests, all_states, all_states-at, arrival, arrival_at_memory, awaited_request, CacheAction, CacheCell, CacheEvent, CacheState, carries_value, cell_of, Claims, claims_of, fits, GetM, GetS, in_protocol, is_clean, is_get_m, is_owner, is_put_m, is_sharer, is_some, IsD, keeps, MemAction, MemCell, MemEvent, memory_cell_of, MemoryCell, MemState, missed_request, Payload, Protocol, PutM, Request, requests, same, same_Some, takes_payload, wait_fits}
 use Rattle.snoop_rules.specs.declared.names.CacheAction.TheVariants as action
 use Rattle.snoop_rules.specs.declared.names.MemAction.TheVariants as mem_action
-use Rattle.snoop_rules.specs.declared.names.CacheState.TheVariants.{IsD}
-use Rattle.snoop_rules.specs.contracts.names.Request.{the_type as requests}
 use Rattle.snoop_model.proofs.Tables.Tested.{◌also◌, Tested, each_of, equal, alike, each_fitting, each_memory, each_open, each_payload, each_protocol, each_request, fails, found, given, holds, provided, unless}
 
 -- the row for an event, if there are both
@@ -70,10 +68,6 @@ every_respond = each_protocol λ p. each_memory λ m. each_request λ q. each_pa
 pub respond_rule : every_respond.claim
 unfolding all_protocols all_memories all_states all_requests all_payloads claims_of fits is_owner is_sharer is_clean wait_fits in_protocol same
 respond_rule = every_respond.sound refl
-
--- a load or a store has missed
-abbrev pub has_missed : CacheState → Bool
-has_missed s = is_some (missed_request s)
 
 -- data performs the operation that has missed
 abbrev pub fills : Option Request → CacheAction → Bool

@@ -1,12 +1,9 @@
 -- What holds of every row, found by trying all.
 use Rattle.std.proofs.Common.{◌||◌, List, ◌≡◌, ℕ, Bool, true, false, not, ◌&&◌, Option, Some, None, refl, sym, ◌∙◌, is_some, option_map, ◌==◌, if◌then◌else◌}
-use Rattle.snoop_model.proofs.Common.{all_events, all_protocols, all_requests, all_states-at, cell_of, all_states, and-false, and-true, asked, awaited_request, CacheAction, CacheEvent, CacheState, Cell, each_row, GetM, GetS, is_load, IsProper, keeps, kept_on, kept_waiting, Line, missed_request, moves_to, Op, other, own, Protocol, PutM, Request, request_for, same, same_Some, seen_by, waiting_request}
+use Rattle.snoop_model.proofs.Common.{all_events, all_protocols, all_requests, all_states, all_states-at, and-false, and-true, asked, awaited_request, CacheAction, CacheEvent, CacheState, Cell, cell_of, each_row, GetM, GetS, I, IiA, ImAd, is_load, IsProper, keeps, kept_on, kept_waiting, Line, missed_request, moves_to, Op, other, own, Protocol, PutM, Request, request_for, requests, same, same_Some, seen_by, states, waiting_request}
 use Rattle.snoop_trace.specs.declared.step.Op.TheVariants as op
-use Rattle.snoop_rules.specs.declared.names.CacheState.TheVariants.{I, ImAd, IiA}
 use Rattle.snoop_rules.specs.declared.names.CacheEvent.TheVariants as event
 use Rattle.snoop_rules.specs.declared.names.CacheAction.TheVariants as action
-use Rattle.snoop_rules.specs.contracts.names.Request.{the_type as requests}
-use Rattle.snoop_rules.specs.contracts.names.CacheState.{the_type as states}
 use Rattle.snoop_model.proofs.Tables.Tested.{◌also◌, Tested, alike, each_bool, each_cell, each_of, each_protocol, each_request, equal, fails, given, holds}
 
 -- the same requests, or none

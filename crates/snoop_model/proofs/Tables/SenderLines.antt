@@ -1,10 +1,7 @@
 -- The table of senders as a test.
 use Rattle.std.proofs.Common.{◌≡◌, ◌&&◌, ℕ, Bool, true, false, Option, refl, ap}
-use Rattle.snoop_model.proofs.Common.{and_parts, arrival_at_memory, held_by, IsSenderLine, lines_of, list_any, Memory, MemState, Other, Payload, Picture, Protocol, Request, Requestor, same_true, sameb, Sender, sender_of, takes_payload}
+use Rattle.snoop_model.proofs.Common.{and_parts, arrival_at_memory, held_by, IsSenderLine, lines_of, list_any, memories, Memory, MemState, Other, Payload, payloads, Picture, Protocol, Request, Requestor, same_true, sameb, Sender, sender_of, states, takes_payload}
 use Rattle.std.proofs.lemmas.Map.Views.{Contains-from_any}
-use Rattle.snoop_rules.specs.contracts.names.CacheState.{the_type as states}
-use Rattle.snoop_rules.specs.contracts.names.MemState.{the_type as memories}
-use Rattle.snoop_rules.specs.contracts.names.Payload.{the_type as payloads}
 use Rattle.snoop_model.proofs.Tables.{Tested.Tested, Tested.found, Tested.holds, RespondTests.settled_row, RespondTests.settled_so}
 
 abbrev same_sender : Sender → Sender → Bool

@@ -1,15 +1,12 @@
 -- All laws of turns that follow the turn rule: what they keep, that they are never refused, what they cost, and when a work is over.
 use Rattle.std.proofs.Common.{[], ◌≡◌, ◌≢◌, ℕ, ◌+◌, ◌≤◌, true, false, List, length, Option, Some, None, refl, sym, ◌∙◌, ap, arith, inl, inr, ◌⊎◌, not}
-use Rattle.snoop_model.proofs.Common.{All-filter, All-push, Access, All, All-contains, All-weaker, Ask, asked, awaited_request, CacheAction, CacheEvent, CacheState, Cell, ClosedIsLast, ComesToRest, cond_some, Contains-get_or, Ends, EndsAtOnce, eq-eqb, FirstMove, has_transaction, held_by, IsServing, IsWellKept, Item, Line, ne_eqb, NeverRefused, none-some, nothing_there, Op, Open, or_cases, Order, Pays, Picture, picture_of, Protocol, queue_of, queues_after, Refused, Refuses, Reply, Request, Respond, same_Some, ServesOn, Situation, slice_index_or, slice_set, state_of, Step, sum_by, Takes, TurnLaws, waiting_request, Waits, with_line, ◌==◌}
+use Rattle.snoop_model.proofs.Common.{Access, All, All-contains, All-filter, All-push, All-weaker, Ask, asked, awaited_request, BusTaken, CacheAction, CacheEvent, CacheState, Cell, ClosedIsLast, ComesToRest, cond_some, Contains-get_or, Ends, EndsAtOnce, eq-eqb, FirstMove, has_transaction, held_by, I, is_some, IsServing, Issued, IsWellKept, Item, Line, missed_request, ne_eqb, NeverRefused, none-some, nothing_there, NothingWaiting, Op, Open, or_cases, Order, Pays, Picture, picture_of, Protocol, queue_of, queues_after, Refused, Refuses, Reply, Request, Respond, same_Some, ServesOn, Situation, slice_index_or, slice_set, Stalled, state_of, Step, sum_by, Takes, TurnLaws, waiting_request, Waits, with_line, ◌==◌}
 use Rattle.snoop_rules.specs.declared.names.CacheAction.TheVariants as action
-use Rattle.snoop_model.specs.declared.replies.Reply.TheVariants.{Issued}
-use Rattle.snoop_model.specs.declared.replies.Refused.TheVariants.{Stalled, NothingWaiting, BusTaken}
 use Rattle.snoop_model.specs.Turns.Turn.{step_under_way, turn_of}
 use Rattle.snoop_model.proofs.Lists.{Facts.one_if, Writes.set_cases, Writes.all_first, Writes.each_still, Writes.sum_issued, Writes.sum_ordered, Writes.one_small, Writes.count_set}
 use Rattle.snoop_model.proofs.Queues.Moves.{none_there, starts_well, keeps_well, queued_waits, waits_queued}
 use Rattle.snoop_model.proofs.Once.Owed.{owed_after}
-use Rattle.snoop_rules.specs.declared.names.CacheState.TheVariants.{I}
-use Rattle.snoop_model.proofs.Tables.{Rows.action_rule, Rows.is_busy, StateTests.some_of, RespondTests.has_missed}
+use Rattle.snoop_model.proofs.Tables.{Rows.action_rule, Rows.is_busy, StateTests.some_of}
 
 -- a stall comes only where the core waits
 pub stall_busy : (p : Protocol) (s : CacheState) (e : CacheEvent) (n : CacheState) → Cell p s e action.Stall n → is_busy s ≡ true
@@ -28,7 +25,7 @@ busy_under_way s under_way serving kept core block busy = elim (busy_cases (stat
 ]
 
 -- a core that has missed waits
-pub missed_busy : (s : CacheState) → has_missed s ≡ true → is_busy s ≡ true
+pub missed_busy : (s : CacheState) → is_some (missed_request s) ≡ true → is_busy s ≡ true
 missed_busy I h = cc
 missed_busy _ h = cc
 
