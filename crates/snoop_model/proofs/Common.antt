@@ -1,4 +1,5 @@
 -- The names that lemmas of the model use most, passed on from one place.
+pub use Rattle.std.proofs.Common.{[], ap, append_assoc, arith, Bool, cond, count_by, eqb, false, get_or, inl, inr, length, List, MatchBool, None, not, Option, option_and_then, refl, replicate, rules, Some, subst, suc, sym, true, zero, zero-add, ℕ, ◌&&◌, ◌++◌, ◌+◌, ◌||◌, ◌∙◌, ◌∷◌, ◌≡◌, ◌≢◌, ◌⊎◌}
 pub use Rattle.std.specs.Prelude.{is_some, ⊤, All, Contains, Err, IfOk, IfSome, IsSome, IsSomeAnd, Ok, Result, filter, filter_map, if◌then◌else◌, map, option_map, option_to_list, slice_get, slice_index_or, slice_set, sum_by, unwrap_or, ◌<◌, ◌==◌, ◌↔◌, ◌≤◌}
 pub use Rattle.std.specs.List.{list_all, list_any, cons_option, range_with_len}
 pub use Rattle.std.proofs.lemmas.Bool.{and_from, and_parts, both_ways, cases_Bool, cases_eq, cases_lt, cond_both, not-true, or_cases, or_right, and_cases, and_left, and_right, eq-eqb, eqb-true, false_from_ne_true, le-ltb, lt-ltb, ltb-false, ltb-true, ne_eqb}

@@ -1,6 +1,5 @@
 -- What every machine keeps makes it safe, and its steps keep it.
-use Rattle.std.proofs.Common.{◌≡◌, ℕ, List, ◌<◌, ◌≤◌, Option, Some, None, refl, ap, sym, ◌∙◌, arith, inl, inr, ◌⊎◌, true}
-use Rattle.snoop_model.proofs.Common.{arrival_at_memory, Ask, asked, CacheAction, CacheState, Cell, Extent, flat, flat_words, Goes, Gone, HasOpen, held_by, IfSome, Invariant, is_clean, is_some, IsOpenByTable, IsProper, IsSenderLine, IsWellKept, Item, keeps, Line, MemCell, MoveOn, nothing_held, Op, option_map, Order, Orders, Picture, picture_of, Protocol, Refused, Refuses, Reply, Request, reset, Respond, Result, RunBy, same_Some, Situation, Stalled, state_of, Step, Takes, takes_payload, Waits, with_line, with_picture, word_at}
+use Rattle.snoop_model.proofs.Common.{ap, arith, arrival_at_memory, Ask, asked, CacheAction, CacheState, Cell, Extent, flat, flat_words, Goes, Gone, HasOpen, held_by, IfSome, inl, inr, Invariant, is_clean, is_some, IsOpenByTable, IsProper, IsSenderLine, IsWellKept, Item, keeps, Line, List, MemCell, MoveOn, None, nothing_held, Op, Option, option_map, Order, Orders, Picture, picture_of, Protocol, refl, Refused, Refuses, Reply, Request, reset, Respond, Result, RunBy, same_Some, Situation, Some, Stalled, state_of, Step, sym, Takes, takes_payload, true, Waits, with_line, with_picture, word_at, ℕ, ◌<◌, ◌∙◌, ◌≡◌, ◌≤◌, ◌⊎◌}
 use Rattle.snoop_trace.specs.declared.step.Op.TheVariants as op
 use Rattle.snoop_rules.specs.declared.names.CacheState.TheVariants as state
 use Rattle.snoop_rules.specs.declared.names.CacheAction.TheVariants as action

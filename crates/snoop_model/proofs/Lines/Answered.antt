@@ -1,6 +1,5 @@
 -- The lines after a response: the requestor's is filled, or none is changed.
-use Rattle.std.proofs.Common.{arith, ◌≡◌, ℕ, List, length, Option, Some, None, refl, inl, inr, ◌⊎◌, length-set}
-use Rattle.snoop_model.proofs.Common.{cases_eq, cases_lt, get_or-set_other, get_or-set_same, get_or_past, set_past, Protocol, Request, Did, Item, Open, Access, Line, held_at, nothing_held, FillsRequestor, ArrivesFor, PutM}
+use Rattle.snoop_model.proofs.Common.{Access, arith, ArrivesFor, cases_eq, cases_lt, Did, FillsRequestor, get_or-set_other, get_or-set_same, get_or_past, held_at, inl, inr, Item, length, length-set, Line, List, None, nothing_held, Open, Option, Protocol, PutM, refl, Request, set_past, Some, ℕ, ◌≡◌, ◌⊎◌}
 
 module _ {closing : Open} {p : Protocol} {log : List Item} {old new : List Line} {did : Option Did} where
   pub by_request : (q : Request) → ArrivesFor q closing p log old new did → ((q ≡ PutM) × (new ≡ old) × (did ≡ None)) ⊎ FillsRequestor closing p log old new did

@@ -1,6 +1,5 @@
 -- How often a block stands in a queue.
-use Rattle.std.proofs.Common.{zero-add, ◌≡◌, ◌≢◌, ℕ, suc, ◌+◌, ◌≤◌, not, cond, eqb, List, [], ◌∷◌, ◌++◌, filter, refl, inl, inr, arith, count_by, Contains, eq-eqb}
-use Rattle.snoop_model.proofs.Common.{eqb_tells, get_or-le-sum_by, sum_by-cons, sum_by_push}
+use Rattle.snoop_model.proofs.Common.{[], arith, cond, Contains, count_by, eq-eqb, eqb, eqb_tells, filter, get_or-le-sum_by, inl, inr, List, not, refl, suc, sum_by-cons, sum_by_push, zero-add, ℕ, ◌++◌, ◌+◌, ◌∷◌, ◌≡◌, ◌≢◌, ◌≤◌}
 use Rattle.snoop_model.proofs.Lists.{Facts.one_if}
 
 abbrev pub times : ℕ → List ℕ → ℕ

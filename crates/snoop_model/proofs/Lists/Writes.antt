@@ -1,6 +1,5 @@
 -- What a write in one place does to a list of lists, and to sums over it.
-use Rattle.std.proofs.Common.{◌≡◌, ◌≢◌, ℕ, zero, suc, ◌+◌, ◌<◌, ◌≤◌, List, [], ◌∷◌, ◌++◌, length, filter, not, Bool, false, Some, refl, ap, arith, inl, inr, ◌⊎◌, slice_index_or, slice_set, slice_get, All, ◌==◌, sum_by, count_by, eq-eqb, get_or-set_same, get_or-set_other}
-use Rattle.snoop_model.proofs.Common.{after_issue, after_order, cond_both, count_by-le-length, get_or_from_slice_get, get_or_past, length-filter, length_push, queue_of, same_Some, set_past, slice_get_within, sum_by-set}
+use Rattle.snoop_model.proofs.Common.{[], after_issue, after_order, All, ap, arith, Bool, cond_both, count_by, count_by-le-length, eq-eqb, false, filter, get_or-set_other, get_or-set_same, get_or_from_slice_get, get_or_past, inl, inr, length, length-filter, length_push, List, not, queue_of, refl, same_Some, set_past, slice_get, slice_get_within, slice_index_or, slice_set, Some, suc, sum_by, sum_by-set, zero, ℕ, ◌++◌, ◌+◌, ◌<◌, ◌==◌, ◌∷◌, ◌≡◌, ◌≢◌, ◌≤◌, ◌⊎◌}
 use Rattle.snoop_model.proofs.Lists.Facts.{one_if}
 
 -- what stands in a place after a write

@@ -1,6 +1,5 @@
 -- What waited, or was asked, waits or is its core's last operation: by `once` alone.
-use Rattle.std.proofs.Common.{◌≡◌, ℕ, zero, suc, ◌⊎◌, inl, inr, ◌==◌, List, [], ◌∷◌, ◌++◌, map, Option, Some, None, refl, ap, sym, ◌∙◌, arith}
-use Rattle.snoop_model.proofs.Common.{filter-append, operations, Access, answers_of, append_cancel_left, asked_access, cases_Bool, cons_option, Contains, Contains-append_cases, Contains-append_left, Contains-append_right, Contains-permutation, Did, did_access, eqb-true, filter, FirstMove, held_by, IsLast, IsOwed, IsPermutation, IsPermutation-sym, Item, last_or-append, map-append, of_core, Ok, OnceMore, option_to_list, picture_of, Reply, same_Some, Situation, Step, waiting_at}
+use Rattle.snoop_model.proofs.Common.{[], Access, answers_of, ap, append_cancel_left, arith, asked_access, cases_Bool, cons_option, Contains, Contains-append_cases, Contains-append_left, Contains-append_right, Contains-permutation, Did, did_access, eqb-true, filter, filter-append, FirstMove, held_by, inl, inr, IsLast, IsOwed, IsPermutation, IsPermutation-sym, Item, last_or-append, List, map, map-append, None, of_core, Ok, OnceMore, operations, Option, option_to_list, picture_of, refl, Reply, same_Some, Situation, Some, Step, suc, sym, waiting_at, zero, ℕ, ◌++◌, ◌==◌, ◌∙◌, ◌∷◌, ◌≡◌, ◌⊎◌}
 use Rattle.snoop_model.proofs.Runs.Shape.{on_stays}
 use Rattle.snoop_model.proofs.OneBlock.Operation.{did_in, operations_moved}
 

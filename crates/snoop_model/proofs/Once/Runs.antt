@@ -1,7 +1,6 @@
 -- Each load and store that a run asks is done once, or waits.
-use Rattle.std.proofs.Common.{arith, ◌≡◌, ℕ, Bool, true, false, ◌<◌, ◌&&◌, cond, eqb, List, [], ◌∷◌, ◌++◌, length, Option, Some, None, refl, inl, inr, ap, sym, ◌∙◌, append-nil, append_assoc}
 use Rattle.snoop_model.proofs.Lists.{Writes.each_set, Facts.either_way}
-use Rattle.snoop_model.proofs.Common.{Access, accesses_in, after_order, Ask, asked, asked_access, CacheAction, CacheState, came_of, Cell, Did, did_access, eq-eqb, Err, Extent, filter, filter-append, filter_map, filter_map-append, Goes, held_at, held_by, IfSome, Invariant, IsPermutation, IsPermutation-append_comm, IsPermutation-append_left, IsPermutation-append_right, IsPermutation-refl, IsPermutation-trans, IsProper, Item, kept_waiting, Line, map, map-append, MoveOn, ne_eqb, nothing_held, of_core, Ok, Once, OnceMore, Op, operation_of, option_map, option_to_list, Order, Picture, picture_of, Protocol, queues_after, Refused, Reply, reset, Respond, Result, RunBy, Situation, slice_set, Step, taken, Takes, waiting_at, with_line, ◌==◌}
+use Rattle.snoop_model.proofs.Common.{[], Access, accesses_in, after_order, ap, append-nil, append_assoc, arith, Ask, asked, asked_access, Bool, CacheAction, CacheState, came_of, Cell, cond, Did, did_access, eq-eqb, eqb, Err, Extent, false, filter, filter-append, filter_map, filter_map-append, Goes, held_at, held_by, IfSome, inl, inr, Invariant, IsPermutation, IsPermutation-append_comm, IsPermutation-append_left, IsPermutation-append_right, IsPermutation-refl, IsPermutation-trans, IsProper, Item, kept_waiting, length, Line, List, map, map-append, MoveOn, ne_eqb, None, nothing_held, of_core, Ok, Once, OnceMore, Op, operation_of, Option, option_map, option_to_list, Order, Picture, picture_of, Protocol, queues_after, refl, Refused, Reply, reset, Respond, Result, RunBy, Situation, slice_set, Some, Step, sym, taken, Takes, true, waiting_at, with_line, ℕ, ◌&&◌, ◌++◌, ◌<◌, ◌==◌, ◌∙◌, ◌∷◌, ◌≡◌}
 use Rattle.snoop_rules.specs.declared.names.CacheAction.TheVariants as action
 use Rattle.snoop_history.specs.declared.items.Item.TheVariants as item
 use Rattle.snoop_model.proofs.Tables.Rows.{issue-missed, drop_evicts}

@@ -1,6 +1,5 @@
 -- An Ask keeps the invariant, and a load that it performs gives the flat value.
-use Rattle.std.proofs.Common.{◌≡◌, ◌<◌, ◌⊎◌, ◌∙◌, ℕ, Bool, false, List, true, length, refl, inl, inr, sym}
-use Rattle.snoop_model.proofs.Common.{both_ways, same_Some, Op, CacheAction, Cell, asked, Reply, Line, Picture, held_by, nothing_held, with_line, Situation, picture_of, Takes, Asks, BlockInvariant, own_open, owns}
+use Rattle.snoop_model.proofs.Common.{asked, Asks, BlockInvariant, Bool, both_ways, CacheAction, Cell, false, held_by, inl, inr, length, Line, List, nothing_held, Op, own_open, owns, Picture, picture_of, refl, Reply, same_Some, Situation, sym, Takes, true, with_line, ℕ, ◌<◌, ◌∙◌, ◌≡◌, ◌⊎◌}
 use Rattle.snoop_trace.specs.declared.step.Op.TheVariants as op
 use Rattle.snoop_rules.specs.declared.names.CacheEvent.TheVariants as event
 use Rattle.snoop_rules.specs.declared.names.CacheAction.TheVariants as action

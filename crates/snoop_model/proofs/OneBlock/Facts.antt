@@ -1,6 +1,5 @@
 -- What follows from the invariant of one block.
-use Rattle.std.proofs.Common.{arith, ◌≡◌, ◌≢◌, ◌<◌, ◌&&◌, ◌||◌, ◌∙◌, ℕ, List, Bool, true, false, not, eqb, Option, Some, None, refl, inl, inr, sym, subst, length, is_some, eq-eqb, eqb-true, ne_eqb}
-use Rattle.snoop_model.proofs.Common.{BlockInvariant, cases_eq, cases_lt, eqb_tells, fits, get_or_past, held_at, held_by, is_clean, IsProper, keeps, Line, nothing_held, or_right, own_open, owns, Picture, Protocol, Request, same, same_Some, talk_of}
+use Rattle.snoop_model.proofs.Common.{arith, BlockInvariant, Bool, cases_eq, cases_lt, eq-eqb, eqb, eqb-true, eqb_tells, false, fits, get_or_past, held_at, held_by, inl, inr, is_clean, is_some, IsProper, keeps, length, Line, List, ne_eqb, None, not, nothing_held, Option, or_right, own_open, owns, Picture, Protocol, refl, Request, same, same_Some, Some, subst, sym, talk_of, true, ℕ, ◌&&◌, ◌<◌, ◌||◌, ◌∙◌, ◌≡◌, ◌≢◌}
 use Rattle.snoop_model.proofs.Lines.TheSender.{IsBelow}
 use Rattle.snoop_model.proofs.Tables.{Tested.of_open, StateTests.brings_data, StateTests.carries, StateTests.clean_reads, StateTests.claims_rule}
 

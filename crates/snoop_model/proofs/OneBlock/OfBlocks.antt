@@ -1,6 +1,5 @@
 -- One block has a new picture, and the others are as they were.
-use Rattle.std.proofs.Common.{◌≡◌, ◌≢◌, ℕ, ◌<◌, List, length, Option, refl, ◌∙◌, length-set, get_or-set_same}
-use Rattle.snoop_model.proofs.Common.{MemState, Item, Open, Line, MemLine, Picture, Situation, picture_of, with_picture, nothing_there, IsShaped}
+use Rattle.snoop_model.proofs.Common.{get_or-set_same, IsShaped, Item, length, length-set, Line, List, MemLine, MemState, nothing_there, Open, Option, Picture, picture_of, refl, Situation, with_picture, ℕ, ◌<◌, ◌∙◌, ◌≡◌, ◌≢◌}
 use Rattle.snoop_model.proofs.Lists.Writes.{each_set, same_set}
 
 pub same_picture : {caches caches' : List Line} {memory memory' : MemLine} {transaction transaction' : Option Open}

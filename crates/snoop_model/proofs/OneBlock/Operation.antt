@@ -1,7 +1,6 @@
 -- What a move's operation, if it has one, does to its block's words in flat memory.
-use Rattle.std.proofs.Common.{Bool, append-nil, refl, ◌++◌, ◌≡◌, List, ℕ, true, cond, Option, Some, None, slice_set}
 use Rattle.snoop_trace.specs.declared.step.Op.TheVariants as op
-use Rattle.snoop_model.proofs.Common.{did_access, kept_waiting, next_did, Op, Performs, Did, Item, operation_of, operations, operations-push, option_to_list, word_at, ⊤}
+use Rattle.snoop_model.proofs.Common.{append-nil, Bool, cond, Did, did_access, Item, kept_waiting, List, next_did, None, Op, operation_of, operations, operations-push, Option, option_to_list, Performs, refl, slice_set, Some, true, word_at, ℕ, ⊤, ◌++◌, ◌≡◌}
 
 abbrev pub did_in : Option Item → Option Did
 did_in None = None

@@ -1,6 +1,5 @@
 -- An Order finds all its rows and one sender, and keeps the invariant.
-use Rattle.std.proofs.Common.{◌≡◌, ◌<◌, ◌∙◌, ℕ, length, List, Bool, true, false, not, cond, eqb, Option, Some, None, refl, inl, inr, ap, sym, is_some, eq-eqb, ne_eqb}
-use Rattle.snoop_model.proofs.Common.{and_from, or_cases, same_Some, Protocol, CacheCell, MemCell, Request, Payload, cell_of, memory_cell_of, own, seen_by, at_memory, carries_value, waiting_request, Open, Picture, held_by, Situation, picture_of, keeps, Orders, sender_of, is_put_m, Sends, value_sent, Claims, claims_of, fits, BlockInvariant, own_open, owns, cond_both, cond_some}
+use Rattle.snoop_model.proofs.Common.{and_from, ap, at_memory, BlockInvariant, Bool, CacheCell, carries_value, cell_of, Claims, claims_of, cond, cond_both, cond_some, eq-eqb, eqb, false, fits, held_by, inl, inr, is_put_m, is_some, keeps, length, List, MemCell, memory_cell_of, ne_eqb, None, not, Open, Option, or_cases, Orders, own, own_open, owns, Payload, Picture, picture_of, Protocol, refl, Request, same_Some, seen_by, sender_of, Sends, Situation, Some, sym, true, value_sent, waiting_request, ℕ, ◌<◌, ◌∙◌, ◌≡◌}
 use Rattle.snoop_model.proofs.Lists.Facts.{of_choice}
 use Rattle.snoop_model.proofs.Lines.TheSender.{IsBelow, sends_below}
 use Rattle.snoop_model.proofs.Tables.{Tested.Tested, StateTests.carries, StateTests.kept_reader, OrderTests.end_claims, OrderTests.order_rule, OrderTests.payload_of, OrderTests.sends_so, Rows.IsProper-order, SenderLines.follows_sender_table, SentBy.payload_from, SentBy.sends_is, SentBy.sends_row, SentBy.memory_sends_row}

@@ -1,7 +1,6 @@
 -- Each step finds its rows, and an Order exactly one sender.
 use Rattle.snoop_model.specs.Moves.LookUps.{HasRow}
-use Rattle.std.proofs.Common.{refl, ◌≡◌, ◌<◌, ℕ, length, List, false, Some, None}
-use Rattle.snoop_model.proofs.Common.{FollowsSenderTable, Protocol, Op, CacheCell, Request, cell_of, asked, seen_by, waiting_request, Picture, held_by, BlockInvariant}
+use Rattle.snoop_model.proofs.Common.{asked, BlockInvariant, CacheCell, cell_of, false, FollowsSenderTable, held_by, length, List, None, Op, Picture, Protocol, refl, Request, seen_by, Some, waiting_request, ℕ, ◌<◌, ◌≡◌}
 use Rattle.snoop_model.proofs.Tables.{SenderLines.led_line, AskTests.ask_rule, AskTests.is_idle_evict}
 use Rattle.snoop_model.proofs.OneBlock.{Facts.below_owner, Facts.is_itself, OrderStep.each_row, OrderStep.look, OrderStep.meant, OrderStep.meant_in, OrderStep.sender_told, OrderStep.sends, OrderStep.sends_if_meant, OrderStep.sent}
 

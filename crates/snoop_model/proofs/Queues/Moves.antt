@@ -1,6 +1,5 @@
 -- A machine is well kept at reset, and stays so at each kind of move; so a core waits on the blocks in its queue, and on no others.
-use Rattle.std.proofs.Common.{◌≡◌, ◌≢◌, ℕ, ◌<◌, ◌++◌, List, [], length, Option, Some, None, refl, sym, ◌∙◌, arith, inl, inr, ◌∷◌}
-use Rattle.snoop_model.proofs.Common.{get_or-set_other, get_or_from_slice_get, slice_get_within, eqb-true, Access, after_issue, after_order, ArrivesFor, Ask, asked, awaited_request, CacheAction, CacheState, cases_Bool, cases_lt, Cell, Contains, Did, eq-eqb, get_or-set_same, get_or_past, held_at, held_by, if◌then◌else◌, is_some, IsSome, IsWellKept, IsWithin, Item, KeepsWell, length-set, Line, missed_request, MoveOn, ne_eqb, none-some, nothing_held, Op, Open, option_to_list, Order, Picture, picture_of, Protocol, queue_of, queues_after, Reply, Request, reset, Respond, Responds, same_Some, Situation, slice_get, slice_get-get_or, StandsFirst, StartsWell, state_of, Step, Takes, TakesRows, waiting_request, Waits, WaitsOnNone, with_line, ◌==◌}
+use Rattle.snoop_model.proofs.Common.{[], Access, after_issue, after_order, arith, ArrivesFor, Ask, asked, awaited_request, CacheAction, CacheState, cases_Bool, cases_lt, Cell, Contains, Did, eq-eqb, eqb-true, get_or-set_other, get_or-set_same, get_or_from_slice_get, get_or_past, held_at, held_by, if◌then◌else◌, inl, inr, is_some, IsSome, IsWellKept, IsWithin, Item, KeepsWell, length, length-set, Line, List, missed_request, MoveOn, ne_eqb, None, none-some, nothing_held, Op, Open, Option, option_to_list, Order, Picture, picture_of, Protocol, queue_of, queues_after, refl, Reply, Request, reset, Respond, Responds, same_Some, Situation, slice_get, slice_get-get_or, slice_get_within, Some, StandsFirst, StartsWell, state_of, Step, sym, Takes, TakesRows, waiting_request, Waits, WaitsOnNone, with_line, ℕ, ◌++◌, ◌<◌, ◌==◌, ◌∙◌, ◌∷◌, ◌≡◌, ◌≢◌}
 use Rattle.snoop_rules.specs.declared.names.CacheAction.TheVariants as action
 use Rattle.snoop_model.proofs.Lists.{Facts.one_if, Facts.replicated, Writes.each_set, Writes.same_set, QueueCounts.times_push, QueueCounts.times_gone, QueueCounts.times_left, QueueCounts.times, QueueCounts.counted_in, QueueCounts.in_counted}
 use Rattle.snoop_model.proofs.Tables.{Rows.issue-waits, Rows.issue-missed, Rows.asked_missed, Rows.action_rule, Rows.order_rule, Rows.fill-waits, Rows.awaited-asked, RespondTests.data_rule, RespondTests.awaited-get, StateTests.some_of}

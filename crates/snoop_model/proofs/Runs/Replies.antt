@@ -1,6 +1,5 @@
 -- What the outcome of a step tells of the history.
-use Rattle.std.proofs.Common.{◌≡◌, ℕ, false, ◌++◌, List, [], ◌∷◌, Option, refl, ap, sym, subst, inl, inr}
-use Rattle.snoop_model.proofs.Common.{append-nil, Ask, asked, CacheAction, CacheState, Cell, Err, FirstMove, Goes, held_by, IfSome, Invariant, Item, Line, Ok, Op, option_to_list, Order, picture_of, Protocol, Refused, Reply, Respond, Result, RunBy, Situation, Step, Takes}
+use Rattle.snoop_model.proofs.Common.{[], ap, append-nil, Ask, asked, CacheAction, CacheState, Cell, Err, false, FirstMove, Goes, held_by, IfSome, inl, inr, Invariant, Item, Line, List, Ok, Op, Option, option_to_list, Order, picture_of, Protocol, refl, Refused, Reply, Respond, Result, RunBy, Situation, Step, subst, sym, Takes, ℕ, ◌++◌, ◌∷◌, ◌≡◌}
 use Rattle.snoop_trace.specs.declared.step.Op.TheVariants as op
 use Rattle.snoop_rules.specs.declared.names.CacheAction.TheVariants as action
 use Rattle.snoop_model.specs.Moves.Replies.{Tells}

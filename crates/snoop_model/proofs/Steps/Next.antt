@@ -1,6 +1,5 @@
 -- What a step comes to, computed: what it is answered, and where it leads. Where a table has no row, which no run meets, the state stays.
-use Rattle.std.proofs.Common.{ℕ, zero, suc, Bool, true, false, ◌&&◌, List, [], ◌∷◌, ◌++◌, length, map, Option, Some, None}
-use Rattle.snoop_model.proofs.Common.{Access, after_order, arrival, Ask, asked, at_memory, BusTaken, CacheAction, CacheState, came_of, cell_of, Data, Did, Err, Extent, free_picture, held_at, held_by, if◌then◌else◌, is_load, is_some, Item, kept_waiting, Line, ltb, memory_cell_of, moves_to, next_did, NoBlock, NoCore, NothingWaiting, NoTransaction, Ok, Op, Open, option_map_or, option_to_list, Order, Picture, picture_of, Protocol, PutM, queue_of, queues_after, range_with_len, Refused, Reply, Request, Respond, Result, seen_by, Situation, slice_get, slice_set, Stalled, state_of, Step, unwrap_or, value_sent, waiting_request, with_line, with_picture, word_at, word_places, written, zero_words}
+use Rattle.snoop_model.proofs.Common.{[], Access, after_order, arrival, Ask, asked, at_memory, Bool, BusTaken, CacheAction, CacheState, came_of, cell_of, Data, Did, Err, Extent, false, free_picture, held_at, held_by, if◌then◌else◌, is_load, is_some, Item, kept_waiting, length, Line, List, ltb, map, memory_cell_of, moves_to, next_did, NoBlock, NoCore, None, NothingWaiting, NoTransaction, Ok, Op, Open, Option, option_map_or, option_to_list, Order, Picture, picture_of, Protocol, PutM, queue_of, queues_after, range_with_len, Refused, Reply, Request, Respond, Result, seen_by, Situation, slice_get, slice_set, Some, Stalled, state_of, Step, suc, true, unwrap_or, value_sent, waiting_request, with_line, with_picture, word_at, word_places, written, zero, zero_words, ℕ, ◌&&◌, ◌++◌, ◌∷◌}
 use Rattle.snoop_trace.specs.declared.step.Op.TheVariants as op
 use Rattle.snoop_rules.specs.declared.names.CacheAction.TheVariants as action
 use Rattle.snoop_rules.specs.declared.names.MemAction.TheVariants as mem_action

@@ -1,6 +1,5 @@
 -- Tests of the rows of an Ask, computed over the whole tables.
-use Rattle.std.proofs.Common.{Some, ◌≡◌, ◌&&◌, Bool, true, false, Option, refl}
-use Rattle.snoop_model.proofs.Common.{all_events, all_events-at, all_protocols, all_requests, all_requests-at, all_states, asked, awaited_request, CacheAction, CacheCell, CacheEvent, CacheState, cell_of, fits, in_protocol, is_clean, is_owner, is_put_m, is_sharer, keeps, Op, Protocol, Request, request_for, requests, same, wait_fits}
+use Rattle.snoop_model.proofs.Common.{all_events, all_events-at, all_protocols, all_requests, all_requests-at, all_states, asked, awaited_request, Bool, CacheAction, CacheCell, CacheEvent, CacheState, cell_of, false, fits, in_protocol, is_clean, is_owner, is_put_m, is_sharer, keeps, Op, Option, Protocol, refl, Request, request_for, requests, same, Some, true, wait_fits, ◌&&◌, ◌≡◌}
 use Rattle.snoop_rules.specs.declared.names.CacheAction.TheVariants as action
 use Rattle.snoop_rules.specs.declared.names.CacheState.TheVariants as state
 use Rattle.snoop_rules.specs.declared.names.CacheEvent.TheVariants as event

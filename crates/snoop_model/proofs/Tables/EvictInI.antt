@@ -1,6 +1,5 @@
 -- An Evict in I has no row.
-use Rattle.std.proofs.Common.{◌≡◌}
-use Rattle.snoop_model.proofs.Common.{asked, CacheAction, CacheState, Cell, I, Op, Protocol}
+use Rattle.snoop_model.proofs.Common.{asked, CacheAction, CacheState, Cell, I, Op, Protocol, ◌≡◌}
 use Rattle.snoop_trace.specs.declared.step.Op.TheVariants as op
 
 pub no_row : (p : Protocol) (s : CacheState) (asking : Op) (a : CacheAction) (n : CacheState) → asking ≡ op.Evict → s ≡ I → Cell p s (asked asking) a n → ⊥

@@ -1,6 +1,5 @@
 -- What holds of the states and of the table of claims, computed over all of them.
-use Rattle.std.proofs.Common.{ℕ, ◌≡◌, Bool, true, false, Option, Some, None, List, refl}
-use Rattle.snoop_model.proofs.Common.{all_memories, all_payloads, all_payloads-at, all_protocols, all_requests, all_requests-at, all_states, CacheAction, CacheState, carries_value, claims_of, fits, in_protocol, is_clean, is_owner, is_sharer, is_some, keeps, kept_on, same, Talk, wait_fits}
+use Rattle.snoop_model.proofs.Common.{all_memories, all_payloads, all_payloads-at, all_protocols, all_requests, all_requests-at, all_states, Bool, CacheAction, CacheState, carries_value, claims_of, false, fits, in_protocol, is_clean, is_owner, is_sharer, is_some, keeps, kept_on, List, None, Option, refl, same, Some, Talk, true, wait_fits, ℕ, ◌≡◌}
 use Rattle.snoop_model.proofs.Tables.Tested.{◌also◌, Tested, each_memory, each_open, each_option, each_protocol, fails, given, holds, provided, unless}
 use Rattle.snoop_rules.specs.declared.names.CacheState.TheVariants as state
 use Rattle.snoop_rules.specs.declared.names.CacheAction.TheVariants as action
