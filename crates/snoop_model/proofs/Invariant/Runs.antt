@@ -5,7 +5,7 @@ use Rattle.snoop_rules.specs.declared.names.CacheAction.TheVariants as action
 use Rattle.snoop_history.specs.declared.items.Item.TheVariants as item
 use Rattle.snoop_history.proofs.Legal.{flat-grows, legal-grows}
 use Rattle.snoop_model.proofs.Lists.{Writes.each_set, Facts.replicated}
-use Rattle.snoop_model.proofs.OneBlock.{Facts.each_held, Operation.did_in, Operation.operations_moved, Operation.performed_so, Operation.flat_after, Operation.IsLawful, OfBlocks.changed, OfBlocks.in_pictures, OfBlocks.each_picture, OfBlocks.shaped_after, AskStep.ask_keeps, OrderStep.order_keeps, RespondStep.respond_keeps}
+use Rattle.snoop_model.proofs.OneBlock.{Facts.each_held, Facts.did_in, Facts.operations_moved, Facts.performed_so, Facts.flat_after, Facts.IsLawful, OfBlocks.changed, OfBlocks.in_pictures, OfBlocks.each_picture, OfBlocks.shaped_after, AskStep.ask_keeps, OrderStep.order_keeps, RespondStep.respond_keeps}
 use Rattle.snoop_model.proofs.Lines.Answered.{by_request, arrives_length, still_waiting}
 use Rattle.snoop_trace.specs.declared.protocol.Protocol.TheVariants as protocol
 

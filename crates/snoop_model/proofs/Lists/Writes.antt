@@ -1,5 +1,5 @@
--- What a write in one place does to a list of lists, and to sums over it.
-use Rattle.snoop_model.proofs.Common.{[], after_issue, after_order, All, ap, arith, Bool, cond_both, count_by, count_by-le-length, eq-eqb, false, filter, get_or-set_other, get_or-set_same, get_or_from_slice_get, get_or_past, inl, inr, length, length-filter, length_push, List, not, queue_of, refl, same_Some, set_past, slice_get, slice_get_within, slice_index_or, slice_set, Some, suc, sum_by, sum_by-set, zero, ℕ, ◌++◌, ◌+◌, ◌<◌, ◌==◌, ◌∷◌, ◌≡◌, ◌≢◌, ◌≤◌, ◌⊎◌}
+-- What a write in one place does to a list of lists, and to sums over it, and how often a block stands in a queue.
+use Rattle.snoop_model.proofs.Common.{[], after_issue, after_order, All, ap, arith, Bool, cond, cond_both, Contains, count_by, count_by-le-length, eq-eqb, eqb, eqb_tells, false, filter, get_or-le-sum_by, get_or-set_other, get_or-set_same, get_or_from_slice_get, get_or_past, inl, inr, length, length-filter, length_push, List, not, queue_of, refl, same_Some, set_past, slice_get, slice_get_within, slice_index_or, slice_set, Some, suc, sum_by, sum_by-cons, sum_by-set, sum_by_push, zero, zero-add, ℕ, ◌++◌, ◌+◌, ◌<◌, ◌==◌, ◌∷◌, ◌≡◌, ◌≢◌, ◌≤◌, ◌⊎◌}
 use Rattle.snoop_model.proofs.Lists.Facts.{one_if}
 
 -- what stands in a place after a write
@@ -55,3 +55,35 @@ one_small t = cond_both t 1 0 (λ n. n ≤ 1) (λ is. omega arith) (λ is. omega
 pub count_set : {A : Type 0} (test : A → Bool) (xs : List A) (i : ℕ) (a d : A) → test d ≡ false
     → count_by test (slice_set xs i a) + one_if (test (slice_index_or xs i d)) ≤ count_by test xs + one_if (test a)
 count_set test xs i a d none = sum_set (λ x. one_if (test x)) xs i a d (rw none refl)
+
+abbrev pub times : ℕ → List ℕ → ℕ
+times block queue = count_by (λ b. eqb b block) queue
+
+pub times_cons : (block x : ℕ) (queue : List ℕ) → times block (x ∷ queue) ≡ one_if (eqb x block) + times block queue
+times_cons block x queue = sum_by-cons (λ b. cond (eqb b block) 1 0) x queue
+
+pub times_push : (block x : ℕ) (queue : List ℕ) → times block (queue ++ x ∷ []) ≡ times block queue + one_if (eqb x block)
+times_push block x queue = sum_by_push (λ b. cond (eqb b block) 1 0) queue x
+
+-- a block that is counted stands in the queue
+pub counted_in : (block : ℕ) (queue : List ℕ) → 1 ≤ times block queue → Contains queue block
+counted_in block [] some = absurd (omega arith)
+counted_in block (x ∷ queue) some = elim (eqb_tells x block) [
+  | inl same ↦ (0, omega arith, same.1)
+  | inr other ↦
+      let (k, below, is) = counted_in block queue (simp (other.0, zero-add) at some) in
+      (suc k, omega arith, is)
+]
+
+pub in_counted : (block : ℕ) (queue : List ℕ) → Contains queue block → 1 ≤ times block queue
+in_counted block queue (k, below, is) = rw (is, eq-eqb block block refl) at (get_or-le-sum_by (λ b. one_if (eqb b block)) queue k block below)
+
+-- a block is taken out of a queue, and the others stay
+pub times_gone : (taken : ℕ) (queue : List ℕ) → times taken (filter (λ b. not (eqb b taken)) queue) ≡ 0
+times_gone taken [] = refl
+times_gone taken (x ∷ queue) = grind (arith, times_cons, times_gone taken queue)
+
+pub times_left : (block taken : ℕ) (queue : List ℕ) → block ≢ taken → times block (filter (λ b. not (eqb b taken)) queue) ≡ times block queue
+times_left block taken [] apart = refl
+times_left block taken (x ∷ queue) apart =
+    grind (arith, times_cons block x queue, times_cons block x (filter (λ b. not (eqb b taken)) queue), eqb_tells x taken, eqb_tells x block, times_left block taken queue apart)

@@ -4,7 +4,7 @@ use Rattle.snoop_model.proofs.Common.{[], Access, accesses_in, after_order, ap, 
 use Rattle.snoop_rules.specs.declared.names.CacheAction.TheVariants as action
 use Rattle.snoop_history.specs.declared.items.Item.TheVariants as item
 use Rattle.snoop_model.proofs.Tables.Rows.{issue-missed, drop_evicts}
-use Rattle.snoop_model.proofs.OneBlock.{Operation.did_in, Operation.performed_so, OfBlocks.changed, OfBlocks.each_picture, OfBlocks.in_pictures}
+use Rattle.snoop_model.proofs.OneBlock.{Facts.did_in, Facts.performed_so, OfBlocks.changed, OfBlocks.each_picture, OfBlocks.in_pictures}
 use Rattle.snoop_model.proofs.Lines.Answered.{by_request}
 use Rattle.snoop_model.proofs.Queues.Moves.{each_taken}
 use Rattle.snoop_model.proofs.Once.Owed.{answers_are, cons_one}

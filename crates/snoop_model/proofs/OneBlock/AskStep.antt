@@ -3,7 +3,7 @@ use Rattle.snoop_model.proofs.Common.{asked, Asks, BlockInvariant, Bool, both_wa
 use Rattle.snoop_trace.specs.declared.step.Op.TheVariants as op
 use Rattle.snoop_rules.specs.declared.names.CacheEvent.TheVariants as event
 use Rattle.snoop_rules.specs.declared.names.CacheAction.TheVariants as action
-use Rattle.snoop_model.proofs.OneBlock.{Operation.did_in, Operation.flat_after, Operation.IsLawful, Facts.LineFits, Facts.carried_line, Facts.line_of, Facts.owned_alone, Facts.still_fits}
+use Rattle.snoop_model.proofs.OneBlock.{Facts.did_in, Facts.flat_after, Facts.IsLawful, Facts.LineFits, Facts.carried_line, Facts.line_of, Facts.owned_alone, Facts.still_fits}
 use Rattle.snoop_model.proofs.Lists.Writes.{each_set}
 use Rattle.snoop_model.proofs.Tables.{Rows.hit_keeps, Rows.IsProper-issue, Rows.IsProper-hit, Rows.IsProper-drop, AskTests.ask_rule, AskTests.asked_row, StateTests.kept_reader}
 

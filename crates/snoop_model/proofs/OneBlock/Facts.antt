@@ -1,5 +1,6 @@
 -- What follows from the invariant of one block.
-use Rattle.snoop_model.proofs.Common.{arith, BlockInvariant, Bool, cases_eq, cases_lt, eq-eqb, eqb, eqb-true, eqb_tells, false, fits, get_or_past, held_at, held_by, inl, inr, is_clean, is_some, IsProper, keeps, length, Line, List, ne_eqb, None, not, nothing_held, Option, or_right, own_open, owns, Picture, Protocol, refl, Request, same, same_Some, Some, subst, sym, talk_of, true, ℕ, ◌&&◌, ◌<◌, ◌||◌, ◌∙◌, ◌≡◌, ◌≢◌}
+use Rattle.snoop_trace.specs.declared.step.Op.TheVariants as op
+use Rattle.snoop_model.proofs.Common.{append-nil, arith, BlockInvariant, Bool, cases_eq, cases_lt, cond, Did, did_access, eq-eqb, eqb, eqb-true, eqb_tells, false, fits, get_or_past, held_at, held_by, inl, inr, is_clean, is_some, IsProper, Item, keeps, kept_waiting, length, Line, List, ne_eqb, next_did, None, not, nothing_held, Op, operation_of, operations, operations-push, Option, option_to_list, or_right, own_open, owns, Performs, Picture, Protocol, refl, Request, same, same_Some, slice_set, Some, subst, sym, talk_of, true, word_at, ℕ, ⊤, ◌&&◌, ◌++◌, ◌<◌, ◌||◌, ◌∙◌, ◌≡◌, ◌≢◌}
 use Rattle.snoop_model.proofs.Lines.TheSender.{IsBelow}
 use Rattle.snoop_model.proofs.Tables.{Tested.of_open, StateTests.brings_data, StateTests.carries, StateTests.clean_reads, StateTests.claims_rule}
 
@@ -77,3 +78,28 @@ core_in n c c_in o is = rw (← same_Some c o is) c_in
 pub below_owner : (n : ℕ) (owner : Option ℕ) → OwnerIn n owner → IsBelow n owner
 below_owner n None was = tt
 below_owner n (Some o) was = was o refl
+
+abbrev pub did_in : Option Item → Option Did
+did_in None = None
+did_in (Some entry) = operation_of entry
+
+abbrev pub flat_after : List ℕ → Option Did → List ℕ
+flat_after flat None = flat
+flat_after flat (Some did) = cond did.load flat (slice_set flat did.word did.value)
+
+-- a load gives flat memory's value
+abbrev pub IsLawful : List ℕ → Option Did → Type 0
+IsLawful flat None = ⊤
+IsLawful flat (Some did) = did.load ≡ true → did.value ≡ word_at flat did.word
+
+-- the operations with one item more
+pub operations_moved : (log : List Item) (entry : Option Item) → operations (log ++ option_to_list entry) ≡ operations log ++ option_to_list (did_in entry)
+operations_moved log None = rw (append-nil log, append-nil (operations log)) refl
+operations_moved log (Some entry) = operations-push log entry
+
+-- the operation that was done is the one that was asked, and no eviction
+pub performed_so : (word : ℕ) (asking : Op) (before : List ℕ) (value : ℕ) (after : List ℕ) (log : List Item) (core block : ℕ) (hit : Bool) → Performs word asking before value after
+    → (did_access (next_did log core block word asking value hit) ≡ record { word = word; op = asking }) × (kept_waiting word asking ≡ Some (record { word = word; op = asking }))
+performed_so word op.Load before value after log core block hit h = (refl, refl)
+performed_so word (op.Store stored) before value after log core block hit h = rw h.0 (refl, refl)
+performed_so word op.Evict before value after log core block hit h = absurd h
