@@ -72,9 +72,6 @@ is_itself (Some d) = eq-eqb d d refl
 abbrev pub OwnerIn : ℕ → Option ℕ → Type 0
 OwnerIn n owner = (o : ℕ) → owner ≡ Some o → o < n
 
-pub core_in : (n c : ℕ) → c < n → OwnerIn n (Some c)
-core_in n c c_in o is = rw (← same_Some c o is) c_in
-
 pub below_owner : (n : ℕ) (owner : Option ℕ) → OwnerIn n owner → IsBelow n owner
 below_owner n None was = tt
 below_owner n (Some o) was = was o refl

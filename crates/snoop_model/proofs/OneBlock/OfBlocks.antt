@@ -2,14 +2,6 @@
 use Rattle.snoop_model.proofs.Common.{get_or-set_same, IsShaped, Item, length, length-set, Line, List, MemLine, MemState, nothing_there, Open, Option, Picture, picture_of, refl, Situation, with_picture, ℕ, ◌<◌, ◌∙◌, ◌≡◌, ◌≢◌}
 use Rattle.snoop_model.proofs.Lists.Writes.{each_set, same_set}
 
-pub same_picture : {caches caches' : List Line} {memory memory' : MemLine} {transaction transaction' : Option Open}
-    → caches ≡ caches' → memory ≡ memory' → transaction ≡ transaction'
-    → ◌≡◌ {A = Picture} (record { caches = caches; memory = memory; transaction = transaction }) (record { caches = caches'; memory = memory'; transaction = transaction' })
-same_picture e f h = rw (e, f, h) refl
-
-pub same_memory : {state state' : MemState} {value value' : List ℕ} → state ≡ state' → value ≡ value' → ◌≡◌ {A = MemLine} (record { state = state; value = value }) (record { state = state'; value = value' })
-same_memory e f = rw (e, f) refl
-
 -- a block of the shape has a picture
 pub in_pictures : (s : Situation) (block : ℕ) → IsShaped s → block < s.shape.blocks → block < length s.pictures
 in_pictures s block shaped within = rw shaped.pictures within

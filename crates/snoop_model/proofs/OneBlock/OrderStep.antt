@@ -3,7 +3,7 @@ use Rattle.snoop_model.proofs.Common.{and_from, ap, at_memory, BlockInvariant, B
 use Rattle.snoop_model.proofs.Lists.Facts.{of_choice}
 use Rattle.snoop_model.proofs.Lines.TheSender.{IsBelow, sends_below}
 use Rattle.snoop_model.proofs.Tables.{Tested.Tested, StateTests.carries, StateTests.kept_reader, OrderTests.end_claims, OrderTests.order_rule, OrderTests.payload_of, OrderTests.sends_so, Rows.IsProper-order, SenderLines.follows_sender_table, SentBy.payload_from, SentBy.sends_is, SentBy.sends_row, SentBy.memory_sends_row}
-use Rattle.snoop_model.proofs.OneBlock.Facts.{LineFits, by_core, carried_line, is_it, it_is, line_of, OwnerIn, core_in, owns_owned, owns_apart}
+use Rattle.snoop_model.proofs.OneBlock.Facts.{LineFits, by_core, carried_line, is_it, it_is, line_of, OwnerIn, owns_owned, owns_apart}
 
 -- all that an Order looks up of a picture that keeps its invariant
 pub record Looked {p : Protocol} {flat : List ℕ} {before : Picture} (good : BlockInvariant p (length before.caches) flat before) (c : ℕ) (q : Request) : Type 0 where
@@ -34,7 +34,7 @@ module _ {p : Protocol} {flat : List ℕ} {before : Picture} {good : BlockInvari
   meant = cond (is_put_m q) (Some c) good.owner
 
   pub meant_in : OwnerIn (length before.caches) meant
-  meant_in = cond_both (is_put_m q) (Some c) good.owner (OwnerIn (length before.caches)) (λ is. core_in (length before.caches) c l.requestor_in) (λ is. good.owner_in)
+  meant_in = cond_both (is_put_m q) (Some c) good.owner (OwnerIn (length before.caches)) (λ is o owned. rw (← same_Some c o owned) l.requestor_in) (λ is. good.owner_in)
 
   -- this controller's line is in the table, and it has the block's words
   abbrev pub on_line : Option ℕ → Tested

@@ -5,7 +5,7 @@ use Rattle.snoop_rules.specs.declared.names.CacheAction.TheVariants as action
 use Rattle.snoop_rules.specs.declared.names.MemAction.TheVariants as mem_action
 use Rattle.snoop_model.proofs.Lists.{Facts.of_choice, Writes.each_set}
 use Rattle.snoop_model.proofs.Tables.{Tested.of_open, RespondTests.answer_claims, RespondTests.fills_store, RespondTests.gains, RespondTests.respond_rule, RespondTests.respond_claims, RespondTests.row_for, RespondTests.settled_row, RespondTests.settled_so, RespondTests.stays_so, RespondTests.writes, Rows.IsProper-fill}
-use Rattle.snoop_model.proofs.OneBlock.{Facts.LineFits, Facts.line_of, Facts.still_fits, Facts.OwnerIn, Facts.core_in, Facts.owns_owned, Facts.flat_after, Facts.IsLawful}
+use Rattle.snoop_model.proofs.OneBlock.{Facts.LineFits, Facts.line_of, Facts.still_fits, Facts.OwnerIn, Facts.owns_owned, Facts.flat_after, Facts.IsLawful}
 
 -- all that a Respond looks up of a picture that keeps its invariant
 pub record Closing {p : Protocol} {n : ℕ} {flat : List ℕ} {before : Picture} (good : BlockInvariant p n flat before) (o : Open) : Type 0 where
@@ -87,7 +87,7 @@ module _ (s : Situation) (block : ℕ) (o : Open) (did : Option Did) (new : Situ
         claims = found.next;
         is_claims = simp r.closed (rw memory_is at found.is_next);
         owner = cond gained (Some o.core) g.owner;
-        owner_in = cond_both gained (Some o.core) g.owner (OwnerIn n) (λ is. core_in n o.core (g.requestor_in o r.opened)) (λ is. g.owner_in);
+        owner_in = cond_both gained (Some o.core) g.owner (OwnerIn n) (λ is x owned. rw (← same_Some o.core x owned) (g.requestor_in o r.opened)) (λ is. g.owner_in);
         is_owned = grind (arith, g.is_owned, found.tests.1.0);
         states = λ d d_in. simp r.closed (lines d d_in).fit;
         kept = λ d d_in. (lines d d_in).kept;

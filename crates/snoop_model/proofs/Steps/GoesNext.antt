@@ -1,12 +1,12 @@
 -- Each step that goes comes to what is computed of it, and from every situation of a run each step goes so.
 use Rattle.std.specs.Bool.{Decides}
 use Rattle.snoop_model.proofs.Lists.Facts.{option_both}
-use Rattle.snoop_model.proofs.Common.{ap, arith, arrival, arrival_at_memory, ArrivesFor, Ask, asked, both_ways, BusTaken, CacheAction, CacheCell, CacheState, CanOrder, cases_Bool, cases_eq, cases_lt, Cell, cell_of, cond_both, Decides-and, Decides-ltb, Did, Err, Extent, false, false_from_ne_true, fill_by_all, FillsRequestor, FirstMove, flat_words, get_or-map-range_with_len, GoesFirst, HasWord, held_at, held_by, Hits, if◌then◌else◌, inl, inr, Invariant, is_load, is_put_m, is_some, IsOnlySender, IsProper, IsWithin, Item, le-ltb, length, length-map-range_with_len, Line, List, lt-ltb, ltb, ltb-false, ltb-true, NoBlock, NoCore, None, none-some, nothing_held, NothingWaiting, NoTransaction, Ok, Op, Open, Option, option_and_then_some, option_map_or, Order, Orders, Payload, Performs, Picture, picture_of, Protocol, PutM, queue_of, refl, Refused, Refuses, Reply, Request, request_for, Respond, Responds, Result, seen_by, Situation, slice_get, Some, Stalled, state_of, Step, suc, sym, Takes, takes_payload, true, unwrap_or, waiting_request, word_places, zero, zero_words, ℕ, ◌&&◌, ◌<◌, ◌∙◌, ◌≡◌, ◌≤◌, ◌⊎◌}
+use Rattle.snoop_model.proofs.Common.{ap, arith, arrival, arrival_at_memory, ArrivesFor, Ask, asked, both_ways, BusTaken, CacheAction, CacheCell, CacheState, CanOrder, cases_Bool, cases_eq, cases_lt, Cell, cell_of, cond_both, Decides-and, Decides-ltb, Did, Err, Extent, false, false_from_ne_true, fill_by_all, FillsRequestor, FirstMove, flat_words, free_picture, get_or-map-range_with_len, GoesFirst, HasWord, held_at, held_by, Hits, if◌then◌else◌, inl, inr, Invariant, is_load, is_put_m, is_some, IsOnlySender, IsProper, IsWithin, Item, le-ltb, length, length-map-range_with_len, Line, List, lt-ltb, ltb, ltb-false, ltb-true, MemLine, NoBlock, NoCore, None, none-some, nothing_held, NothingWaiting, NoTransaction, Ok, Op, Open, Option, option_and_then_some, option_map_or, Order, Orders, Payload, Performs, Picture, picture_of, Protocol, PutM, queue_of, refl, Refused, Refuses, Reply, Request, request_for, Respond, Responds, Result, seen_by, Situation, slice_get, Some, Stalled, state_of, Step, suc, sym, Takes, takes_payload, true, unwrap_or, waiting_request, word_places, written, zero, zero_words, ℕ, ◌&&◌, ◌<◌, ◌∙◌, ◌≡◌, ◌≤◌, ◌⊎◌}
 use Rattle.snoop_trace.specs.declared.step.Op.TheVariants as op
 use Rattle.snoop_rules.specs.declared.names.CacheAction.TheVariants as action
 use Rattle.snoop_model.proofs.Lines.TheSender.{IsBelow, sends_below}
 use Rattle.snoop_model.proofs.Tables.{SentBy.payload_from, SentBy.sends_is, SentBy.sends_row, RespondTests.data_rule, RespondTests.fills, RespondTests.settled_so, RespondTests.row_for, StateTests.some_of, Rows.is_evict, Rows.action_rule, Rows.serving-asked, Rows.hit_keeps, AskTests.is_idle_evict}
-use Rattle.snoop_model.proofs.OneBlock.{OfBlocks.same_picture, OfBlocks.same_memory, Possible.ask_possible, RespondStep.close, RespondStep.answered}
+use Rattle.snoop_model.proofs.OneBlock.{Possible.ask_possible, RespondStep.close, RespondStep.answered}
 use Rattle.snoop_model.proofs.Steps.Next.{Next, value_of, words_after, has_word, after_ask, by_row, next_asked, sender_below, line_after, next_picture, next_ordered, filled, brought, next_closed, next_of, next_first}
 use Rattle.snoop_model.proofs.Invariant.Coherence.{orders_follow_sender_table, finds_rows, idle_evict, waits_within}
 use Rattle.snoop_model.proofs.Queues.Moves.{none_there, AreQueued, first_waits, none_waits}
@@ -77,8 +77,10 @@ move_is s (Order core) answer new (block, (first, m)) =
     let from = sender_is p before core q (length before.caches) (omega arith) o.from o.payload o.sent (sends_below p before core q _ _ o.sent.sends) in
     let caches = fill_by_all (line_after p before core q) o.next.caches (length before.caches) nothing_held o.taken.same_length
     (λ k below. (let row = o.taken.rows k below in row.2 ∙ rw row.1 refl)) in
-    let next : o.next ≡ next_picture p before core q block =
-    same_picture caches (same_memory (o.memory.2 ∙ rw o.memory.1 refl) o.value) (o.opened ∙ rw (from, sends) refl) in
+    let after = next_picture p before core q block in
+    let state : o.next.memory.state ≡ after.memory.state = o.memory.2 ∙ rw o.memory.1 refl in
+    let opened : o.next.transaction ≡ after.transaction = o.opened ∙ rw (from, sends) refl in
+    let next : o.next ≡ after = λ i. record { caches = caches i; memory = record { state = state i; value = o.value i }; transaction = opened i } in
     rw (m.answered, lt-ltb core s.shape.cores m.within.0, first, o.ready.1, o.ready.0, o.after, next) refl
 move_is s (Respond on) answer new (block, (first, m)) =
     let r = m.responds in
@@ -86,7 +88,9 @@ move_is s (Respond on) answer new (block, (first, m)) =
     let before : Picture = picture_of s block in
     let caches = arrives_is o s.protocol s.log before.caches r.next.caches m.did o.request r.requestor in
     let memory = (settled_so (takes_payload o.request before.memory.state) s.protocol (arrival_at_memory o.payload) before.memory.state r.memory.act r.next.memory.state).0 r.memory.settled in
-    let next = same_picture (ap (λ x. x.0) caches) (same_memory {state = r.next.memory.state} refl r.memory.value) r.closed in
+    let line : MemLine = record { state = r.next.memory.state; value = written r.memory.act o.value before.memory.value } in
+    let next : r.next ≡ free_picture (brought o s.protocol s.log before.caches o.request).0 line =
+    λ i. record { caches = (caches i).0; memory = record { state = r.next.memory.state; value = r.memory.value i }; transaction = r.closed i } in
     rw (m.on_block, m.answered, lt-ltb block s.shape.blocks m.within, r.opened, r.after, memory, next, ap (λ x. x.1) caches) refl
 
 -- and so does a refusal

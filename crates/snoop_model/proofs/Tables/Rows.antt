@@ -120,10 +120,6 @@ module _ (p : Protocol) (s : CacheState) (e : CacheEvent) (q : Request) (n : Cac
   pub issue-missed : (missed_request s ≡ None) × (missed_request n ≡ missed_at e)
   issue-missed = (action_rule p s e (action.Issue q) n row).1.1.0
 
-pub issue_serves : (p : Protocol) (s : CacheState) (asking : Op) (q : Request) (n : CacheState) → Cell p s (asked asking) (action.Issue q) n
-    → q ≡ request_for asking
-issue_serves p s asking q n row = same_Some _ _ ((action_rule p s (asked asking) (action.Issue q) n row).1.1.1 ∙ serving-asked asking)
-
 pub asked_missed : (word : ℕ) (asking : Op) → option_map (λ access. request_for access.op) (kept_waiting word asking) ≡ missed_at (asked asking)
 asked_missed word op.Evict = refl
 asked_missed word _ = refl
