@@ -10,7 +10,7 @@ use Rattle.snoop_rules.specs.Takers.{other as another}
 use Rattle.snoop_model.specs.Moves.LookUps.{HasRow, HasMemRow, ConsultsCache, ConsultsMemory, FindsRows}
 use Rattle.snoop_model.specs.Pictures.OneWriter.{OneWriter}
 use Rattle.snoop_model.proofs.Tables.{StateTests.some_of, AskTests.ask_rule, AskTests.fit_rule, AskTests.is_hit-true, AskTests.is_idle_evict, Rows.hit_keeps, RespondTests.memory_row_for, RespondTests.row_for, RespondTests.awaited-get, StateTests.brings_data, StateTests.claims_rule}
-use Rattle.snoop_model.proofs.OneBlock.{Facts.owned_alone, Facts.each_held, Possible.order_possible, Possible.ask_possible, RespondStep.Closing, RespondStep.close, RespondStep.answered}
+use Rattle.snoop_model.proofs.OneBlock.{Facts.owned_alone, Facts.each_held, Possible.order_possible, RespondStep.Closing, RespondStep.close, RespondStep.answered}
 
 -- where no core may write the block, none owns it
 nobody_owns : {p : Protocol} {n : ℕ} {value : List ℕ} {picture : Picture} (g : BlockInvariant p n value picture) → ((core : ℕ) → ¬ MayStore p (held_by picture core).state) → g.claims.owned ≡ false
@@ -68,9 +68,6 @@ module _ (s : Situation) (g : Invariant s) where
   pub held_within : (core block : ℕ) (P : Line → Type 0) → ¬ P nothing_held → P (held_by (picture_of s block) core) → IsWithin s core block
   held_within core block P none = each_line core block (λ x. P x → IsWithin s core block) (λ within h. within) (λ h. absurd (none h))
 
-  keeper_within : (core block : ℕ) → keeps (state_of s core block) ≡ true → IsWithin s core block
-  keeper_within core block = held_within core block (λ x. keeps x.state ≡ true) (λ h. cc)
-
   -- beside a writer no other core is a reader or a writer
   pub has_one_writer : (block : ℕ) → OneWriter s.protocol (picture_of s block)
   has_one_writer block core other writes apart = (blind event.Load, blind event.Store)
@@ -79,18 +76,18 @@ module _ (s : Situation) (g : Invariant s) where
       blind e hits =
           let keeping = (hit_keeps s.protocol (state_of s other block) e hits.0 hits.1).0 in
           let held = state_of s core block in
-          let within = keeper_within core block (hit_keeps s.protocol held event.Store writes.0 writes.1).0 in
+          let within = held_within core block (λ x. keeps x.state ≡ true) (λ h. cc) (hit_keeps s.protocol held event.Store writes.0 writes.1).0 in
           let good = g.blocks block within.1 in
           let ow = owns good.owner core in
           let (_, rule) = ask_rule _ _ _ _ _ (op.Store 0) (good.states core within.0) in
           let (owning, _) = (rule (record { action = action.Hit; next = writes.0 }) writes.1).1.1 refl in
-          both_ways _ ((owned_alone good core owning).2 other (keeper_within other block keeping).0 apart) keeping
+          both_ways _ ((owned_alone good core owning).2 other (held_within other block (λ x. keeps x.state ≡ true) (λ h. cc) keeping).0 apart) keeping
 
   -- each reader keeps flat memory's value
   pub readers_current : (core block : ℕ) → MayLoad s.protocol (state_of s core block) → (held_by (picture_of s block) core).kept ≡ Some (flat_words s.log block)
   readers_current core block reads =
       let keeping = (hit_keeps s.protocol (state_of s core block) event.Load reads.0 reads.1).0 in
-      let within = keeper_within core block keeping in
+      let within = held_within core block (λ x. keeps x.state ≡ true) (λ h. cc) keeping in
       (g.blocks block within.1).kept core within.0 keeping
 
   -- no core keeps words that it may not read
@@ -154,13 +151,6 @@ module _ (s : Situation) (g : Invariant s) where
   pub orders_follow_sender_table : OrdersFollowSenderTable s.protocol s
   orders_follow_sender_table core block q ready = (possible_order core block q ready).1
 
-  -- a core has a row for a request that is ordered
-  seen_row : (core block : ℕ) (q : Request) → CanOrder s core block q → (k : ℕ) → HasRow s.protocol (state_of s k block) (seen_by k core q)
-  seen_row core block q ready k = each_line k block (λ x. (k ≡ core → waiting_request x.state ≡ Some q) → HasRow s.protocol x.state (seen_by k core q))
-      (λ within waits. (possible_order core block q ready).0 k (rw (g.shaped.row block within.1) within.0))
-      (λ waits. rw (ne_eqb k core (λ same. none-some q (waits same))) (nothing_seen s.protocol q))
-      (λ same. rw same ready.0)
-
   respond_rows : (block : ℕ) (o : Open) (opened : (picture_of s block).transaction ≡ Some o) → Closing (g.blocks block (opened_within block o opened)) o
   respond_rows block o opened = close (g.blocks block (opened_within block o opened)) o opened
 
@@ -170,9 +160,14 @@ module _ (s : Situation) (g : Invariant s) where
       (λ within busy.
       let held = state_of s core block in
       let not_idle = false_from_ne_true (is_idle_evict held (asked asking)) (λ idle. busy (idle_evict held asking idle)) in
-      ask_possible s.protocol s.shape.cores (flat_words s.log block) (picture_of s block) core asking (g.blocks block within.1) within.0 not_idle)
+      let (row, is_row, _) = (ask_rule _ _ _ _ _ asking ((g.blocks block within.1).states core within.0)).0 not_idle in
+      (row, is_row))
       (nothing_asked s.protocol asking) looks.2)
-  finds_cache (Order requestor) core block event looks = rw looks.1.1 (seen_row requestor block looks.0 looks.1.0 core)
+  finds_cache (Order requestor) core block event (q, (ready, is)) =
+      rw is (each_line core block (λ x. (core ≡ requestor → waiting_request x.state ≡ Some q) → HasRow s.protocol x.state (seen_by core requestor q))
+      (λ within waits. (possible_order requestor block q ready).0 core (rw (g.shaped.row block within.1) within.0))
+      (λ waits. rw (ne_eqb core requestor (λ same. none-some q (waits same))) (nothing_seen s.protocol q))
+      (λ same. rw same ready.0))
   finds_cache (Respond on) core block event (closing, looks) =
       rw (looks.4, looks.2) (has_row (row_for s.protocol (state_of s closing.core block)) refl (arrival closing.payload)
       (let (row, is_row, _) = answered (respond_rows block closing looks.1) (not_put closing.request looks.3) in (row, is_row)))

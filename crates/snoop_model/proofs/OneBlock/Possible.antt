@@ -20,9 +20,3 @@ order_possible p flat before c q good c_in waits calm =
       is_line = led_line p before c q (meant l) (sent l) l.memory.next ((sends l (meant l) below).1 itself).0;
     } in
     (λ d d_in. let (row, is_row, _, _, _) = each_row l d d_in in (row, is_row), line)
-
--- an Ask finds its row; an Evict in I has none and needs none
-pub ask_possible : (p : Protocol) (n : ℕ) (flat : List ℕ) (before : Picture) (c : ℕ) (o : Op) → BlockInvariant p n flat before → c < n → is_idle_evict (held_by before c).state (asked o) ≡ false → (r : CacheCell) × (cell_of p (held_by before c).state (asked o) ≡ Some r)
-ask_possible p n flat before c o good c_in busy =
-    let (row, is_row, _) = (ask_rule _ _ _ _ _ o (good.states c c_in)).0 busy in
-    (row, is_row)

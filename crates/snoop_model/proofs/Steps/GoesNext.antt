@@ -5,8 +5,8 @@ use Rattle.snoop_model.proofs.Common.{ap, arith, arrival, arrival_at_memory, Arr
 use Rattle.snoop_trace.specs.declared.step.Op.TheVariants as op
 use Rattle.snoop_rules.specs.declared.names.CacheAction.TheVariants as action
 use Rattle.snoop_model.proofs.Lines.TheSender.{IsBelow, sends_below}
-use Rattle.snoop_model.proofs.Tables.{SentBy.payload_from, SentBy.sends_is, SentBy.sends_row, RespondTests.data_rule, RespondTests.fills, RespondTests.settled_so, RespondTests.row_for, StateTests.some_of, Rows.is_evict, Rows.action_rule, Rows.serving-asked, Rows.hit_keeps, AskTests.is_idle_evict}
-use Rattle.snoop_model.proofs.OneBlock.{Possible.ask_possible, RespondStep.close, RespondStep.answered}
+use Rattle.snoop_model.proofs.Tables.{SentBy.payload_from, SentBy.sends_is, SentBy.sends_row, RespondTests.data_rule, RespondTests.fills, RespondTests.settled_so, RespondTests.row_for, StateTests.some_of, Rows.is_evict, Rows.action_rule, Rows.serving-asked, Rows.hit_keeps, AskTests.ask_rule, AskTests.is_idle_evict}
+use Rattle.snoop_model.proofs.OneBlock.{RespondStep.close, RespondStep.answered}
 use Rattle.snoop_model.proofs.Steps.Next.{Next, value_of, words_after, has_word, after_ask, by_row, next_asked, sender_below, line_after, next_picture, next_ordered, filled, brought, next_closed, next_of, next_first}
 use Rattle.snoop_model.proofs.Invariant.Coherence.{orders_follow_sender_table, finds_rows, idle_evict, waits_within}
 use Rattle.snoop_model.proofs.Queues.Moves.{none_there, AreQueued, first_waits, none_waits}
@@ -163,7 +163,7 @@ module _ (s : Situation) (core block word : ℕ) (asking : Op) (within : IsWithi
             rw (is.1, is.0) (block, (tt, record { on_block = refl; within = within; moves = inl (refl, is.1, refl, refl); has_word = tt }))
         | inr busy ↦
             let good = g.blocks block within.1 in
-            let row = ask_possible s.protocol s.shape.cores (flat_words s.log block) (picture_of s block) core asking good within.0 busy in
+            let row = (ask_rule _ _ _ _ _ asking (good.states core within.0)).0 busy in
             rw row.1 (goes_by row.0.action row.0.next row.1 (good.proper core within.0))
       ]
 

@@ -20,7 +20,6 @@ clean_reads _ h = cc
 
 -- a state that may read keeps the value
 pub kept_reader : (s : CacheState) (kept : Option (List ℕ)) → keeps s ≡ true → kept_on s kept ≡ kept
-unfolding is_owner is_sharer
 kept_reader state.I kept h = cc
 kept_reader state.ImAd kept h = cc
 kept_reader state.IiA kept h = cc
