@@ -75,10 +75,8 @@ module _ (s : Situation) (g : Invariant s) where
       blind : (e : CacheEvent) → (n : CacheState) × Cell s.protocol (state_of s other block) e action.Hit n → ⊥
       blind e hits =
           let keeping = (hit_keeps s.protocol (state_of s other block) e hits.0 hits.1).0 in
-          let held = state_of s core block in
-          let within = held_within core block (λ x. keeps x.state ≡ true) (λ h. cc) (hit_keeps s.protocol held event.Store writes.0 writes.1).0 in
+          let within = held_within core block (λ x. keeps x.state ≡ true) (λ h. cc) (hit_keeps s.protocol (state_of s core block) event.Store writes.0 writes.1).0 in
           let good = g.blocks block within.1 in
-          let ow = owns good.owner core in
           let (_, rule) = ask_rule _ _ _ _ _ (op.Store 0) (good.states core within.0) in
           let (owning, _) = (rule (record { action = action.Hit; next = writes.0 }) writes.1).1.1 refl in
           both_ways _ ((owned_alone good core owning).2 other (held_within other block (λ x. keeps x.state ≡ true) (λ h. cc) keeping).0 apart) keeping

@@ -81,11 +81,10 @@ kept old block next queues entry g k =
     let log = old.log ++ option_to_list entry in
     let within = in_pictures old block g.shaped k.within in
     let on = IfSome_then (did_in entry) k.item (λ did h. h.0) in
-    let Good : List ℕ → Picture → Type 0 = BlockInvariant old.protocol old.shape.cores in
     record {
       shaped = shaped_after old block next queues log g.shaped k.as_wide k.as_many_queues;
       opened = each_picture old block next queues log (λ b x. (o : Open) → x.transaction ≡ Some o → o.block ≡ b) within (λ b apart. g.opened b) k.opened;
-      blocks = each_picture old block next queues log (λ b x. b < old.shape.blocks → Good (flat_words log b) x) within
+      blocks = each_picture old block next queues log (λ b x. b < old.shape.blocks → (BlockInvariant old.protocol old.shape.cores) (flat_words log b) x) within
           (λ b apart b_in. rw (flat_moved, (flat_split (flat_words old.log b) (did_in entry) block b on).0 apart) (g.blocks b b_in))
           (λ b_in. rw (flat_moved, (flat_split (flat_words old.log block) (did_in entry) block block on).1) k.block_after);
       legal = legal_logged old.log entry g.legal (IfSome_then (did_in entry) k.item (λ did h. h.1));
@@ -118,11 +117,10 @@ move_keeps block old (Ask core on word asking) answer new g m = elim m.moves [
   | inl idle ↦ rw idle.3 g
   | inr a ↦
       (let before : Picture = picture_of old block in
-      let line = held_by before core in
       let act = a.row.action in
       let in_row : core < length before.caches = rw (g.shaped.row block m.within.1) m.within.0 in
       let k = ask_keeps old core block word asking answer new a old.shape.cores (flat_words old.log block) (g.blocks block m.within.1) m.within.0 in_row in
-      let so = takes_so old core block word asking a.row.next line a.held answer a.entry m.has_word act a.taken (g.accesses core block) m.within k.1 in
+      let so = takes_so old core block word asking a.row.next (held_by before core) a.held answer a.entry m.has_word act a.taken (g.accesses core block) m.within k.1 in
       rw a.after (kept old block (with_line before core a.held) (queues_after act old.queues core block) a.entry g (record {
         within = m.within.1;
         as_wide = length-set before.caches core a.held;
@@ -151,7 +149,6 @@ move_keeps block old (Order core) answer new g m =
 move_keeps block old (Respond on) answer new g m =
     let closing = m.closing in
     let r = m.responds in
-    let before : Picture = picture_of old block in
     let placed : closing.block ≡ block = g.opened block closing r.opened in
     let its_core = (g.blocks block m.within).requestor_in closing r.opened in
     let arrived = by_request closing.request r.requestor in

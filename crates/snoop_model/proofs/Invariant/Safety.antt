@@ -88,8 +88,7 @@ module _ (s : Situation) (g : Invariant s) where
         settled = λ answer new m.
             let r = m.responds in
             let there : picture_of new block ≡ r.next = respond_here s block m.closing m.did new g m.within r in
-            let same : m.closing ≡ o = same_Some _ _ (sym r.opened ∙ is) in
-            let settles = rw same at r.memory.settled in
+            let settles = rw (same_Some _ _ (sym r.opened ∙ is)) at r.memory.settled in
             let settled = settled_so (takes_payload o.request (picture_of s block).memory.state) s.protocol (arrival_at_memory o.payload) (picture_of s block).memory.state in
             let done = same_Some _ _ (sym ((settled r.memory.act r.next.memory.state).0 settles) ∙ (settled line.1.act line.1.done).0 line.1.settled) in
             rw there (r.closed, ap (λ (row : MemCell). row.next) done);

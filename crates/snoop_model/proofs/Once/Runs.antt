@@ -126,10 +126,9 @@ run_once (step ∷ steps) (Ok answer ∷ outcomes) old new g r =
       log = b.log ∙ ap (λ (l : List Item). l ++ b.since) a.log ∙ append_assoc old.log a.since b.since;
       once = λ core block.
           let asks = asked_access core block in
-          let now = filter_map asks (step ∷ []) in
           let more = filter_map asks (taken steps outcomes) in
           let did = accesses_in a.since core block in
-          rw (filter_map-append asks (step ∷ []), filter_map-append operation_of, filter-append, filter-append, map-append, append_assoc did, ← append_assoc _ now more)
+          rw (filter_map-append asks (step ∷ []), filter_map-append operation_of, filter-append, filter-append, map-append, append_assoc did, ← append_assoc _ (filter_map asks (step ∷ [])) more)
           (IsPermutation-trans _ _ _ (rw (append_assoc did (waiting_at middle core block) more) at (IsPermutation-append_left more _ _ (a.once core block)))
           (IsPermutation-append_right did _ _ (b.once core block)));
     }

@@ -82,11 +82,9 @@ module _ (s : Situation) (kept : IsWellKept s) (core block word : ℕ) (asking :
       still action.Drop row (rw taken.0 refl) (rw taken.0 refl) missed waits
   kept_taken (action.Issue request) row taken =
       let (was, is) = issue-waits s.protocol line.state (asked asking) request next row in
-      let missed = (issue-missed s.protocol line.state (asked asking) request next row).1 in
-      let in_queues : core < length s.queues = rw kept.shaped.queues within.0 in
       one_line (action.Issue request) (after_issue s.queues core block) row (rw taken.0 refl) (length-set s.queues core _)
-      (rw (is, get_or-set_same s.queues core (queue_of s.queues core ++ block ∷ []) [] in_queues, times_push block block (queue_of s.queues core), eq-eqb block block refl, kept.queued core block, was) refl) (λ k apart. get_or-set_other s.queues core k _ [] apart) (λ k b apart. same_set (times b) s.queues core _ [] (rw (times_push b block (queue_of s.queues core), ne_eqb block b (λ e. apart (sym e))) (omega arith)) k)
-      (rw taken.0 (λ access h. rw (missed, ← asked_missed word asking, h) refl))
+      (rw (is, get_or-set_same s.queues core (queue_of s.queues core ++ block ∷ []) [] (rw kept.shaped.queues within.0), times_push block block (queue_of s.queues core), eq-eqb block block refl, kept.queued core block, was) refl) (λ k apart. get_or-set_other s.queues core k _ [] apart) (λ k b apart. same_set (times b) s.queues core _ [] (rw (times_push b block (queue_of s.queues core), ne_eqb block b (λ e. apart (sym e))) (omega arith)) k)
+      (rw taken.0 (λ access h. rw (((issue-missed s.protocol line.state (asked asking) request next row).1), ← asked_missed word asking, h) refl))
   kept_taken _ row taken = absurd taken
 
 -- who waits once each core has taken its row: the requestor no longer, each other core as before
@@ -148,21 +146,18 @@ on_kept block s t (Order core) answer kept m =
     let before : Picture = picture_of s block in
     let next : Picture = m.orders.next in
     let taken = m.orders.taken in
-    let in_queues : core < length s.queues = rw kept.shaped.queues m.within.0 in
-    let in_row : core < length before.caches = rw (kept.shaped.row block m.within.1) m.within.0 in
     rw m.orders.after (well_after s kept block next (after_order s.queues core block) _ (record {
       within = m.within.1;
       as_wide = taken.same_length;
       as_many = length-set s.queues core _;
       here = by_core core (λ k. times block (queue_of (after_order s.queues core block) k) ≡ waits (held_by next k).state)
-          (rw (own_waits s.protocol core m.request before.caches next.caches taken in_row, get_or-set_same s.queues core _ [] in_queues) (times_gone block (queue_of s.queues core)))
+          (rw (own_waits s.protocol core m.request before.caches next.caches taken (rw (kept.shaped.row block m.within.1) m.within.0), get_or-set_same s.queues core _ [] (rw kept.shaped.queues m.within.0)) (times_gone block (queue_of s.queues core)))
           (λ k apart. rw (get_or-set_other s.queues core k _ [] apart, others_wait s.protocol core m.request before.caches next.caches taken k apart) (kept.queued k block));
       elsewhere = λ k b apart. same_set (times b) s.queues core _ [] (times_left b block (queue_of s.queues core) apart) k;
       awaited = λ k. each_held next.caches k (IsAwaited next.transaction k)
           (λ below.
           let (row, is_row, moved) = taken.rows k (rw (← taken.same_length) below) in
-          let s_old = (held_by before k).state in
-          let (_, (missed, (_, awaits))) = order_rule s.protocol s_old k core m.request row.action row.next is_row in
+          let (_, (missed, (_, awaits))) = order_rule s.protocol ((held_by before k).state) k core m.request row.action row.next is_row in
           rw moved (record {
             awaits = λ q h. let (mine, same) = awaits q h in (_, (m.orders.opened, sym (eqb-true k core mine), same_Some _ _ same));
             operations = λ access h. rw (← missed) (kept.operations k block access h);
@@ -234,5 +229,4 @@ first_waits s queued core block first =
 
 pub none_waits : (s : Situation) → AreQueued s → (core : ℕ) → slice_get (queue_of s.queues core) 0 ≡ None → WaitsOnNone s core
 none_waits s queued core none block request waits =
-    let there = waits_queued s queued core block request waits in
-    none-some _ (sym none ∙ slice_get-get_or (queue_of s.queues core) 0 0 (omega (arith, there.1)))
+    none-some _ (sym none ∙ slice_get-get_or (queue_of s.queues core) 0 0 (omega (arith, (waits_queued s queued core block request waits).1)))

@@ -73,13 +73,12 @@ move_is s (Order core) answer new (block, (first, m)) =
     let q = m.request in
     let o = m.orders in
     let before : Picture = picture_of s block in
-    let sends = sends_is p before core q o.from o.payload o.sent.sends in
     let from = sender_is p before core q (length before.caches) (omega arith) o.from o.payload o.sent (sends_below p before core q _ _ o.sent.sends) in
     let caches = fill_by_all (line_after p before core q) o.next.caches (length before.caches) nothing_held o.taken.same_length
     (λ k below. (let row = o.taken.rows k below in row.2 ∙ rw row.1 refl)) in
     let after = next_picture p before core q block in
     let state : o.next.memory.state ≡ after.memory.state = o.memory.2 ∙ rw o.memory.1 refl in
-    let opened : o.next.transaction ≡ after.transaction = o.opened ∙ rw (from, sends) refl in
+    let opened : o.next.transaction ≡ after.transaction = o.opened ∙ rw (from, (sends_is p before core q o.from o.payload o.sent.sends)) refl in
     let next : o.next ≡ after = λ i. record { caches = caches i; memory = record { state = state i; value = o.value i }; transaction = opened i } in
     rw (m.answered, lt-ltb core s.shape.cores m.within.0, first, o.ready.1, o.ready.0, o.after, next) refl
 move_is s (Respond on) answer new (block, (first, m)) =

@@ -79,9 +79,8 @@ module _ (p : Protocol) (before : Picture) (core : ℕ) (request : Request) wher
 
 abbrev pub next_ordered : Situation → ℕ → ℕ → Request → Next
 next_ordered s core block request =
-    let next = next_picture s.protocol (picture_of s block) core request block in
     let sent : Item = item.Sent (record { core = core; request = request; block = block }) in
-    (Ok (reply.Ordered request), changed s block next (after_order s.queues core block) (s.log ++ sent ∷ []))
+    (Ok (reply.Ordered request), changed s block (next_picture s.protocol (picture_of s block) core request block) (after_order s.queues core block) (s.log ++ sent ∷ []))
 
 -- A Respond: what it brings to the lines, with the operation that it performs, and to memory.
 module _ (closing : Open) (p : Protocol) (log : List Item) (lines : List Line) where

@@ -148,8 +148,7 @@ pays : Pays
 pays s t (Ask core on word asking) answer move = elim move.1.1.moves [
   | inl absent ↦ rw absent.3 (omega arith)
   | inr asks ↦
-      let next : Picture = with_line (picture_of s move.0) core asks.held in
-      rw asks.after (omega (arith, sum_asked asks.row.action s.queues core move.0, count_set has_transaction s.pictures move.0 next nothing_there refl))
+      rw asks.after (omega (arith, sum_asked asks.row.action s.queues core move.0, count_set has_transaction s.pictures move.0 (with_line (picture_of s move.0) core asks.held) nothing_there refl))
 ]
 pays s t (Order core) answer move =
     let orders = move.1.1.orders in
