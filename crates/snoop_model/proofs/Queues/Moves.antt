@@ -82,9 +82,14 @@ module _ (s : Situation) (kept : IsWellKept s) (core block word : ℕ) (asking :
       still action.Drop row (rw taken.0 refl) (rw taken.0 refl) missed waits
   kept_taken (action.Issue request) row taken =
       let (was, is) = issue-waits s.protocol line.state (asked asking) request next row in
+      let queue = queue_of s.queues core in
+      let own = get_or-set_same s.queues core (queue ++ block ∷ []) [] (rw kept.shaped.queues within.0) in
+      let missed = (issue-missed s.protocol line.state (asked asking) request next row).1 in
       one_line (action.Issue request) (after_issue s.queues core block) row (rw taken.0 refl) (length-set s.queues core _)
-      (rw (is, get_or-set_same s.queues core (queue_of s.queues core ++ block ∷ []) [] (rw kept.shaped.queues within.0), times_push block block (queue_of s.queues core), eq-eqb block block refl, kept.queued core block, was) refl) (λ k apart. get_or-set_other s.queues core k _ [] apart) (λ k b apart. same_set (times b) s.queues core _ [] (rw (times_push b block (queue_of s.queues core), ne_eqb block b (λ e. apart (sym e))) (omega arith)) k)
-      (rw taken.0 (λ access h. rw (((issue-missed s.protocol line.state (asked asking) request next row).1), ← asked_missed word asking, h) refl))
+      (rw (is, own, times_push block block queue, eq-eqb block block refl, kept.queued core block, was) refl)
+      (λ k apart. get_or-set_other s.queues core k _ [] apart)
+      (λ k b apart. same_set (times b) s.queues core _ [] (rw (times_push b block queue, ne_eqb block b (λ e. apart (sym e))) (omega arith)) k)
+      (rw taken.0 (λ access h. rw (missed, ← asked_missed word asking, h) refl))
   kept_taken _ row taken = absurd taken
 
 -- who waits once each core has taken its row: the requestor no longer, each other core as before
