@@ -37,7 +37,8 @@ module _ (s : Situation) (core block word : ℕ) (asking : Op) (answer : Reply) 
       let proper = IsProper-issue s.protocol old word o r asks.row.next (g.proper core asker_in) row in
       rw (held, entry) (carried_line old (line_of g core asker_in) _ (kept_reader asks.row.next old.kept) fit (carry refl) proper, inl refl, tt)
   asker action.Drop o row (fit, (carry, _)) (held, _, entry) =
-      rw (held, entry) (carried_line old (line_of g core asker_in) _ (kept_reader asks.row.next old.kept) fit (carry refl) (IsProper-drop s.protocol old (asked o) asks.row.next (g.proper core asker_in) row), inl refl, tt)
+      let proper = IsProper-drop s.protocol old (asked o) asks.row.next (g.proper core asker_in) row in
+      rw (held, entry) (carried_line old (line_of g core asker_in) _ (kept_reader asks.row.next old.kept) fit (carry refl) proper, inl refl, tt)
   asker _ o row so took = absurd took
 
   -- an Ask keeps the invariant of a picture, and a load that it performs gives the flat value

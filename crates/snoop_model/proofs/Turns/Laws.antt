@@ -71,10 +71,7 @@ module _ {s : Situation} {under_way : ℕ → Option ℕ} (serving : IsServing u
   -- an open transaction where one block's picture was written
   set_opened : (place : ℕ) (next : Picture) → ((o : Open) → next.transaction ≡ Some o → under_way o.core ≡ Some place)
       → (block : ℕ) (o : Open) → (slice_index_or (slice_set s.pictures place next) block nothing_there).transaction ≡ Some o → under_way o.core ≡ Some block
-  set_opened place next its block o is = elim (set_cases s.pictures place block next nothing_there) [
-    | inl p ↦ rw p.0 (its o (ap (λ (x : Picture). x.transaction) (sym p.1) ∙ is))
-    | inr e ↦ serving.opened block o (ap (λ (x : Picture). x.transaction) (sym e) ∙ is)
-  ]
+  set_opened place next its = each_still s.pictures place next nothing_there (λ b x. (o : Open) → x.transaction ≡ Some o → under_way o.core ≡ Some b) serving.opened its
 
   -- an Ask, if one that issues is of a core that has the block under way
   asked_serves : (core on word : ℕ) (asking : Op) (answer : Reply) (t : Situation) (m : FirstMove s (Ask core on word asking) answer t)
@@ -152,7 +149,7 @@ pays s t (Ask core on word asking) answer move = elim move.1.1.moves [
 ]
 pays s t (Order core) answer move =
     let orders = move.1.1.orders in
-    rw orders.after (omega (arith, sum_ordered s.queues core move.0 move.1.0, count_set has_transaction s.pictures move.0 orders.next nothing_there refl, one_small (has_transaction orders.next)))
+    rw orders.after (grind (arith, sum_ordered s.queues core move.0 move.1.0, count_set has_transaction s.pictures move.0 orders.next nothing_there refl))
 pays s t (Respond on) answer move =
     let responds = move.1.1.responds in
     let was : one_if (has_transaction (picture_of s move.0)) ≡ 1 = rw responds.opened refl in
