@@ -48,9 +48,6 @@ sum_ordered lines core block first =
     let left : List ℕ = filter (λ b. not (b == block)) (queue_of lines core) in
     omega (arith, sum_by-set (λ (l : List ℕ). length l) lines core left [] within, left_shorter (queue_of lines core) block first)
 
-pub one_small : (t : Bool) → one_if t ≤ 1
-one_small t = cond_both t 1 0 (λ n. n ≤ 1) (λ is. omega arith) (λ is. omega arith)
-
 -- how many pass a test before and after a write
 pub count_set : {A : Type 0} (test : A → Bool) (xs : List A) (i : ℕ) (a d : A) → test d ≡ false
     → count_by test (slice_set xs i a) + one_if (test (slice_index_or xs i d)) ≤ count_by test xs + one_if (test a)

@@ -2,7 +2,7 @@
 use Rattle.snoop_model.proofs.Common.{[], Access, All, All-contains, All-filter, All-push, All-weaker, ap, arith, Ask, asked, awaited_request, BusTaken, CacheAction, CacheEvent, CacheState, Cell, ClosedIsLast, ComesToRest, cond_some, Contains-get_or, Ends, EndsAtOnce, eq-eqb, false, FirstMove, has_transaction, held_by, I, inl, inr, is_some, IsServing, Issued, IsWellKept, Item, length, Line, List, missed_request, ne_eqb, NeverRefused, None, none-some, not, nothing_there, NothingWaiting, Op, Open, Option, or_cases, Order, Pays, Picture, picture_of, Protocol, queue_of, queues_after, refl, Refused, Refuses, Reply, Request, Respond, same_Some, ServesOn, Situation, slice_index_or, slice_set, Some, Stalled, state_of, Step, sum_by, sym, Takes, true, TurnLaws, waiting_request, Waits, with_line, ℕ, ◌+◌, ◌==◌, ◌∙◌, ◌≡◌, ◌≢◌, ◌≤◌, ◌⊎◌}
 use Rattle.snoop_rules.specs.declared.names.CacheAction.TheVariants as action
 use Rattle.snoop_model.specs.Turns.Turn.{step_under_way, turn_of}
-use Rattle.snoop_model.proofs.Lists.{Facts.one_if, Writes.set_cases, Writes.all_first, Writes.each_still, Writes.sum_issued, Writes.sum_ordered, Writes.one_small, Writes.count_set}
+use Rattle.snoop_model.proofs.Lists.{Facts.one_if, Writes.set_cases, Writes.all_first, Writes.each_still, Writes.sum_issued, Writes.sum_ordered, Writes.count_set}
 use Rattle.snoop_model.proofs.Queues.Moves.{none_there, starts_well, keeps_well, queued_waits, waits_queued}
 use Rattle.snoop_model.proofs.Once.Owed.{owed_after}
 use Rattle.snoop_model.proofs.Tables.{Rows.action_rule, Rows.is_busy, StateTests.some_of}
@@ -28,14 +28,7 @@ pub missed_busy : (s : CacheState) → is_some (missed_request s) ≡ true → i
 missed_busy I h = cc
 missed_busy _ h = cc
 
--- which steps a work under way takes, and when it takes none
-under_way_step : (w : Option Request) (t : Option Open) (core block : ℕ) (step : Step) → step_under_way w t core block ≡ Some step
-    → ((step ≡ Order core) × (t ≡ None) × ((q : Request) × (w ≡ Some q))) ⊎ ((step ≡ Respond block) × ((o : Open) × (t ≡ Some o)))
-under_way_step (Some q) None core block step h = inl (sym (same_Some _ _ h), refl, (q, refl))
-under_way_step (Some q) (Some o) core block step h = inr (sym (same_Some _ _ h), (o, refl))
-under_way_step None None core block step h = cc
-under_way_step None (Some o) core block step h = inr (sym (cond_some (o.core == core) (Respond block) step h).1, (o, refl))
-
+-- what is so where a work under way takes no step
 none_left : (w : Option Request) (t : Option Open) (core block : ℕ) → step_under_way w t core block ≡ None
     → (w ≡ None) × ((o : Open) → t ≡ Some o → o.core ≡ core → ⊥)
 none_left (Some q) None core block h = cc
@@ -51,10 +44,7 @@ never_refused s under_way core block word asking false step serving kept has_cor
         none-some block (sym idle ∙ busy_under_way s under_way serving kept core block (stall_busy s.protocol (state_of s core block) (asked asking) h.2.0 h.2.1))
     ask_goes _ h = grind arith
 never_refused s under_way core block word asking true step serving kept has_core has_block has_word its is cause refused =
-    elim (under_way_step (waiting_request (state_of s core block)) (picture_of s block).transaction core block step is) [
-      | inl p ↦ order_goes p.1 p.2.0 p.2.1 cause (rw p.0 at refused)
-      | inr p ↦ respond_goes p.1.0 p.1.1 cause (rw p.0 at refused)
-    ]
+    goes (waiting_request (state_of s core block)) (picture_of s block).transaction refl refl is
   where
     order_goes : (picture_of s block).transaction ≡ None → (q : Request) → Waits s core block q → (cause : Refused) → Refuses s (Order core) cause → ⊥
     order_goes free q waits NothingWaiting h = h.1 block q waits
@@ -66,6 +56,12 @@ never_refused s under_way core block word asking true step serving kept has_core
 
     respond_goes : (o : Open) → (picture_of s block).transaction ≡ Some o → (cause : Refused) → Refuses s (Respond block) cause → ⊥
     respond_goes o open_here _ h = grind arith
+
+    goes : (w : Option Request) (found : Option Open) → waiting_request (state_of s core block) ≡ w → (picture_of s block).transaction ≡ found → step_under_way w found core block ≡ Some step → ⊥
+    goes (Some q) None waits free is = order_goes free q waits cause (rw (← same_Some _ _ is) at refused)
+    goes (Some q) (Some o) waits opened is = respond_goes o opened cause (rw (← same_Some _ _ is) at refused)
+    goes None None waits free is = cc
+    goes None (Some o) waits opened is = respond_goes o opened cause (rw (← (cond_some (o.core == core) (Respond block) step is).1) at refused)
 
 module _ {s : Situation} {under_way : ℕ → Option ℕ} (serving : IsServing under_way s) where
   -- an open transaction where one block's picture was written
@@ -152,9 +148,7 @@ pays s t (Order core) answer move =
     rw orders.after (grind (arith, sum_ordered s.queues core move.0 move.1.0, count_set has_transaction s.pictures move.0 orders.next nothing_there refl))
 pays s t (Respond on) answer move =
     let responds = move.1.1.responds in
-    let was : one_if (has_transaction (picture_of s move.0)) ≡ 1 = rw responds.opened refl in
-    let is : one_if (has_transaction responds.next) ≡ 0 = rw responds.closed refl in
-    rw responds.after (omega (arith, count_set has_transaction s.pictures move.0 responds.next nothing_there refl, was, is))
+    rw responds.after (grind (arith, count_set has_transaction s.pictures move.0 responds.next nothing_there refl, responds.opened, responds.closed))
 
 -- a work whose operation waits has a step left
 pub has_step : (s : Situation) (core block word : ℕ) (asking : Op) (wanted : Access) → IsWellKept s → (held_by (picture_of s block) core).waiting ≡ Some wanted → turn_of s core block word asking true ≡ None → ⊥
