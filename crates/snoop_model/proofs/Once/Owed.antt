@@ -16,8 +16,7 @@ one_in o wanted is = rw is (zero, omega arith, refl)
 
 in_one : (o : Option Access) (wanted : Access) → Contains (option_to_list o) wanted → o ≡ Some wanted
 in_one None wanted h = absurd (omega (arith, h.1))
-in_one (Some x) wanted (zero, inside, is) = ap Some is
-in_one (Some x) wanted (suc k, inside, is) = absurd (omega (arith, inside))
+in_one (Some x) wanted h = grind (arith, h)
 
 pub cons_one : (o : Option Access) → cons_option o [] ≡ option_to_list o
 cons_one None = refl

@@ -210,17 +210,10 @@ AreQueued s = (core block : ℕ) → IsInQueue s core block
 
 module _ (s : Situation) (queued : AreQueued s) (core block : ℕ) where
   pub waits_queued : (request : Request) → Waits s core block request → Contains (queue_of s.queues core) block
-  waits_queued request waits =
-      let one : times block (queue_of s.queues core) ≡ 1 = rw waits at (queued core block) in
-      counted_in block (queue_of s.queues core) (omega arith)
+  waits_queued request waits = counted_in block (queue_of s.queues core) (grind (arith, waits, queued core block))
 
   pub queued_waits : Contains (queue_of s.queues core) block → (request : Request) × Waits s core block request
-  queued_waits there = elim (cases_Bool (is_some (waiting_request (state_of s core block)))) [
-    | inl is ↦ some_of _ is
-    | inr none ↦
-        let zero : times block (queue_of s.queues core) ≡ 0 = rw none at (queued core block) in
-        absurd (omega (arith, in_counted block (queue_of s.queues core) there))
-  ]
+  queued_waits there = some_of _ (grind (arith, queued core block, in_counted block (queue_of s.queues core) there))
 
 -- what is none of its values is none
 pub none_there : {A : Type 0} (found : Option A) → ((a : A) → found ≡ Some a → ⊥) → found ≡ None
