@@ -190,10 +190,9 @@ reset_picture p shape block within = get_or-replicate shape.blocks block (untouc
 
 -- what holds of an untouched block, and of one outside the shape, holds of each at reset
 each_reset : (p : Protocol) (shape : Extent) (P : Picture → Type 0) → P (untouched p shape.cores) → P nothing_there → (block : ℕ) → P (picture_of (reset p shape) block)
-each_reset p shape P here outside block = elim (cases_lt block shape.blocks) [
-  | inl inside ↦ rw (reset_picture p shape block inside) here
-  | inr past ↦ rw (get_or_past (replicate shape.blocks (untouched p shape.cores)) block nothing_there (rw length-replicate past)) outside
-]
+each_reset p shape P here outside block =
+    let blocks = replicate shape.blocks (untouched p shape.cores) in
+    grind (arith, here, outside, reset_picture p shape block, get_or_past blocks block nothing_there, length-replicate shape.blocks (untouched p shape.cores))
 
 pub reset_open : (p : Protocol) (shape : Extent) (block : ℕ) → (picture_of (reset p shape) block).transaction ≡ None
 reset_open p shape = each_reset p shape (λ x. x.transaction ≡ None) refl refl

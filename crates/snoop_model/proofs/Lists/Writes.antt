@@ -38,9 +38,7 @@ sum_issued lines core block =
 
 left_shorter : (line : List ℕ) (block : ℕ) → slice_get line 0 ≡ Some block → length (filter (λ b. not (b == block)) line) + 1 ≤ length line
 left_shorter [] block h = cc
-left_shorter (x ∷ xs) block h =
-    let p : ℕ → Bool = λ b. not (b == block) in
-    rw (eq-eqb x block (same_Some _ _ h)) (omega (arith, length-filter p xs, count_by-le-length p xs))
+left_shorter (x ∷ xs) block h = grind (arith, h, length-filter (λ b. not (b == block)) xs, count_by-le-length (λ b. not (b == block)) xs)
 
 pub sum_ordered : (lines : List (List ℕ)) (core block : ℕ) → slice_get (queue_of lines core) 0 ≡ Some block → sum_by length (after_order lines core block) + 1 ≤ sum_by length lines
 sum_ordered lines core block first =

@@ -72,10 +72,7 @@ module _ (s : Situation) (block : ℕ) (o : Open) (did : Option Did) (new : Situ
       → LineFits p found.next.shared (cond gained false (owns g.owner d)) None words r.next.memory.value (held_by before d)
   stays words same d d_in so =
       let (fit, blind) = so (owns_owned g.owner d g.claims.owned g.is_owned) in
-      let reads : keeps (held_by before d).state ≡ true → words ≡ flat = λ h. elim (cases_Bool (is_get_m o.request)) [
-        | inl m ↦ absurd (both_ways _ (blind m) h)
-        | inr m ↦ same m
-      ] in
+      let reads : keeps (held_by before d).state ≡ true → words ≡ flat = λ h. grind (arith, same, blind, h) in
       still_fits (held_by before d) (line_of g d d_in) reads (λ is. memory_flat (λ w. is)) fit
 
   closed : (words : List ℕ) → (is_get_m o.request ≡ false → words ≡ flat)

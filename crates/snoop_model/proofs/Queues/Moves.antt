@@ -96,10 +96,7 @@ module _ (s : Situation) (kept : IsWellKept s) (core block word : ℕ) (asking :
 module _ (p : Protocol) (core : ℕ) (request : Request) (old new : List Line) (taken : TakesRows p core request old new) where
   -- what holds of each line before and after its row, and of two that hold nothing, holds of each core's
   pub each_taken : (k : ℕ) (P : Line → Line → Type 0) → (k < length old → P (held_at old k) (held_at new k)) → P nothing_held nothing_held → P (held_at old k) (held_at new k)
-  each_taken k P row nothing = elim (cases_lt k (length old)) [
-    | inl inside ↦ row inside
-    | inr past ↦ (let same = taken.same_length in rw (get_or_past new k nothing_held (omega arith), get_or_past old k nothing_held past) nothing)
-  ]
+  each_taken k P row nothing = grind (arith, row, nothing, taken.same_length, get_or_past new k nothing_held, get_or_past old k nothing_held)
 
   row_waits : (k : ℕ) → k < length old → waiting_request (held_at new k).state ≡ (if k == core then None else waiting_request (held_at old k).state)
   row_waits k inside =
