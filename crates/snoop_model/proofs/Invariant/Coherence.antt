@@ -1,6 +1,6 @@
 -- What the invariant says of a situation: one writer, current copies and memory, all rows, one sender.
 use Rattle.snoop_model.proofs.Lists.Facts.{if_some}
-use Rattle.snoop_model.proofs.Common.{[], arith, arrival, arrival_at_memory, Ask, asked, awaited_request, BlockInvariant, both_ways, CacheEvent, CacheState, CanOrder, carries_value, cases_Bool, cases_lt, Cell, cond_both, data_under_way, eq-eqb, false, false_from_ne_true, flat_words, FollowsSenderTable, ForSome, get_or_past, GetS, HasOpen, held_by, IfSome, inl, inr, Invariant, is_put_m, is_some, IsSome, IsSomeAnd, IsWellKept, IsWithin, keeps, length, Line, List, MemEvent, ne_eqb, None, none-some, nothing_held, nothing_there, Op, Open, Option, Order, OrdersFollowSenderTable, own_open, owns, Picture, picture_of, Protocol, PutM, refl, Request, Respond, seen_by, Situation, Some, state_of, Step, sym, talk_of, true, waiting_request, Waits, ℕ, ◌<◌, ◌↔◌, ◌∙◌, ◌≡◌, ◌≢◌, ◌≤◌}
+use Rattle.snoop_model.proofs.Common.{arith, arrival, arrival_at_memory, Ask, asked, awaited_request, BlockInvariant, both_ways, CacheEvent, CacheState, CanOrder, carries_value, Cell, cond_both, data_under_way, eq-eqb, false, false_from_ne_true, flat_words, FollowsSenderTable, ForSome, get_or_past, GetS, HasOpen, held_by, IfSome, Invariant, is_put_m, is_some, IsSome, IsSomeAnd, IsWellKept, IsWithin, keeps, length, Line, List, MemEvent, ne_eqb, None, none-some, nothing_held, nothing_there, Op, Open, Option, Order, OrdersFollowSenderTable, owns, Picture, picture_of, Protocol, PutM, refl, Request, Respond, seen_by, Situation, Some, state_of, Step, sym, talk_of, true, waiting_request, Waits, ℕ, ◌<◌, ◌↔◌, ◌∙◌, ◌≡◌, ◌≢◌, ◌≤◌}
 use Rattle.snoop_trace.specs.declared.step.Op.TheVariants as op
 use Rattle.snoop_rules.specs.declared.names.CacheState.TheVariants as state
 use Rattle.snoop_rules.specs.declared.names.CacheEvent.TheVariants as event
@@ -10,7 +10,7 @@ use Rattle.snoop_rules.specs.Takers.{other as another}
 use Rattle.snoop_model.specs.Moves.LookUps.{HasRow, HasMemRow, ConsultsCache, ConsultsMemory, FindsRows}
 use Rattle.snoop_model.specs.Pictures.OneWriter.{OneWriter}
 use Rattle.snoop_model.proofs.Tables.{StateTests.some_of, AskTests.ask_rule, AskTests.fit_rule, AskTests.is_hit-true, AskTests.is_idle_evict, Rows.hit_keeps, RespondTests.memory_row_for, RespondTests.row_for, RespondTests.awaited-get, StateTests.brings_data, StateTests.claims_rule}
-use Rattle.snoop_model.proofs.OneBlock.{Facts.owned_alone, Facts.each_held, Possible.order_possible, RespondStep.Closing, RespondStep.close, RespondStep.answered}
+use Rattle.snoop_model.proofs.OneBlock.{Facts.owned_alone, Possible.order_possible, RespondStep.Closing, RespondStep.close, RespondStep.answered}
 
 -- where no core may write the block, none owns it
 nobody_owns : {p : Protocol} {n : ℕ} {value : List ℕ} {picture : Picture} (g : BlockInvariant p n value picture) → ((core : ℕ) → ¬ MayStore p (held_by picture core).state) → g.claims.owned ≡ false
@@ -56,10 +56,7 @@ module _ (s : Situation) (g : Invariant s) where
 
   -- what holds of each line of the machine, and of a core that holds nothing, holds of every core's
   pub each_line : (core block : ℕ) (P : Line → Type 0) → (IsWithin s core block → P (held_by (picture_of s block) core)) → P nothing_held → P (held_by (picture_of s block) core)
-  each_line core block P here nothing = elim (cases_lt block s.shape.blocks) [
-    | inl in_blocks ↦ each_held (picture_of s block).caches core P (λ below. here (rw (← (g.shaped.row block in_blocks)) below, in_blocks)) nothing
-    | inr past ↦ rw (outside block past, get_or_past [] core nothing_held (omega arith)) nothing
-  ]
+  each_line core block P here nothing = grind (arith, here, nothing, outside block, g.shaped.row block, get_or_past (picture_of s block).caches core nothing_held)
 
   -- a core whose line is none that holds nothing is there, and so is the block
   pub held_within : (core block : ℕ) (P : Line → Type 0) → ¬ P nothing_held → P (held_by (picture_of s block) core) → IsWithin s core block
@@ -123,9 +120,7 @@ module _ (s : Situation) (g : Invariant s) where
     λ open_get.
         let (o, is) = open_get.0 in
         let good = g.blocks block (opened_within block o is.0) in
-        let there : core < s.shape.cores = rw (← is.1) (good.requestor_in o is.0) in
-        let its : own_open (picture_of s block).transaction core ≡ Some q = rw (is.0, is.1, eq-eqb core core refl, is.2) refl in
-        (fit_rule _ _ _ _ _ (good.states core there)).1.1 q its (not_put q open_get.1),
+        (fit_rule _ _ _ _ _ (good.states core (rw (← is.1) (good.requestor_in o is.0)))).1.1 q (rw (is.0, is.1, eq-eqb core core refl, is.2) refl) (not_put q open_get.1),
   )
 
   -- a core that waits is within the shape, and so is its block

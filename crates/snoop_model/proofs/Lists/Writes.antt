@@ -1,5 +1,5 @@
 -- What a write in one place does to a list of lists, and to sums over it, and how often a block stands in a queue.
-use Rattle.snoop_model.proofs.Common.{[], after_issue, after_order, All, ap, arith, Bool, cond, cond_both, Contains, count_by, count_by-le-length, eq-eqb, eqb, eqb_tells, false, filter, get_or-le-sum_by, get_or-set_other, get_or-set_same, get_or_from_slice_get, get_or_past, inl, inr, length, length-filter, length_push, List, not, queue_of, refl, same_Some, set_past, slice_get, slice_get_within, slice_index_or, slice_set, Some, suc, sum_by, sum_by-cons, sum_by-set, sum_by_push, zero, zero-add, ℕ, ◌++◌, ◌+◌, ◌<◌, ◌==◌, ◌∷◌, ◌≡◌, ◌≢◌, ◌≤◌, ◌⊎◌}
+use Rattle.snoop_model.proofs.Common.{[], after_issue, after_order, All, ap, arith, Bool, cond, Contains, count_by, count_by-le-length, eq-eqb, eqb, eqb_tells, false, filter, get_or-le-sum_by, get_or-set_other, get_or-set_same, get_or_from_slice_get, get_or_past, inl, inr, length, length-filter, length_push, List, not, queue_of, refl, set_past, slice_get, slice_get_within, slice_index_or, slice_set, Some, suc, sum_by, sum_by-cons, sum_by-set, sum_by_push, zero, zero-add, ℕ, ◌++◌, ◌+◌, ◌<◌, ◌==◌, ◌∷◌, ◌≡◌, ◌≢◌, ◌≤◌, ◌⊎◌}
 use Rattle.snoop_model.proofs.Lists.Facts.{one_if}
 
 -- what stands in a place after a write

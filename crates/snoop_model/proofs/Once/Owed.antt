@@ -1,5 +1,5 @@
 -- What waited, or was asked, waits or is its core's last operation: by `once` alone.
-use Rattle.snoop_model.proofs.Common.{[], Access, answers_of, ap, append_cancel_left, arith, asked_access, cases_Bool, cons_option, Contains, Contains-append_cases, Contains-append_left, Contains-append_right, Contains-permutation, Did, did_access, eqb-true, filter, filter-append, FirstMove, held_by, inl, inr, IsLast, IsOwed, IsPermutation, IsPermutation-sym, Item, last_or-append, List, map, map-append, None, of_core, Ok, OnceMore, operations, Option, option_to_list, picture_of, refl, Reply, same_Some, Situation, Some, Step, suc, sym, waiting_at, zero, ℕ, ◌++◌, ◌==◌, ◌∙◌, ◌∷◌, ◌≡◌, ◌⊎◌}
+use Rattle.snoop_model.proofs.Common.{[], Access, answers_of, ap, append_cancel_left, arith, asked_access, cases_Bool, cons_option, Contains, Contains-append_cases, Contains-append_left, Contains-append_right, Contains-permutation, Did, did_access, eqb-true, filter, filter-append, FirstMove, held_by, inl, inr, IsLast, IsOwed, IsPermutation, IsPermutation-sym, Item, last_or-append, List, map, map-append, None, of_core, Ok, OnceMore, operations, Option, option_to_list, picture_of, refl, Reply, same_Some, Situation, Some, Step, sym, waiting_at, zero, ℕ, ◌++◌, ◌==◌, ◌∙◌, ◌∷◌, ◌≡◌, ◌⊎◌}
 use Rattle.snoop_model.proofs.Runs.Shape.{on_stays}
 use Rattle.snoop_model.proofs.OneBlock.Facts.{did_in, operations_moved}
 
@@ -47,8 +47,7 @@ module _ (s t : Situation) (step : Step) (answer : Reply) (move : FirstMove s st
   balance : IsPermutation (waiting_at s core block ++ option_to_list (asked_access core block step)) (done_here ++ waiting_at t core block)
   balance =
       let logged = (on_stays move.0 s t step answer move.1.1).1 in
-      let since = append_cancel_left s.log once.since (option_to_list logged.0) (sym once.log ∙ logged.1) in
-      rw (since, answers_are [] logged.0 core, cons_one (asked_access core block step)) at (once.once core block)
+      rw (append_cancel_left s.log once.since (option_to_list logged.0) (sym once.log ∙ logged.1), answers_are [] logged.0 core, cons_one (asked_access core block step)) at (once.once core block)
 
   -- an operation that the move performs, or that waits after it, waited before it or is asked by it
   pub waited_or_asked : Contains done_here wanted ⊎ ((held_by (picture_of t block) core).waiting ≡ Some wanted)

@@ -1,6 +1,6 @@
 -- What follows from the invariant of one block.
 use Rattle.snoop_trace.specs.declared.step.Op.TheVariants as op
-use Rattle.snoop_model.proofs.Common.{append-nil, arith, BlockInvariant, Bool, cases_eq, cases_lt, cond, Did, did_access, eq-eqb, eqb, eqb-true, eqb_tells, false, fits, get_or_past, held_at, held_by, inl, inr, is_clean, is_some, IsProper, Item, keeps, kept_waiting, length, Line, List, ne_eqb, next_did, None, not, nothing_held, Op, operation_of, operations, operations-push, Option, option_to_list, or_right, own_open, owns, Performs, Picture, Protocol, refl, Request, same, same_Some, slice_set, Some, subst, sym, talk_of, true, word_at, ℕ, ⊤, ◌&&◌, ◌++◌, ◌<◌, ◌||◌, ◌∙◌, ◌≡◌, ◌≢◌}
+use Rattle.snoop_model.proofs.Common.{append-nil, arith, BlockInvariant, Bool, cases_eq, cases_lt, cond, Did, did_access, eq-eqb, eqb, eqb-true, eqb_tells, false, fits, get_or_past, held_at, held_by, inl, inr, is_clean, is_some, IsProper, Item, keeps, kept_waiting, length, Line, List, ne_eqb, next_did, None, not, nothing_held, Op, operation_of, operations, operations-push, Option, option_to_list, or_right, own_open, owns, Performs, Picture, Protocol, refl, Request, same, slice_set, Some, subst, sym, talk_of, true, word_at, ℕ, ⊤, ◌&&◌, ◌++◌, ◌<◌, ◌||◌, ◌∙◌, ◌≡◌, ◌≢◌}
 use Rattle.snoop_model.proofs.Lines.TheSender.{IsBelow}
 use Rattle.snoop_model.proofs.Tables.{Tested.of_open, StateTests.brings_data, StateTests.carries, StateTests.clean_reads, StateTests.claims_rule}
 

@@ -1,5 +1,5 @@
 -- One block has a new picture, and the others are as they were.
-use Rattle.snoop_model.proofs.Common.{get_or-set_same, IsShaped, Item, length, length-set, Line, List, MemLine, MemState, nothing_there, Open, Option, Picture, picture_of, refl, Situation, with_picture, ℕ, ◌<◌, ◌∙◌, ◌≡◌, ◌≢◌}
+use Rattle.snoop_model.proofs.Common.{get_or-set_same, IsShaped, Item, length, length-set, List, nothing_there, Picture, picture_of, Situation, with_picture, ℕ, ◌<◌, ◌∙◌, ◌≡◌, ◌≢◌}
 use Rattle.snoop_model.proofs.Lists.Writes.{each_set, same_set}
 
 -- a block of the shape has a picture

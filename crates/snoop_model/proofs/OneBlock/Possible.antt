@@ -1,7 +1,7 @@
 -- Each step finds its rows, and an Order exactly one sender.
 use Rattle.snoop_model.specs.Moves.LookUps.{HasRow}
-use Rattle.snoop_model.proofs.Common.{asked, BlockInvariant, CacheCell, cell_of, false, FollowsSenderTable, held_by, length, List, None, Op, Picture, Protocol, refl, Request, seen_by, Some, waiting_request, ℕ, ◌<◌, ◌≡◌}
-use Rattle.snoop_model.proofs.Tables.{SenderLines.led_line, AskTests.ask_rule, AskTests.is_idle_evict}
+use Rattle.snoop_model.proofs.Common.{BlockInvariant, FollowsSenderTable, held_by, length, List, None, Picture, Protocol, refl, Request, seen_by, Some, waiting_request, ℕ, ◌<◌, ◌≡◌}
+use Rattle.snoop_model.proofs.Tables.{SenderLines.led_line}
 use Rattle.snoop_model.proofs.OneBlock.{Facts.below_owner, Facts.is_itself, OrderStep.each_row, OrderStep.look, OrderStep.meant, OrderStep.meant_in, OrderStep.sender_told, OrderStep.sends, OrderStep.sends_if_meant, OrderStep.sent}
 
 -- an Order finds each core's row and exactly one sender, and is a line of the table of Orders

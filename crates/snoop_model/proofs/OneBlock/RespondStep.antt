@@ -1,5 +1,5 @@
 -- A Respond finds its rows and keeps the invariant, and a load that it performs gives the flat value.
-use Rattle.snoop_model.proofs.Common.{ap, arith, arrival, arrival_at_memory, ArrivesFor, BlockInvariant, Bool, both_ways, CacheAction, CacheCell, cases_Bool, Claims, claims_of, cond, cond_both, Did, eq-eqb, false, FillsRequestor, held_at, held_by, if◌then◌else◌, inl, inr, is_get_m, is_load, is_put_m, Item, keeps, length, List, MemAction, MemCell, ne_eqb, next_did, None, none-some, nothing_held, Op, Open, Option, owns, Performs, Picture, picture_of, Protocol, PutM, refl, Request, Responds, same_Some, Situation, Some, sym, takes_payload, true, word_at, written, ℕ, ◌<◌, ◌∙◌, ◌≡◌}
+use Rattle.snoop_model.proofs.Common.{ap, arith, arrival, arrival_at_memory, ArrivesFor, BlockInvariant, Bool, CacheAction, CacheCell, Claims, claims_of, cond, cond_both, Did, eq-eqb, false, FillsRequestor, held_at, held_by, if◌then◌else◌, is_get_m, is_load, is_put_m, Item, keeps, length, List, MemAction, MemCell, ne_eqb, next_did, None, none-some, nothing_held, Op, Open, Option, owns, Performs, Picture, picture_of, Protocol, PutM, refl, Request, Responds, same_Some, Situation, Some, sym, takes_payload, true, word_at, written, ℕ, ◌<◌, ◌∙◌, ◌≡◌}
 use Rattle.snoop_trace.specs.declared.step.Op.TheVariants as op
 use Rattle.snoop_rules.specs.declared.names.CacheAction.TheVariants as action
 use Rattle.snoop_rules.specs.declared.names.MemAction.TheVariants as mem_action

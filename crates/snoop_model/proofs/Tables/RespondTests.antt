@@ -1,5 +1,5 @@
 -- A test of the rows of a Respond, computed over the whole tables.
-use Rattle.snoop_model.proofs.Common.{all_memories, all_payloads, all_protocols, all_requests, all_states, all_states-at, ap, arrival, arrival_at_memory, awaited_request, Bool, CacheAction, CacheCell, CacheEvent, CacheState, carries_value, cell_of, Claims, claims_of, cond, false, fits, GetM, GetS, in_protocol, is_clean, is_get_m, is_owner, is_put_m, is_sharer, is_some, IsD, IsSomeAnd, keeps, MatchBool, MemAction, MemCell, MemEvent, memory_cell_of, MemoryCell, MemState, missed_request, None, not, Option, option_and_then, Payload, Protocol, PutM, refl, Request, requests, same, same_Some, Some, sym, takes_payload, true, wait_fits, ◌&&◌, ◌||◌, ◌↔◌, ◌≡◌}
+use Rattle.snoop_model.proofs.Common.{all_memories, all_payloads, all_protocols, all_requests, all_states, all_states-at, ap, arrival, arrival_at_memory, awaited_request, Bool, CacheAction, CacheCell, CacheEvent, CacheState, carries_value, cell_of, Claims, claims_of, cond, false, fits, GetM, GetS, in_protocol, is_clean, is_get_m, is_owner, is_put_m, is_sharer, IsD, IsSomeAnd, keeps, MatchBool, MemAction, MemCell, MemEvent, memory_cell_of, MemoryCell, MemState, missed_request, None, not, Option, option_and_then, Payload, Protocol, PutM, refl, Request, requests, same, same_Some, Some, sym, takes_payload, true, wait_fits, ◌&&◌, ◌||◌, ◌↔◌, ◌≡◌}
 use Rattle.snoop_rules.specs.declared.names.CacheAction.TheVariants as action
 use Rattle.snoop_rules.specs.declared.names.MemAction.TheVariants as mem_action
 use Rattle.snoop_model.proofs.Tables.Tested.{◌also◌, Tested, each_of, equal, alike, each_fitting, each_memory, each_open, each_payload, each_protocol, each_request, fails, found, given, holds, provided, unless}

@@ -1,5 +1,5 @@
 -- What holds of every row, found by trying all.
-use Rattle.snoop_model.proofs.Common.{all_events, all_protocols, all_requests, all_states, all_states-at, and-false, and-true, asked, awaited_request, Bool, CacheAction, CacheEvent, CacheState, Cell, cell_of, each_row, false, GetM, GetS, I, if◌then◌else◌, IiA, ImAd, is_load, is_some, IsProper, keeps, kept_on, kept_waiting, Line, List, missed_request, moves_to, None, not, Op, Option, option_map, other, own, Protocol, PutM, refl, Request, request_for, requests, same, same_Some, seen_by, Some, states, sym, true, waiting_request, ℕ, ◌&&◌, ◌==◌, ◌||◌, ◌∙◌, ◌≡◌}
+use Rattle.snoop_model.proofs.Common.{all_events, all_protocols, all_requests, all_states, all_states-at, and-false, and-true, asked, awaited_request, Bool, CacheAction, CacheEvent, CacheState, Cell, cell_of, each_row, false, GetM, GetS, I, if◌then◌else◌, IiA, ImAd, is_load, is_some, IsProper, keeps, kept_on, kept_waiting, Line, List, missed_request, moves_to, None, not, Op, Option, option_map, other, own, Protocol, PutM, refl, Request, request_for, requests, same, seen_by, Some, states, sym, true, waiting_request, ℕ, ◌&&◌, ◌==◌, ◌||◌, ◌∙◌, ◌≡◌}
 use Rattle.snoop_trace.specs.declared.step.Op.TheVariants as op
 use Rattle.snoop_rules.specs.declared.names.CacheEvent.TheVariants as event
 use Rattle.snoop_rules.specs.declared.names.CacheAction.TheVariants as action
