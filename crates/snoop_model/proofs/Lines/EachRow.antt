@@ -30,9 +30,6 @@ pub Taking-past : (protocol : Protocol) (requestor : ℕ) (request : Request) (o
 Taking-past protocol requestor request old new n m stay up taking =
     record {
       same_length = taking.same_length;
-      taken = λ k h. elim (cases_lt k n) [
-        | inl below ↦ taking.taken k below
-        | inr above ↦ rw (taking.left k above) (stay k above h)
-      ];
+      taken = λ k h. grind (arith, taking.taken k, taking.left k, stay k);
       left = λ k h. taking.left k (omega arith);
     }

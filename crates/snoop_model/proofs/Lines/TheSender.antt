@@ -41,7 +41,4 @@ module _ (p : Protocol) (before : Picture) (core : ℕ) (request : Request) wher
   pub Silent-past : (n to : ℕ) → n ≤ to → ((k : ℕ) → n ≤ k → k < to → Cell p (held_by before k).state (seen_by k core request) action.None (held_by before k).state)
       → SilentBelow p before core request n → SilentBelow p before core request to
   Silent-past n to up idle silent None payload below sends = silent None payload tt sends
-  Silent-past n to up idle silent (Some k) payload below sends = elim (cases_lt k n) [
-    | inl before_n ↦ silent (Some k) payload before_n sends
-    | inr above ↦ (let none = rw (idle k above below) at (sends_is p before core request (Some k) payload sends) in cc)
-  ]
+  Silent-past n to up idle silent (Some k) payload below sends = grind (arith, silent (Some k) payload, sends, idle k, sends_is p before core request (Some k) payload sends)
