@@ -32,10 +32,7 @@ module _ (p : Protocol) (before : Picture) (core : ℕ) (request : Request) wher
       → Cell p (held_by before n).state (seen_by n core request) act next
       → ((payload : Payload) (target : Target) → act ≡ action.Send payload target → ⊥) → SilentBelow p before core request (n + 1)
   Silent-more n act next so_far row silent None payload below sends = so_far None payload tt sends
-  Silent-more n act next so_far row silent (Some k) payload below sends = elim (cases_eq k n) [
-    | inl e ↦ (let does = sending act payload (rw (e, row) at (sends_is p before core request (Some k) payload sends)) in silent payload does.0 does.1)
-    | inr apart ↦ so_far (Some k) payload (omega arith) sends
-  ]
+  Silent-more n act next so_far row silent (Some k) payload below sends = grind (arith, so_far (Some k) payload, sends, row, silent payload, sending act payload, sends_is p before core request (Some k) payload sends)
 
   -- cores that have nothing to do are passed over
   pub Silent-past : (n to : ℕ) → n ≤ to → ((k : ℕ) → n ≤ k → k < to → Cell p (held_by before k).state (seen_by k core request) action.None (held_by before k).state)

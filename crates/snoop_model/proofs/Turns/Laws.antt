@@ -154,10 +154,7 @@ pays s t (Respond on) answer move =
 pub has_step : (s : Situation) (core block word : ℕ) (asking : Op) (wanted : Access) → IsWellKept s → (held_by (picture_of s block) core).waiting ≡ Some wanted → turn_of s core block word asking true ≡ None → ⊥
 has_step s core block word asking wanted kept waits none =
     let left = none_left (waiting_request (state_of s core block)) (picture_of s block).transaction core block none in
-    elim (busy_cases (state_of s core block) (missed_busy (state_of s core block) (kept.operations core block wanted waits))) [
-      | inl w ↦ none-some w.0 (sym left.0 ∙ w.1)
-      | inr a ↦ let its = kept.awaits core block a.0 a.1 in left.1 its.0 its.1.0 its.1.1
-    ]
+    grind (arith, busy_cases (state_of s core block) (missed_busy (state_of s core block) (kept.operations core block wanted waits)), left.0, left.1, kept.awaits core block)
 
 -- where no step is left, the operation is the core's last one
 closed_is_last : ClosedIsLast
