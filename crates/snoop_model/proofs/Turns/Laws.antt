@@ -16,12 +16,9 @@ pub busy_cases : (s : CacheState) → is_busy s ≡ true → ((request : Request
 busy_cases s busy = elim (or_cases _ _ busy) [ inl waits ↦ inl (some_of _ waits) | inr awaits ↦ inr (some_of _ awaits) ]
 
 pub busy_under_way : (s : Situation) (under_way : ℕ → Option ℕ) → IsServing under_way s → IsWellKept s → (core block : ℕ) → is_busy (state_of s core block) ≡ true → under_way core ≡ Some block
-busy_under_way s under_way serving kept core block busy = elim (busy_cases (state_of s core block) busy) [
-  | inl w ↦ All-contains (λ b. under_way core ≡ Some b) (queue_of s.queues core) block (serving.waits core) (waits_queued s kept.queued core block w.0 w.1)
-  | inr d ↦
-      let own = kept.awaits core block d.0 d.1 in
-      rw (← own.1.1) (serving.opened block own.0 own.1.0)
-]
+busy_under_way s under_way serving kept core block busy =
+    let queued = All-contains (λ b. under_way core ≡ Some b) (queue_of s.queues core) block (serving.waits core) in
+    grind (arith, busy_cases (state_of s core block) busy, waits_queued s kept.queued core block, queued, kept.awaits core block, serving.opened block)
 
 -- a core that has missed waits
 pub missed_busy : (s : CacheState) → is_some (missed_request s) ≡ true → is_busy s ≡ true
