@@ -26,5 +26,5 @@ module _ {q : Request} {closing : Open} {p : Protocol} {log : List Item} {old ne
   pub still_waiting : (k : ℕ) (access : Access) → (held_at new k).waiting ≡ Some access → held_at new k ≡ held_at old k
   still_waiting k access h = elim arrived [
     | inl put ↦ rw put.1 refl
-    | inr fills ↦ elim (filled_or_same fills k) [ inl e ↦ (let clash = rw (e.1, fills.fills.held) at h in cc) | inr e ↦ e.0 ]
+    | inr fills ↦ grind (arith, filled_or_same fills k, fills.fills.held, h)
   ]

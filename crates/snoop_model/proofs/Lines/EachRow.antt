@@ -1,5 +1,5 @@
 -- The loop in which each core takes its row.
-use Rattle.snoop_model.proofs.Common.{ap, arith, CacheAction, CacheState, cases_lt, Cell, get_or-set_other, held_at, inl, inr, length, length-set, Line, List, moves_to, nothing_held, Protocol, Request, seen_by, slice_set, TakesRow, ℕ, ◌+◌, ◌<◌, ◌∙◌, ◌≡◌, ◌≤◌}
+use Rattle.snoop_model.proofs.Common.{ap, arith, CacheAction, CacheState, Cell, get_or-set_other, held_at, length, length-set, Line, List, moves_to, nothing_held, Protocol, Request, seen_by, slice_set, TakesRow, ℕ, ◌+◌, ◌<◌, ◌∙◌, ◌≡◌, ◌≤◌}
 use Rattle.snoop_model.proofs.Lists.Writes.{each_set}
 
 -- the cores below n have taken their rows, and the others have not

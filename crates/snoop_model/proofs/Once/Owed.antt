@@ -24,10 +24,9 @@ cons_one (Some x) = refl
 
 -- what a permutation of two lists has in one of them it has in one of the two others
 either_side : (xs ys zs ws : List Access) (wanted : Access) → IsPermutation (xs ++ ys) (zs ++ ws) → Contains xs wanted ⊎ Contains ys wanted → Contains zs wanted ⊎ Contains ws wanted
-either_side xs ys zs ws wanted same now = Contains-append_cases zs ws wanted (Contains-permutation _ _ wanted same (elim now [
-  | inl l ↦ Contains-append_left xs ys wanted l
-  | inr r ↦ Contains-append_right xs ys wanted r
-]))
+either_side xs ys zs ws wanted same now =
+    let before : Contains (xs ++ ys) wanted = elim now [ inl l ↦ Contains-append_left xs ys wanted l | inr r ↦ Contains-append_right xs ys wanted r ] in
+    Contains-append_cases zs ws wanted (Contains-permutation _ _ wanted same before)
 
 -- the operation that a move performs, if any
 abbrev pub performed_by : (s t : Situation) (step : Step) (answer : Reply) → FirstMove s step answer t → Option Did

@@ -155,8 +155,7 @@ has_step s core block word asking wanted kept waits none =
 
 -- where no step is left, the operation is the core's last one
 closed_is_last : ClosedIsLast
-closed_is_last s core block word asking wanted kept (inl waits) none = absurd (has_step s core block word asking wanted kept waits none)
-closed_is_last s core block word asking wanted kept (inr last) none = last
+closed_is_last s core block word asking wanted kept owed none = elim owed [ inl waits ↦ absurd (has_step s core block word asking wanted kept waits none) | inr last ↦ last ]
 
 -- nothing of the core waits or is open
 idle_turn : (core block : ℕ) (w : Option Request) (o : Option Open) → ((r : Request) → w ≢ Some r) → ((t : Open) → o ≡ Some t → t.core ≢ core) → step_under_way w o core block ≡ None
