@@ -1,4 +1,3 @@
 -- Lists.
 pub mod Facts
 pub mod Writes
-pub mod QueueCounts

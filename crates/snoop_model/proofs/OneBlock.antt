@@ -1,5 +1,4 @@
 -- The steps of one block, and the invariant of its picture.
-pub mod Operation
 pub mod Facts
 pub mod AfterMoves
 pub mod OfBlocks

@@ -1,6 +1,6 @@
 -- The rows of the tables, found by trying all.
 pub mod Rows
-pub mod WaitingRows
+pub mod Tested
 pub mod StateTests
 pub mod AskTests
 pub mod OrderTests

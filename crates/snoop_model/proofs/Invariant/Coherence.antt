@@ -1,54 +1,24 @@
 -- What the invariant says of a situation: one writer, current copies and memory, all rows, one sender.
-use Rattle.std.proofs.Common.{◌≡◌, ◌≢◌, ℕ, true, false, List, [], Option, Some, None, refl, inl, inr, sym, ◌∙◌, arith, rules}
-use Rattle.std.specs.Option.{ForSome}
 use Rattle.snoop_model.proofs.Lists.Facts.{if_some}
-use Rattle.snoop_model.proofs.Common.{and_parts, arrival, arrival_at_memory, Ask, asked, awaited_request, BlockInvariant, both_ways, CacheEvent, CacheState, CanOrder, carries_value, cases_Bool, cases_lt, Cell, data_under_way, eq-eqb, false_from_ne_true, flat_words, get_or_past, HasOpen, held_by, IfSome, Invariant, is_put_m, is_some, IsSome, IsSomeAnd, IsWellKept, IsWithin, keeps, Line, MemEvent, none-some, nothing_held, nothing_there, Op, Open, Order, OrdersFollowSenderTable, own_open, owns, Picture, picture_of, Protocol, Request, Respond, seen_by, Situation, state_of, Step, talk_of, waiting_request, Waits, ◌<◌, ◌↔◌, ◌≤◌}
+use Rattle.snoop_model.proofs.Common.{arith, arrival, arrival_at_memory, Ask, asked, awaited_request, BlockInvariant, both_ways, CacheEvent, CacheState, CanOrder, carries_value, Cell, cond_both, data_under_way, eq-eqb, false, false_from_ne_true, flat_words, FollowsSenderTable, ForSome, get_or_past, GetS, HasOpen, held_by, IfSome, Invariant, is_put_m, is_some, IsSome, IsSomeAnd, IsWellKept, IsWithin, keeps, length, Line, List, MemEvent, ne_eqb, None, none-some, nothing_held, nothing_there, Op, Open, Option, Order, OrdersFollowSenderTable, owns, Picture, picture_of, Protocol, PutM, refl, Request, Respond, seen_by, Situation, Some, state_of, Step, sym, talk_of, true, waiting_request, Waits, ℕ, ◌<◌, ◌↔◌, ◌∙◌, ◌≡◌, ◌≢◌, ◌≤◌}
 use Rattle.snoop_trace.specs.declared.step.Op.TheVariants as op
-use Rattle.snoop_trace.specs.declared.protocol.Protocol.TheVariants.{Msi, Mesi}
 use Rattle.snoop_rules.specs.declared.names.CacheState.TheVariants as state
 use Rattle.snoop_rules.specs.declared.names.CacheEvent.TheVariants as event
 use Rattle.snoop_rules.specs.declared.names.CacheAction.TheVariants as action
-use Rattle.snoop_rules.specs.declared.names.Request.TheVariants as request
 use Rattle.snoop_rules.specs.Possible.{MayLoad, MayStore}
 use Rattle.snoop_rules.specs.Takers.{other as another}
 use Rattle.snoop_model.specs.Moves.LookUps.{HasRow, HasMemRow, ConsultsCache, ConsultsMemory, FindsRows}
 use Rattle.snoop_model.specs.Pictures.OneWriter.{OneWriter}
-use Rattle.snoop_model.specs.Invariant.Fits.{in_protocol, is_clean, is_owner, wait_fits, fits}
-use Rattle.snoop_model.proofs.Tables.StateTests.{some_of}
-use Rattle.snoop_model.proofs.Tables.AskTests
-use Rattle.snoop_model.proofs.Tables.AskTests.{ask_rule, is_idle_evict}
-use Rattle.snoop_model.proofs.Tables.Rows.{hit_keeps}
-use Rattle.snoop_model.proofs.Tables.RespondTests.{memory_row_for, row_for}
-use Rattle.snoop_model.proofs.OneBlock.OrderStep.{seen_other}
-use Rattle.snoop_model.proofs.OneBlock.Facts.{one_writer, fits_waits, fits_is_owner, each_held}
-use Rattle.snoop_model.proofs.OneBlock.Possible.{Answerable, Possible, order_possible, ask_possible, respond_possible}
-use Rattle.snoop_model.proofs.Tables.SenderLines.{led_line}
-use Rattle.snoop_model.proofs.Tables.WaitingRows.{awaited-get}
-use Rattle.snoop_model.proofs.Tables.StateTests.{brings_data, resting_rule}
-
--- an owner may write
-owner_stores : (p : Protocol) (s : CacheState) → in_protocol p s ≡ true → is_owner s ≡ true → MayStore p s
-unfolding in_protocol is_clean is_owner
-owner_stores Msi state.M known owns = (_, refl)
-owner_stores Mesi state.E known owns = (_, refl)
-owner_stores Mesi state.EiA known owns = (_, refl)
-owner_stores _ s known owns = (s, cc)
-
--- a core that keeps words may load
-keeper_loads : (p : Protocol) (s : CacheState) → in_protocol p s ≡ true → keeps s ≡ true → MayLoad p s
-unfolding in_protocol is_clean
-keeper_loads Msi state.S known kept = (_, refl)
-keeper_loads Mesi state.S known kept = (_, refl)
-keeper_loads _ s known kept = (s, cc)
+use Rattle.snoop_model.proofs.Tables.{StateTests.some_of, AskTests.ask_rule, AskTests.fit_rule, AskTests.is_hit-true, AskTests.is_idle_evict, Rows.hit_keeps, RespondTests.memory_row_for, RespondTests.row_for, RespondTests.awaited-get, StateTests.brings_data, StateTests.claims_rule}
+use Rattle.snoop_model.proofs.OneBlock.{Facts.owned_alone, Possible.order_possible, RespondStep.Closing, RespondStep.close, RespondStep.answered}
 
 -- where no core may write the block, none owns it
 nobody_owns : {p : Protocol} {n : ℕ} {value : List ℕ} {picture : Picture} (g : BlockInvariant p n value picture) → ((core : ℕ) → ¬ MayStore p (held_by picture core).state) → g.claims.owned ≡ false
-unfolding fits
 nobody_owns {p} {n} {value} {picture} g idle = sym g.is_owned ∙ false_from_ne_true (is_some g.owner) (λ e.
     let (o, is) = some_of g.owner e in
-    let fit = g.states o (g.owner_in o is) in
     let owning : (x : ℕ) → g.owner ≡ Some x → owns g.owner x ≡ true = λ x its. rw (its, eq-eqb x x refl) refl in
-    idle o (owner_stores p _ (and_parts _ _ fit).0 (fits_is_owner p g.claims.shared (owns g.owner o) (own_open picture.transaction o) _ fit ∙ owning o is)))
+    let (row, is_row, hit) = (fit_rule _ _ _ _ _ (g.states o (g.owner_in o is))).0 (owning o is) in
+    idle o (row.next, rw (← is_hit-true row.action hit) is_row))
 
 no_data : (found : Option Open) → data_under_way found ≡ None → brings_data (talk_of found) ≡ false
 no_data None none = refl
@@ -56,16 +26,7 @@ no_data (Some o) none = false_from_ne_true (carries_value o.payload) (λ e. none
 
 data_is : (found : Option Open) (value : List ℕ) → ((o : Open) → found ≡ Some o → carries_value o.payload ≡ true → o.value ≡ value) → IfSome (data_under_way found) (λ sent. sent ≡ value)
 data_is None value carried = tt
-data_is (Some o) value carried = elim (cases_Bool (carries_value o.payload)) [
-  | inl e ↦ rw e (carried o refl e)
-  | inr e ↦ rw e tt
-]
-
--- the requestor of an open GetS or GetM is in a state that waits for its data
-open_awaits : (q : Request) (s : CacheState) → q ≢ request.PutM → wait_fits (Some q) s ≡ true → awaited_request s ≡ Some q
-unfolding wait_fits
-open_awaits request.GetS state.IsD get fit = refl
-open_awaits _ _ get fit = search rules
+data_is (Some o) value carried = cond_both (carries_value o.payload) _ _ (λ found. IfSome found (λ sent. sent ≡ value)) (carried o refl) (λ none. tt)
 
 pub idle_evict : (s : CacheState) (o : Op) → is_idle_evict s (asked o) ≡ true → (o ≡ op.Evict) × (s ≡ state.I)
 idle_evict state.I op.Evict h = (refl, refl)
@@ -76,7 +37,7 @@ nothing_asked p op.Evict busy = absurd (busy (refl, refl))
 nothing_asked p _ busy = (_, refl)
 
 nothing_seen : (p : Protocol) (q : Request) → HasRow p state.I (another q)
-nothing_seen p request.GetS = (_, refl)
+nothing_seen p GetS = (_, refl)
 nothing_seen p _ = (_, refl)
 
 -- where there is a row, there is an event that has it
@@ -84,8 +45,8 @@ has_row : {E R : Type 0} (rows : Option E → Option R) → rows None ≡ None �
 has_row rows none None row = let h = row.1 in cc
 has_row rows none (Some e) row = row
 
-not_put : (q : Request) → q ≢ request.PutM → is_put_m q ≡ false
-not_put request.PutM get = absurd (get refl)
+not_put : (q : Request) → q ≢ PutM → is_put_m q ≡ false
+not_put PutM get = absurd (get refl)
 not_put _ get = refl
 
 module _ (s : Situation) (g : Invariant s) where
@@ -95,17 +56,11 @@ module _ (s : Situation) (g : Invariant s) where
 
   -- what holds of each line of the machine, and of a core that holds nothing, holds of every core's
   pub each_line : (core block : ℕ) (P : Line → Type 0) → (IsWithin s core block → P (held_by (picture_of s block) core)) → P nothing_held → P (held_by (picture_of s block) core)
-  each_line core block P here nothing = elim (cases_lt block s.shape.blocks) [
-    | inl in_blocks ↦ each_held (picture_of s block).caches core P (λ below. here (rw (← (g.shaped.row block in_blocks)) below, in_blocks)) nothing
-    | inr past ↦ rw (outside block past, get_or_past [] core nothing_held (omega arith)) nothing
-  ]
+  each_line core block P here nothing = grind (arith, here, nothing, outside block, g.shaped.row block, get_or_past (picture_of s block).caches core nothing_held)
 
   -- a core whose line is none that holds nothing is there, and so is the block
   pub held_within : (core block : ℕ) (P : Line → Type 0) → ¬ P nothing_held → P (held_by (picture_of s block) core) → IsWithin s core block
   held_within core block P none = each_line core block (λ x. P x → IsWithin s core block) (λ within h. within) (λ h. absurd (none h))
-
-  keeper_within : (core block : ℕ) → keeps (state_of s core block) ≡ true → IsWithin s core block
-  keeper_within core block = held_within core block (λ x. keeps x.state ≡ true) (λ h. cc)
 
   -- beside a writer no other core is a reader or a writer
   pub has_one_writer : (block : ℕ) → OneWriter s.protocol (picture_of s block)
@@ -114,28 +69,26 @@ module _ (s : Situation) (g : Invariant s) where
       blind : (e : CacheEvent) → (n : CacheState) × Cell s.protocol (state_of s other block) e action.Hit n → ⊥
       blind e hits =
           let keeping = (hit_keeps s.protocol (state_of s other block) e hits.0 hits.1).0 in
-          let held = state_of s core block in
-          let within = keeper_within core block (hit_keeps s.protocol held event.Store writes.0 writes.1).0 in
+          let within = held_within core block (λ x. keeps x.state ≡ true) (λ h. cc) (hit_keeps s.protocol (state_of s core block) event.Store writes.0 writes.1).0 in
           let good = g.blocks block within.1 in
-          let ow = owns good.owner core in
-          let owning = (and_parts ow _ (ask_rule AskTests.ask_store_owns s.protocol good.claims.shared ow (own_open (picture_of s block).transaction core)
-          held (op.Store 0) (record { action = action.Hit; next = writes.0 }) (good.states core within.0) writes.1)).0 in
-          both_ways _ (one_writer good core owning other (keeper_within other block keeping).0 apart) keeping
+          let (_, rule) = ask_rule _ _ _ _ _ (op.Store 0) (good.states core within.0) in
+          let (owning, _) = (rule (record { action = action.Hit; next = writes.0 }) writes.1).1.1 refl in
+          both_ways _ ((owned_alone good core owning).2 other (held_within other block (λ x. keeps x.state ≡ true) (λ h. cc) keeping).0 apart) keeping
 
   -- each reader keeps flat memory's value
   pub readers_current : (core block : ℕ) → MayLoad s.protocol (state_of s core block) → (held_by (picture_of s block) core).kept ≡ Some (flat_words s.log block)
   readers_current core block reads =
       let keeping = (hit_keeps s.protocol (state_of s core block) event.Load reads.0 reads.1).0 in
-      let within = keeper_within core block keeping in
+      let within = held_within core block (λ x. keeps x.state ≡ true) (λ h. cc) keeping in
       (g.blocks block within.1).kept core within.0 keeping
 
   -- no core keeps words that it may not read
   pub kept_read : (core block : ℕ) → IsSome (held_by (picture_of s block) core).kept → MayLoad s.protocol (state_of s core block)
-  unfolding fits
   kept_read core block is =
       let within = held_within core block (λ x. IsSome x.kept) (λ h. cc) is in
       let good = g.blocks block within.1 in
-      keeper_loads s.protocol (state_of s core block) (and_parts _ _ (good.states core within.0)).0 (sym (good.proper core within.0).kept ∙ is)
+      let (row, is_row, hit) = (fit_rule _ _ _ _ _ (good.states core within.0)).1.0 (sym (good.proper core within.0).kept ∙ is) in
+      (row.next, rw (← is_hit-true row.action hit) is_row)
 
   -- data under way has flat memory's value
   pub data_current : (block : ℕ) → block < s.shape.blocks → IfSome (data_under_way (picture_of s block).transaction) (λ words. words ≡ flat_words s.log block)
@@ -145,14 +98,11 @@ module _ (s : Situation) (g : Invariant s) where
   pub memory_current : (block : ℕ) → block < s.shape.blocks → ((core : ℕ) → ¬ MayStore s.protocol (state_of s core block)) → data_under_way (picture_of s block).transaction ≡ None → (picture_of s block).memory.value ≡ flat_words s.log block
   memory_current block within idle none =
       let it = g.blocks block within in
-      it.fresh (resting_rule s.protocol _ (talk_of (picture_of s block).transaction) it.claims it.is_claims (nobody_owns it idle) (no_data _ none))
+      it.fresh ((claims_rule s.protocol _ _ it.claims it.is_claims).1 (nobody_owns it idle) (no_data _ none))
 
   -- an open transaction is of a block within the shape
   opened_within : (block : ℕ) (o : Open) → (picture_of s block).transaction ≡ Some o → block < s.shape.blocks
-  opened_within block o is = elim (cases_lt block s.shape.blocks) [
-    | inl within ↦ within
-    | inr past ↦ absurd (none-some o (rw (outside block past) at is))
-  ]
+  opened_within block o is = grind (arith, outside block, is)
 
   -- a core that sent its message is there
   pub sender_within : (block : ℕ) (o : Open) → (picture_of s block).transaction ≡ Some o → ForSome o.from (λ sender. sender < s.shape.cores)
@@ -164,23 +114,21 @@ module _ (s : Situation) (g : Invariant s) where
       (λ o is. (g.opened block o is, (g.blocks block (opened_within block o is)).requestor_in o is, if_some o.from _ (sender_within block o is)))
 
   -- a core waits for data exactly where the block's open transaction is its GetS or GetM
-  pub data_awaited : IsWellKept s → (core block : ℕ) (q : Request) → (awaited_request (state_of s core block) ≡ Some q) ↔ (HasOpen s core block q × (q ≢ request.PutM))
+  pub data_awaited : IsWellKept s → (core block : ℕ) (q : Request) → (awaited_request (state_of s core block) ≡ Some q) ↔ (HasOpen s core block q × (q ≢ PutM))
   data_awaited kept core block q = (
     λ waits. (kept.awaits core block q waits, λ put. awaited-get (state_of s core block) (rw put at waits)),
     λ open_get.
         let (o, is) = open_get.0 in
         let good = g.blocks block (opened_within block o is.0) in
-        let there : core < s.shape.cores = rw (← is.1) (good.requestor_in o is.0) in
-        let its : own_open (picture_of s block).transaction core ≡ Some q = rw (is.0, is.1, eq-eqb core core refl, is.2) refl in
-        let fit = fits_waits s.protocol good.claims.shared (owns good.owner core) (own_open (picture_of s block).transaction core) (state_of s core block) (good.states core there) in
-        open_awaits q (state_of s core block) open_get.1 (rw its at fit),
+        (fit_rule _ _ _ _ _ (good.states core (rw (← is.1) (good.requestor_in o is.0)))).1.1 q (rw (is.0, is.1, eq-eqb core core refl, is.2) refl) (not_put q open_get.1),
   )
 
   -- a core that waits is within the shape, and so is its block
   pub waits_within : (core block : ℕ) (q : Request) → Waits s core block q → IsWithin s core block
   waits_within core block q = held_within core block (λ x. waiting_request x.state ≡ Some q) (λ h. cc)
 
-  possible_order : (core block : ℕ) (q : Request) → CanOrder s core block q → Possible s.protocol (picture_of s block) core q
+  possible_order : (core block : ℕ) (q : Request) → CanOrder s core block q
+      → ((k : ℕ) → k < length (picture_of s block).caches → HasRow s.protocol (state_of s k block) (seen_by k core q)) × FollowsSenderTable s.protocol (picture_of s block) core q
   possible_order core block q ready =
       let within = waits_within core block q ready.0 in
       let long = g.shaped.row block within.1 in
@@ -188,26 +136,10 @@ module _ (s : Situation) (g : Invariant s) where
 
   -- an Order of any request that waits on a free block has exactly one sender, and is a line of the table
   pub orders_follow_sender_table : OrdersFollowSenderTable s.protocol s
-  orders_follow_sender_table core block q ready =
-      let x = possible_order core block q ready in
-      record {
-        from = x.from;
-        payload = x.payload;
-        next = x.cell_of_memory.next;
-        sent = x.sender;
-        ordered = (x.cell_of_memory, x.memory_row, refl);
-        is_line = led_line s.protocol (picture_of s block) core q x.from x.payload x.cell_of_memory.next x.order_line;
-      }
+  orders_follow_sender_table core block q ready = (possible_order core block q ready).1
 
-  -- a core has a row for a request that is ordered
-  seen_row : (core block : ℕ) (q : Request) → CanOrder s core block q → (k : ℕ) → HasRow s.protocol (state_of s k block) (seen_by k core q)
-  seen_row core block q ready k = each_line k block (λ x. (k ≡ core → waiting_request x.state ≡ Some q) → HasRow s.protocol x.state (seen_by k core q))
-      (λ within waits. (possible_order core block q ready).rows k (rw (g.shaped.row block within.1) within.0))
-      (λ waits. rw (seen_other k core q (λ same. none-some q (waits same))) (nothing_seen s.protocol q))
-      (λ same. rw same ready.0)
-
-  response_possible : (block : ℕ) (closing : Open) → (picture_of s block).transaction ≡ Some closing → Answerable s.protocol (picture_of s block) closing
-  response_possible block closing opened = respond_possible s.protocol s.shape.cores (flat_words s.log block) (picture_of s block) closing (g.blocks block (opened_within block closing opened)) opened
+  respond_rows : (block : ℕ) (o : Open) (opened : (picture_of s block).transaction ≡ Some o) → Closing (g.blocks block (opened_within block o opened)) o
+  respond_rows block o opened = close (g.blocks block (opened_within block o opened)) o opened
 
   finds_cache : (step : Step) (core block : ℕ) (event : Option CacheEvent) → ConsultsCache s step core block event → IsSomeAnd event (HasRow s.protocol (state_of s core block))
   finds_cache (Ask asker on word asking) core block event looks =
@@ -215,20 +147,25 @@ module _ (s : Situation) (g : Invariant s) where
       (λ within busy.
       let held = state_of s core block in
       let not_idle = false_from_ne_true (is_idle_evict held (asked asking)) (λ idle. busy (idle_evict held asking idle)) in
-      ask_possible s.protocol s.shape.cores (flat_words s.log block) (picture_of s block) core asking (g.blocks block within.1) within.0 not_idle)
+      let (row, is_row, _) = (ask_rule _ _ _ _ _ asking ((g.blocks block within.1).states core within.0)).0 not_idle in
+      (row, is_row))
       (nothing_asked s.protocol asking) looks.2)
-  finds_cache (Order requestor) core block event looks = rw looks.1.1 (seen_row requestor block looks.0 looks.1.0 core)
+  finds_cache (Order requestor) core block event (q, (ready, is)) =
+      rw is (each_line core block (λ x. (core ≡ requestor → waiting_request x.state ≡ Some q) → HasRow s.protocol x.state (seen_by core requestor q))
+      (λ within waits. (possible_order requestor block q ready).0 core (rw (g.shaped.row block within.1) within.0))
+      (λ waits. rw (ne_eqb core requestor (λ same. none-some q (waits same))) (nothing_seen s.protocol q))
+      (λ same. rw same ready.0))
   finds_cache (Respond on) core block event (closing, looks) =
       rw (looks.4, looks.2) (has_row (row_for s.protocol (state_of s closing.core block)) refl (arrival closing.payload)
-      ((response_possible block closing looks.1).requestor (not_put closing.request looks.3)))
+      (let (row, is_row, _) = answered (respond_rows block closing looks.1) (not_put closing.request looks.3) in (row, is_row)))
 
   finds_memory : (step : Step) (block : ℕ) (event : Option MemEvent) → ConsultsMemory s step block event → IsSomeAnd event (HasMemRow s.protocol (picture_of s block).memory.state)
   finds_memory (Ask asker on word asking) block event looks = absurd looks
   finds_memory (Order requestor) block event looks =
-      let x = possible_order requestor block looks.0 looks.1.0 in
-      rw looks.1.1 (x.cell_of_memory, x.memory_row)
+      let x = orders_follow_sender_table requestor block looks.0 looks.1.0 in
+      rw looks.1.1 (x.ordered.0, x.ordered.1)
   finds_memory (Respond on) block event (closing, looks) =
-      rw looks.3 (has_row (memory_row_for s.protocol (picture_of s block).memory.state) refl (arrival_at_memory closing.payload) ((response_possible block closing looks.1).memory looks.2))
+      rw looks.3 (has_row (memory_row_for s.protocol (picture_of s block).memory.state) refl (arrival_at_memory closing.payload) (let found = respond_rows block closing looks.1 in (found.memory, rw looks.2 at found.is_memory)))
 
   -- no step meets an impossible cell
   pub finds_rows : (step : Step) → FindsRows s step

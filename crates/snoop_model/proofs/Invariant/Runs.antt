@@ -1,67 +1,41 @@
 -- The invariant holds at reset, and after each move: flat memory and the log first, then the block, and what waits.
-use Rattle.std.proofs.Common.{◌≡◌, ◌≢◌, ℕ, ◌<◌, Bool, true, false, not, List, [], ◌∷◌, ◌++◌, length, Option, Some, None, refl, inl, inr, ap, sym, ◌∙◌, arith, replicate}
-use Rattle.std.proofs.Math.Bool.{and-false}
-use Rattle.std.proofs.lemmas.List.Elements.{All-nil, All-cons, All-append}
-use Rattle.std.proofs.lemmas.List.FromFn.{length-map-range_with_len, get_or-map-range_with_len, fill_by_all}
-use Rattle.std.proofs.lemmas.Bool.Decides.{eqb_tells}
-use Rattle.snoop_model.proofs.Common.{Access, after_order, All, append-nil, Ask, BlockInvariant, CacheAction, CacheState, came_of, cases_Bool, cases_lt, Data, Did, is_some, missed_request, eq-eqb, Err, Extent, first_memory, flat, flat_words, get_or-replicate, get_or-set_other, get_or-set_same, get_or_past, Goes, HasWord, held_by, IfSome, IfSome_then, if◌then◌else◌, Invariant, is_store_to, IsNext, IsProper, IsShaped, IsWithin, IsWord, Item, keeps, kept_waiting, Legal, length-replicate, length-set, Line, MoveOn, ne_eqb, next_did, none-some, nothing_held, nothing_there, Ok, Op, Open, operation_of, operations, option_map, option_map_or, option_to_list, Order, Performs, Picture, picture_of, Protocol, queues_after, Refused, Reply, request_for, reset, Respond, Result, same_Some, Situation, slice_set, Step, stores, Takes, untouched, with_line, word_at, ◌==◌}
+use Rattle.snoop_model.proofs.Common.{Data, is_some, keeps, missed_request, [], Access, after_order, All, All-append, All-cons, All-nil, ap, append-nil, arith, Ask, BlockInvariant, Bool, CacheAction, CacheState, came_of, claims_of, cond, Did, eqb_tells, Err, Extent, false, fill_by_all, first_memory, fits, flat, flat_words, get_or-map-range_with_len, get_or-replicate, get_or-set_other, get_or-set_same, get_or_past, Goes, HasWord, held_by, I, IfSome, IfSome_then, if◌then◌else◌, in_protocol, inl, inr, Invariant, is_clean, is_owner, is_sharer, is_store_to, IsNext, IsProper, IsShaped, IsWithin, IsWord, Item, kept_waiting, Legal, length, length-map-range_with_len, length-replicate, length-set, Line, List, MoveOn, next_did, NoMemory, None, none-some, not, nothing_held, nothing_there, Ok, Op, Open, operation_of, operations, Option, option_map, option_map_or, option_to_list, Order, Picture, picture_of, Protocol, queues_after, refl, Refused, replicate, Reply, request_for, reset, Respond, Result, same, same_Some, Situation, slice_set, Some, Step, sym, Takes, true, untouched, wait_fits, with_line, word_at, ℕ, ◌&&◌, ◌++◌, ◌<◌, ◌==◌, ◌∙◌, ◌∷◌, ◌≡◌, ◌≢◌}
 use Rattle.snoop_trace.specs.declared.step.Op.TheVariants as op
 use Rattle.snoop_rules.specs.declared.names.CacheAction.TheVariants as action
 use Rattle.snoop_history.specs.declared.items.Item.TheVariants as item
-use Rattle.snoop_history.proofs.Pushed.{operations-push}
 use Rattle.snoop_history.proofs.Legal.{flat-grows, legal-grows}
-use Rattle.snoop_model.proofs.Lists.Writes.{each_set}
-use Rattle.snoop_model.proofs.OneBlock.Facts.{each_held}
-use Rattle.snoop_model.proofs.OneBlock.Operation.{did_in, flat_after, IsLawful}
-use Rattle.snoop_model.proofs.OneBlock.OfBlocks.{changed, in_pictures, each_picture, shaped_after}
+use Rattle.snoop_model.proofs.Lists.{Writes.each_set, Facts.replicated}
+use Rattle.snoop_model.proofs.OneBlock.{Facts.each_held, Facts.did_in, Facts.operations_moved, Facts.performed_so, Facts.flat_after, Facts.IsLawful, OfBlocks.changed, OfBlocks.in_pictures, OfBlocks.each_picture, OfBlocks.shaped_after, AskStep.ask_keeps, OrderStep.order_keeps, RespondStep.respond_keeps}
 use Rattle.snoop_model.proofs.Lines.Answered.{by_request, arrives_length, still_waiting}
-use Rattle.snoop_model.proofs.OneBlock.AskStep.{ask_keeps}
-use Rattle.snoop_model.proofs.OneBlock.OrderStep.{order_keeps}
-use Rattle.snoop_model.proofs.OneBlock.RespondStep.{respond_keeps}
 use Rattle.snoop_trace.specs.declared.protocol.Protocol.TheVariants as protocol
-use Rattle.snoop_rules.specs.declared.names.CacheState.TheVariants.{I}
-use Rattle.snoop_model.specs.declared.replies.Refused.TheVariants.{NoMemory}
-use Rattle.snoop_model.specs.Invariant.Fits.{claims_of, is_owner, is_sharer, is_clean, wait_fits, in_protocol, same, fits}
-use Rattle.snoop_model.proofs.Lists.Facts.{replicated}
 
 -- a word of a block in flat memory
 pub word_flat : (log : List Item) (block word : ℕ) → word < 64 → word_at (flat_words log block) word ≡ flat log block word
 word_flat log block word h = get_or-map-range_with_len (flat log block) 0 64 word word 0 h (omega arith)
 
--- after one more item the words of a block are those of a list that has, word by word, what the item leaves there
-words_are : (log : List Item) (entry : Item) (b : ℕ) (ws : List ℕ) → length ws ≡ 64 → ((k : ℕ) → k < 64 → word_at ws k ≡ stores entry b k (flat log b k))
-    → flat_words (log ++ entry ∷ []) b ≡ ws
-words_are log entry b ws long each = sym (fill_by_all (flat (log ++ entry ∷ []) b) ws 64 0 long (λ k h. each k h ∙ sym (flat-grows log entry b k)))
+-- the words of block b after an operation, if there is one
+abbrev flat_on : ℕ → List ℕ → Option Did → List ℕ
+flat_on b ws None = ws
+flat_on b ws (Some did) = cond (not did.load && did.block == b) (slice_set ws did.word did.value) ws
 
--- a move on a block leaves the words of each other
-flat_elsewhere : (log : List Item) (entry : Option Item) (block b : ℕ) → IfSome (did_in entry) (λ did. did.block ≡ block) → b ≢ block → flat_words (log ++ option_to_list entry) b ≡ flat_words log b
-flat_elsewhere log None block b on apart = rw append-nil refl
-flat_elsewhere log (Some entry) block b on apart = words_are log entry b (flat_words log b) (length-map-range_with_len (flat log b) 0 64)
-    (λ k h. word_flat log b k h ∙ left (operation_of entry) on k)
+-- after a move they are those after its operation
+flat_moved : (log : List Item) (entry : Option Item) (b : ℕ) → flat_words (log ++ option_to_list entry) b ≡ flat_on b (flat_words log b) (did_in entry)
+flat_moved log None b = rw append-nil refl
+flat_moved log (Some entry) b = sym (fill_by_all (flat (log ++ entry ∷ []) b) (flat_on b (flat_words log b) (operation_of entry)) 64 0 (long (operation_of entry))
+    (λ k h. each (operation_of entry) k h ∙ sym (flat-grows log entry b k)))
   where
-    left : (did : Option Did) → IfSome did (λ d. d.block ≡ block) → (k : ℕ) → flat log b k ≡ option_map_or (λ d. if is_store_to b k d then d.value else flat log b k) did (flat log b k)
-    left None on k = refl
-    left (Some did) on k = rw (on, ne_eqb block b (λ e. apart (sym e)), and-false (not did.load)) refl
+    long : (did : Option Did) → length (flat_on b (flat_words log b) did) ≡ 64
+    long None = length-map-range_with_len (flat log b) 0 64
+    long (Some did) = grind (arith, length-set (flat_words log b) did.word did.value, length-map-range_with_len (flat log b) 0 64)
 
--- and on its own block it does as its operation says
-flat_here : (log : List Item) (entry : Option Item) (block : ℕ) → IfSome (did_in entry) (λ did. did.block ≡ block)
-    → flat_words (log ++ option_to_list entry) block ≡ flat_after (flat_words log block) (did_in entry)
-flat_here log None block on = rw append-nil refl
-flat_here log (Some entry) block on = let so = after (operation_of entry) on in words_are log entry block _ so.0 so.1
-  where
-    stored : (did : Did) (k : ℕ) → k < 64 → word_at (slice_set (flat_words log block) did.word did.value) k ≡ (if did.word == k then did.value else flat log block k)
-    stored did k h = elim (eqb_tells did.word k) [
-      | inl t ↦ rw (t.0, t.1) (get_or-set_same (flat_words log block) k did.value 0 (rw length-map-range_with_len h))
-      | inr t ↦ rw t.0 (get_or-set_other (flat_words log block) did.word k did.value 0 (λ e. t.1 (sym e)) ∙ word_flat log block k h)
-    ]
+    each : (did : Option Did) (k : ℕ) → k < 64 → word_at (flat_on b (flat_words log b) did) k ≡ option_map_or (λ d. if is_store_to b k d then d.value else flat log b k) did (flat log b k)
+    each None k h = word_flat log b k h
+    each (Some did) k h = grind (arith, get_or-set_same (flat_words log b) did.word did.value 0, get_or-set_other (flat_words log b) did.word k did.value 0, eqb_tells did.word k, word_flat log b k h, length-map-range_with_len (flat log b) 0 64)
 
-    after : (did : Option Did) → IfSome did (λ d. d.block ≡ block) → (length (flat_after (flat_words log block) did) ≡ 64)
-        × ((k : ℕ) → k < 64 → word_at (flat_after (flat_words log block) did) k ≡ option_map_or (λ d. if is_store_to block k d then d.value else flat log block k) did (flat log block k))
-    after None on = (length-map-range_with_len (flat log block) 0 64, word_flat log block)
-    after (Some did) on = elim (cases_Bool did.load) [
-      | inl e ↦ rw e (length-map-range_with_len (flat log block) 0 64, word_flat log block)
-      | inr e ↦ rw (e, eq-eqb did.block block on) (length-set (flat_words log block) did.word did.value ∙ length-map-range_with_len (flat log block) 0 64, λ k h. stored did k h)
-    ]
+-- an operation on a block leaves the words of each other
+flat_split : (ws : List ℕ) (did : Option Did) (block b : ℕ) → IfSome did (λ d. d.block ≡ block) → (b ≢ block → flat_on b ws did ≡ ws) × (flat_on block ws did ≡ flat_after ws did)
+flat_split ws None block b on = (λ apart. refl, refl)
+flat_split ws (Some did) block b on = (λ apart. grind (arith, eqb_tells did.block b), grind (arith, eqb_tells did.block block))
 
 -- a log stays legal where the item's operation, if it has one, may come next
 legal_logged : (log : List Item) (entry : Option Item) → Legal log → IfSome (did_in entry) (IsNext log) → Legal (log ++ option_to_list entry)
@@ -78,8 +52,7 @@ IsLogged s did = IsWithin s did.core did.block × IsWord s.shape did.word
 
 -- so are those of a log, with those of the move's item
 all_logged : (P : Did → Type 0) (log : List Item) (entry : Option Item) → All P (operations log) → IfSome (did_in entry) P → All P (operations (log ++ option_to_list entry))
-all_logged P log None was now = rw append-nil was
-all_logged P log (Some entry) was now = rw operations-push (All-append P (operations log) (option_to_list (operation_of entry)) was (one (operation_of entry) now))
+all_logged P log entry was now = rw operations_moved (All-append P (operations log) (option_to_list (did_in entry)) was (one (did_in entry) now))
   where
     one : (did : Option Did) → IfSome did P → All P (option_to_list did)
     one None here = All-nil P
@@ -108,13 +81,12 @@ kept old block next queues entry g k =
     let log = old.log ++ option_to_list entry in
     let within = in_pictures old block g.shaped k.within in
     let on = IfSome_then (did_in entry) k.item (λ did h. h.0) in
-    let Good : List ℕ → Picture → Type 0 = BlockInvariant old.protocol old.shape.cores in
     record {
       shaped = shaped_after old block next queues log g.shaped k.as_wide k.as_many_queues;
       opened = each_picture old block next queues log (λ b x. (o : Open) → x.transaction ≡ Some o → o.block ≡ b) within (λ b apart. g.opened b) k.opened;
-      blocks = each_picture old block next queues log (λ b x. b < old.shape.blocks → Good (flat_words log b) x) within
-          (λ b apart b_in. rw (flat_elsewhere old.log entry block b on apart) (g.blocks b b_in))
-          (λ b_in. rw (flat_here old.log entry block on) k.block_after);
+      blocks = each_picture old block next queues log (λ b x. b < old.shape.blocks → (BlockInvariant old.protocol old.shape.cores) (flat_words log b) x) within
+          (λ b apart b_in. rw (flat_moved, (flat_split (flat_words old.log b) (did_in entry) block b on).0 apart) (g.blocks b b_in))
+          (λ b_in. rw (flat_moved, (flat_split (flat_words old.log block) (did_in entry) block block on).1) k.block_after);
       legal = legal_logged old.log entry g.legal (IfSome_then (did_in entry) k.item (λ did h. h.1));
       logged = all_logged (IsLogged old) old.log entry g.logged (IfSome_then (did_in entry) k.item (λ did h. h.2));
       accesses = λ core. each_picture old block next queues log (λ b x. AccessWithin old.shape (held_by x core)) within (λ b apart. g.accesses core b) (k.accesses core);
@@ -128,17 +100,12 @@ issued_access : (s : Situation) (word : ℕ) (asking : Op) (access : Access) →
 issued_access s word op.Evict access within e = cc
 issued_access s word _ access within e = rw (← same_Some _ _ e) within
 
--- a hit is of a load or a store, whose word there is
-hit_word : (shape : Extent) (word : ℕ) (asking : Op) (before : List ℕ) (value : ℕ) (after : List ℕ) → HasWord shape word asking → Performs word asking before value after → IsWord shape word
-hit_word shape word op.Evict before value after there h = absurd h
-hit_word shape word _ before value after there h = there
-
 -- what waits after an Ask, and its item
 module _ (s : Situation) (core block word : ℕ) (asking : Op) (next : CacheState) (old new : Line) (answer : Reply) (entry : Option Item) (there : HasWord s.shape word asking) where
   takes_so : (a : CacheAction) → Takes a next s.log core block word asking old new answer entry → AccessWithin s.shape old → IsWithin s core block → IsLawful (flat_words s.log block) (did_in entry)
       → AccessWithin s.shape new × IsNextOn s block entry
   takes_so action.Hit t was within lawful =
-      let has = hit_word s.shape word asking t.1.0.before t.0 t.1.0.after there t.1.0.performed in
+      let has = issued_access s word asking _ there (performed_so word asking t.1.0.before t.0 t.1.0.after s.log core block true t.1.0.performed).1 in
       (rw t.1.0.held was, rw t.1.2 (refl, next_lawful s.log core block word asking t.0 true has.1 (rw t.1.2 at lawful), (within, has)))
   takes_so (action.Issue r) t was within lawful = (rw t.0 (λ access. issued_access s word asking access there), rw t.2 tt)
   takes_so action.Drop t was within lawful = (rw t.0 was, rw t.2 tt)
@@ -150,11 +117,10 @@ move_keeps block old (Ask core on word asking) answer new g m = elim m.moves [
   | inl idle ↦ rw idle.3 g
   | inr a ↦
       (let before : Picture = picture_of old block in
-      let line = held_by before core in
       let act = a.row.action in
       let in_row : core < length before.caches = rw (g.shaped.row block m.within.1) m.within.0 in
       let k = ask_keeps old core block word asking answer new a old.shape.cores (flat_words old.log block) (g.blocks block m.within.1) m.within.0 in_row in
-      let so = takes_so old core block word asking a.row.next line a.held answer a.entry m.has_word act a.taken (g.accesses core block) m.within k.1 in
+      let so = takes_so old core block word asking a.row.next (held_by before core) a.held answer a.entry m.has_word act a.taken (g.accesses core block) m.within k.1 in
       rw a.after (kept old block (with_line before core a.held) (queues_after act old.queues core block) a.entry g (record {
         within = m.within.1;
         as_wide = length-set before.caches core a.held;
@@ -183,7 +149,6 @@ move_keeps block old (Order core) answer new g m =
 move_keeps block old (Respond on) answer new g m =
     let closing = m.closing in
     let r = m.responds in
-    let before : Picture = picture_of old block in
     let placed : closing.block ≡ block = g.opened block closing r.opened in
     let its_core = (g.blocks block m.within).requestor_in closing r.opened in
     let arrived = by_request closing.request r.requestor in
@@ -237,10 +202,9 @@ reset_picture p shape block within = get_or-replicate shape.blocks block (untouc
 
 -- what holds of an untouched block, and of one outside the shape, holds of each at reset
 each_reset : (p : Protocol) (shape : Extent) (P : Picture → Type 0) → P (untouched p shape.cores) → P nothing_there → (block : ℕ) → P (picture_of (reset p shape) block)
-each_reset p shape P here outside block = elim (cases_lt block shape.blocks) [
-  | inl inside ↦ rw (reset_picture p shape block inside) here
-  | inr past ↦ rw (get_or_past (replicate shape.blocks (untouched p shape.cores)) block nothing_there (rw length-replicate past)) outside
-]
+each_reset p shape P here outside block =
+    let blocks = replicate shape.blocks (untouched p shape.cores) in
+    grind (arith, here, outside, reset_picture p shape block, get_or_past blocks block nothing_there, length-replicate shape.blocks (untouched p shape.cores))
 
 pub reset_open : (p : Protocol) (shape : Extent) (block : ℕ) → (picture_of (reset p shape) block).transaction ≡ None
 reset_open p shape = each_reset p shape (λ x. x.transaction ≡ None) refl refl

@@ -1,38 +1,19 @@
 -- What every machine keeps makes it safe, and its steps keep it.
-use Rattle.std.proofs.Common.{◌≡◌, ◌≢◌, ℕ, List, ◌<◌, ◌≤◌, Option, Some, None, refl, ap, sym, ◌∙◌, arith, inl, inr, ◌⊎◌, true}
-use Rattle.snoop_model.proofs.Common.{arrival_at_memory, Ask, asked, CacheAction, CacheCell, CacheState, Cell, cell_of, Extent, flat, flat_words, Goes, HasOpen, held_by, IfSome, Invariant, is_some, IsOpenByTable, IsProper, IsSenderLine, IsWellKept, Item, keeps, Line, MoveOn, moves_to, nothing_held, PutM, Op, option_map, Order, Orders, Picture, picture_of, Protocol, Refused, Refuses, Reply, Request, reset, Respond, Result, RunBy, same_Some, Situation, state_of, Step, Takes, Waits, with_line, with_picture, word_at}
+use Rattle.snoop_model.proofs.Common.{Absent, moves_to, PutM, ◌≢◌, ap, arith, arrival_at_memory, Ask, asked, CacheAction, CacheState, Cell, Extent, flat, flat_words, Goes, Gone, HasOpen, held_by, IfSome, inl, inr, Invariant, is_clean, is_some, IsOpenByTable, IsProper, IsSenderLine, IsWellKept, Item, keeps, Line, List, MemCell, MoveOn, None, nothing_held, Op, Option, option_map, Order, Orders, Picture, picture_of, Protocol, refl, Refused, Refuses, Reply, Request, reset, Respond, Result, RunBy, same_Some, Situation, Some, Stalled, state_of, Step, sym, Takes, takes_payload, true, Waits, with_line, with_picture, word_at, ℕ, ◌<◌, ◌∙◌, ◌≡◌, ◌≤◌, ◌⊎◌}
 use Rattle.snoop_trace.specs.declared.step.Op.TheVariants as op
-use Rattle.snoop_trace.specs.declared.protocol.Protocol.TheVariants.{Msi, Mesi}
 use Rattle.snoop_rules.specs.declared.names.CacheState.TheVariants as state
 use Rattle.snoop_rules.specs.declared.names.CacheAction.TheVariants as action
-use Rattle.snoop_model.specs.declared.replies.Reply.TheVariants.{Gone, Absent}
-use Rattle.snoop_model.specs.declared.replies.Refused.TheVariants.{Stalled}
 use Rattle.snoop_model.specs.Coherent.{IsCoherent}
 use Rattle.snoop_model.specs.Runs.Safe.{IsSafe}
-use Rattle.snoop_model.specs.Invariant.Fits.{is_clean}
 use Rattle.snoop_model.specs.Invariant.MachineKeeps.{AreOnSenderLines, MachineKeeps}
 use Rattle.snoop_model.proofs.Lists.Facts.{if_some}
-use Rattle.snoop_model.proofs.Tables.Rows.{IsProper-drop}
-use Rattle.snoop_model.proofs.Tables.SentBy.{sends_is}
-use Rattle.snoop_model.proofs.OneBlock.AfterMoves.{ask_line, respond_here}
-use Rattle.snoop_model.proofs.OneBlock.OfBlocks.{in_pictures, each_picture}
-use Rattle.snoop_model.proofs.Invariant.Coherence.{has_one_writer, kept_read, readers_current, data_current, memory_current, names_its_block, data_awaited, each_line, held_within, finds_rows, orders_follow_sender_table}
-use Rattle.snoop_model.proofs.Invariant.Runs.{reset_invariant, reset_open, nothing_proper, idle_line, goes_kept, word_flat, move_keeps}
+use Rattle.snoop_model.proofs.Tables.{Rows.action_rule, Rows.IsProper-drop, SentBy.sends_is, RespondTests.settled_so}
+use Rattle.snoop_model.proofs.OneBlock.{AfterMoves.ask_line, AfterMoves.respond_here, OfBlocks.in_pictures, OfBlocks.each_picture}
+use Rattle.snoop_model.proofs.Invariant.{Coherence.has_one_writer, Coherence.kept_read, Coherence.readers_current, Coherence.data_current, Coherence.memory_current, Coherence.names_its_block, Coherence.data_awaited, Coherence.each_line, Coherence.held_within, Coherence.finds_rows, Coherence.orders_follow_sender_table, Runs.reset_invariant, Runs.reset_open, Runs.nothing_proper, Runs.idle_line, Runs.goes_kept, Runs.word_flat, Runs.move_keeps}
 use Rattle.snoop_model.proofs.Queues.Moves.{on_kept, starts_well}
-use Rattle.snoop_model.proofs.Runs.Along.{kept_along}
-use Rattle.snoop_model.proofs.Runs.GoOn.{moves_on}
-use Rattle.snoop_model.proofs.Steps.GoesNext.{order_made, settled_is}
+use Rattle.snoop_model.proofs.Runs.{Along.kept_along, GoOn.moves_on}
+use Rattle.snoop_model.proofs.Steps.GoesNext.{order_made}
 use Rattle.snoop_model.proofs.Turns.Laws.{stall_busy, busy_cases}
-
--- a drop at an Evict leaves the block in I
-drop_leaves : (p : Protocol) (s : CacheState) (n : CacheState) → Cell p s (asked op.Evict) action.Drop n → n ≡ state.I
-drop_leaves p s n row = left p s (ap (option_map (λ (c : CacheCell). c.action)) row) (ap (option_map (λ (c : CacheCell). c.next)) row)
-  where
-    left : (p : Protocol) (s : CacheState) → option_map (λ c. c.action) (cell_of p s (asked op.Evict)) ≡ Some action.Drop
-        → option_map (λ c. c.next) (cell_of p s (asked op.Evict)) ≡ Some n → n ≡ state.I
-    left Msi state.S act next = cc
-    left Mesi state.S act next = cc
-    left _ _ act next = cc
 
 -- each open transaction is on a line
 abbrev OnLine : Protocol → Picture → Type 0
@@ -83,8 +64,8 @@ module _ (s : Situation) (g : Invariant s) where
       left (action.Issue request) next row held entry t = elim leaves [ inl is ↦ (let clash = sym t.1 ∙ is in cc) | inr is ↦ (let clash = sym t.1 ∙ is in cc) ]
       left action.Drop next row held entry t =
           let old = held_by (picture_of s block) core in
-          let proper = IsProper-drop s.protocol old (asked op.Evict) next (all_proper core block) row in
-          rw t.0 (idle_line (moves_to next old) proper (drop_leaves s.protocol old.state next row))
+          let gone : next ≡ state.I = same_Some _ _ (action_rule s.protocol old.state (asked op.Evict) action.Drop next row).1.1.1.1 in
+          rw t.0 (idle_line (moves_to next old) (IsProper-drop s.protocol old (asked op.Evict) next (all_proper core block) row) gone)
       left _ next row held entry t = absurd t
 
   -- an Order is a line of the table
@@ -107,11 +88,10 @@ module _ (s : Situation) (g : Invariant s) where
         settled = λ answer new m.
             let r = m.responds in
             let there : picture_of new block ≡ r.next = respond_here s block m.closing m.did new g m.within r in
-            let same : m.closing ≡ o = same_Some _ _ (sym r.opened ∙ is) in
-            let settles = rw same at r.memory.settled in
-            let settled = settled_is _ s.protocol (arrival_at_memory o.payload) (picture_of s block).memory.state in
-            let done = settled r.memory.act r.next.memory.state settles ∙ sym (settled line.1.act line.1.done line.1.settled) in
-            rw there (r.closed, ap (λ x. x.1) done);
+            let settles = rw (same_Some _ _ (sym r.opened ∙ is)) at r.memory.settled in
+            let settled = settled_so (takes_payload o.request (picture_of s block).memory.state) s.protocol (arrival_at_memory o.payload) (picture_of s block).memory.state in
+            let done = same_Some _ _ (sym ((settled r.memory.act r.next.memory.state).0 settles) ∙ (settled line.1.act line.1.done).0 line.1.settled) in
+            rw there (r.closed, ap (λ (row : MemCell). row.next) done);
       })
 
   on_lines : AreOnSenderLines s → (block : ℕ) → block < s.shape.blocks → (next : Picture) → OnLine s.protocol next → AreOnSenderLines (with_picture s block next)

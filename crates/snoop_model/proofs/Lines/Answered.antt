@@ -1,16 +1,21 @@
 -- The lines after a response: the requestor's is filled, or none is changed.
-use Rattle.std.proofs.Common.{arith, ◌≡◌, ℕ, List, length, Option, Some, None, refl, inl, inr, ◌⊎◌, length-set}
-use Rattle.snoop_model.proofs.Common.{Protocol, Request, Did, Item, Open, Access, Line, held_at, nothing_held, FillsRequestor, ArrivesFor, PutM}
-use Rattle.snoop_model.proofs.Lists.Writes.{set_cases}
+use Rattle.snoop_model.proofs.Common.{Access, arith, ArrivesFor, cases_eq, cases_lt, Did, FillsRequestor, get_or-set_other, get_or-set_same, get_or_past, held_at, inl, inr, Item, length, length-set, Line, List, None, nothing_held, Open, Option, Protocol, PutM, refl, Request, set_past, Some, ℕ, ◌≡◌, ◌⊎◌}
 
 module _ {closing : Open} {p : Protocol} {log : List Item} {old new : List Line} {did : Option Did} where
   pub by_request : (q : Request) → ArrivesFor q closing p log old new did → ((q ≡ PutM) × (new ≡ old) × (did ≡ None)) ⊎ FillsRequestor closing p log old new did
   by_request PutM h = inl (refl, h.0, h.1)
   by_request _ h = inr h
 
-  -- the requestor's line, or one that is as it was
-  pub filled_or_same : (fills : FillsRequestor closing p log old new did) (k : ℕ) → ((k ≡ closing.core) × (held_at new k ≡ fills.line)) ⊎ (held_at new k ≡ held_at old k)
-  filled_or_same fills k = rw fills.held (set_cases old closing.core k fills.line nothing_held)
+  -- the requestor's line, or one that is as it was: where that is the requestor's too, no line is in its place
+  pub filled_or_same : (fills : FillsRequestor closing p log old new did) (k : ℕ)
+      → ((k ≡ closing.core) × (held_at new k ≡ fills.line)) ⊎ ((held_at new k ≡ held_at old k) × (k ≡ closing.core → held_at old k ≡ nothing_held))
+  filled_or_same fills k = elim (cases_eq k closing.core) [
+    | inr apart ↦ inr (rw fills.held (get_or-set_other old closing.core k fills.line nothing_held apart), λ e. absurd (apart e))
+    | inl own ↦ elim (cases_lt k (length old)) [
+      | inl below ↦ inl (own, rw (fills.held, own) (get_or-set_same old closing.core fills.line nothing_held (rw own at below)))
+      | inr past ↦ inr (rw (fills.held, set_past old closing.core fills.line (rw own at past)) refl, λ e. get_or_past old k nothing_held past)
+    ]
+  ]
 
 module _ {q : Request} {closing : Open} {p : Protocol} {log : List Item} {old new : List Line} {did : Option Did}
     (arrived : ((q ≡ PutM) × (new ≡ old) × (did ≡ None)) ⊎ FillsRequestor closing p log old new did) where
@@ -21,8 +26,5 @@ module _ {q : Request} {closing : Open} {p : Protocol} {log : List Item} {old ne
   pub still_waiting : (k : ℕ) (access : Access) → (held_at new k).waiting ≡ Some access → held_at new k ≡ held_at old k
   still_waiting k access h = elim arrived [
     | inl put ↦ rw put.1 refl
-    | inr fills ↦ elim (filled_or_same fills k) [
-      | inl e ↦ (let clash = rw (e.1, fills.fills.held) at h in cc)
-      | inr e ↦ e
-    ]
+    | inr fills ↦ grind (arith, filled_or_same fills k, fills.fills.held, h)
   ]

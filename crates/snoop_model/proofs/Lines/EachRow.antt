@@ -1,6 +1,5 @@
 -- The loop in which each core takes its row.
-use Rattle.std.proofs.Common.{◌≡◌, ℕ, ◌+◌, ◌<◌, ◌≤◌, List, length, ◌∙◌, ap, arith, inl, inr, slice_set, length-set, get_or-set_other}
-use Rattle.snoop_model.proofs.Common.{cases_lt, Protocol, CacheState, CacheAction, Request, Cell, seen_by, Line, held_at, nothing_held, TakesRow, moves_to}
+use Rattle.snoop_model.proofs.Common.{ap, arith, CacheAction, CacheState, Cell, get_or-set_other, held_at, length, length-set, Line, List, moves_to, nothing_held, Protocol, Request, seen_by, slice_set, TakesRow, ℕ, ◌+◌, ◌<◌, ◌∙◌, ◌≡◌, ◌≤◌}
 use Rattle.snoop_model.proofs.Lists.Writes.{each_set}
 
 -- the cores below n have taken their rows, and the others have not
@@ -31,9 +30,6 @@ pub Taking-past : (protocol : Protocol) (requestor : ℕ) (request : Request) (o
 Taking-past protocol requestor request old new n m stay up taking =
     record {
       same_length = taking.same_length;
-      taken = λ k h. elim (cases_lt k n) [
-        | inl below ↦ taking.taken k below
-        | inr above ↦ rw (taking.left k above) (stay k above h)
-      ];
+      taken = λ k h. grind (arith, taking.taken k, taking.left k, stay k);
       left = λ k h. taking.left k (omega arith);
     }

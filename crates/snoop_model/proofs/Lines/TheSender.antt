@@ -1,9 +1,7 @@
 -- The loop that looks for the one sender.
-use Rattle.std.proofs.Common.{◌≡◌, ℕ, ◌+◌, ◌<◌, ◌≤◌, length, Option, Some, None, arith, inl, inr, ◌≢◌}
-use Rattle.snoop_model.proofs.Common.{cases_eq, cases_lt, Protocol, CacheState, CacheAction, MemState, MemAction, Request, Payload, Target, Cell, MemoryCell, seen_by, at_memory, Picture, held_by, Sends, ⊤}
+use Rattle.snoop_model.proofs.Common.{arith, at_memory, CacheAction, CacheState, Cell, FollowsSenderTable, held_by, length, MemAction, MemoryCell, MemState, None, Option, Payload, Picture, Protocol, Request, seen_by, Sends, Some, Target, ℕ, ⊤, ◌+◌, ◌<◌, ◌≡◌, ◌≢◌, ◌≤◌}
 use Rattle.snoop_rules.specs.declared.names.CacheAction.TheVariants as action
 use Rattle.snoop_rules.specs.declared.names.MemAction.TheVariants as mem_action
-use Rattle.snoop_model.specs.Moves.SenderTable.{FollowsSenderTable}
 use Rattle.snoop_model.proofs.Tables.SentBy.{sending, sending_memory, sends_is}
 
 -- memory, or a core below n
@@ -34,16 +32,10 @@ module _ (p : Protocol) (before : Picture) (core : ℕ) (request : Request) wher
       → Cell p (held_by before n).state (seen_by n core request) act next
       → ((payload : Payload) (target : Target) → act ≡ action.Send payload target → ⊥) → SilentBelow p before core request (n + 1)
   Silent-more n act next so_far row silent None payload below sends = so_far None payload tt sends
-  Silent-more n act next so_far row silent (Some k) payload below sends = elim (cases_eq k n) [
-    | inl e ↦ (let does = sending act payload (rw (e, row) at (sends_is p before core request (Some k) payload sends)) in silent payload does.0 does.1)
-    | inr apart ↦ so_far (Some k) payload (omega arith) sends
-  ]
+  Silent-more n act next so_far row silent (Some k) payload below sends = grind (arith, so_far (Some k) payload, sends, row, silent payload, sending act payload, sends_is p before core request (Some k) payload sends)
 
   -- cores that have nothing to do are passed over
   pub Silent-past : (n to : ℕ) → n ≤ to → ((k : ℕ) → n ≤ k → k < to → Cell p (held_by before k).state (seen_by k core request) action.None (held_by before k).state)
       → SilentBelow p before core request n → SilentBelow p before core request to
   Silent-past n to up idle silent None payload below sends = silent None payload tt sends
-  Silent-past n to up idle silent (Some k) payload below sends = elim (cases_lt k n) [
-    | inl before_n ↦ silent (Some k) payload before_n sends
-    | inr above ↦ (let none = rw (idle k above below) at (sends_is p before core request (Some k) payload sends) in cc)
-  ]
+  Silent-past n to up idle silent (Some k) payload below sends = grind (arith, silent (Some k) payload, sends, idle k, sends_is p before core request (Some k) payload sends)

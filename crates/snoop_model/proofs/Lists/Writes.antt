@@ -1,10 +1,5 @@
--- What a write in one place does to a list of lists, and to sums over it.
-use Rattle.std.proofs.Common.{◌≡◌, ◌≢◌, ℕ, zero, suc, ◌+◌, ◌<◌, ◌≤◌, List, [], ◌∷◌, ◌++◌, length, filter, not, Bool, false, Some, refl, ap, arith, inl, inr, ◌⊎◌, slice_index_or, slice_set, slice_get, All, ◌==◌, sum_by, count_by, eq-eqb, get_or-set_same, get_or-set_other}
-use Rattle.snoop_model.proofs.Common.{cond_both, same_Some, get_or_past, queue_of, after_issue, after_order}
-use Rattle.std.proofs.lemmas.Option.{get_or_from_slice_get, slice_get_within}
-use Rattle.std.proofs.lemmas.List.{set_past, length_push}
-use Rattle.std.proofs.lemmas.List.Elements.{All-push, All-filter}
-use Rattle.std.proofs.lemmas.List.Sums.{sum_by-set, length-filter, count_by-le-length}
+-- What a write in one place does to a list of lists, and to sums over it, and how often a block stands in a queue.
+use Rattle.snoop_model.proofs.Common.{[], after_issue, after_order, All, ap, arith, Bool, cond, Contains, count_by, count_by-le-length, eq-eqb, eqb, eqb_tells, false, filter, get_or-le-sum_by, get_or-set_other, get_or-set_same, get_or_from_slice_get, get_or_past, inl, inr, length, length-filter, length_push, List, not, queue_of, refl, set_past, slice_get, slice_get_within, slice_index_or, slice_set, Some, suc, sum_by, sum_by-cons, sum_by-set, sum_by_push, zero, zero-add, ℕ, ◌++◌, ◌+◌, ◌<◌, ◌==◌, ◌∷◌, ◌≡◌, ◌≢◌, ◌≤◌, ◌⊎◌}
 use Rattle.snoop_model.proofs.Lists.Facts.{one_if}
 
 -- what stands in a place after a write
@@ -20,7 +15,7 @@ pub each_set : {A : Type 0} (xs : List A) (i : ℕ) (a d : A) (P : ℕ → A →
 each_set xs i a d P inside here others k = grind (arith, get_or-set_same xs i a d, get_or-set_other xs i k a d, others k)
 
 -- what holds of each value, and of the new one, holds of each then
-each_still : {A : Type 0} (xs : List A) (i : ℕ) (a d : A) (P : ℕ → A → Type 0) → ((k : ℕ) → P k (slice_index_or xs k d)) → P i a → (k : ℕ)
+pub each_still : {A : Type 0} (xs : List A) (i : ℕ) (a d : A) (P : ℕ → A → Type 0) → ((k : ℕ) → P k (slice_index_or xs k d)) → P i a → (k : ℕ)
     → P k (slice_index_or (slice_set xs i a) k d)
 each_still xs i a d P all here k = elim (set_cases xs i k a d) [ inl p ↦ rw (p.1, p.0) here | inr e ↦ rw e (all k) ]
 
@@ -31,17 +26,6 @@ same_set f xs i a d same = each_still xs i a d (λ k x. f x ≡ f (slice_index_o
 
 pub all_first : {A : Type 0} (P : A → Type 0) (xs : List A) (x : A) → All P xs → slice_get xs 0 ≡ Some x → P x
 all_first P xs x all h = rw (get_or_from_slice_get xs 0 x x h) at (all 0 x (slice_get_within xs 0 x h))
-
-pub first_within : {A : Type 0} (xs : List (List A)) (i : ℕ) (x : A) → slice_get (slice_index_or xs i []) 0 ≡ Some x → i < length xs
-first_within xs i x h = grind (arith, get_or_past, slice_get_within (slice_index_or xs i []) 0 x h)
-
--- what holds of each block of each core's line still holds after an issue and after an Order
-module _ (P : ℕ → ℕ → Type 0) (lines : List (List ℕ)) (core block : ℕ) (all : (k : ℕ) → All (P k) (queue_of lines k)) where
-  pub all_issued : P core block → (k : ℕ) → All (P k) (queue_of (after_issue lines core block) k)
-  all_issued here = each_still lines core _ [] (λ k line. All (P k) line) all (All-push (P core) (queue_of lines core) block (all core) here)
-
-  pub all_ordered : (k : ℕ) → All (P k) (queue_of (after_order lines core block) k)
-  all_ordered = each_still lines core _ [] (λ k line. All (P k) line) all (All-filter (λ b. not (b == block)) (P core) (queue_of lines core) (all core))
 
 -- a sum before and after a write, which past the end of the list does nothing
 sum_set : {A : Type 0} (f : A → ℕ) (xs : List A) (i : ℕ) (a d : A) → f d ≡ 0 → sum_by f (slice_set xs i a) + f (slice_index_or xs i d) ≤ sum_by f xs + f a
@@ -54,19 +38,47 @@ sum_issued lines core block =
 
 left_shorter : (line : List ℕ) (block : ℕ) → slice_get line 0 ≡ Some block → length (filter (λ b. not (b == block)) line) + 1 ≤ length line
 left_shorter [] block h = cc
-left_shorter (x ∷ xs) block h =
-    let p : ℕ → Bool = λ b. not (b == block) in
-    rw (eq-eqb x block (same_Some _ _ h)) (omega (arith, length-filter p xs, count_by-le-length p xs))
+left_shorter (x ∷ xs) block h = grind (arith, h, length-filter (λ b. not (b == block)) xs, count_by-le-length (λ b. not (b == block)) xs)
 
 pub sum_ordered : (lines : List (List ℕ)) (core block : ℕ) → slice_get (queue_of lines core) 0 ≡ Some block → sum_by length (after_order lines core block) + 1 ≤ sum_by length lines
 sum_ordered lines core block first =
+    let within : core < length lines = grind (arith, get_or_past, slice_get_within (queue_of lines core) 0 block first) in
     let left : List ℕ = filter (λ b. not (b == block)) (queue_of lines core) in
-    omega (arith, sum_by-set (λ (l : List ℕ). length l) lines core left [] (first_within lines core block first), left_shorter (queue_of lines core) block first)
-
-pub one_small : (t : Bool) → one_if t ≤ 1
-one_small t = cond_both t 1 0 (λ n. n ≤ 1) (λ is. omega arith) (λ is. omega arith)
+    omega (arith, sum_by-set (λ (l : List ℕ). length l) lines core left [] within, left_shorter (queue_of lines core) block first)
 
 -- how many pass a test before and after a write
 pub count_set : {A : Type 0} (test : A → Bool) (xs : List A) (i : ℕ) (a d : A) → test d ≡ false
     → count_by test (slice_set xs i a) + one_if (test (slice_index_or xs i d)) ≤ count_by test xs + one_if (test a)
 count_set test xs i a d none = sum_set (λ x. one_if (test x)) xs i a d (rw none refl)
+
+abbrev pub times : ℕ → List ℕ → ℕ
+times block queue = count_by (λ b. eqb b block) queue
+
+pub times_cons : (block x : ℕ) (queue : List ℕ) → times block (x ∷ queue) ≡ one_if (eqb x block) + times block queue
+times_cons block x queue = sum_by-cons (λ b. cond (eqb b block) 1 0) x queue
+
+pub times_push : (block x : ℕ) (queue : List ℕ) → times block (queue ++ x ∷ []) ≡ times block queue + one_if (eqb x block)
+times_push block x queue = sum_by_push (λ b. cond (eqb b block) 1 0) queue x
+
+-- a block that is counted stands in the queue
+pub counted_in : (block : ℕ) (queue : List ℕ) → 1 ≤ times block queue → Contains queue block
+counted_in block [] some = absurd (omega arith)
+counted_in block (x ∷ queue) some = elim (eqb_tells x block) [
+  | inl same ↦ (0, omega arith, same.1)
+  | inr other ↦
+      let (k, below, is) = counted_in block queue (simp (other.0, zero-add) at some) in
+      (suc k, omega arith, is)
+]
+
+pub in_counted : (block : ℕ) (queue : List ℕ) → Contains queue block → 1 ≤ times block queue
+in_counted block queue (k, below, is) = rw (is, eq-eqb block block refl) at (get_or-le-sum_by (λ b. one_if (eqb b block)) queue k block below)
+
+-- a block is taken out of a queue, and the others stay
+pub times_gone : (taken : ℕ) (queue : List ℕ) → times taken (filter (λ b. not (eqb b taken)) queue) ≡ 0
+times_gone taken [] = refl
+times_gone taken (x ∷ queue) = grind (arith, times_cons, times_gone taken queue)
+
+pub times_left : (block taken : ℕ) (queue : List ℕ) → block ≢ taken → times block (filter (λ b. not (eqb b taken)) queue) ≡ times block queue
+times_left block taken [] apart = refl
+times_left block taken (x ∷ queue) apart =
+    grind (arith, times_cons block x queue, times_cons block x (filter (λ b. not (eqb b taken)) queue), eqb_tells x taken, eqb_tells x block, times_left block taken queue apart)

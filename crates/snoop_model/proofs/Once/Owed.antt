@@ -1,18 +1,11 @@
 -- What waited, or was asked, waits or is its core's last operation: by `once` alone.
-use Rattle.std.proofs.Common.{◌≡◌, ℕ, zero, suc, ◌⊎◌, inl, inr, ◌==◌, List, [], ◌∷◌, ◌++◌, map, Option, Some, None, refl, ap, sym, ◌∙◌, arith, append-nil}
-use Rattle.std.specs.List.Sorted.{IsPermutation}
-use Rattle.std.specs.List.{cons_option}
-use Rattle.std.proofs.lemmas.List.Sorted.{Contains-permutation, IsPermutation-sym}
-use Rattle.std.proofs.lemmas.List.Elements.{Contains-append_left, Contains-append_right, Contains-append_cases}
-use Rattle.snoop_model.proofs.Common.{Access, answers_of, append_cancel_left, asked_access, cases_Bool, Contains, Did, did_access, eqb-true, filter, FirstMove, held_by, IsLast, IsOwed, Item, map-append, Ok, OnceMore, option_to_list, Owes, picture_of, Reply, same_Some, Situation, Step, waiting_at}
+use Rattle.snoop_model.proofs.Common.{[], Access, answers_of, ap, append_cancel_left, arith, asked_access, cases_Bool, cons_option, Contains, Contains-append_cases, Contains-append_left, Contains-append_right, Contains-permutation, Did, did_access, eqb-true, filter, filter-append, FirstMove, held_by, inl, inr, IsLast, IsOwed, IsPermutation, IsPermutation-sym, Item, last_or-append, List, map, map-append, None, of_core, Ok, OnceMore, operations, Option, option_to_list, picture_of, refl, Reply, same_Some, Situation, Some, Step, sym, waiting_at, zero, ℕ, ◌++◌, ◌==◌, ◌∙◌, ◌∷◌, ◌≡◌, ◌⊎◌}
 use Rattle.snoop_model.proofs.Runs.Shape.{on_stays}
-use Rattle.snoop_history.proofs.Pushed.{answers_of-push, last_or-append, of_core}
-use Rattle.snoop_model.proofs.OneBlock.Operation.{did_in}
+use Rattle.snoop_model.proofs.OneBlock.Facts.{did_in, operations_moved}
 
 -- a core's operations with one item more
 pub answers_are : (log : List Item) (entry : Option Item) (core : ℕ) → answers_of (log ++ option_to_list entry) core ≡ answers_of log core ++ of_core core (did_in entry)
-answers_are log None core = rw (append-nil log, append-nil (answers_of log core)) refl
-answers_are log (Some entry) core = answers_of-push log entry core
+answers_are log entry core = rw operations_moved (filter-append (λ did. did.core == core) (operations log) (option_to_list (did_in entry)))
 
 pub one_or_none : (core : ℕ) (o : Option Did) → (of_core core o ≡ []) ⊎ ((d : Did) × (of_core core o ≡ d ∷ []))
 one_or_none core None = inl refl
@@ -23,8 +16,7 @@ one_in o wanted is = rw is (zero, omega arith, refl)
 
 in_one : (o : Option Access) (wanted : Access) → Contains (option_to_list o) wanted → o ≡ Some wanted
 in_one None wanted h = absurd (omega (arith, h.1))
-in_one (Some x) wanted (zero, inside, is) = ap Some is
-in_one (Some x) wanted (suc k, inside, is) = absurd (omega (arith, inside))
+in_one (Some x) wanted h = grind (arith, h)
 
 pub cons_one : (o : Option Access) → cons_option o [] ≡ option_to_list o
 cons_one None = refl
@@ -32,10 +24,9 @@ cons_one (Some x) = refl
 
 -- what a permutation of two lists has in one of them it has in one of the two others
 either_side : (xs ys zs ws : List Access) (wanted : Access) → IsPermutation (xs ++ ys) (zs ++ ws) → Contains xs wanted ⊎ Contains ys wanted → Contains zs wanted ⊎ Contains ws wanted
-either_side xs ys zs ws wanted same now = Contains-append_cases zs ws wanted (Contains-permutation _ _ wanted same (elim now [
-  | inl l ↦ Contains-append_left xs ys wanted l
-  | inr r ↦ Contains-append_right xs ys wanted r
-]))
+either_side xs ys zs ws wanted same now =
+    let before : Contains (xs ++ ys) wanted = elim now [ inl l ↦ Contains-append_left xs ys wanted l | inr r ↦ Contains-append_right xs ys wanted r ] in
+    Contains-append_cases zs ws wanted (Contains-permutation _ _ wanted same before)
 
 -- the operation that a move performs, if any
 abbrev pub performed_by : (s t : Situation) (step : Step) (answer : Reply) → FirstMove s step answer t → Option Did
@@ -55,8 +46,7 @@ module _ (s t : Situation) (step : Step) (answer : Reply) (move : FirstMove s st
   balance : IsPermutation (waiting_at s core block ++ option_to_list (asked_access core block step)) (done_here ++ waiting_at t core block)
   balance =
       let logged = (on_stays move.0 s t step answer move.1.1).1 in
-      let since = append_cancel_left s.log once.since (option_to_list logged.0) (sym once.log ∙ logged.1) in
-      rw (since, answers_are [] logged.0 core, cons_one (asked_access core block step)) at (once.once core block)
+      rw (append_cancel_left s.log once.since (option_to_list logged.0) (sym once.log ∙ logged.1), answers_are [] logged.0 core, cons_one (asked_access core block step)) at (once.once core block)
 
   -- an operation that the move performs, or that waits after it, waited before it or is asked by it
   pub waited_or_asked : Contains done_here wanted ⊎ ((held_by (picture_of t block) core).waiting ≡ Some wanted)
@@ -82,6 +72,3 @@ module _ (s t : Situation) (step : Step) (answer : Reply) (move : FirstMove s st
     | inl here ↦ inr (is_last here)
     | inr waits ↦ inl (in_one _ wanted waits)
   ]
-
-pub owes : Owes
-owes s t step answer move once core block wanted was = owed_after s t step answer move once core block wanted was

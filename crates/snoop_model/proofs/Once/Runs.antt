@@ -1,18 +1,10 @@
 -- Each load and store that a run asks is done once, or waits.
-use Rattle.std.proofs.Common.{◌≡◌, ℕ, Bool, true, false, ◌<◌, ◌&&◌, cond, eqb, List, [], ◌∷◌, ◌++◌, length, Option, Some, None, refl, inl, inr, ap, sym, ◌∙◌, append-nil, append_assoc}
-use Rattle.std.specs.List.Sorted.{IsPermutation}
-use Rattle.std.proofs.lemmas.List.Sorted.{IsPermutation-refl, IsPermutation-trans, IsPermutation-append_comm, IsPermutation-append_left, IsPermutation-append_right}
-use Rattle.std.proofs.lemmas.List.Elements.{filter-append, filter_map-append}
-use Rattle.snoop_model.proofs.Lists.Writes.{each_set}
-use Rattle.snoop_model.proofs.Lists.Facts.{either_way}
-use Rattle.snoop_model.proofs.Common.{Access, accesses_in, after_order, Ask, asked, asked_access, CacheAction, CacheState, came_of, Cell, Did, did_access, eq-eqb, Err, Extent, filter, filter_map, Goes, held_at, held_by, IfSome, Invariant, IsProper, Item, kept_waiting, Line, map, map-append, MoveOn, ne_eqb, next_did, nothing_held, Ok, Once, OnceMore, Op, operation_of, option_map, option_to_list, Order, Performs, Picture, picture_of, Protocol, queues_after, Refused, Reply, reset, Respond, Result, RunBy, Situation, slice_set, Step, taken, Takes, waiting_at, with_line, ◌==◌}
-use Rattle.snoop_trace.specs.declared.step.Op.TheVariants as op
+use Rattle.snoop_model.proofs.Lists.{Writes.each_set, Facts.either_way}
+use Rattle.snoop_model.proofs.Common.{[], Access, accesses_in, after_order, ap, append-nil, append_assoc, arith, Ask, asked, asked_access, Bool, CacheAction, CacheState, came_of, Cell, cond, Did, did_access, eq-eqb, eqb, Err, Extent, false, filter, filter-append, filter_map, filter_map-append, Goes, held_at, held_by, IfSome, inl, inr, Invariant, IsPermutation, IsPermutation-append_comm, IsPermutation-append_left, IsPermutation-append_right, IsPermutation-refl, IsPermutation-trans, IsProper, Item, kept_waiting, length, Line, List, map, map-append, MoveOn, ne_eqb, None, nothing_held, of_core, Ok, Once, OnceMore, Op, operation_of, Option, option_map, option_to_list, Order, Picture, picture_of, Protocol, queues_after, refl, Refused, Reply, reset, Respond, Result, RunBy, Situation, slice_set, Some, Step, sym, taken, Takes, true, waiting_at, with_line, ℕ, ◌&&◌, ◌++◌, ◌<◌, ◌==◌, ◌∙◌, ◌∷◌, ◌≡◌}
 use Rattle.snoop_rules.specs.declared.names.CacheAction.TheVariants as action
 use Rattle.snoop_history.specs.declared.items.Item.TheVariants as item
-use Rattle.snoop_history.proofs.Pushed.{of_core}
 use Rattle.snoop_model.proofs.Tables.Rows.{issue-missed, drop_evicts}
-use Rattle.snoop_model.proofs.OneBlock.Operation.{did_in}
-use Rattle.snoop_model.proofs.OneBlock.OfBlocks.{changed, each_picture, in_pictures}
+use Rattle.snoop_model.proofs.OneBlock.{Facts.did_in, Facts.performed_so, OfBlocks.changed, OfBlocks.each_picture, OfBlocks.in_pictures}
 use Rattle.snoop_model.proofs.Lines.Answered.{by_request}
 use Rattle.snoop_model.proofs.Queues.Moves.{each_taken}
 use Rattle.snoop_model.proofs.Once.Owed.{answers_are, cons_one}
@@ -30,26 +22,13 @@ IsBy core block did = IfSome did (λ d. (d.core ≡ core) × (d.block ≡ block)
 accesses_one : (core block c b : ℕ) (entry : Option Item) → IsBy c b (did_in entry) → accesses_in (option_to_list entry) core block ≡ option_to_list (cond (eqb b block && eqb c core) (done (did_in entry)) None)
 accesses_one core block c b entry by = rw (answers_are [] entry core) (of_one (did_in entry) by)
   where
-    of_did : (did : Did) (x y : Bool) → (did.block == block) ≡ x → map did_access (filter (λ d. d.block == block) (cond y (did ∷ []) [])) ≡ option_to_list (cond (x && y) (Some (did_access did)) None)
-    of_did did true true e = rw e refl
-    of_did did false true e = rw e refl
-    of_did did true false e = refl
-    of_did did false false e = refl
-
     of_one : (did : Option Did) → IsBy c b did → map did_access (filter (λ d. d.block == block) (of_core core did)) ≡ option_to_list (cond (eqb b block && eqb c core) (done did) None)
     of_one None by = ap option_to_list (either_way (eqb b block && eqb c core) None)
-    of_one (Some did) by = rw (← by.0, ← by.1) (of_did did (did.block == block) (did.core == core) refl)
+    of_one (Some did) by = rw (← by.0, ← by.1) (grind arith)
 
 -- where nothing is done, asked or changed, what waited waits
 unchanged : (waits : List Access) → IsPermutation (waits ++ []) waits
 unchanged waits = rw (append-nil waits) (IsPermutation-refl waits)
-
--- the operation that was done is the one that was asked, and no eviction
-performed_so : (word : ℕ) (asking : Op) (before : List ℕ) (value : ℕ) (after : List ℕ) (log : List Item) (core block : ℕ) (hit : Bool) → Performs word asking before value after
-    → (did_access (next_did log core block word asking value hit) ≡ record { word = word; op = asking }) × (kept_waiting word asking ≡ Some (record { word = word; op = asking }))
-performed_so word op.Load before value after log core block hit h = (refl, refl)
-performed_so word (op.Store stored) before value after log core block hit h = rw h.0 (refl, refl)
-performed_so word op.Evict before value after log core block hit h = absurd h
 
 -- an Ask of one line
 module _ (p : Protocol) (next : CacheState) (log : List Item) (core block word : ℕ) (asking : Op) (old new : Line) (answer : Reply) (entry : Option Item) (proper : IsProper old) where
@@ -147,10 +126,9 @@ run_once (step ∷ steps) (Ok answer ∷ outcomes) old new g r =
       log = b.log ∙ ap (λ (l : List Item). l ++ b.since) a.log ∙ append_assoc old.log a.since b.since;
       once = λ core block.
           let asks = asked_access core block in
-          let now = filter_map asks (step ∷ []) in
           let more = filter_map asks (taken steps outcomes) in
           let did = accesses_in a.since core block in
-          rw (filter_map-append asks (step ∷ []), filter_map-append operation_of, filter-append, filter-append, map-append, append_assoc did, ← append_assoc _ now more)
+          rw (filter_map-append asks (step ∷ []), filter_map-append operation_of, filter-append, filter-append, map-append, append_assoc did, ← append_assoc _ (filter_map asks (step ∷ [])) more)
           (IsPermutation-trans _ _ _ (rw (append_assoc did (waiting_at middle core block) more) at (IsPermutation-append_left more _ _ (a.once core block)))
           (IsPermutation-append_right did _ _ (b.once core block)));
     }

@@ -1,7 +1,5 @@
 -- The pictures after each kind of move.
-use Rattle.std.proofs.Common.{◌≡◌, ℕ, ◌<◌, Option, get_or-set_same}
-use Rattle.snoop_model.proofs.Common.{Op, Request, Did, Open, Reply, held_by, nothing_held, nothing_there, with_line, Situation, picture_of, Asks, Orders, Responds, IsWithin}
-use Rattle.snoop_model.specs.Invariant.Invariant.{Invariant}
+use Rattle.snoop_model.proofs.Common.{Asks, Did, get_or-set_same, held_by, Invariant, IsWithin, nothing_held, nothing_there, Op, Open, Option, Orders, picture_of, Reply, Request, Responds, Situation, with_line, ℕ, ◌<◌, ◌≡◌}
 use Rattle.snoop_model.proofs.OneBlock.OfBlocks.{in_pictures}
 
 pub ask_line : (old : Situation) (c b word : ℕ) (asking : Op) (answer : Reply) (new : Situation) → Invariant old → IsWithin old c b

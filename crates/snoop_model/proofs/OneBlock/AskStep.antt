@@ -1,30 +1,11 @@
 -- An Ask keeps the invariant, and a load that it performs gives the flat value.
-use Rattle.std.proofs.Common.{◌≡◌, ◌≢◌, ◌<◌, ◌⊎◌, ◌∙◌, ℕ, Bool, false, List, true, not, length, Some, refl, inl, inr, sym}
-use Rattle.snoop_model.proofs.Common.{and_parts, both_ways, not-true, same_Some, Protocol, Op, CacheAction, Cell, asked, carries_value, Open, Reply, Line, Picture, held_by, nothing_held, with_line, Situation, picture_of, Takes, Asks, is_clean, BlockInvariant, own_open, owns}
+use Rattle.snoop_model.proofs.Common.{asked, Asks, BlockInvariant, Bool, both_ways, CacheAction, Cell, false, held_by, inl, inr, length, Line, List, nothing_held, Op, own_open, owns, Picture, picture_of, refl, Reply, same_Some, Situation, sym, Takes, true, with_line, ℕ, ◌<◌, ◌∙◌, ◌≡◌, ◌⊎◌}
 use Rattle.snoop_trace.specs.declared.step.Op.TheVariants as op
 use Rattle.snoop_rules.specs.declared.names.CacheEvent.TheVariants as event
 use Rattle.snoop_rules.specs.declared.names.CacheAction.TheVariants as action
-use Rattle.snoop_model.proofs.OneBlock.Operation.{did_in, flat_after, IsLawful}
+use Rattle.snoop_model.proofs.OneBlock.{Facts.did_in, Facts.flat_after, Facts.IsLawful, Facts.LineFits, Facts.carried_line, Facts.line_of, Facts.owned_alone, Facts.still_fits}
 use Rattle.snoop_model.proofs.Lists.Writes.{each_set}
-use Rattle.snoop_model.proofs.OneBlock.Facts.{LineFits, carried_line, line_of, one_writer, owned_alone, still_fits}
-use Rattle.snoop_model.proofs.Tables.Rows.{hit_keeps, IsProper-issue, IsProper-hit, IsProper-drop}
-use Rattle.snoop_model.proofs.Tables.AskTests.{AskQuestion, ask_rule, ask_test, ask_fits, ask_carries, ask_store_owns}
-use Rattle.snoop_model.proofs.Tables.StateTests.{kept_reader}
-
--- an operation that changes the block's words is of a core that owns it
-module _ {p : Protocol} {n : ℕ} {flat : List ℕ} {picture : Picture} (g : BlockInvariant p n flat picture)
-    (c : ℕ) (words : List ℕ) (changed : (words ≡ flat) ⊎ (owns g.owner c ≡ true)) where
-  unchanged : (b : Bool) → (owns g.owner c ≡ true → b ≡ false) → b ≡ true → words ≡ flat
-  unchanged b unless h = elim changed [ inl same ↦ same | inr owning ↦ absurd (both_ways b (unless owning) h) ]
-
-  other_fits : (d : ℕ) → d < n → d ≢ c → LineFits p g.claims.shared (owns g.owner d) (own_open picture.transaction d) words picture.memory.value (held_by picture d)
-  other_fits d d_in apart = still_fits (held_by picture d) (line_of g d d_in) (unchanged _ (λ owning. one_writer g c owning d d_in apart)) (λ is. is) (g.states d d_in)
-
-  still_fresh : g.claims.fresh ≡ true → picture.memory.value ≡ words
-  still_fresh h = g.fresh h ∙ sym (unchanged _ (λ owning. (owned_alone g c owning).0) h)
-
-  still_carried : (o : Open) → picture.transaction ≡ Some o → carries_value o.payload ≡ true → o.value ≡ words
-  still_carried o is_o carrying = g.carried o is_o carrying ∙ sym (unchanged _ (λ owning. rw is_o at (owned_alone g c owning).1) carrying)
+use Rattle.snoop_model.proofs.Tables.{Rows.hit_keeps, Rows.IsProper-issue, Rows.IsProper-hit, Rows.IsProper-drop, AskTests.ask_rule, AskTests.asked_row, StateTests.kept_reader}
 
 module _ (s : Situation) (core block word : ℕ) (asking : Op) (answer : Reply) (new : Situation) (asks : Asks s core block word asking answer new)
     (n : ℕ) (flat : List ℕ) (g : BlockInvariant s.protocol n flat (picture_of s block)) (asker_in : core < n) (in_row : core < length (picture_of s block).caches) where
@@ -34,52 +15,44 @@ module _ (s : Situation) (core block word : ℕ) (asking : Op) (answer : Reply) 
   abbrev old : Line
   old = held_by before core
 
-  -- a test of an Ask's row
-  abbrev Holds : CacheAction → Op → AskQuestion → Type 0
-  Holds a o k = ask_test k s.protocol g.claims.shared (owns g.owner core) (own_open before.transaction core) old.state (asked o) (record { action = a; next = asks.row.next }) ≡ true
-
   -- what the core holds after an Ask, by its row; whether the block's words change; and that a load gives the flat value
   asker : (a : CacheAction) (o : Op) → Cell s.protocol old.state (asked o) a asks.row.next
-      → ((k : AskQuestion) → Holds a o k) → Takes a asks.row.next s.log core block word o old asks.held answer asks.entry
+      → (asked_row s.protocol g.claims.shared (owns g.owner core) (own_open before.transaction core) old.state (asked o) (record { action = a; next = asks.row.next })).claim
+      → Takes a asks.row.next s.log core block word o old asks.held answer asks.entry
       → LineFits s.protocol g.claims.shared (owns g.owner core) (own_open before.transaction core) (flat_after flat (did_in asks.entry)) before.memory.value asks.held
       × ((flat_after flat (did_in asks.entry) ≡ flat) ⊎ (owns g.owner core ≡ true)) × IsLawful flat (did_in asks.entry)
-  asker action.Hit op.Load row holds (value, (hit, _, entry)) =
+  asker action.Hit op.Load row (fit, (carry, _)) (value, (hit, _, entry)) =
       let same = same_Some _ _ (sym hit.kept ∙ g.kept core asker_in (hit_keeps _ _ _ _ row).0) in
       let performed = hit.performed in
       let proper = IsProper-hit s.protocol old event.Load asks.row.next hit.after (g.proper core asker_in) row in
-      rw (hit.held, entry) (carried_line old (line_of g core asker_in) _ (λ h. cc) (holds ask_fits) (holds ask_carries) proper, inl refl, λ e. cc)
-  asker action.Hit (op.Store v) row holds (value, (hit, _, entry)) =
+      rw (hit.held, entry) (carried_line old (line_of g core asker_in) _ (λ h. cc) fit (carry refl) proper, inl refl, λ e. cc)
+  asker action.Hit (op.Store v) row (fit, (_, stores)) (value, (hit, _, entry)) =
       let same = same_Some _ _ (sym hit.kept ∙ g.kept core asker_in (hit_keeps _ _ _ _ row).0) in
       let performed = hit.performed in
-      let (owning, unclean) = and_parts (owns g.owner core) (not (is_clean asks.row.next)) (holds ask_store_owns) in
+      let (owning, unclean) = stores refl in
       let proper = IsProper-hit s.protocol old event.Store asks.row.next hit.after (g.proper core asker_in) row in
-      rw (hit.held, entry) (record { fit = holds ask_fits; kept = λ h. cc; clean = λ h. absurd (both_ways _ (not-true _ unclean) h); proper = proper }, inr owning, λ e. cc)
-  asker action.Hit op.Evict row holds took = absurd took.1.0.performed
-  asker (action.Issue r) o row holds (held, _, entry) =
-      rw (held, entry) (
-        carried_line old (line_of g core asker_in) _ (kept_reader asks.row.next old.kept) (holds ask_fits) (holds ask_carries)
-            (IsProper-issue s.protocol old word o r asks.row.next (g.proper core asker_in) row),
-        inl refl,
-        tt,
-      )
-  asker action.Drop o row holds (held, _, entry) =
-      rw (held, entry) (
-        carried_line old (line_of g core asker_in) _ (kept_reader asks.row.next old.kept) (holds ask_fits) (holds ask_carries)
-            (IsProper-drop s.protocol old (asked o) asks.row.next (g.proper core asker_in) row),
-        inl refl,
-        tt,
-      )
-  asker _ o row holds took = absurd took
+      rw (hit.held, entry) (record { fit = fit; kept = λ h. cc; clean = λ h. absurd (both_ways _ unclean h); proper = proper }, inr owning, λ e. cc)
+  asker action.Hit op.Evict row so took = absurd took.1.0.performed
+  asker (action.Issue r) o row (fit, (carry, _)) (held, _, entry) =
+      let proper = IsProper-issue s.protocol old word o r asks.row.next (g.proper core asker_in) row in
+      rw (held, entry) (carried_line old (line_of g core asker_in) _ (kept_reader asks.row.next old.kept) fit (carry refl) proper, inl refl, tt)
+  asker action.Drop o row (fit, (carry, _)) (held, _, entry) =
+      let proper = IsProper-drop s.protocol old (asked o) asks.row.next (g.proper core asker_in) row in
+      rw (held, entry) (carried_line old (line_of g core asker_in) _ (kept_reader asks.row.next old.kept) fit (carry refl) proper, inl refl, tt)
+  asker _ o row so took = absurd took
 
   -- an Ask keeps the invariant of a picture, and a load that it performs gives the flat value
   pub ask_keeps : BlockInvariant s.protocol n (flat_after flat (did_in asks.entry)) (with_line before core asks.held) × IsLawful flat (did_in asks.entry)
   ask_keeps =
       let words = flat_after flat (did_in asks.entry) in
-      let rule : (k : AskQuestion) → Holds asks.row.action asking k = λ k. ask_rule k _ _ _ _ _ asking asks.row (g.states core asker_in) asks.is_row in
-      let (line, changed, lawful) = asker asks.row.action asking asks.is_row rule asks.taken in
+      let (_, rule) = ask_rule _ _ _ _ _ asking (g.states core asker_in) in
+      let (line, changed, lawful) = asker asks.row.action asking asks.is_row (rule asks.row asks.is_row) asks.taken in
+      let unchanged : (b : Bool) → (owns g.owner core ≡ true → b ≡ false) → b ≡ true → words ≡ flat =
+      λ b unless h. elim changed [ inl same ↦ same | inr owning ↦ absurd (both_ways b (unless owning) h) ] in
       let lines = each_set before.caches core asks.held nothing_held
       (λ d x. d < n → LineFits s.protocol g.claims.shared (owns g.owner d) (own_open before.transaction d) words before.memory.value x)
-      in_row (λ c_in. line) (λ d apart d_in. other_fits g core words changed d d_in apart) in
+      in_row (λ c_in. line) (λ d apart d_in.
+      still_fits (held_by before d) (line_of g d d_in) (unchanged _ (λ owning. (owned_alone g core owning).2 d d_in apart)) (λ is. is) (g.states d d_in)) in
       let good : BlockInvariant s.protocol n words (with_line before core asks.held) = record {
         claims = g.claims;
         is_claims = g.is_claims;
@@ -89,8 +62,8 @@ module _ (s : Situation) (core block word : ℕ) (asking : Op) (answer : Reply) 
         states = λ d d_in. (lines d d_in).fit;
         kept = λ d d_in. (lines d d_in).kept;
         clean = λ d d_in. (lines d d_in).clean;
-        fresh = still_fresh g core words changed;
-        carried = still_carried g core words changed;
+        fresh = λ h. g.fresh h ∙ sym (unchanged _ (λ owning. (owned_alone g core owning).0) h);
+        carried = λ o is_o carrying. g.carried o is_o carrying ∙ sym (unchanged _ (λ owning. rw is_o at (owned_alone g core owning).1) carrying);
         requestor_in = g.requestor_in;
         sender_in = g.sender_in;
         proper = λ d d_in. (lines d d_in).proper;

@@ -1,9 +1,8 @@
 -- What follows from the invariant of one block.
-use Rattle.std.proofs.Common.{arith, ◌≡◌, ◌≢◌, ◌<◌, ◌&&◌, ◌||◌, ◌∙◌, ℕ, List, Bool, true, false, not, eqb, Option, Some, None, refl, inl, inr, sym, subst, length, is_some, eq-eqb, eqb-true, ne_eqb}
-use Rattle.snoop_model.proofs.Common.{and_parts, cases_eq, not-true, cases_lt, get_or_past, same_Some, Protocol, CacheState, Request, Line, Picture, held_by, held_at, nothing_held, keeps, IsProper, is_owner, is_sharer, is_clean, in_protocol, same, wait_fits, fits, BlockInvariant, talk_of, own_open, owns, or_right}
-use Rattle.std.proofs.lemmas.Bool.Decides.{eqb_tells}
+use Rattle.snoop_trace.specs.declared.step.Op.TheVariants as op
+use Rattle.snoop_model.proofs.Common.{append-nil, arith, BlockInvariant, Bool, cases_eq, cases_lt, cond, Did, did_access, eq-eqb, eqb, eqb-true, eqb_tells, false, fits, get_or_past, held_at, held_by, inl, inr, is_clean, is_some, IsProper, Item, keeps, kept_waiting, length, Line, List, ne_eqb, next_did, None, not, nothing_held, Op, operation_of, operations, operations-push, Option, option_to_list, or_right, own_open, owns, Performs, Picture, Protocol, refl, Request, same, slice_set, Some, subst, sym, talk_of, true, word_at, ℕ, ⊤, ◌&&◌, ◌++◌, ◌<◌, ◌||◌, ◌∙◌, ◌≡◌, ◌≢◌}
 use Rattle.snoop_model.proofs.Lines.TheSender.{IsBelow}
-use Rattle.snoop_model.proofs.Tables.StateTests.{all_open-at, same_is, brings_data, carries, clean_reads, owned_rule}
+use Rattle.snoop_model.proofs.Tables.{Tested.of_open, StateTests.brings_data, StateTests.carries, StateTests.clean_reads, StateTests.claims_rule}
 
 -- what holds of one core and of each other holds of each
 pub by_core : (c : ℕ) (P : ℕ → Type 0) → P c → ((d : ℕ) → d ≢ c → P d) → (d : ℕ) → P d
@@ -17,17 +16,6 @@ pub owns_owned : (owner : Option ℕ) (d : ℕ) (b : Bool) → is_some owner ≡
 owns_owned None d b e = refl
 owns_owned (Some o) d b e = rw (← e) (or_right (not (eqb d o)) true refl)
 
-pub fits_is_owner : (p : Protocol) (shared ow : Bool) (w : Option Request) (s : CacheState) → fits p shared ow w s ≡ true → is_owner s ≡ ow
-unfolding fits
-fits_is_owner p shared ow w s h = same_is _ _ (and_parts _ _ (and_parts _ _ h).1).0
-
-pub fits_waits : (p : Protocol) (shared ow : Bool) (w : Option Request) (s : CacheState) → fits p shared ow w s ≡ true → wait_fits w s ≡ true
-unfolding fits
-fits_waits p shared ow w s h = (and_parts (not (is_sharer s) || shared) _ (and_parts (same (is_owner s) ow) _ (and_parts (in_protocol p s) _ h).1).1).1
-
-pub implied : (a b : Bool) → (not a || b) ≡ true → a ≡ true → b ≡ true
-implied a b h e = rw e at h
-
 -- what the invariant says of one core's line, where the block's words and memory's are these
 pub record LineFits (p : Protocol) (shared owning : Bool) (wait : Option Request) (words memory : List ℕ) (line : Line) : Type 0 where
   pub fit : fits p shared owning wait line.state ≡ true
@@ -37,11 +25,9 @@ pub record LineFits (p : Protocol) (shared owning : Bool) (wait : Option Request
 
 module _ {p : Protocol} {shared owning shared' owning' : Bool} {wait wait' : Option Request} {flat memory : List ℕ} (old : Line) (was : LineFits p shared owning wait flat memory old) where
   -- a row that makes no reader, and no clean owner, of a core lets its words carry over
-  pub carried_line : (new : Line) → (keeps new.state ≡ true → new.kept ≡ old.kept) → fits p shared' owning' wait' new.state ≡ true → carries old.state new.state ≡ true → IsProper new
+  pub carried_line : (new : Line) → (keeps new.state ≡ true → new.kept ≡ old.kept) → fits p shared' owning' wait' new.state ≡ true → (carries old.state new.state).claim → IsProper new
       → LineFits p shared' owning' wait' flat memory new
-  carried_line new kept fit carry proper =
-      let (read, clean) = and_parts (not (keeps new.state) || keeps old.state) _ carry in
-      record { fit = fit; kept = λ h. kept h ∙ was.kept (rw h at read); clean = λ h. was.clean (rw h at clean); proper = proper }
+  carried_line new kept fit carry proper = record { fit = fit; kept = λ h. kept h ∙ was.kept (carry.0 h); clean = λ h. was.clean (carry.1 h); proper = proper }
 
   -- a line that stays as it is fits the block's new words, which are the old ones if the line may be read
   pub still_fits : {words memory' : List ℕ} → (keeps old.state ≡ true → words ≡ flat) → (memory ≡ flat → memory' ≡ flat) → fits p shared' owning' wait' old.state ≡ true
@@ -51,9 +37,6 @@ module _ {p : Protocol} {shared owning shared' owning' : Bool} {wait wait' : Opt
 pub owner_is : (owner : Option ℕ) (d : ℕ) → owns owner d ≡ true → owner ≡ Some d
 owner_is None d h = cc
 owner_is (Some o) d h = rw (eqb-true d o h) refl
-
-pub owns_one : (owner : Option ℕ) (c d : ℕ) → owns owner c ≡ true → d ≢ c → owns owner d ≡ false
-owns_one owner c d h apart = rw (owner_is owner c h) (ne_eqb d c apart)
 
 -- two cores do not both own
 pub owns_apart : (owner : Option ℕ) (c d : ℕ) → d ≢ c → not (owns owner d && owns owner c) ≡ true
@@ -68,18 +51,8 @@ module _ {p : Protocol} {n : ℕ} {flat : List ℕ} {picture : Picture} (g : Blo
   pub owned_alone : (c : ℕ) → owns g.owner c ≡ true
       → (g.claims.fresh ≡ false) × (brings_data (talk_of picture.transaction) ≡ false) × ((d : ℕ) → d < n → d ≢ c → keeps (held_by picture d).state ≡ false)
   owned_alone c owning =
-      let is_owned : g.claims.owned ≡ true = sym g.is_owned ∙ rw (owner_is g.owner c owning) refl in
-      let (unfresh, rest) = and_parts _ _ (owned_rule p picture.memory.state (talk_of picture.transaction) g.claims g.is_claims is_owned) in
-      let (no_data, blind) = and_parts _ _ rest in (
-        not-true _ unfresh,
-        not-true _ no_data,
-        λ d d_in apart.
-            not-true _ (rw (owns_one g.owner c d owning apart) at (all_open-at _ _ picture.transaction _ blind d _ _ (g.states d d_in))),
-      )
-
-  -- one writer alone, or only readers
-  pub one_writer : (c : ℕ) → owns g.owner c ≡ true → (d : ℕ) → d < n → d ≢ c → keeps (held_by picture d).state ≡ false
-  one_writer c owning = (owned_alone c owning).2
+      let (unfresh, (no_data, blind)) = (claims_rule p picture.memory.state (talk_of picture.transaction) g.claims g.is_claims).0 (sym g.is_owned ∙ rw (owner_is g.owner c owning) refl) in
+      (unfresh, no_data, λ d d_in apart. of_open p g.claims.shared picture.transaction _ blind d _ _ (g.states d d_in) (rw (owner_is g.owner c owning) (ne_eqb d c apart)))
 
 -- whether a sender, memory or a core, is this one
 abbrev pub is_it : Option ℕ → Option ℕ → Bool
@@ -99,9 +72,31 @@ is_itself (Some d) = eq-eqb d d refl
 abbrev pub OwnerIn : ℕ → Option ℕ → Type 0
 OwnerIn n owner = (o : ℕ) → owner ≡ Some o → o < n
 
-pub core_in : (n c : ℕ) → c < n → OwnerIn n (Some c)
-core_in n c c_in o is = rw (← same_Some c o is) c_in
-
 pub below_owner : (n : ℕ) (owner : Option ℕ) → OwnerIn n owner → IsBelow n owner
 below_owner n None was = tt
 below_owner n (Some o) was = was o refl
+
+abbrev pub did_in : Option Item → Option Did
+did_in None = None
+did_in (Some entry) = operation_of entry
+
+abbrev pub flat_after : List ℕ → Option Did → List ℕ
+flat_after flat None = flat
+flat_after flat (Some did) = cond did.load flat (slice_set flat did.word did.value)
+
+-- a load gives flat memory's value
+abbrev pub IsLawful : List ℕ → Option Did → Type 0
+IsLawful flat None = ⊤
+IsLawful flat (Some did) = did.load ≡ true → did.value ≡ word_at flat did.word
+
+-- the operations with one item more
+pub operations_moved : (log : List Item) (entry : Option Item) → operations (log ++ option_to_list entry) ≡ operations log ++ option_to_list (did_in entry)
+operations_moved log None = rw (append-nil log, append-nil (operations log)) refl
+operations_moved log (Some entry) = operations-push log entry
+
+-- the operation that was done is the one that was asked, and no eviction
+pub performed_so : (word : ℕ) (asking : Op) (before : List ℕ) (value : ℕ) (after : List ℕ) (log : List Item) (core block : ℕ) (hit : Bool) → Performs word asking before value after
+    → (did_access (next_did log core block word asking value hit) ≡ record { word = word; op = asking }) × (kept_waiting word asking ≡ Some (record { word = word; op = asking }))
+performed_so word op.Load before value after log core block hit h = (refl, refl)
+performed_so word (op.Store stored) before value after log core block hit h = rw h.0 (refl, refl)
+performed_so word op.Evict before value after log core block hit h = absurd h

@@ -1,15 +1,6 @@
 -- One block has a new picture, and the others are as they were.
-use Rattle.std.proofs.Common.{◌≡◌, ◌≢◌, ℕ, ◌<◌, List, length, Option, refl, ◌∙◌, length-set, get_or-set_same}
-use Rattle.snoop_model.proofs.Common.{MemState, Item, Open, Line, MemLine, Picture, Situation, picture_of, with_picture, nothing_there, IsShaped}
+use Rattle.snoop_model.proofs.Common.{get_or-set_same, IsShaped, Item, length, length-set, List, nothing_there, Picture, picture_of, Situation, with_picture, ℕ, ◌<◌, ◌∙◌, ◌≡◌, ◌≢◌}
 use Rattle.snoop_model.proofs.Lists.Writes.{each_set, same_set}
-
-pub same_picture : {caches caches' : List Line} {memory memory' : MemLine} {transaction transaction' : Option Open}
-    → caches ≡ caches' → memory ≡ memory' → transaction ≡ transaction'
-    → ◌≡◌ {A = Picture} (record { caches = caches; memory = memory; transaction = transaction }) (record { caches = caches'; memory = memory'; transaction = transaction' })
-same_picture e f h = rw (e, f, h) refl
-
-pub same_memory : {state state' : MemState} {value value' : List ℕ} → state ≡ state' → value ≡ value' → ◌≡◌ {A = MemLine} (record { state = state; value = value }) (record { state = state'; value = value' })
-same_memory e f = rw (e, f) refl
 
 -- a block of the shape has a picture
 pub in_pictures : (s : Situation) (block : ℕ) → IsShaped s → block < s.shape.blocks → block < length s.pictures
@@ -28,13 +19,9 @@ module _ (s : Situation) (block : ℕ) (next : Picture) (queues : List (List ℕ
       → P b (picture_of (changed s block next queues log) b)
   each_picture P within others here = each_set s.pictures block next nothing_there P within here others
 
-  -- what the new picture leaves as it was is so of every block
-  pub same_everywhere : {A : Type 0} (f : Picture → A) → f next ≡ f (picture_of s block) → (b : ℕ) → f (picture_of (changed s block next queues log) b) ≡ f (picture_of s b)
-  same_everywhere f same b = same_set f s.pictures block next nothing_there same b
-
   pub shaped_after : IsShaped s → length next.caches ≡ length (picture_of s block).caches → length queues ≡ length s.queues → IsShaped (changed s block next queues log)
   shaped_after shaped as_wide as_many = record {
     pictures = length-set s.pictures block next ∙ shaped.pictures;
-    row = λ b within. same_everywhere (λ (x : Picture). length x.caches) as_wide b ∙ shaped.row b within;
+    row = λ b within. same_set (λ (x : Picture). length x.caches) s.pictures block next nothing_there as_wide b ∙ shaped.row b within;
     queues = as_many ∙ shaped.queues;
   }

@@ -1,14 +1,9 @@
 -- An Order finds all its rows and one sender, and keeps the invariant.
-use Rattle.std.proofs.Common.{◌≡◌, ◌≢◌, ◌<◌, ◌∙◌, ℕ, length, List, Bool, true, false, not, cond, eqb, Option, Some, None, refl, inl, inr, ap, sym, is_some, eq-eqb, ne_eqb}
-use Rattle.snoop_model.proofs.Common.{and_from, or_cases, same_Some, Protocol, CacheCell, MemCell, Request, Payload, cell_of, memory_cell_of, own, other, seen_by, at_memory, carries_value, waiting_request, Open, Picture, held_by, Situation, picture_of, keeps, Orders, sender_of, is_put_m, Sends, value_sent, Claims, claims_of, fits, BlockInvariant, own_open, owns, cond_both, cond_some}
+use Rattle.snoop_model.proofs.Common.{and_from, ap, at_memory, BlockInvariant, Bool, CacheCell, carries_value, cell_of, Claims, claims_of, cond, cond_both, cond_some, eq-eqb, eqb, false, fits, held_by, inl, inr, is_put_m, is_some, keeps, length, List, MemCell, memory_cell_of, ne_eqb, None, not, Open, Option, or_cases, Orders, own, own_open, owns, Payload, Picture, picture_of, Protocol, refl, Request, same_Some, seen_by, sender_of, Sends, Situation, Some, sym, true, value_sent, waiting_request, ℕ, ◌<◌, ◌∙◌, ◌≡◌}
 use Rattle.snoop_model.proofs.Lists.Facts.{of_choice}
 use Rattle.snoop_model.proofs.Lines.TheSender.{IsBelow, sends_below}
-use Rattle.snoop_model.proofs.Tables.StateTests.{all_fitting-at, when_at, EachHolds, some_and, some_each, carries, kept_reader}
-use Rattle.snoop_model.proofs.Tables.OrderTests.{SendsSo, end_tests, order_rule, other_tests, payload_of, sends_so-true}
-use Rattle.snoop_model.proofs.Tables.Rows.{IsProper-order}
-use Rattle.snoop_model.proofs.Tables.SenderLines.{follows_sender_table}
-use Rattle.snoop_model.proofs.Tables.SentBy.{payload_from, sends_is, sends_row, memory_sends_row}
-use Rattle.snoop_model.proofs.OneBlock.Facts.{LineFits, by_core, carried_line, is_it, it_is, line_of, OwnerIn, core_in, owns_owned, owns_apart}
+use Rattle.snoop_model.proofs.Tables.{Tested.Tested, StateTests.carries, StateTests.kept_reader, OrderTests.end_claims, OrderTests.order_rule, OrderTests.payload_of, OrderTests.sends_so, Rows.IsProper-order, SenderLines.follows_sender_table, SentBy.payload_from, SentBy.sends_is, SentBy.sends_row, SentBy.memory_sends_row}
+use Rattle.snoop_model.proofs.OneBlock.Facts.{LineFits, by_core, carried_line, is_it, it_is, line_of, OwnerIn, owns_owned, owns_apart}
 
 -- all that an Order looks up of a picture that keeps its invariant
 pub record Looked {p : Protocol} {flat : List ℕ} {before : Picture} (good : BlockInvariant p (length before.caches) flat before) (c : ℕ) (q : Request) : Type 0 where
@@ -20,47 +15,29 @@ pub record Looked {p : Protocol} {flat : List ℕ} {before : Picture} (good : Bl
   pub is_row : cell_of p (held_by before c).state (own q) ≡ Some row
   pub next : Claims
   pub is_next : claims_of p memory.next (Some (q, payload_of row memory)) ≡ Some next
-  pub ends : EachHolds (end_tests p before.memory.state good.claims (held_by before c).state (owns good.owner c) q memory row next)
+  pub ends : (end_claims p before.memory.state good.claims (held_by before c).state (owns good.owner c) q memory row next).claim
 
 pub look : {p : Protocol} {flat : List ℕ} {before : Picture} (good : BlockInvariant p (length before.caches) flat before) → before.transaction ≡ None
     → (c : ℕ) (q : Request) → c < length before.caches → waiting_request (held_by before c).state ≡ Some q → Looked good c q
 look {p} {flat} {before} good calm c q c_in waits =
-    let m = before.memory.state in
-    let s = (held_by before c).state in
-    let ow = owns good.owner c in
-    let test = order_rule _ _ _ _ _ q (rw calm at good.is_claims) (rw calm at (good.states c c_in)) (owns_owned good.owner c good.claims.owned good.is_owned) waits in
-    let (memory, is_memory, test) = some_and (memory_cell_of p m (at_memory q)) _ test in
-    let (row, is_row, test) = some_and (cell_of p s (own q)) _ test in
-    let (next, is_next, ends) = some_each (claims_of p memory.next (Some (q, payload_of row memory))) (end_tests p m good.claims s ow q memory row) test in
+    let (memory, is_memory, (row, is_row, (next, is_next, ends))) =
+    order_rule p before.memory.state good.claims (rw calm at good.is_claims) _ _ (rw calm at (good.states c c_in)) (owns_owned good.owner c _ good.is_owned) q waits in
     record { requestor_in = c_in; calm = calm; memory = memory; is_memory = is_memory; row = row; is_row = is_row; next = next; is_next = is_next; ends = ends }
-
-pub seen_other : (d c : ℕ) (q : Request) → d ≢ c → seen_by d c q ≡ other q
-seen_other d c q apart = rw (ne_eqb d c apart) refl
 
 -- what an Order finds of a picture that keeps its invariant
 module _ {p : Protocol} {flat : List ℕ} {before : Picture} {good : BlockInvariant p (length before.caches) flat before} {c : ℕ} {q : Request} (l : Looked good c q) where
   abbrev pub sent : Payload
   sent = payload_of l.row l.memory
 
-  -- what holds of another core's row
-  other_core : (d : ℕ) → d < length before.caches → d ≢ c → (row : CacheCell) × (cell_of p (held_by before d).state (other q) ≡ Some row)
-      × EachHolds (other_tests p before.memory.state q l.memory sent l.next (held_by before d).state (owns good.owner d) row)
-  other_core d d_in apart =
-      let s = (held_by before d).state in
-      let ow = owns good.owner d in
-      let apart_owned = and_from _ _ (owns_apart good.owner c d apart) (owns_owned good.owner d _ good.is_owned) in
-      some_each (cell_of p s (other q)) (other_tests p before.memory.state q l.memory sent l.next s ow)
-      (when_at _ _ apart_owned (all_fitting-at _ _ _ _ l.ends.1.1.1.1.1.1.0 _ _ (rw l.calm at (good.states d d_in))))
-
   -- who is meant to send: the requestor of a PutM, else the owner, else memory
   abbrev pub meant : Option ℕ
   meant = cond (is_put_m q) (Some c) good.owner
 
   pub meant_in : OwnerIn (length before.caches) meant
-  meant_in = cond_both (is_put_m q) (Some c) good.owner (OwnerIn (length before.caches)) (λ is. core_in (length before.caches) c l.requestor_in) (λ is. good.owner_in)
+  meant_in = cond_both (is_put_m q) (Some c) good.owner (OwnerIn (length before.caches)) (λ is o owned. rw (← same_Some c o owned) l.requestor_in) (λ is. good.owner_in)
 
   -- this controller's line is in the table, and it has the block's words
-  abbrev pub on_line : Option ℕ → Bool
+  abbrev pub on_line : Option ℕ → Tested
   on_line from = follows_sender_table p q before.memory.state (sender_of c (λ k. (held_by before k).state) from) sent l.memory.next
 
   abbrev has_words : Option ℕ → Bool
@@ -71,18 +48,21 @@ module _ {p : Protocol} {flat : List ℕ} {before : Picture} {good : BlockInvari
   abbrev pub HasRow : ℕ → Type 0
   HasRow d =
       (row : CacheCell) × (cell_of p (held_by before d).state (seen_by d c q) ≡ Some row)
-      × (fits p l.next.shared (cond l.next.owned (owns good.owner d) false) (cond (eqb d c) (Some q) None) row.next ≡ true) × (carries (held_by before d).state row.next ≡ true)
-      × SendsSo (payload_from p before c q (Some d)) (owns meant d) sent (on_line (Some d)) (has_words (Some d))
+      × (fits p l.next.shared (cond l.next.owned (owns good.owner d) false) (cond (eqb d c) (Some q) None) row.next ≡ true) × (carries (held_by before d).state row.next).claim
+      × (sends_so (payload_from p before c q (Some d)) (owns meant d) sent (on_line (Some d)) (has_words (Some d))).claim
 
   pub each_row : (d : ℕ) → d < length before.caches → HasRow d
-  each_row = by_core c (λ d. d < length before.caches → HasRow d)
-      (λ c_in. rw (of_choice (λ x. owns x c) (is_put_m q) (Some c) good.owner, eq-eqb c c refl)
-      (l.row, l.is_row, l.ends.1.0, l.ends.1.1.0, rw l.is_row (sends_so-true _ _ _ _ _ l.ends.1.1.1.1.1.0)))
-      (λ d apart d_in. let (row, is_row, (fit, (carry, (sends, _)))) = other_core d d_in apart in
-      rw (of_choice (λ x. owns x d) (is_put_m q) (Some c) good.owner, ne_eqb d c apart) (row, is_row, fit, carry, rw is_row (sends_so-true _ _ _ _ _ sends)))
+  each_row =
+      let (_, (fit, (carry, (_, (_, (sends, others)))))) = l.ends in
+      by_core c (λ d. d < length before.caches → HasRow d)
+      (λ c_in. rw (of_choice (λ x. owns x c) (is_put_m q) (Some c) good.owner, eq-eqb c c refl) (l.row, l.is_row, fit, carry, rw l.is_row sends))
+      (λ d apart d_in.
+      let apart_owned = and_from _ _ (owns_apart good.owner c d apart) (owns_owned good.owner d _ good.is_owned) in
+      let (row, is_row, (fit, (carry, sends))) = others _ _ (rw l.calm at (good.states d d_in)) apart_owned in
+      rw (of_choice (λ x. owns x d) (is_put_m q) (Some c) good.owner, ne_eqb d c apart) (row, is_row, fit, carry, rw is_row sends))
 
-  pub sends : (from : Option ℕ) → IsBelow (length before.caches) from → SendsSo (payload_from p before c q from) (is_it meant from) sent (on_line from) (has_words from)
-  sends None below = rw (l.is_memory, of_choice (λ x. not (is_some x)) (is_put_m q) (Some c) good.owner, good.is_owned) (sends_so-true _ _ _ _ _ l.ends.1.1.1.1.0)
+  pub sends : (from : Option ℕ) → IsBelow (length before.caches) from → (sends_so (payload_from p before c q from) (is_it meant from) sent (on_line from) (has_words from)).claim
+  sends None below = rw (l.is_memory, of_choice (λ x. not (is_some x)) (is_put_m q) (Some c) good.owner, good.is_owned) l.ends.1.1.1.1.0
   sends (Some d) below = (each_row d below).4
 
   pub sends_if_meant : (from : Option ℕ) → IsBelow (length before.caches) from → is_it meant from ≡ true → Sends p before c q from sent
@@ -126,11 +106,11 @@ order_keeps s core block q new flat good in_row o =
       is_claims = rw (o.opened, is_memory, is_sent) l.is_next;
       owner = cond l.next.owned good.owner None;
       owner_in = cond_both l.next.owned good.owner None (OwnerIn (length before.caches)) (λ stays. good.owner_in) (λ gone o is. cc);
-      is_owned = cond_both l.next.owned good.owner None (λ x. is_some x ≡ l.next.owned) (λ stays. good.is_owned ∙ (rw stays at l.ends.0 ∙ sym stays)) sym;
+      is_owned = cond_both l.next.owned good.owner None (λ x. is_some x ≡ l.next.owned) (λ stays. good.is_owned ∙ (l.ends.0 stays ∙ sym stays)) sym;
       states = λ d d_in. rw o.opened (line_after d d_in).fit;
       kept = λ d d_in. (line_after d d_in).kept;
       clean = λ d d_in h. o.value ∙ (line_after d d_in).clean h;
-      fresh = λ h. o.value ∙ elim (or_cases good.claims.fresh _ (rw h at l.ends.1.1.1.0)) [ inl is ↦ good.fresh is | inr is ↦ good.clean core in_row is ];
+      fresh = λ h. o.value ∙ elim (or_cases good.claims.fresh _ (l.ends.1.1.1.0 h)) [ inl is ↦ good.fresh is | inr is ↦ good.clean core in_row is ];
       carried = λ x is_x. rw (← opened_is x is_x) words;
       proper = λ d d_in. (line_after d d_in).proper;
       requestor_in = λ x is_x. rw (← opened_is x is_x) in_row;

@@ -1,17 +1,11 @@
 -- A Respond finds its rows and keeps the invariant, and a load that it performs gives the flat value.
-use Rattle.std.proofs.Common.{arith, ◌≡◌, ◌<◌, ◌&&◌, ◌||◌, ◌∙◌, ℕ, length, List, Bool, true, false, not, cond, Option, Some, None, refl, inl, inr, ap, sym, is_some, if◌then◌else◌, eq-eqb, ne_eqb}
-use Rattle.snoop_model.proofs.Common.{and_parts, both_ways, cases_Bool, not-true, none-some, same_Some, Protocol, Op, CacheAction, CacheCell, MemAction, MemCell, Request, arrival, arrival_at_memory, takes_payload, Did, Item, Open, Picture, held_at, held_by, nothing_held, Situation, picture_of, keeps, Performs, is_load, FillsRequestor, ArrivesFor, Responds, next_did, written, is_put_m, is_get_m, Claims, claims_of, BlockInvariant, owns, PutM, cond_both}
-use Rattle.snoop_trace.specs.Words.{word_at}
+use Rattle.snoop_model.proofs.Common.{ap, arith, arrival, arrival_at_memory, ArrivesFor, BlockInvariant, Bool, CacheAction, CacheCell, Claims, claims_of, cond, cond_both, Did, eq-eqb, false, FillsRequestor, held_at, held_by, if◌then◌else◌, is_get_m, is_load, is_put_m, Item, keeps, length, List, MemAction, MemCell, ne_eqb, next_did, None, none-some, nothing_held, Op, Open, Option, owns, Performs, Picture, picture_of, Protocol, PutM, refl, Request, Responds, same_Some, Situation, Some, sym, takes_payload, true, word_at, written, ℕ, ◌<◌, ◌∙◌, ◌≡◌}
 use Rattle.snoop_trace.specs.declared.step.Op.TheVariants as op
 use Rattle.snoop_rules.specs.declared.names.CacheAction.TheVariants as action
 use Rattle.snoop_rules.specs.declared.names.MemAction.TheVariants as mem_action
-use Rattle.snoop_model.proofs.Lists.Facts.{of_choice}
-use Rattle.snoop_model.proofs.Lists.Writes.{each_set}
-use Rattle.snoop_model.proofs.Tables.StateTests.{when, all_open-at, all_fitting-at, when_at, EachHolds, same_is, some_and, some_each}
-use Rattle.snoop_model.proofs.Tables.RespondTests.{answer_tests, fills_store, gains, respond_rule, respond_tests, row_for, settled_row, settled_so, stays_so, writes}
-use Rattle.snoop_model.proofs.Tables.Rows.{IsProper-fill}
-use Rattle.snoop_model.proofs.OneBlock.Facts.{LineFits, line_of, still_fits, OwnerIn, core_in, owns_owned}
-use Rattle.snoop_model.proofs.OneBlock.Operation.{flat_after, IsLawful}
+use Rattle.snoop_model.proofs.Lists.{Facts.of_choice, Writes.each_set}
+use Rattle.snoop_model.proofs.Tables.{Tested.of_open, RespondTests.answer_claims, RespondTests.fills_store, RespondTests.gains, RespondTests.respond_rule, RespondTests.respond_claims, RespondTests.row_for, RespondTests.settled_row, RespondTests.settled_so, RespondTests.stays_so, RespondTests.writes, Rows.IsProper-fill}
+use Rattle.snoop_model.proofs.OneBlock.{Facts.LineFits, Facts.line_of, Facts.still_fits, Facts.OwnerIn, Facts.owns_owned, Facts.flat_after, Facts.IsLawful}
 
 -- all that a Respond looks up of a picture that keeps its invariant
 pub record Closing {p : Protocol} {n : ℕ} {flat : List ℕ} {before : Picture} (good : BlockInvariant p n flat before) (o : Open) : Type 0 where
@@ -20,34 +14,23 @@ pub record Closing {p : Protocol} {n : ℕ} {flat : List ℕ} {before : Picture}
   pub is_memory : settled_row p o.request before.memory.state o.payload ≡ Some memory
   pub next : Claims
   pub is_next : claims_of p memory.next None ≡ Some next
-  pub tests : EachHolds (respond_tests p o.request o.payload good.claims memory next)
+  pub tests : (respond_claims p o.request o.payload good.claims memory next).claim
 
-pub closing : {p : Protocol} {n : ℕ} {flat : List ℕ} {before : Picture} (good : BlockInvariant p n flat before) (o : Open) → before.transaction ≡ Some o → Closing good o
-closing {p} {n} {flat} {before} good o opened =
-    let m = before.memory.state in
-    let (memory, is_memory, test) = some_and (settled_row p o.request m o.payload) _ (respond_rule _ _ _ _ _ (rw opened at good.is_claims)) in
-    let (next, is_next, tests) = some_each (claims_of p memory.next None) (respond_tests p o.request o.payload good.claims memory) test in
+pub close : {p : Protocol} {n : ℕ} {flat : List ℕ} {before : Picture} (good : BlockInvariant p n flat before) (o : Open) → before.transaction ≡ Some o → Closing good o
+close {p} {n} {flat} {before} good o opened =
+    let (memory, is_memory, (next, is_next, tests)) = respond_rule p before.memory.state _ _ _ (rw opened at good.is_claims) in
     record { opened = opened; memory = memory; is_memory = is_memory; next = next; is_next = is_next; tests = tests }
 
 -- the requestor of a GetS or a GetM has a row for the data
 pub answered : {p : Protocol} {n : ℕ} {flat : List ℕ} {before : Picture} {good : BlockInvariant p n flat before} {o : Open} (found : Closing good o)
     → is_put_m o.request ≡ false
-    → (row : CacheCell) × (row_for p (held_by before o.core).state (arrival o.payload) ≡ Some row) × EachHolds (answer_tests p o.request good.claims found.next (owns good.owner o.core) row)
+    → (row : CacheCell) × (row_for p (held_by before o.core).state (arrival o.payload) ≡ Some row) × (answer_claims p o.request good.claims found.next (owns good.owner o.core) row).claim
 answered {p} {n} {flat} {before} {good} {o} found get =
-    let s = (held_by before o.core).state in
-    let ow = owns good.owner o.core in
-    let fit = rw (found.opened, eq-eqb o.core o.core refl) at (good.states o.core (good.requestor_in o found.opened)) in
-    some_each (row_for p s (arrival o.payload)) (answer_tests p o.request good.claims found.next ow)
-    (all_fitting-at _ _ _ _ (rw get at found.tests.1.1.1.1.1.0) s ow fit)
+    found.tests.1.1.1.1.1.0 get _ _ (rw (found.opened, eq-eqb o.core o.core refl) at (good.states o.core (good.requestor_in o found.opened)))
 
 written_flat : (a : MemAction) (v old flat : List ℕ) → (writes a ≡ true → v ≡ flat) → (writes a ≡ false → old ≡ flat) → written a v old ≡ flat
 written_flat mem_action.Write v old flat new stays = new refl
 written_flat _ v old flat new stays = stays refl
-
--- whether a core owns the block then, if the requestor does in the owner's place where none owned it
-owned_after : (before after : Bool) (c : ℕ) (owner : Option ℕ) → is_some owner ≡ before → (not before || after) ≡ true
-    → is_some (cond (not before && after) (Some c) owner) ≡ after
-owned_after before after c owner is h = grind arith
 
 -- the words that the operation leaves are those in flat memory after it
 module _ (flat : List ℕ) (log : List Item) (core block word value : ℕ) (came after : List ℕ) where
@@ -68,7 +51,7 @@ module _ (s : Situation) (block : ℕ) (o : Open) (did : Option Did) (new : Situ
   before = picture_of s block
 
   found : Closing g o
-  found = closing g o r.opened
+  found = close g o r.opened
 
   abbrev gained : Bool
   gained = gains g.claims found.next
@@ -81,18 +64,15 @@ module _ (s : Situation) (block : ℕ) (o : Open) (did : Option Did) (new : Situ
 
   -- memory is written with the block's words, or has them where it had
   memory_flat : (writes r.memory.act ≡ false → before.memory.value ≡ flat) → r.next.memory.value ≡ flat
-  memory_flat stays = r.memory.value ∙ written_flat r.memory.act o.value before.memory.value flat (λ w. g.carried o r.opened (rw (memory_is, w) at found.tests.1.1.1.0)) stays
+  memory_flat stays = r.memory.value ∙ written_flat r.memory.act o.value before.memory.value flat (λ w. g.carried o r.opened (found.tests.1.1.1.0 (rw memory_is w))) stays
 
   -- a core that is not answered keeps its line, which fits then, if the block's words change only at a GetM
   stays : (words : List ℕ) → (is_get_m o.request ≡ false → words ≡ flat) → (d : ℕ) → d < n
-      → when (not (owns g.owner d) || g.claims.owned) (λ _. stays_so p o.request g.claims found.next (held_by before d).state (owns g.owner d)) ≡ true
+      → (stays_so p o.request g.claims found.next (held_by before d).state (owns g.owner d)).claim
       → LineFits p found.next.shared (cond gained false (owns g.owner d)) None words r.next.memory.value (held_by before d)
   stays words same d d_in so =
-      let (fit, blind) = and_parts _ _ (when_at _ _ (owns_owned g.owner d g.claims.owned g.is_owned) so) in
-      let reads : keeps (held_by before d).state ≡ true → words ≡ flat = λ h. elim (cases_Bool (is_get_m o.request)) [
-        | inl m ↦ absurd (both_ways _ (not-true _ (rw m at blind)) h)
-        | inr m ↦ same m
-      ] in
+      let (fit, blind) = so (owns_owned g.owner d g.claims.owned g.is_owned) in
+      let reads : keeps (held_by before d).state ≡ true → words ≡ flat = λ h. grind (arith, same, blind, h) in
       still_fits (held_by before d) (line_of g d d_in) reads (λ is. memory_flat (λ w. is)) fit
 
   closed : (words : List ℕ) → (is_get_m o.request ≡ false → words ≡ flat)
@@ -104,14 +84,14 @@ module _ (s : Situation) (block : ℕ) (o : Open) (did : Option Did) (new : Situ
         claims = found.next;
         is_claims = simp r.closed (rw memory_is at found.is_next);
         owner = cond gained (Some o.core) g.owner;
-        owner_in = cond_both gained (Some o.core) g.owner (OwnerIn n) (λ is. core_in n o.core (g.requestor_in o r.opened)) (λ is. g.owner_in);
-        is_owned = owned_after g.claims.owned found.next.owned o.core g.owner g.is_owned found.tests.1.0;
+        owner_in = cond_both gained (Some o.core) g.owner (OwnerIn n) (λ is x owned. rw (← same_Some o.core x owned) (g.requestor_in o r.opened)) (λ is. g.owner_in);
+        is_owned = grind (arith, g.is_owned, found.tests.1.0);
         states = λ d d_in. simp r.closed (lines d d_in).fit;
         kept = λ d d_in. (lines d d_in).kept;
         clean = λ d d_in. (lines d d_in).clean;
         fresh = λ h.
-            let (get_s, from) = and_parts (not (is_get_m o.request)) _ (rw h at found.tests.1.1.1.1.0) in
-            memory_flat (λ w. g.fresh (rw (memory_is, w) at from)) ∙ sym (same (not-true _ get_s));
+            let (get_s, from) = found.tests.1.1.1.1.0 h in
+            memory_flat (λ w. g.fresh (from (rw memory_is w))) ∙ sym (same get_s);
         carried = λ x is_x. absurd (nothing x is_x);
         requestor_in = λ x is_x. absurd (nothing x is_x);
         sender_in = λ x is_x. absurd (nothing x is_x);
@@ -123,31 +103,31 @@ module _ (s : Situation) (block : ℕ) (o : Open) (did : Option Did) (new : Situ
       → BlockInvariant p n (flat_after flat did) r.next × IsLawful flat did
   respond_get get f =
       let c = o.core in
-      let (row, is_row, (fit, (clean, (stores, _)))) = answered found get in
+      let (row, is_row, (fit, (clean, stores))) = answered found get in
       let row_is : row ≡ f.fills.row = same_Some _ _ (sym is_row ∙ rw f.fills.arrives f.fills.is_row) in
       let words : (f.fills.after ≡ flat_after flat did) × IsLawful flat did × (fills_store f.fills.row.action ≡ false → flat_after flat did ≡ flat) =
       rw f.logged (filled_words flat s.log c o.block f.asking.word f.value o.value f.fills.after f.fills.row.action f.asking.op
-      (g.carried o r.opened (rw get at found.tests.0)) f.fills.fill f.fills.performed) in
-      let same : is_get_m o.request ≡ false → flat_after flat did ≡ flat = λ h. words.2 (same_is _ _ (rw row_is at stores) ∙ h) in
+      (g.carried o r.opened (found.tests.0 get)) f.fills.fill f.fills.performed) in
+      let same : is_get_m o.request ≡ false → flat_after flat did ≡ flat = λ h. words.2 (rw row_is at stores ∙ h) in
       let filled : LineFits p found.next.shared (owns (cond gained (Some c) g.owner) c) None (flat_after flat did) r.next.memory.value f.line = rw f.fills.held (record {
         fit = rw (of_choice (λ x. owns x c) gained (Some c) g.owner, eq-eqb c c refl) (rw row_is at fit);
         kept = λ h. rw words.0 refl;
-        clean = λ h. let (fresh, get_s) = and_parts g.claims.fresh _ (rw (row_is, h) at clean) in memory_flat (λ w. g.fresh fresh) ∙ sym (same (not-true _ get_s));
+        clean = λ h. let (fresh, get_s) = clean (rw row_is h) in memory_flat (λ w. g.fresh fresh) ∙ sym (same get_s);
         proper = IsProper-fill p (held_by before c).state f.fills.event f.fills.row.action f.fills.row.next f.asking.op f.fills.after f.fills.fill f.fills.is_row;
       }) in (
         closed (flat_after flat did) same (simp f.held (each_set before.caches c f.line nothing_held
             (λ d x. d < n → LineFits p found.next.shared (owns (cond gained (Some c) g.owner) d) None (flat_after flat did) r.next.memory.value x) in_row (λ c_in. filled)
             (λ d apart d_in. rw (of_choice (λ x. owns x d) gained (Some c) g.owner, ne_eqb d c apart) (stays (flat_after flat did) same d d_in
-            (all_fitting-at _ _ _ _ (rw get at found.tests.1.1.1.1.1.1.0) _ _ (rw (r.opened, ne_eqb d c apart) at (g.states d d_in))))))),
+            (found.tests.1.1.1.1.1.1.0 get _ _ (rw (r.opened, ne_eqb d c apart) at (g.states d d_in))))))),
         words.1,
       )
 
   -- a PutM's end changes no line
   respond_put : is_put_m o.request ≡ true → r.next.caches ≡ before.caches → BlockInvariant p n flat r.next
   respond_put put same =
-      let no_gain : gained ≡ false = not-true _ (rw put at found.tests.1.1.0) in
+      let no_gain : gained ≡ false = found.tests.1.1.0 put in
       closed flat (λ h. refl) (λ d d_in. simp same (rw no_gain (rw no_gain at (stays flat (λ h. refl) d d_in
-      (all_open-at _ _ (Some o) _ (rw put at found.tests.1.1.1.1.1.1.0) d _ _ (rw r.opened at (g.states d d_in)))))))
+      (of_open p _ (Some o) (stays_so p o.request g.claims found.next) (found.tests.1.1.1.1.1.1.1 put) d _ _ (rw r.opened at (g.states d d_in)))))))
 
   by_request : (q : Request) → o.request ≡ q → ArrivesFor q o p s.log before.caches r.next.caches did
       → BlockInvariant p n (flat_after flat did) r.next × IsLawful flat did

@@ -1,18 +1,12 @@
 -- A machine is well kept at reset, and stays so at each kind of move; so a core waits on the blocks in its queue, and on no others.
-use Rattle.std.proofs.Common.{◌≡◌, ◌≢◌, ℕ, ◌<◌, ◌++◌, List, [], length, Option, Some, None, refl, sym, ◌∙◌, arith, inl, inr, ◌∷◌}
-use Rattle.snoop_model.proofs.Common.{Access, after_issue, after_order, ArrivesFor, Ask, asked, awaited_request, CacheAction, CacheState, cases_Bool, cases_lt, Cell, Contains, Did, eq-eqb, FillsRequestor, get_or-set_same, get_or_past, held_at, held_by, if◌then◌else◌, is_some, IsSome, IsWellKept, IsWithin, Item, KeepsWell, length-set, Line, missed_request, MoveOn, ne_eqb, none-some, nothing_held, Op, Open, option_to_list, Order, Picture, picture_of, Protocol, queue_of, queues_after, Reply, Request, reset, Respond, Responds, same_Some, Situation, slice_get, slice_get-get_or, StandsFirst, StartsWell, state_of, Step, Takes, TakesRows, waiting_request, Waits, WaitsOnNone, with_line, ◌==◌}
+use Rattle.snoop_model.proofs.Common.{[], Access, after_issue, after_order, arith, ArrivesFor, Ask, asked, awaited_request, CacheAction, CacheState, Cell, Contains, Did, eq-eqb, eqb-true, get_or-set_other, get_or-set_same, get_or_from_slice_get, get_or_past, held_at, held_by, if◌then◌else◌, inl, inr, is_some, IsSome, IsWellKept, IsWithin, Item, KeepsWell, length, length-set, Line, List, missed_request, MoveOn, ne_eqb, None, none-some, nothing_held, Op, Open, Option, option_to_list, Order, Picture, picture_of, Protocol, queue_of, queues_after, refl, Reply, Request, reset, Respond, Responds, same_Some, Situation, slice_get, slice_get-get_or, slice_get_within, Some, StandsFirst, StartsWell, state_of, Step, sym, Takes, TakesRows, waiting_request, Waits, WaitsOnNone, with_line, ℕ, ◌++◌, ◌<◌, ◌==◌, ◌∙◌, ◌∷◌, ◌≡◌, ◌≢◌}
 use Rattle.snoop_rules.specs.declared.names.CacheAction.TheVariants as action
-use Rattle.snoop_model.proofs.Lists.Facts.{one_if, replicated}
-use Rattle.snoop_model.proofs.Lists.Writes.{each_set}
-use Rattle.snoop_model.proofs.Lists.QueueCounts.{times, issued_own, issued_others, issued_elsewhere, ordered_own, ordered_others, ordered_elsewhere, counted_in, in_counted}
-use Rattle.snoop_model.proofs.Tables.Rows.{issue-waits, issue-missed, asked_missed, hit_facts, drop_facts, order_facts, fill-waits}
-use Rattle.snoop_model.proofs.Tables.WaitingRows.{awaited-asked, awaited-ordered, awaited-filled, awaited-get}
-use Rattle.snoop_model.proofs.OneBlock.Facts.{by_core, each_held}
-use Rattle.snoop_model.proofs.OneBlock.OfBlocks.{changed, in_pictures, each_picture, shaped_after}
+use Rattle.snoop_model.proofs.Lists.{Facts.one_if, Facts.replicated, Writes.each_set, Writes.same_set, Writes.times_push, Writes.times_gone, Writes.times_left, Writes.times, Writes.counted_in, Writes.in_counted}
+use Rattle.snoop_model.proofs.Tables.{Rows.issue-waits, Rows.issue-missed, Rows.asked_missed, Rows.action_rule, Rows.order_rule, Rows.fill-waits, Rows.awaited-asked, RespondTests.data_rule, RespondTests.awaited-get, StateTests.some_of}
+use Rattle.snoop_model.proofs.OneBlock.{Facts.by_core, Facts.each_held, OfBlocks.changed, OfBlocks.in_pictures, OfBlocks.each_picture, OfBlocks.shaped_after}
 use Rattle.snoop_model.proofs.Lines.Answered.{by_request, filled_or_same, arrives_length, still_waiting}
 use Rattle.snoop_model.proofs.Invariant.Runs.{reset_line, reset_open, reset_shaped}
 use Rattle.snoop_model.specs.Pictures.InQueue.{IsInQueue}
-use Rattle.snoop_model.proofs.Tables.StateTests.{some_of}
 
 -- how often a core that holds the block in this state has it in its queue
 abbrev waits : CacheState → ℕ
@@ -68,7 +62,7 @@ module _ (s : Situation) (kept : IsWellKept s) (core block word : ℕ) (asking :
         here = each (λ k x. times block (queue_of queues k) ≡ waits x.state) (rw is own) (λ k apart. rw (others k apart) (kept.queued k block));
         elsewhere = elsewhere;
         awaited = each (IsAwaited (picture_of s block).transaction)
-            (record { awaits = rw is (λ q h. kept.awaits core block q (awaited-asked s.protocol line.state asking act next q row h)); operations = rw is missed })
+            (record { awaits = rw is (λ q h. kept.awaits core block q (awaited-asked s.protocol line.state asking act next row q h)); operations = rw is missed })
             (λ k apart. awaited_in s kept block k);
       }
 
@@ -81,17 +75,20 @@ module _ (s : Situation) (kept : IsWellKept s) (core block word : ℕ) (asking :
   kept_taken : (act : CacheAction) → Cell s.protocol line.state (asked asking) act next → Takes act next s.log core block word asking line held answer entry
       → KeepsOn s block (with_line (picture_of s block) core held) (queues_after act s.queues core block)
   kept_taken action.Hit row taken =
-      let facts = hit_facts s.protocol line.state (asked asking) next row in
-      still action.Hit row (rw taken.1.0.held refl) (rw taken.1.0.held refl) facts.1 facts.2
+      let (_, (missed, (waits, _))) = action_rule s.protocol line.state (asked asking) action.Hit next row in
+      still action.Hit row (rw taken.1.0.held refl) (rw taken.1.0.held refl) missed waits
   kept_taken action.Drop row taken =
-      let facts = drop_facts s.protocol line.state (asked asking) next row in
-      still action.Drop row (rw taken.0 refl) (rw taken.0 refl) facts.1 facts.2
+      let (_, (missed, (waits, _))) = action_rule s.protocol line.state (asked asking) action.Drop next row in
+      still action.Drop row (rw taken.0 refl) (rw taken.0 refl) missed waits
   kept_taken (action.Issue request) row taken =
       let (was, is) = issue-waits s.protocol line.state (asked asking) request next row in
+      let queue = queue_of s.queues core in
+      let own = get_or-set_same s.queues core (queue ++ block ∷ []) [] (rw kept.shaped.queues within.0) in
       let missed = (issue-missed s.protocol line.state (asked asking) request next row).1 in
-      let in_queues : core < length s.queues = rw kept.shaped.queues within.0 in
       one_line (action.Issue request) (after_issue s.queues core block) row (rw taken.0 refl) (length-set s.queues core _)
-      (rw (is, issued_own s.queues core block in_queues, kept.queued core block, was) refl) (issued_others s.queues core block) (issued_elsewhere s.queues core block)
+      (rw (is, own, times_push block block queue, eq-eqb block block refl, kept.queued core block, was) refl)
+      (λ k apart. get_or-set_other s.queues core k _ [] apart)
+      (λ k b apart. same_set (times b) s.queues core _ [] (rw (times_push b block queue, ne_eqb block b (λ e. apart (sym e))) (omega arith)) k)
       (rw taken.0 (λ access h. rw (missed, ← asked_missed word asking, h) refl))
   kept_taken _ row taken = absurd taken
 
@@ -99,15 +96,12 @@ module _ (s : Situation) (kept : IsWellKept s) (core block word : ℕ) (asking :
 module _ (p : Protocol) (core : ℕ) (request : Request) (old new : List Line) (taken : TakesRows p core request old new) where
   -- what holds of each line before and after its row, and of two that hold nothing, holds of each core's
   pub each_taken : (k : ℕ) (P : Line → Line → Type 0) → (k < length old → P (held_at old k) (held_at new k)) → P nothing_held nothing_held → P (held_at old k) (held_at new k)
-  each_taken k P row nothing = elim (cases_lt k (length old)) [
-    | inl inside ↦ row inside
-    | inr past ↦ (let same = taken.same_length in rw (get_or_past new k nothing_held (omega arith), get_or_past old k nothing_held past) nothing)
-  ]
+  each_taken k P row nothing = grind (arith, row, nothing, taken.same_length, get_or_past new k nothing_held, get_or_past old k nothing_held)
 
   row_waits : (k : ℕ) → k < length old → waiting_request (held_at new k).state ≡ (if k == core then None else waiting_request (held_at old k).state)
   row_waits k inside =
       let (row, is_row, moved) = taken.rows k inside in
-      rw moved (order_facts p (held_at old k).state k core request row.action row.next is_row).2
+      rw moved (order_rule p (held_at old k).state k core request row.action row.next is_row).1.1.0
 
   pub own_waits : core < length old → waiting_request (held_at new core).state ≡ None
   own_waits inside = row_waits core inside ∙ rw (eq-eqb core core refl) refl
@@ -122,7 +116,7 @@ arrives_waits closing p log old new did arrives k = elim (by_request closing.req
   | inl put ↦ rw put.1 refl
   | inr f ↦ elim (filled_or_same f k) [
     | inl e ↦ rw (e.1, f.fills.held, e.0) (fill-waits p (held_at old closing.core).state f.fills.event f.fills.row.action f.fills.row.next f.asking.op f.fills.fill f.fills.is_row)
-    | inr e ↦ rw e refl
+    | inr e ↦ rw e.0 refl
   ]
 ]
 
@@ -131,9 +125,10 @@ none_awaits : (s : Situation) (kept : IsWellKept s) (block : ℕ) (closing : Ope
     → (k : ℕ) (q : Request) → awaited_request (held_by r.next k).state ≡ Some q → ⊥
 none_awaits s kept block closing did t r k q h = elim (by_request closing.request r.requestor) [
   | inl put ↦ let was = rw put.1 at h in awaited-get (state_of s k block) (cc (was, (its was).1, put.0))
-  | inr f ↦
-      let same : closing.core ≡ k = elim (filled_or_same f k) [ inl e ↦ sym e.0 | inr e ↦ (its (rw e at h)).0 ] in
-      filled f (rw (← same) at h)
+  | inr f ↦ elim (filled_or_same f k) [
+    | inl e ↦ none-some q (sym (data_rule s.protocol (state_of s closing.core block) closing.payload f.fills.row (rw f.fills.arrives f.fills.is_row)).1 ∙ rw (e.1, f.fills.held) at h)
+    | inr e ↦ let was = rw e.0 at h in none-some q (rw (e.1 (sym (its was).0)) at was)
+  ]
 ]
   where
     -- what it awaited was of this transaction
@@ -142,14 +137,6 @@ none_awaits s kept block closing did t r k q h = elim (by_request closing.reques
         let had = kept.awaits k block q was in
         let same : had.0 ≡ closing = same_Some _ _ (sym had.1.0 ∙ r.opened) in
         rw (← same) (had.1.1, had.1.2)
-
-    -- and a line that is filled awaits no more
-    filled : (f : FillsRequestor closing s.protocol s.log (picture_of s block).caches r.next.caches did) → awaited_request (held_by r.next closing.core).state ≡ Some q → ⊥
-    filled f = each_held r.next.caches closing.core (λ x. awaited_request x.state ≡ Some q → ⊥)
-        (λ below. let inside : closing.core < length (picture_of s block).caches = rw (f.held, length-set) at below in
-        rw (f.held, get_or-set_same (picture_of s block).caches closing.core f.line nothing_held inside, f.fills.held)
-        (awaited-filled s.protocol (state_of s closing.core block) closing.payload f.fills.event f.fills.row.action f.fills.row.next q f.fills.arrives f.fills.is_row))
-        (λ h. cc)
 
 pub on_kept : (block : ℕ) (s t : Situation) (step : Step) (answer : Reply) → IsWellKept s → MoveOn block s step answer t → IsWellKept t
 on_kept block s t (Ask core on word asking) answer kept m = elim m.moves [
@@ -161,24 +148,21 @@ on_kept block s t (Order core) answer kept m =
     let before : Picture = picture_of s block in
     let next : Picture = m.orders.next in
     let taken = m.orders.taken in
-    let in_queues : core < length s.queues = rw kept.shaped.queues m.within.0 in
-    let in_row : core < length before.caches = rw (kept.shaped.row block m.within.1) m.within.0 in
     rw m.orders.after (well_after s kept block next (after_order s.queues core block) _ (record {
       within = m.within.1;
       as_wide = taken.same_length;
       as_many = length-set s.queues core _;
       here = by_core core (λ k. times block (queue_of (after_order s.queues core block) k) ≡ waits (held_by next k).state)
-          (rw (own_waits s.protocol core m.request before.caches next.caches taken in_row) (ordered_own s.queues core block in_queues))
-          (λ k apart. rw (ordered_others s.queues core block k apart, others_wait s.protocol core m.request before.caches next.caches taken k apart) (kept.queued k block));
-      elsewhere = ordered_elsewhere s.queues core block;
+          (rw (own_waits s.protocol core m.request before.caches next.caches taken (rw (kept.shaped.row block m.within.1) m.within.0), get_or-set_same s.queues core _ [] (rw kept.shaped.queues m.within.0)) (times_gone block (queue_of s.queues core)))
+          (λ k apart. rw (get_or-set_other s.queues core k _ [] apart, others_wait s.protocol core m.request before.caches next.caches taken k apart) (kept.queued k block));
+      elsewhere = λ k b apart. same_set (times b) s.queues core _ [] (times_left b block (queue_of s.queues core) apart) k;
       awaited = λ k. each_held next.caches k (IsAwaited next.transaction k)
           (λ below.
           let (row, is_row, moved) = taken.rows k (rw (← taken.same_length) below) in
-          let s_old = (held_by before k).state in
-          let facts = order_facts s.protocol s_old k core m.request row.action row.next is_row in
+          let (_, (missed, (_, awaits))) = order_rule s.protocol ((held_by before k).state) k core m.request row.action row.next is_row in
           rw moved (record {
-            awaits = λ q h. (let its = awaited-ordered s.protocol s_old k core m.request row.action row.next q is_row h in (_, (m.orders.opened, its.0, its.1)));
-            operations = λ access h. rw (← facts.1) (kept.operations k block access h);
+            awaits = λ q h. let (mine, same) = awaits q h in (_, (m.orders.opened, sym (eqb-true k core mine), same_Some _ _ same));
+            operations = λ access h. rw (← missed) (kept.operations k block access h);
           }))
           (record { awaits = λ q h. cc; operations = λ access h. cc });
     }))
@@ -223,32 +207,21 @@ AreQueued s = (core block : ℕ) → IsInQueue s core block
 
 module _ (s : Situation) (queued : AreQueued s) (core block : ℕ) where
   pub waits_queued : (request : Request) → Waits s core block request → Contains (queue_of s.queues core) block
-  waits_queued request waits =
-      let one : times block (queue_of s.queues core) ≡ 1 = rw waits at (queued core block) in
-      counted_in block (queue_of s.queues core) (omega arith)
+  waits_queued request waits = counted_in block (queue_of s.queues core) (grind (arith, waits, queued core block))
 
   pub queued_waits : Contains (queue_of s.queues core) block → (request : Request) × Waits s core block request
-  queued_waits there = elim (cases_Bool (is_some (waiting_request (state_of s core block)))) [
-    | inl is ↦ some_of _ is
-    | inr none ↦
-        let zero : times block (queue_of s.queues core) ≡ 0 = rw none at (queued core block) in
-        absurd (omega (arith, in_counted block (queue_of s.queues core) there))
-  ]
+  queued_waits there = some_of _ (grind (arith, queued core block, in_counted block (queue_of s.queues core) there))
 
 -- what is none of its values is none
 pub none_there : {A : Type 0} (found : Option A) → ((a : A) → found ≡ Some a → ⊥) → found ≡ None
 none_there None h = refl
 none_there (Some a) h = absurd (h a refl)
 
-first_in : (queue : List ℕ) (block : ℕ) → slice_get queue 0 ≡ Some block → Contains queue block
-first_in [] block e = cc
-first_in (x ∷ queue) block e = (0, omega arith, same_Some _ _ e)
-
 -- it waits on the block that stands first, and on none where none does
 pub first_waits : (s : Situation) → AreQueued s → (core block : ℕ) → StandsFirst s core block → (request : Request) × Waits s core block request
-first_waits s queued core block first = queued_waits s queued core block (first_in (queue_of s.queues core) block first)
+first_waits s queued core block first =
+    queued_waits s queued core block (0, slice_get_within (queue_of s.queues core) 0 block first, get_or_from_slice_get (queue_of s.queues core) 0 block block first)
 
 pub none_waits : (s : Situation) → AreQueued s → (core : ℕ) → slice_get (queue_of s.queues core) 0 ≡ None → WaitsOnNone s core
 none_waits s queued core none block request waits =
-    let there = waits_queued s queued core block request waits in
-    none-some _ (sym none ∙ slice_get-get_or (queue_of s.queues core) 0 0 (omega (arith, there.1)))
+    none-some _ (sym none ∙ slice_get-get_or (queue_of s.queues core) 0 0 (omega (arith, (waits_queued s queued core block request waits).1)))

@@ -1,7 +1,5 @@
 -- Runs whose steps were all taken.
-use Rattle.std.proofs.Common.{◌≡◌, List, [], ◌∷◌, ◌++◌, map, refl, ap}
-use Rattle.snoop_model.proofs.Common.{Err, FirstRunFrom, Goes, GoesFirst, map-append, Ok, Refused, Reply, reset, Result, Situation, Step, taken, TakenGoesOn}
-use Rattle.snoop_model.specs.declared.replies.Refused.TheVariants.{NoMemory}
+use Rattle.snoop_model.proofs.Common.{[], ap, Err, FirstRunFrom, Goes, GoesFirst, List, map, map-append, NoMemory, Ok, refl, Refused, Reply, reset, Result, Situation, Step, taken, TakenGoesOn, ◌++◌, ◌∷◌, ◌≡◌}
 use Rattle.snoop_model.specs.Runs.TakenOnce.{TakenOnce}
 use Rattle.snoop_model.proofs.Once.Runs.{run_asked_once}
 use Rattle.snoop_model.proofs.Runs.Along.{run_more, seen_along}

@@ -1,6 +1,5 @@
 -- What goes along a run, whatever is said of one step.
-use Rattle.std.proofs.Common.{List, [], ◌∷◌, ◌++◌, refl, ap, sym, subst}
-use Rattle.snoop_model.proofs.Common.{Refused, Reply, Result, RunBy, Step}
+use Rattle.snoop_model.proofs.Common.{[], ap, List, refl, Refused, Reply, Result, RunBy, Step, subst, sym, ◌++◌, ◌∷◌}
 
 module _ {A : Type 0} (One : A → Step → Result Reply Refused → A → Type 0) where
   -- what each step keeps, a run keeps

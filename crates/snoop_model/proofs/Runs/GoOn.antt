@@ -1,10 +1,8 @@
 -- From every situation of a run each step leads on, in one way: it is a move, or refused for a cause.
-use Rattle.std.proofs.Common.{◌≡◌, None, List, [], ◌∷◌, refl, ap, sym, ◌∙◌, rules}
-use Rattle.snoop_model.proofs.Common.{Err, Extent, FirstMove, FirstRunFrom, GoesFirst, Invariant, IsWellKept, KeepsWell, Ok, Protocol, Refused, Refuses, Reply, reset, Result, Situation, Step}
+use Rattle.snoop_model.proofs.Common.{[], ap, Err, Extent, FirstMove, FirstRunFrom, GoesFirst, Invariant, IsWellKept, KeepsWell, List, None, Ok, Protocol, refl, Refused, Refuses, Reply, reset, Result, rules, Situation, Step, sym, ◌∙◌, ◌∷◌, ◌≡◌}
 use Rattle.snoop_model.proofs.Invariant.Runs.{reset_invariant, move_keeps}
 use Rattle.snoop_model.proofs.Queues.Moves.{keeps_well, starts_well, AreQueued}
-use Rattle.snoop_model.proofs.Steps.Next.{next_of}
-use Rattle.snoop_model.proofs.Steps.GoesNext.{goes_is, goes_next}
+use Rattle.snoop_model.proofs.Steps.{Next.next_of, GoesNext.goes_is, GoesNext.goes_next}
 use Rattle.snoop_model.proofs.Runs.Along.{kept_along}
 
 -- a step that is not refused is a move, an Order's on the first block of its core's queue

@@ -1,11 +1,10 @@
 -- What the outcome of a step tells of the history.
-use Rattle.std.proofs.Common.{◌≡◌, ℕ, false, ◌++◌, List, [], ◌∷◌, Option, refl, ap, sym, subst, inl, inr}
-use Rattle.snoop_model.proofs.Common.{append-nil, Ask, asked, CacheAction, CacheState, Cell, Err, FirstMove, Goes, held_by, IfSome, Invariant, Item, Line, Ok, Op, option_to_list, Order, picture_of, Protocol, Refused, Reply, Respond, Result, RunBy, Situation, Step, Takes}
+use Rattle.snoop_model.proofs.Common.{[], ap, append-nil, Ask, asked, CacheAction, CacheState, Cell, Err, false, FirstMove, Goes, held_by, IfSome, inl, inr, Invariant, Item, Line, List, Ok, Op, Option, option_to_list, Order, picture_of, Protocol, refl, Refused, Reply, Respond, Result, RunBy, same_Some, Situation, Step, subst, sym, Takes, ℕ, ◌++◌, ◌∙◌, ◌∷◌, ◌≡◌}
 use Rattle.snoop_trace.specs.declared.step.Op.TheVariants as op
 use Rattle.snoop_rules.specs.declared.names.CacheAction.TheVariants as action
 use Rattle.snoop_model.specs.Moves.Replies.{Tells}
 use Rattle.snoop_model.proofs.Lines.Answered.{by_request}
-use Rattle.snoop_model.proofs.Tables.Rows.{issue_serves, drop_evicts}
+use Rattle.snoop_model.proofs.Tables.Rows.{action_rule, serving-asked, drop_evicts}
 use Rattle.snoop_model.proofs.Invariant.Runs.{refusal_same, goes_keeps}
 
 -- what an Ask's row adds is what its reply tells
@@ -15,7 +14,7 @@ module _ (p : Protocol) (next : CacheState) (log : List Item) (core block word :
   taken_tells op.Load action.Hit row t = rw (t.1.1, t.1.2) refl
   taken_tells (op.Store v) action.Hit row t = rw (t.1.1, t.1.2, t.1.0.performed.0) refl
   taken_tells op.Evict action.Hit row t = absurd t.1.0.performed
-  taken_tells asking (action.Issue q) row t = rw (t.1, t.2) (issue_serves p old.state asking q next row, append-nil log)
+  taken_tells asking (action.Issue q) row t = rw (t.1, t.2) (same_Some _ _ ((action_rule p old.state (asked asking) (action.Issue q) next row).1.1.1 ∙ serving-asked asking), append-nil log)
   taken_tells op.Evict action.Drop row t = rw (t.1, t.2) (append-nil log)
   taken_tells asking action.Drop row t = let evicts = drop_evicts p old.state asking next row in cc
   taken_tells asking _ row t = absurd t

@@ -1,6 +1,5 @@
 -- Steps leave the protocol and the shape.
-use Rattle.std.proofs.Common.{◌≡◌, ℕ, ◌++◌, List, Option, None, Some, refl, sym, ◌∙◌, inl, inr, append-nil}
-use Rattle.snoop_model.proofs.Common.{Ask, came_of, FirstMove, Goes, Item, MoveOn, option_to_list, Order, Refused, Reply, Respond, Result, RunBy, Situation, Step}
+use Rattle.snoop_model.proofs.Common.{append-nil, Ask, came_of, FirstMove, Goes, inl, inr, Item, List, MoveOn, None, Option, option_to_list, Order, refl, Refused, Reply, Respond, Result, RunBy, Situation, Some, Step, sym, ℕ, ◌++◌, ◌∙◌, ◌≡◌}
 use Rattle.snoop_history.specs.declared.items.Item.TheVariants as item
 use Rattle.snoop_model.proofs.Invariant.Runs.{goes_kept}
 use Rattle.snoop_model.proofs.Runs.Along.{kept_along}

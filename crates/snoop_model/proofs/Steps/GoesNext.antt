@@ -1,25 +1,14 @@
 -- Each step that goes comes to what is computed of it, and from every situation of a run each step goes so.
-use Rattle.std.proofs.Common.{◌≡◌, ℕ, zero, suc, ◌<◌, ◌≤◌, ◌&&◌, Bool, true, false, List, length, Option, Some, None, refl, ◌⊎◌, inl, inr, ap, ◌∙◌, arith, not}
 use Rattle.std.specs.Bool.{Decides}
-use Rattle.std.proofs.Math.Dec.{ltb}
-use Rattle.std.proofs.lemmas.Bool.Decides.{Decides-and, Decides-ltb}
-use Rattle.std.proofs.lemmas.List.FromFn.{fill_by_all, get_or-map-range_with_len, length-map-range_with_len}
-use Rattle.snoop_model.proofs.Common.{Access, and_cases, and_from, and_left, and_parts, and_right, arrival, arrival_at_memory, ArrivesFor, Ask, asked, both_ways, CacheAction, CacheCell, CacheEvent, CacheState, CanOrder, cases_Bool, cases_eq, cases_lt, Cell, Did, Err, Extent, false_from_ne_true, FillsRequestor, FirstMove, flat_words, GoesFirst, HasWord, held_at, held_by, Hits, if◌then◌else◌, Invariant, is_load, is_put_m, is_some, IsOnlySender, IsProper, IsWithin, Item, le-ltb, Line, lt-ltb, ltb-false, ltb-true, MemAction, MemCell, MemEvent, MemState, missed_request, nothing_held, Ok, Op, Open, option_map, option_map_or, Order, Orders, Payload, Performs, Picture, picture_of, Protocol, queue_of, Refused, Refuses, Reply, Request, request_for, Respond, Responds, Result, seen_by, Situation, slice_get, StandsFirst, state_of, Step, Takes, takes_payload, unwrap_or, word_places, written, zero_words}
+use Rattle.snoop_model.proofs.Lists.Facts.{option_both}
+use Rattle.snoop_model.proofs.Common.{ap, arith, arrival, arrival_at_memory, ArrivesFor, Ask, asked, both_ways, BusTaken, CacheAction, CacheCell, CacheState, CanOrder, cases_Bool, cases_eq, cases_lt, Cell, cell_of, cond_both, Decides-and, Decides-ltb, Did, Err, Extent, false, false_from_ne_true, fill_by_all, FillsRequestor, FirstMove, free_picture, get_or-map-range_with_len, GoesFirst, HasWord, held_at, held_by, Hits, if◌then◌else◌, inl, inr, Invariant, is_load, is_put_m, is_some, IsOnlySender, IsProper, IsWithin, Item, le-ltb, length, length-map-range_with_len, Line, List, lt-ltb, ltb, ltb-false, ltb-true, MemLine, NoBlock, NoCore, None, none-some, nothing_held, NothingWaiting, NoTransaction, Ok, Op, Open, Option, option_and_then_some, option_map_or, Order, Orders, Payload, Performs, Picture, picture_of, Protocol, PutM, queue_of, refl, Refused, Refuses, Reply, Request, request_for, Respond, Responds, Result, seen_by, Situation, slice_get, Some, Stalled, state_of, Step, suc, sym, Takes, takes_payload, true, unwrap_or, waiting_request, word_places, written, zero, zero_words, ℕ, ◌&&◌, ◌<◌, ◌∙◌, ◌≡◌, ◌≤◌, ◌⊎◌}
 use Rattle.snoop_trace.specs.declared.step.Op.TheVariants as op
 use Rattle.snoop_rules.specs.declared.names.CacheAction.TheVariants as action
-use Rattle.snoop_rules.specs.declared.names.Request.TheVariants as request
-use Rattle.snoop_model.specs.declared.replies.Refused.TheVariants.{NoCore, NoBlock, Stalled, NothingWaiting, BusTaken, NoTransaction}
 use Rattle.snoop_model.proofs.Lines.TheSender.{IsBelow, sends_below}
-use Rattle.snoop_model.proofs.Tables.SentBy.{payload_from, sends_is, sends_row}
-use Rattle.snoop_model.proofs.Tables.RespondTests.{SettlesIf, memory_row_for, row_for}
-use Rattle.snoop_model.proofs.OneBlock.OfBlocks.{same_picture, same_memory}
-use Rattle.snoop_model.proofs.Steps.Next.{Next, value_of, words_after, has_word, after_ask, by_row, next_asked, sender_below, line_after, next_picture, next_ordered, settled, filled, brought, next_closed, next_of, next_first}
-use Rattle.snoop_rules.proofs.Every.{all_protocols, all_protocols-at, all_states, all_states-at, all_payloads, all_payloads-at}
-use Rattle.snoop_model.proofs.Tables.StateTests.{given, given_at, some_of}
-use Rattle.snoop_model.proofs.Tables.Rows.{is_evict, asked_answers, hit_keeps}
-use Rattle.snoop_model.proofs.Tables.AskTests.{is_idle_evict}
+use Rattle.snoop_model.proofs.Tables.{SentBy.payload_from, SentBy.sends_is, SentBy.sends_row, RespondTests.data_rule, RespondTests.fills, RespondTests.settled_so, RespondTests.row_for, StateTests.some_of, Rows.is_evict, Rows.action_rule, Rows.serving-asked, Rows.hit_keeps, AskTests.ask_rule, AskTests.is_idle_evict}
+use Rattle.snoop_model.proofs.OneBlock.{RespondStep.close, RespondStep.answered}
+use Rattle.snoop_model.proofs.Steps.Next.{Next, value_of, words_after, has_word, after_ask, by_row, next_asked, sender_below, line_after, next_picture, next_ordered, filled, brought, next_closed, next_of, next_first}
 use Rattle.snoop_model.proofs.Invariant.Coherence.{orders_follow_sender_table, finds_rows, idle_evict, waits_within}
-use Rattle.snoop_model.proofs.OneBlock.Possible.{ask_possible, respond_possible}
 use Rattle.snoop_model.proofs.Queues.Moves.{none_there, AreQueued, first_waits, none_waits}
 
 -- an operation does one thing
@@ -44,12 +33,8 @@ module _ (s : Situation) (core block word : ℕ) (asking : Op) where
   takes_is action.Drop next held answer entry t = rw (t.0, t.1, t.2) refl
   takes_is _ next held answer entry t = absurd t
 
-  in_place : block < s.shape.blocks → HasWord s.shape word asking → (ltb block s.shape.blocks && has_word s.shape word asking) ≡ true
-  in_place within has = and_from _ _ (lt-ltb block s.shape.blocks within) ((word_decides s.shape word asking).1 has)
-
-  no_place : (s.shape.blocks ≤ block) ⊎ (¬ HasWord s.shape word asking) → (ltb block s.shape.blocks && has_word s.shape word asking) ≡ false
-  no_place (inl past) = and_left _ _ (le-ltb block s.shape.blocks past)
-  no_place (inr none) = and_right _ _ (false_from_ne_true _ (λ e. none ((word_decides s.shape word asking).0 e)))
+  place : Decides (ltb block s.shape.blocks && has_word s.shape word asking) ((block < s.shape.blocks) × HasWord s.shape word asking)
+  place = Decides-and _ _ (Decides-ltb block s.shape.blocks) (word_decides s.shape word asking)
 
 -- An Order.
 module _ (p : Protocol) (before : Picture) (core : ℕ) (q : Request) where
@@ -68,15 +53,9 @@ module _ (p : Protocol) (before : Picture) (core : ℕ) (q : Request) where
       lower none (Some k) below sends = elim (cases_eq k n) [ inl e ↦ (let clash = rw (← e, sends) at none in cc) | inr ne ↦ omega arith ]
 
 -- A Respond.
-pub settled_is : (takes : Bool) (p : Protocol) (found : Option MemEvent) (m : MemState) (act : MemAction) (next : MemState)
-    → SettlesIf takes p found m act next → (act, next) ≡ settled takes p found m
-settled_is true p None m act next h = absurd h
-settled_is true p (Some e) m act next h = rw h refl
-settled_is false p found m act next h = rw (h.0, h.1) refl
-
 module _ (closing : Open) (p : Protocol) (log : List Item) (old new : List Line) (did : Option Did) where
   arrives_is : (q : Request) → ArrivesFor q closing p log old new did → (new, did) ≡ brought closing p log old q
-  arrives_is request.PutM a = rw (a.0, a.1) refl
+  arrives_is PutM a = rw (a.0, a.1) refl
   arrives_is _ f =
       let does = performs_is f.asking.word f.asking.op closing.value f.value f.fills.after f.fills.performed in
       rw (f.held, f.logged, f.fills.held, f.fills.waited, f.fills.arrives, f.fills.is_row, does.0, does.1) refl
@@ -85,7 +64,7 @@ module _ (closing : Open) (p : Protocol) (log : List Item) (old new : List Line)
 move_is : (s : Situation) (step : Step) (answer : Reply) (new : Situation) → FirstMove s step answer new
     → ◌≡◌ {A = Next} (Ok answer, new) (next_of s step)
 move_is s (Ask core on word asking) answer new (block, (first, m)) =
-    rw (m.on_block, lt-ltb core s.shape.cores m.within.0, in_place s core block word asking m.within.1 m.has_word) (elim m.moves [
+    rw (m.on_block, lt-ltb core s.shape.cores m.within.0, (place s core block word asking).1 (m.within.1, m.has_word)) (elim m.moves [
       | inl a ↦ rw (a.2, a.3, a.1, a.0) refl
       | inr a ↦ rw (a.after, a.is_row) (takes_is s core block word asking a.row.action a.row.next a.held answer a.entry a.taken)
     ])
@@ -94,30 +73,35 @@ move_is s (Order core) answer new (block, (first, m)) =
     let q = m.request in
     let o = m.orders in
     let before : Picture = picture_of s block in
-    let sends = sends_is p before core q o.from o.payload o.sent.sends in
     let from = sender_is p before core q (length before.caches) (omega arith) o.from o.payload o.sent (sends_below p before core q _ _ o.sent.sends) in
     let caches = fill_by_all (line_after p before core q) o.next.caches (length before.caches) nothing_held o.taken.same_length
     (λ k below. (let row = o.taken.rows k below in row.2 ∙ rw row.1 refl)) in
-    let next : o.next ≡ next_picture p before core q block =
-    same_picture caches (same_memory (o.memory.2 ∙ rw o.memory.1 refl) o.value) (o.opened ∙ rw (from, sends) refl) in
+    let after = next_picture p before core q block in
+    let state : o.next.memory.state ≡ after.memory.state = o.memory.2 ∙ rw o.memory.1 refl in
+    let opened : o.next.transaction ≡ after.transaction = o.opened ∙ rw (from, (sends_is p before core q o.from o.payload o.sent.sends)) refl in
+    let next : o.next ≡ after = λ i. record { caches = caches i; memory = record { state = state i; value = o.value i }; transaction = opened i } in
     rw (m.answered, lt-ltb core s.shape.cores m.within.0, first, o.ready.1, o.ready.0, o.after, next) refl
 move_is s (Respond on) answer new (block, (first, m)) =
     let r = m.responds in
     let o = m.closing in
     let before : Picture = picture_of s block in
     let caches = arrives_is o s.protocol s.log before.caches r.next.caches m.did o.request r.requestor in
-    let memory = settled_is _ s.protocol (arrival_at_memory o.payload) before.memory.state r.memory.act r.next.memory.state r.memory.settled in
-    let next = same_picture (ap (λ x. x.0) caches) (same_memory (ap (λ x. x.1) memory)
-    (r.memory.value ∙ ap (λ x. written x.0 o.value before.memory.value) memory)) r.closed in
-    rw (m.on_block, m.answered, lt-ltb block s.shape.blocks m.within, r.opened, r.after, next, ap (λ x. x.1) caches) refl
+    let memory = (settled_so (takes_payload o.request before.memory.state) s.protocol (arrival_at_memory o.payload) before.memory.state r.memory.act r.next.memory.state).0 r.memory.settled in
+    let line : MemLine = record { state = r.next.memory.state; value = written r.memory.act o.value before.memory.value } in
+    let next : r.next ≡ free_picture (brought o s.protocol s.log before.caches o.request).0 line =
+    λ i. record { caches = (caches i).0; memory = record { state = r.next.memory.state; value = r.memory.value i }; transaction = r.closed i } in
+    rw (m.on_block, m.answered, lt-ltb block s.shape.blocks m.within, r.opened, r.after, memory, next, ap (λ x. x.1) caches) refl
 
 -- and so does a refusal
 module _ (s : Situation) (queued : AreQueued s) where
   refused_is : (step : Step) (cause : Refused) → Refuses s step cause → ◌≡◌ {A = Next} (Err cause, s) (next_of s step)
   refused_is (Ask core block word asking) NoCore h = rw (le-ltb core s.shape.cores h) refl
-  refused_is (Ask core block word asking) NoBlock h = rw (lt-ltb core s.shape.cores h.0, no_place s core block word asking h.1) refl
+  refused_is (Ask core block word asking) NoBlock h =
+      let there = (place s core block word asking).0 in
+      let nowhere = false_from_ne_true _ (λ e. elim h.1 [ inl past ↦ let within = (there e).0 in absurd (omega arith) | inr none ↦ none (there e).1 ]) in
+      rw (lt-ltb core s.shape.cores h.0, nowhere) refl
   refused_is (Ask core block word asking) (Stalled held) h =
-      rw (lt-ltb core s.shape.cores h.0.0, in_place s core block word asking h.0.1 h.3, h.1, h.2.1) refl
+      rw (lt-ltb core s.shape.cores h.0.0, (place s core block word asking).1 (h.0.1, h.3), h.1, h.2.1) refl
   refused_is (Order core) NoCore h = rw (le-ltb core s.shape.cores h) refl
   refused_is (Order core) NothingWaiting h =
       let empty = none_there (slice_get (queue_of s.queues core) 0) (λ block is. let waits = first_waits s queued core block is in h.1 block waits.0 waits.1) in
@@ -136,7 +120,7 @@ some_kept None h = cc
 some_kept (Some v) h = refl
 
 -- a load or a store performs its operation
-performs : (asking : Op) → not (is_evict (asked asking)) ≡ true → (word : ℕ) (ws : List ℕ)
+performs : (asking : Op) → is_evict (asked asking) ≡ false → (word : ℕ) (ws : List ℕ)
     → Performs word asking ws (value_of word asking ws) (words_after word asking ws)
 performs op.Evict asks word ws = cc
 performs _ asks word ws = (refl, refl)
@@ -167,7 +151,7 @@ module _ (s : Situation) (core block word : ℕ) (asking : Op) (within : IsWithi
   goes_by action.Stall next row proper = ((within, refl, (next, row), has), refl)
   goes_by (action.Issue r) next row proper = taken (action.Issue r) next row _ _ None (refl, refl, refl)
   goes_by action.Drop next row proper = taken action.Drop next row _ _ None (refl, refl, refl)
-  goes_by _ next row proper = let clash = asked_answers s.protocol (state_of s core block) asking _ next row in cc
+  goes_by _ next row proper = absurd (none-some _ (sym (action_rule s.protocol (state_of s core block) (asked asking) _ next row).0 ∙ serving-asked asking))
 
   goes_within : Invariant s → (let n = next_asked s core block word asking in GoesFirst s (Ask core block word asking) n.0 n.1)
   goes_within g =
@@ -178,7 +162,7 @@ module _ (s : Situation) (core block word : ℕ) (asking : Op) (within : IsWithi
             rw (is.1, is.0) (block, (tt, record { on_block = refl; within = within; moves = inl (refl, is.1, refl, refl); has_word = tt }))
         | inr busy ↦
             let good = g.blocks block within.1 in
-            let row = ask_possible s.protocol s.shape.cores (flat_words s.log block) (picture_of s block) core asking good within.0 busy in
+            let row = (ask_rule _ _ _ _ _ asking (good.states core within.0)).0 busy in
             rw row.1 (goes_by row.0.action row.0.next row.1 (good.proper core within.0))
       ]
 
@@ -209,123 +193,86 @@ module _ (s : Situation) (g : Invariant s) where
         after = refl;
       }
 
--- data performs the operation that has missed
-abbrev fills : Option Request → CacheAction → Bool
-fills (Some request.GetS) action.FillLoad = true
-fills (Some request.GetM) action.FillStore = true
-fills _ _ = false
-
-data_fills : all_protocols (λ p. all_states (λ s. all_payloads (λ message. given (row_for p s (arrival message)) (λ r. fills (missed_request s) r.action)))) ≡ true
-unfolding all_protocols all_states all_payloads given
-data_fills = refl
-
 -- an action that fills for the operation's request is the fill for the operation, which is no eviction
 fill_is : (asking : Op) (act : CacheAction) → fills (Some (request_for asking)) act ≡ true
-    → (act ≡ (if is_load asking then action.FillLoad else action.FillStore)) × (not (is_evict (asked asking)) ≡ true)
+    → (act ≡ (if is_load asking then action.FillLoad else action.FillStore)) × (is_evict (asked asking) ≡ false)
 fill_is op.Load action.FillLoad h = (refl, refl)
 fill_is (op.Store v) action.FillStore h = (refl, refl)
 fill_is _ _ h = cc
 
 -- what the response brings to the caches
 module _ (p : Protocol) (log : List Item) (old : List Line) (o : Open) where
-  fills_as : (found : Option CacheEvent) → arrival o.payload ≡ found → (row : CacheCell) → row_for p (held_at old o.core).state found ≡ Some row → IsProper (held_at old o.core)
-      → (let n = filled o p log old (held_at old o.core).waiting in FillsRequestor o p log old n.0 n.1)
-  fills_as None arrives row is proper = cc
-  fills_as (Some e) arrives row is proper =
-      let row_of : row_for p (held_at old o.core).state (arrival o.payload) ≡ Some row = rw arrives is in
-      by_waiting (held_at old o.core).waiting refl (rw proper.waiting (given_at _ _ row row_of (all_payloads-at _ (all_states-at _ (all_protocols-at _ data_fills p) _) o.payload)))
-    where
-      by_waiting : (waiting : Option Access) → (held_at old o.core).waiting ≡ waiting → fills (option_map (λ access. request_for access.op) waiting) row.action ≡ true
-          → (let n = filled o p log old waiting in FillsRequestor o p log old n.0 n.1)
-      by_waiting None waits fit = cc
-      by_waiting (Some access) waits fit =
-          let so = fill_is access.op row.action fit in
-          rw (arrives, is) (record {
-            line = _;
-            asking = access;
-            value = _;
-            fills = record {
-              event = e;
-              row = row;
-              after = _;
-              arrives = arrives;
-              is_row = is;
-              waited = waits;
-              fill = so.0;
-              performed = performs access.op so.1 access.word o.value;
-              held = refl;
-            };
-            held = refl;
-            logged = refl;
-          })
+  abbrev asker : Line
+  asker = held_at old o.core
 
-  brings : (q : Request) → (is_put_m q ≡ false → (r : CacheCell) × (row_for p (held_at old o.core).state (arrival o.payload) ≡ Some r))
-      → IsProper (held_at old o.core) → (let n = brought o p log old q in ArrivesFor q o p log old n.0 n.1)
-  brings request.PutM row proper = (refl, refl)
-  brings _ row proper = fills_as (arrival o.payload) refl (row refl).0 (row refl).1 proper
+  fills_requestor : (row : CacheCell) → row_for p asker.state (arrival o.payload) ≡ Some row → IsProper asker → (let n = filled o p log old asker.waiting in FillsRequestor o p log old n.0 n.1)
+  fills_requestor row found proper =
+      let fit = (data_rule p asker.state o.payload row found).0 in
+      option_and_then_some (cell_of p asker.state) (arrival o.payload) row found (λ e arrives is_row.
+      option_both asker.waiting (λ waiting. let n = filled o p log old waiting in FillsRequestor o p log old n.0 n.1)
+      (λ none. let clash = rw (← proper.waiting, none) at fit in cc)
+      (λ access waits.
+      let so = fill_is access.op row.action (rw (← proper.waiting, waits) at fit) in
+      let performed = performs access.op so.1 access.word o.value in
+      rw found (record {
+        line = _;
+        asking = access;
+        value = _;
+        fills = record { event = e; row = row; after = _; arrives = arrives; is_row = is_row; waited = waits; fill = so.0; performed = performed; held = refl };
+        held = refl;
+        logged = refl;
+      })))
 
--- what the response brings to memory
-remembers : (takes : Bool) (p : Protocol) (found : Option MemEvent) (m : MemState) → (takes ≡ true → (r : MemCell) × (memory_row_for p m found ≡ Some r))
-    → SettlesIf takes p found m (settled takes p found m).0 (settled takes p found m).1
-remembers false p found m row = (refl, refl)
-remembers true p None m row = let none = (row refl).1 in cc
-remembers true p (Some e) m row = rw (row refl).1 refl
+  brings : (q : Request) → (is_put_m q ≡ false → (r : CacheCell) × (row_for p asker.state (arrival o.payload) ≡ Some r)) → IsProper asker
+      → (let n = brought o p log old q in ArrivesFor q o p log old n.0 n.1)
+  brings PutM row proper = (refl, refl)
+  brings _ row proper = let found = row refl in fills_requestor found.0 found.1 proper
 
 -- each step goes as it is computed
 module _ (s : Situation) (g : Invariant s) where
-  pub goes_next : AreQueued s → (step : Step) → GoesFirst s step (next_of s step).0 (next_of s step).1
-  goes_next queued (Ask core block word asking) = elim (cases_lt core s.shape.cores) [
-    | inr past ↦ rw (le-ltb core s.shape.cores past) (past, refl)
-    | inl in_cores ↦ elim (cases_Bool (ltb block s.shape.blocks && has_word s.shape word asking)) [
-      | inl there ↦
-          let parts = and_parts _ _ there in
-          rw (lt-ltb core s.shape.cores in_cores, there) (goes_within s core block word asking (in_cores, ltb-true block s.shape.blocks parts.0)
-          ((word_decides s.shape word asking).0 parts.1) g)
-      | inr none ↦
-          let nowhere : (s.shape.blocks ≤ block) ⊎ (¬ HasWord s.shape word asking) = elim (and_cases _ _ none) [
-            | inl past ↦ inl (ltb-false block s.shape.blocks past)
-            | inr wordless ↦ inr (λ has. both_ways _ wordless ((word_decides s.shape word asking).1 has))
-          ] in
-          rw (lt-ltb core s.shape.cores in_cores, none) ((in_cores, nowhere), refl)
-    ]
-  ]
-  goes_next queued (Order core) = elim (cases_lt core s.shape.cores) [
-    | inr past ↦ rw (le-ltb core s.shape.cores past) (past, refl)
-    | inl in_cores ↦ rw (lt-ltb core s.shape.cores in_cores) (first in_cores (slice_get (queue_of s.queues core) 0) refl)
-  ]
-    where
-      free_or_not : (block : ℕ) → StandsFirst s core block → core < s.shape.cores → (found : Option Open) → (picture_of s block).transaction ≡ found
-          → (let n = next_first s core (Some block) in GoesFirst s (Order core) n.0 n.1)
-      free_or_not block is in_cores (Some o) busy = rw busy ((in_cores, is, rw busy refl), refl)
-      free_or_not block is in_cores None free =
-          let waits = first_waits s queued core block is in
-          let within = waits_within s g core block waits.0 waits.1 in
-          rw (free, waits.1) (block, (is, record { request = waits.0; within = within; answered = refl; orders = order_made s g core block waits.0 (waits.1, free) }))
+  closes : (block : ℕ) → block < s.shape.blocks → (o : Open) → (picture_of s block).transaction ≡ Some o → (let n = next_closed s block o in GoesFirst s (Respond block) n.0 n.1)
+  closes block within o opened =
+      let before : Picture = picture_of s block in
+      let good = g.blocks block within in
+      let found = close good o opened in
+      let settles = (settled_so (takes_payload o.request before.memory.state) s.protocol (arrival_at_memory o.payload) before.memory.state found.memory.action found.memory.next).1 found.is_memory in
+      let responds : Responds s block o _ (next_closed s block o).1 = record {
+        opened = opened;
+        next = _;
+        requestor = brings s.protocol s.log before.caches o o.request (λ get. let (row, is_row, _) = answered found get in (row, is_row)) (good.proper o.core (good.requestor_in o opened));
+        memory = rw found.is_memory (record { act = found.memory.action; settled = settles; value = refl });
+        closed = refl;
+        after = refl;
+      } in
+      (block, (tt, record { closing = o; did = _; on_block = refl; within = within; answered = refl; responds = responds }))
 
-      first : core < s.shape.cores → (found : Option ℕ) → slice_get (queue_of s.queues core) 0 ≡ found
-          → (let n = next_first s core found in GoesFirst s (Order core) n.0 n.1)
-      first in_cores None none = ((in_cores, none_waits s queued core none), refl)
-      first in_cores (Some block) is = free_or_not block is in_cores (picture_of s block).transaction refl
-  goes_next queued (Respond block) = elim (cases_lt block s.shape.blocks) [
-    | inr past ↦ rw (le-ltb block s.shape.blocks past) (past, refl)
-    | inl within ↦ rw (lt-ltb block s.shape.blocks within) (closes within (picture_of s block).transaction refl)
-  ]
-    where
-      closes : block < s.shape.blocks → (found : Option Open) → (picture_of s block).transaction ≡ found
-          → (let n = option_map_or (next_closed s block) found (Err NoTransaction, s) in GoesFirst s (Respond block) n.0 n.1)
-      closes within None none = ((within, none), refl)
-      closes within (Some o) opened =
-          let before : Picture = picture_of s block in
-          let good = g.blocks block within in
-          let rows = respond_possible s.protocol s.shape.cores (flat_words s.log block) before o good opened in
-          let requestor = brings s.protocol s.log before.caches o o.request rows.requestor (good.proper o.core (good.requestor_in o opened)) in
-          let settles = remembers (takes_payload o.request before.memory.state) s.protocol (arrival_at_memory o.payload) before.memory.state rows.memory in
-          let responds : Responds s block o _ (next_closed s block o).1 = record {
-            opened = opened;
-            next = _;
-            requestor = requestor;
-            memory = record { act = _; settled = settles; value = refl };
-            closed = refl;
-            after = refl;
-          } in
-          (block, (tt, record { closing = o; did = _; on_block = refl; within = within; answered = refl; responds = responds }))
+  pub goes_next : AreQueued s → (step : Step) → GoesFirst s step (next_of s step).0 (next_of s step).1
+  goes_next queued (Ask core block word asking) =
+      let Goes = λ (n : Next). GoesFirst s (Ask core block word asking) n.0 n.1 in
+      cond_both (ltb core s.shape.cores) _ _ Goes (λ below.
+      let in_cores = ltb-true core s.shape.cores below in
+      cond_both (ltb block s.shape.blocks && has_word s.shape word asking) _ _ Goes (λ there.
+      let (within, has) = (place s core block word asking).0 there in
+      goes_within s core block word asking (in_cores, within) has g) (λ nowhere.
+      let none : (s.shape.blocks ≤ block) ⊎ (¬ HasWord s.shape word asking) = elim (cases_lt block s.shape.blocks) [
+        | inl within ↦ inr (λ has. both_ways _ nowhere ((place s core block word asking).1 (within, has)))
+        | inr past ↦ inl past
+      ] in
+      ((in_cores, none), refl))) (λ past. (ltb-false core s.shape.cores past, refl))
+  goes_next queued (Order core) =
+      let Goes = λ (n : Next). GoesFirst s (Order core) n.0 n.1 in
+      cond_both (ltb core s.shape.cores) _ _ Goes (λ below.
+      let in_cores = ltb-true core s.shape.cores below in
+      option_both (slice_get (queue_of s.queues core) 0) (λ first. Goes (next_first s core first)) (λ none. ((in_cores, none_waits s queued core none), refl)) (λ block is.
+      let waits = first_waits s queued core block is in
+      let within = waits_within s g core block waits.0 waits.1 in
+      let ordered = option_map_or (next_ordered s core block) (waiting_request (state_of s core block)) (Err NothingWaiting, s) in
+      option_both (picture_of s block).transaction (λ found. Goes (if is_some found then (Err (BusTaken block), s) else ordered))
+      (λ free. rw waits.1 (block, (is, record { request = waits.0; within = within; answered = refl; orders = order_made s g core block waits.0 (waits.1, free) })))
+      (λ o busy. ((in_cores, is, rw busy refl), refl)))) (λ past. (ltb-false core s.shape.cores past, refl))
+  goes_next queued (Respond block) =
+      let Goes = λ (n : Next). GoesFirst s (Respond block) n.0 n.1 in
+      cond_both (ltb block s.shape.blocks) _ _ Goes (λ below.
+      let within = ltb-true block s.shape.blocks below in
+      option_both (picture_of s block).transaction (λ found. Goes (option_map_or (next_closed s block) found (Err NoTransaction, s)))
+      (λ none. ((within, none), refl)) (closes block within)) (λ past. (ltb-false block s.shape.blocks past, refl))

@@ -1,19 +1,13 @@
 -- What a step comes to, computed: what it is answered, and where it leads. Where a table has no row, which no run meets, the state stays.
-use Rattle.std.proofs.Common.{ℕ, zero, suc, Bool, true, false, ◌&&◌, List, [], ◌∷◌, ◌++◌, length, map, Option, Some, None}
-use Rattle.std.specs.List.{range_with_len}
-use Rattle.std.proofs.Math.Dec.{ltb}
-use Rattle.snoop_model.proofs.Common.{Access, after_order, arrival, arrival_at_memory, Ask, asked, at_memory, CacheAction, CacheState, came_of, cell_of, Data, Did, Err, Extent, free_picture, held_at, held_by, if◌then◌else◌, is_load, is_some, Item, kept_waiting, Line, MemAction, MemEvent, memory_cell_of, MemState, moves_to, next_did, Ok, Op, Open, option_map_or, option_to_list, Order, Picture, picture_of, Protocol, queue_of, queues_after, Refused, Reply, Request, Respond, Result, seen_by, Situation, slice_get, slice_set, state_of, Step, takes_payload, unwrap_or, value_sent, waiting_request, with_line, with_picture, word_at, word_places, written, zero_words}
+use Rattle.snoop_model.proofs.Common.{[], Access, after_order, arrival, Ask, asked, at_memory, Bool, BusTaken, CacheAction, CacheState, came_of, cell_of, Data, Did, Err, Extent, false, free_picture, held_at, held_by, if◌then◌else◌, is_load, is_some, Item, kept_waiting, length, Line, List, ltb, map, memory_cell_of, moves_to, next_did, NoBlock, NoCore, None, NothingWaiting, NoTransaction, Ok, Op, Open, Option, option_map_or, option_to_list, Order, Picture, picture_of, Protocol, PutM, queue_of, queues_after, range_with_len, Refused, Reply, Request, Respond, Result, seen_by, Situation, slice_get, slice_set, Some, Stalled, state_of, Step, suc, true, unwrap_or, value_sent, waiting_request, with_line, with_picture, word_at, word_places, written, zero, zero_words, ℕ, ◌&&◌, ◌++◌, ◌∷◌}
 use Rattle.snoop_trace.specs.declared.step.Op.TheVariants as op
 use Rattle.snoop_rules.specs.declared.names.CacheAction.TheVariants as action
 use Rattle.snoop_rules.specs.declared.names.MemAction.TheVariants as mem_action
-use Rattle.snoop_rules.specs.declared.names.Request.TheVariants.{PutM}
 use Rattle.snoop_rules.specs.declared.names.Payload.TheVariants as payload
 use Rattle.snoop_history.specs.declared.items.Item.TheVariants as item
 use Rattle.snoop_model.specs.declared.replies.Reply.TheVariants as reply
-use Rattle.snoop_model.specs.declared.replies.Refused.TheVariants.{NoCore, NoBlock, Stalled, NothingWaiting, BusTaken, NoTransaction}
 use Rattle.snoop_model.proofs.OneBlock.OfBlocks.{changed}
-use Rattle.snoop_model.proofs.Tables.RespondTests.{row_for, memory_row_for}
-use Rattle.snoop_model.proofs.Tables.SentBy.{payload_from}
+use Rattle.snoop_model.proofs.Tables.{RespondTests.row_for, RespondTests.settled_row, SentBy.payload_from}
 
 -- what a step is answered, and where it leads
 abbrev pub Next : Type 0
@@ -85,14 +79,8 @@ module _ (p : Protocol) (before : Picture) (core : ℕ) (request : Request) wher
 
 abbrev pub next_ordered : Situation → ℕ → ℕ → Request → Next
 next_ordered s core block request =
-    let next = next_picture s.protocol (picture_of s block) core request block in
     let sent : Item = item.Sent (record { core = core; request = request; block = block }) in
-    (Ok (reply.Ordered request), changed s block next (after_order s.queues core block) (s.log ++ sent ∷ []))
-
--- what memory does with a message, and its state then
-abbrev pub settled : Bool → Protocol → Option MemEvent → MemState → MemAction × MemState
-settled takes p found m = if takes then option_map_or {U = MemAction × MemState} (λ row. (row.action, row.next)) (memory_row_for p m found)
-    (mem_action.None, m) else (mem_action.None, m)
+    (Ok (reply.Ordered request), changed s block (next_picture s.protocol (picture_of s block) core request block) (after_order s.queues core block) (s.log ++ sent ∷ []))
 
 -- A Respond: what it brings to the lines, with the operation that it performs, and to memory.
 module _ (closing : Open) (p : Protocol) (log : List Item) (lines : List Line) where
@@ -113,8 +101,8 @@ abbrev pub next_closed : Situation → ℕ → Open → Next
 next_closed s block closing =
     let before = picture_of s block in
     let caches = brought closing s.protocol s.log before.caches closing.request in
-    let memory = settled (takes_payload closing.request before.memory.state) s.protocol (arrival_at_memory closing.payload) before.memory.state in
-    let next = free_picture caches.0 (record { state = memory.1; value = written memory.0 closing.value before.memory.value }) in
+    let memory = unwrap_or (settled_row s.protocol closing.request before.memory.state closing.payload) (record { action = mem_action.None; next = before.memory.state }) in
+    let next = free_picture caches.0 (record { state = memory.next; value = written memory.action closing.value before.memory.value }) in
     (Ok (reply.Came closing.payload closing.from caches.1), record (with_picture s block next) { log = s.log ++ item.Came (came_of closing) caches.1 ∷ [] })
 
 -- an Order of the block that stands first, if any

@@ -1,11 +1,9 @@
 -- Tests of the rows of an Ask, computed over the whole tables.
-use Rattle.std.proofs.Common.{◌≡◌, ◌&&◌, ◌||◌, Bool, true, false, not, Option, Some, refl}
-use Rattle.snoop_model.proofs.Common.{and_parts, is_some, Protocol, Op, CacheState, CacheEvent, CacheCell, Request, cell_of, asked, is_owner, is_sharer, is_clean, wait_fits, in_protocol, same, fits}
+use Rattle.snoop_model.proofs.Common.{all_events, all_events-at, all_protocols, all_requests, all_requests-at, all_states, asked, awaited_request, Bool, CacheAction, CacheCell, CacheEvent, CacheState, cell_of, false, fits, in_protocol, is_clean, is_owner, is_put_m, is_sharer, keeps, Op, Option, Protocol, refl, Request, request_for, requests, same, Some, true, wait_fits, ◌&&◌, ◌≡◌}
+use Rattle.snoop_rules.specs.declared.names.CacheAction.TheVariants as action
 use Rattle.snoop_rules.specs.declared.names.CacheState.TheVariants as state
 use Rattle.snoop_rules.specs.declared.names.CacheEvent.TheVariants as event
-use Rattle.snoop_rules.proofs.Every.{all_events, all_events-at, all_protocols, all_protocols-at, all_requests, all_requests-at, all_states}
-use Rattle.snoop_model.proofs.Tables.StateTests.{all_fitting, all_fitting-at, all_options, all_options-at, either, either-at, given, given_at, is_some_and, when, when_at, is_hit, carries}
-use Rattle.snoop_model.proofs.Tables.Rows.{serving, serving-asked}
+use Rattle.snoop_model.proofs.Tables.{Tested.◌also◌, Tested.Tested, Tested.equal, Tested.each_bool, Tested.each_fitting, Tested.each_of, Tested.each_option, Tested.each_protocol, Tested.fails, Tested.found, Tested.given, Tested.holds, Tested.provided, Tested.unless, StateTests.is_hit, StateTests.carries, Rows.serving, Rows.serving-asked}
 
 abbrev pub is_store : CacheEvent → Bool
 is_store event.Store = true
@@ -16,42 +14,38 @@ abbrev pub is_idle_evict : CacheState → CacheEvent → Bool
 is_idle_evict state.I event.Evict = true
 is_idle_evict _ _ = false
 
--- an Ask of a core whose state fits: there is a row but for an Evict in I, and a test of it
-abbrev pub AskTest : Type 0
-AskTest = (p : Protocol) (shared ow : Bool) (w : Option Request) (s : CacheState) (e : CacheEvent) (r : CacheCell) → Bool
+-- what is claimed of the row of an Ask: the state fits after it, and carries over, but at a store's hit, which is the owner's, and not clean then
+abbrev pub asked_row : Protocol → Bool → Bool → Option Request → CacheState → CacheEvent → CacheCell → Tested
+asked_row p shared ow w s e r =
+    holds (fits p shared ow w r.next) also unless (is_hit r.action && is_store e) (λ _. carries s r.next)
+    also provided (is_hit r.action && is_store e) (λ _. holds ow also fails (is_clean r.next))
 
-abbrev ask_case : AskTest → Protocol → Bool → Bool → Option Request → CacheState → CacheEvent → Bool
-ask_case k p shared ow w s e = (is_idle_evict s e || is_some_and (cell_of p s e) (λ r. true)) && given (cell_of p s e) (λ r. k p shared ow w s e r)
+-- there is a row but for an Evict in I
+abbrev pub ask_claims : Protocol → Bool → Bool → Option Request → CacheState → CacheEvent → Tested
+ask_claims p shared ow w s e = unless (is_idle_evict s e) (λ _. found (cell_of p s e) (λ r. holds true)) also given (cell_of p s e) (asked_row p shared ow w s e)
 
-asks : AskTest → Bool
-asks k =
-    all_protocols (λ p. either (λ shared. all_options all_requests (λ w. all_fitting p shared w
-    (λ s ow. all_events (λ e. when (is_some (serving e)) (λ _. ask_case k p shared ow w s e))))))
+abbrev every_ask : Tested
+every_ask = each_protocol λ p. each_bool λ shared. each_option all_requests all_requests-at λ w. each_fitting p shared w λ s ow. each_of all_events all_events-at λ e.
+    given (serving e) λ _. ask_claims p shared ow w s e
 
--- what is asked of the row of an Ask
-pub data AskQuestion : Type 0 where
-  ask_fits : AskQuestion
-  ask_carries : AskQuestion
-  ask_store_owns : AskQuestion
+every_rule : every_ask.claim
+unfolding all_protocols all_states all_requests all_events fits is_owner is_sharer is_clean wait_fits in_protocol same
+every_rule = every_ask.sound refl
 
-abbrev pub ask_test : AskQuestion → AskTest
-ask_test ask_fits p shared ow w s e r = fits p shared ow w r.next
-ask_test ask_carries p shared ow w s e r = (is_hit r.action && is_store e) || carries s r.next
-ask_test ask_store_owns p shared ow w s e r = not (is_hit r.action && is_store e) || (ow && not (is_clean r.next))
+pub ask_rule : (p : Protocol) (shared ow : Bool) (w : Option Request) (s : CacheState) (o : Op) → fits p shared ow w s ≡ true → (ask_claims p shared ow w s (asked o)).claim
+ask_rule p shared ow w s o fit = every_rule p shared w s ow fit (asked o) (request_for o) (serving-asked o)
 
-ask_holds : (k : AskQuestion) → asks (ask_test k) ≡ true
-unfolding asks all_fitting all_options all_protocols all_states all_requests all_events either given when fits is_owner is_sharer is_clean wait_fits in_protocol same
-ask_holds ask_fits = refl
-ask_holds _ = refl
+pub is_hit-true : (a : CacheAction) → is_hit a ≡ true → a ≡ action.Hit
+is_hit-true action.Hit h = refl
+is_hit-true _ h = cc
 
--- so there is a row for each Ask of a core whose state fits, but for an Evict in I, and the row passes each test
-pub ask_holds_of : (k : AskQuestion) (p : Protocol) (shared ow : Bool) (w : Option Request) (s : CacheState) (o : Op) → fits p shared ow w s ≡ true
-    → ((is_idle_evict s (asked o) || is_some_and (cell_of p s (asked o)) (λ r. true)) ≡ true) × (given (cell_of p s (asked o)) (λ r. ask_test k p shared ow w s (asked o) r) ≡ true)
-unfolding asks
-ask_holds_of k p shared ow w s o fit =
-    let all = all_options-at all_requests all_requests-at _ (either-at _ (all_protocols-at _ (ask_holds k) p) shared) w in
-    and_parts _ _ (when_at _ _ (rw (serving-asked o) refl) (all_events-at _ (all_fitting-at p shared w _ all s ow fit) (asked o)))
+-- a core whose state fits may store where it owns the block, and load where it keeps words, and after its own GetS or GetM it awaits the data
+abbrev every_fit : Tested
+every_fit = each_protocol λ p. each_bool λ shared. each_option all_requests all_requests-at λ w. each_fitting p shared w λ s owns.
+    provided owns (λ _. found (cell_of p s event.Store) (λ row. holds (is_hit row.action)))
+    also provided (keeps s) (λ _. found (cell_of p s event.Load) (λ row. holds (is_hit row.action)))
+    also given w (λ q. unless (is_put_m q) (λ _. equal requests tt (awaited_request s) (Some q)))
 
-pub ask_rule : (k : AskQuestion) → (p : Protocol) (shared ow : Bool) (w : Option Request) (s : CacheState) (o : Op) (r : CacheCell)
-    → fits p shared ow w s ≡ true → cell_of p s (asked o) ≡ Some r → ask_test k p shared ow w s (asked o) r ≡ true
-ask_rule k p shared ow w s o r fit is_row = given_at _ _ r is_row (ask_holds_of k p shared ow w s o fit).1
+pub fit_rule : every_fit.claim
+unfolding all_protocols all_states all_requests fits is_owner is_sharer is_clean wait_fits in_protocol same
+fit_rule = every_fit.sound refl

@@ -1,8 +1,6 @@
 -- An Evict in I has no row.
-use Rattle.std.proofs.Common.{◌≡◌}
-use Rattle.snoop_model.proofs.Common.{Protocol, Op, CacheState, CacheAction, Cell, asked}
+use Rattle.snoop_model.proofs.Common.{asked, CacheAction, CacheState, Cell, I, Op, Protocol, ◌≡◌}
 use Rattle.snoop_trace.specs.declared.step.Op.TheVariants as op
-use Rattle.snoop_rules.specs.declared.names.CacheState.TheVariants.{I}
 
 pub no_row : (p : Protocol) (s : CacheState) (asking : Op) (a : CacheAction) (n : CacheState) → asking ≡ op.Evict → s ≡ I → Cell p s (asked asking) a n → ⊥
 no_row p s asking a n e i row = let none = rw (e, i) at row in cc

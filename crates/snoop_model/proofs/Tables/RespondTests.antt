@@ -1,10 +1,8 @@
 -- A test of the rows of a Respond, computed over the whole tables.
-use Rattle.std.proofs.Common.{option_and_then, ◌≡◌, ◌&&◌, ◌||◌, Bool, true, false, not, cond, List, [], ◌∷◌, Option, Some, None, refl, ap, sym, MatchBool, IsSomeAnd, ◌↔◌}
-use Rattle.snoop_model.proofs.Common.{same_Some, Protocol, CacheState, CacheEvent, CacheAction, CacheCell, MemState, MemEvent, MemAction, MemCell, Request, Payload, cell_of, MemoryCell, memory_cell_of, arrival, arrival_at_memory, takes_payload, carries_value, keeps, is_put_m, is_get_m, Claims, claims_of, is_owner, is_sharer, is_clean, wait_fits, in_protocol, same, fits}
+use Rattle.snoop_model.proofs.Common.{all_memories, all_payloads, all_protocols, all_requests, all_states, all_states-at, ap, arrival, arrival_at_memory, awaited_request, Bool, CacheAction, CacheCell, CacheEvent, CacheState, carries_value, cell_of, Claims, claims_of, cond, false, fits, GetM, GetS, in_protocol, is_clean, is_get_m, is_owner, is_put_m, is_sharer, IsD, IsSomeAnd, keeps, MatchBool, MemAction, MemCell, MemEvent, memory_cell_of, MemoryCell, MemState, missed_request, None, not, Option, option_and_then, Payload, Protocol, PutM, refl, Request, requests, same, same_Some, Some, sym, takes_payload, true, wait_fits, ◌&&◌, ◌||◌, ◌↔◌, ◌≡◌}
 use Rattle.snoop_rules.specs.declared.names.CacheAction.TheVariants as action
 use Rattle.snoop_rules.specs.declared.names.MemAction.TheVariants as mem_action
-use Rattle.snoop_rules.proofs.Every.{all_protocols, all_protocols-at, all_states, all_memories, all_memories-at, all_requests, all_requests-at, all_payloads, all_payloads-at}
-use Rattle.snoop_model.proofs.Tables.StateTests.{all_fitting, all_open, each, either, given, given_at, is_some_and, when}
+use Rattle.snoop_model.proofs.Tables.Tested.{◌also◌, Tested, each_of, equal, alike, each_fitting, each_memory, each_open, each_payload, each_protocol, each_request, fails, found, given, holds, provided, unless}
 
 -- the row for an event, if there are both
 abbrev pub row_for : Protocol → CacheState → Option CacheEvent → Option CacheCell
@@ -13,16 +11,12 @@ row_for p s found = option_and_then (cell_of p s) found
 abbrev pub memory_row_for : Protocol → MemState → Option MemEvent → Option MemCell
 memory_row_for p m found = option_and_then (memory_cell_of p m) found
 
--- memory takes its row for a message, or stays as it is
-abbrev pub SettlesIf : Bool → Protocol → Option MemEvent → MemState → MemAction → MemState → Type 0
-SettlesIf takes p found old act new = MatchBool takes (IsSomeAnd found (λ event. MemoryCell p old event act new)) ((act ≡ mem_action.None) × (new ≡ old))
-
--- the same as a row: that for the message, or one that does nothing
+-- memory's row for a message, or one that does nothing
 abbrev pub settled_if : Bool → Protocol → Option MemEvent → MemState → Option MemCell
 settled_if takes p found old = cond takes (memory_row_for p old found) (Some (record { action = mem_action.None; next = old }))
 
 pub settled_so : (takes : Bool) (p : Protocol) (found : Option MemEvent) (old : MemState) (act : MemAction) (new : MemState)
-    → SettlesIf takes p found old act new ↔ (settled_if takes p found old ≡ Some (record { action = act; next = new }))
+    → MatchBool takes (IsSomeAnd found (λ event. MemoryCell p old event act new)) ((act ≡ mem_action.None) × (new ≡ old)) ↔ (settled_if takes p found old ≡ Some (record { action = act; next = new }))
 settled_so true p None old act new = (λ settled. absurd settled, λ h. cc)
 settled_so true p (Some event) old act new = (λ settled. settled, λ h. h)
 settled_so false p found old act new =
@@ -45,38 +39,51 @@ abbrev pub gains : Claims → Claims → Bool
 gains before after = not before.owned && after.owned
 
 -- the requestor's row for the data: its state fits after it, it is clean only where memory's value is the block's, and it stores at a GetM
-abbrev pub answer_tests : Protocol → Request → Claims → Claims → Bool → CacheCell → List Bool
-answer_tests p q st after owns row =
-    fits p after.shared (cond (gains st after) true owns) None row.next ∷ (not (is_clean row.next) || (st.fresh && not (is_get_m q))) ∷ same (fills_store row.action) (is_get_m q) ∷ []
+abbrev pub answer_claims : Protocol → Request → Claims → Claims → Bool → CacheCell → Tested
+answer_claims p q st after owns row =
+    holds (fits p after.shared (cond (gains st after) true owns) None row.next)
+    also provided (is_clean row.next) (λ _. holds st.fresh also fails (is_get_m q)) also alike (fills_store row.action) (is_get_m q)
 
--- another core fits after it as it is, and after a GetM it may not read
-abbrev pub stays_so : Protocol → Request → Claims → Claims → CacheState → Bool → Bool
-stays_so p q st after s owns = fits p after.shared (cond (gains st after) false owns) None s && (not (is_get_m q) || not (keeps s))
+-- another core fits after it as it is, and after a GetM it may not read, if it owns the block only where one does
+abbrev pub stays_so : Protocol → Request → Claims → Claims → CacheState → Bool → Tested
+stays_so p q st after s owns =
+    provided (not owns || st.owned) (λ _. holds (fits p after.shared (cond (gains st after) false owns) None s) also provided (is_get_m q) (λ _. fails (keeps s)))
 
--- what is asked of a Respond, with memory's row and the claims after it: data comes for a GetS or a GetM; an owner stays one; a PutM makes none; memory writes only
--- data that comes; memory is fresh where it is claimed; a requestor has its row; other cores may stay as they are. Proofs cite these by place, `.1.1.0` the third
-abbrev pub respond_tests : Protocol → Request → Payload → Claims → MemCell → Claims → List Bool
-respond_tests p q pl st row after =
-    (is_put_m q || carries_value pl)
-    ∷ (not st.owned || after.owned)
-    ∷ not (is_put_m q && gains st after)
-    ∷ (not (writes row.action) || carries_value pl)
-    ∷ (not after.fresh || (not (is_get_m q) && (writes row.action || st.fresh)))
-    ∷ (is_put_m q || all_fitting p st.shared (Some q) (λ s owns. is_some_and (row_for p s (arrival pl)) (λ answer. each (answer_tests p q st after owns answer))))
-    ∷ all_open p st.shared (cond (is_put_m q) (Some (q, pl)) None) (λ s owns. when (not owns || st.owned) (λ _. stays_so p q st after s owns))
-    ∷ []
+-- what is claimed of a Respond, with memory's row and the claims after it: data comes for a GetS or a GetM; an owner stays one; a PutM makes none; memory writes only
+-- data that comes; memory is fresh where it is claimed; a requestor has its row; other cores may stay as they are
+abbrev pub respond_claims : Protocol → Request → Payload → Claims → MemCell → Claims → Tested
+respond_claims p q pl st row after =
+    unless (is_put_m q) (λ _. holds (carries_value pl)) also holds (not st.owned || after.owned) also provided (is_put_m q) (λ _. fails (gains st after))
+    also provided (writes row.action) (λ _. holds (carries_value pl))
+    also provided after.fresh (λ _. fails (is_get_m q) also unless (writes row.action) (λ _. holds st.fresh))
+    also unless (is_put_m q) (λ _. each_fitting p st.shared (Some q) (λ s owns. found (row_for p s (arrival pl)) (answer_claims p q st after owns)))
+    also unless (is_put_m q) (λ _. each_fitting p st.shared None (stays_so p q st after))
+    also provided (is_put_m q) (λ _. each_open p st.shared (Some (q, pl)) (stays_so p q st after))
 
-abbrev pub respond_test : Protocol → MemState → Request → Payload → Claims → Bool
-respond_test p m q pl st = is_some_and (settled_row p q m pl) (λ row. is_some_and (claims_of p row.next None) (λ after. each (respond_tests p q pl st row after)))
+abbrev every_respond : Tested
+every_respond = each_protocol λ p. each_memory λ m. each_request λ q. each_payload λ pl. given (claims_of p m (Some (q, pl))) λ st.
+    found (settled_row p q m pl) λ row. found (claims_of p row.next None) λ after. respond_claims p q pl st row after
 
-respond_case : Protocol → MemState → Request → Payload → Bool
-respond_case p m q pl = given (claims_of p m (Some (q, pl))) (λ st. respond_test p m q pl st)
+pub respond_rule : every_respond.claim
+unfolding all_protocols all_memories all_states all_requests all_payloads claims_of fits is_owner is_sharer is_clean wait_fits in_protocol same
+respond_rule = every_respond.sound refl
 
-respond_holds : all_protocols (λ p. all_memories (λ m. all_requests (λ q. all_payloads (λ pl. respond_case p m q pl)))) ≡ true
-unfolding respond_case all_fitting all_protocols all_memories all_states all_requests all_payloads either given when claims_of fits is_owner is_sharer is_clean wait_fits in_protocol same
-respond_holds = refl
+-- data performs the operation that has missed
+abbrev pub fills : Option Request → CacheAction → Bool
+fills (Some GetS) action.FillLoad = true
+fills (Some GetM) action.FillStore = true
+fills _ _ = false
 
--- what was tried holds of each Respond
-pub respond_rule : (p : Protocol) (m : MemState) (q : Request) (pl : Payload) (st : Claims) → claims_of p m (Some (q, pl)) ≡ Some st → respond_test p m q pl st ≡ true
-unfolding respond_case
-respond_rule p m q pl st is_claims = given_at _ _ st is_claims (all_payloads-at _ (all_requests-at _ (all_memories-at _ (all_protocols-at _ respond_holds p) m) q) pl)
+-- and is awaited no more
+abbrev every_data : Tested
+every_data = each_protocol λ p. each_of all_states all_states-at λ s. each_payload λ message. given (row_for p s (arrival message)) λ row.
+    holds (fills (missed_request s) row.action) also equal requests tt (awaited_request row.next) None
+
+pub data_rule : every_data.claim
+unfolding all_protocols all_states all_payloads
+data_rule = every_data.sound refl
+
+-- no data comes for a PutM
+pub awaited-get : (s : CacheState) → awaited_request s ≡ Some PutM → ⊥
+awaited-get IsD awaits = cc
+awaited-get _ awaits = cc

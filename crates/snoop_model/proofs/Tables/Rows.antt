@@ -1,22 +1,13 @@
 -- What holds of every row, found by trying all.
-use Rattle.std.proofs.Common.{List, ◌≡◌, ℕ, Bool, true, false, not, ◌&&◌, ◌||◌, Option, Some, None, [], ◌∷◌, refl, sym, ◌∙◌, is_some, option_map, ◌==◌, if◌then◌else◌}
-use Rattle.snoop_model.proofs.Common.{same_Some, Protocol, Op, CacheState, CacheEvent, CacheAction, CacheCell, Request, Cell, asked, own, other, seen_by, waiting_request, Line, kept_on, keeps, request_for, missed_request, awaited_request, IsProper, moves_to, kept_waiting, is_load, same, GetS, GetM, PutM}
-use Rattle.std.proofs.Math.Bool.{and-true, and-false}
+use Rattle.snoop_model.proofs.Common.{all_events, all_protocols, all_requests, all_states, all_states-at, and-false, and-true, asked, awaited_request, Bool, CacheAction, CacheEvent, CacheState, Cell, cell_of, each_row, false, GetM, GetS, I, if◌then◌else◌, IiA, ImAd, is_load, is_some, IsProper, keeps, kept_on, kept_waiting, Line, List, missed_request, moves_to, None, not, Op, Option, option_map, other, own, Protocol, PutM, refl, Request, request_for, requests, same, seen_by, Some, states, sym, true, waiting_request, ℕ, ◌&&◌, ◌==◌, ◌||◌, ◌∙◌, ◌≡◌}
 use Rattle.snoop_trace.specs.declared.step.Op.TheVariants as op
-use Rattle.snoop_rules.specs.declared.names.CacheState.TheVariants.{I, ImAd, IiA}
 use Rattle.snoop_rules.specs.declared.names.CacheEvent.TheVariants as event
 use Rattle.snoop_rules.specs.declared.names.CacheAction.TheVariants as action
-use Rattle.snoop_rules.specs.contracts.names.Request.{the_type as requests}
-use Rattle.snoop_rules.proofs.Every.{all_protocols, all_states, all_events}
-use Rattle.snoop_rules.proofs.Rows.{each_row, each_row-at}
-use Rattle.snoop_model.proofs.Tables.StateTests.{EachHolds, each, each_holds, same_is, same_option, same_option-true}
+use Rattle.snoop_model.proofs.Tables.Tested.{◌also◌, Tested, alike, each_bool, each_cell, each_of, each_protocol, each_request, equal, fails, given, holds}
 
 -- the same requests, or none
-abbrev pub same_request : Option Request → Option Request → Bool
-same_request = same_option requests
-
-pub same_request-true : (a b : Option Request) → same_request a b ≡ true → a ≡ b
-same_request-true = same_option-true requests tt
+abbrev pub same_request : Option Request → Option Request → Tested
+same_request = equal requests tt
 
 -- kept words are given up in this state
 abbrev given_up : CacheState → Bool
@@ -29,14 +20,6 @@ abbrev pub is_evict : CacheEvent → Bool
 is_evict event.Evict = true
 is_evict _ = false
 
--- an action that answers what is asked
-abbrev pub answers : CacheAction → Bool
-answers action.Hit = true
-answers action.Stall = true
-answers (action.Issue q) = true
-answers action.Drop = true
-answers _ = false
-
 -- the request that has missed once one is issued at this event
 abbrev pub missed_at : CacheEvent → Option Request
 missed_at event.Load = Some GetS
@@ -48,88 +31,74 @@ abbrev pub serving : CacheEvent → Option Request
 serving event.Evict = Some PutM
 serving e = missed_at e
 
--- whether the request that a core sees at an Order is its own
-abbrev is_own : CacheEvent → Option Bool
-is_own event.OwnGetS = Some true
-is_own event.OwnGetM = Some true
-is_own event.OwnPutM = Some true
-is_own event.OtherGetS = Some false
-is_own event.OtherGetM = Some false
-is_own event.OtherPutM = Some false
-is_own _ = None
+-- the core waits in a state, for its own request to be ordered or for data
+abbrev pub is_busy : CacheState → Bool
+is_busy state = is_some (waiting_request state) || is_some (awaited_request state)
 
--- what a core may await after an event, where it awaited this before
-abbrev pub may_await : CacheEvent → Option Request → Option Request
-may_await event.OwnGetS before = Some GetS
-may_await event.OwnGetM before = Some GetM
-may_await event.Load before = before
-may_await event.Store before = before
-may_await event.Evict before = before
-may_await _ before = None
+-- what an action does to what is kept, to what has missed and to what waits: an issue, of the request that serves, begins to wait where nothing did; a fill ends what has missed; a hit, of kept words, and an Evict's drop, to I, leave both; a stall comes only where the core waits; nothing else answers what is asked
+abbrev pub action_claims : CacheState → CacheEvent → CacheState → CacheAction → Tested
+action_claims s e n (action.Issue q) =
+    alike (keeps n) (keeps s && not (given_up n)) also (same_request (waiting_request s) None also same_request (waiting_request n) (Some q))
+    also (same_request (missed_request s) None also same_request (missed_request n) (missed_at e)) also same_request (Some q) (serving e)
+action_claims s e n action.Hit =
+    holds (keeps n) also same_request (missed_request s) (missed_request n) also same_request (waiting_request n) (waiting_request s) also holds (keeps s) also fails (is_evict e)
+action_claims s e n action.Drop =
+    alike (keeps n) (keeps s && not (given_up n)) also same_request (missed_request s) (missed_request n) also same_request (waiting_request n) (waiting_request s)
+    also (holds (is_evict e) also equal states tt (Some n) (Some I))
+action_claims s e n action.Stall = holds (is_busy s)
+action_claims s e n action.FillLoad = same_request (serving e) None also holds (keeps n) also same_request (missed_request n) None also same_request (waiting_request n) (waiting_request s)
+action_claims s e n action.FillStore = same_request (serving e) None also holds (keeps n) also same_request (missed_request n) None also same_request (waiting_request n) (waiting_request s)
+action_claims s e n _ = same_request (serving e) None also holds true
 
--- what an action does to what is kept, to what has missed and to what waits: an issue, of the request that serves, begins to wait where nothing did; a fill ends what has missed; a hit, of kept words, and an Evict's drop, leave both
-abbrev action_tests : CacheState → CacheEvent → CacheState → CacheAction → List Bool
-action_tests s e n (action.Issue q) =
-    same (keeps n) (keeps s && not (given_up n)) ∷ same_request (waiting_request s) None ∷ same_request (waiting_request n) (Some q)
-    ∷ same_request (missed_request s) None ∷ same_request (missed_request n) (missed_at e) ∷ same_request (Some q) (serving e) ∷ []
-action_tests s e n action.Hit =
-    keeps n ∷ same_request (missed_request s) (missed_request n) ∷ same_request (waiting_request n) (waiting_request s) ∷ keeps s ∷ not (is_evict e) ∷ []
-action_tests s e n action.Drop =
-    same (keeps n) (keeps s && not (given_up n)) ∷ same_request (missed_request s) (missed_request n) ∷ same_request (waiting_request n) (waiting_request s) ∷ is_evict e ∷ []
-action_tests s e n action.FillLoad = keeps n ∷ same_request (missed_request n) None ∷ same_request (waiting_request n) (waiting_request s) ∷ []
-action_tests s e n action.FillStore = keeps n ∷ same_request (missed_request n) None ∷ same_request (waiting_request n) (waiting_request s) ∷ []
-action_tests s e n _ = []
+-- what is claimed of a row: what its action does, and that after what is asked the core awaits what it awaited
+abbrev row_claims : Protocol → CacheState → CacheEvent → CacheAction → CacheState → Tested
+row_claims p s e a n = action_claims s e n a also given (serving e) (λ _. given (awaited_request n) (λ r. same_request (awaited_request s) (Some r)))
 
--- at an Order, a core's own request ends its waiting, and another's leaves it
-abbrev order_tests : CacheState → Option Bool → CacheState → List Bool
-order_tests s None n = []
-order_tests s (Some mine) n =
-    same (keeps n) (keeps s && not (given_up n)) ∷ same_request (missed_request s) (missed_request n)
-    ∷ same_request (waiting_request n) (if mine then None else waiting_request s) ∷ []
-
--- what is asked of a row: that it answers what is asked, what its action does and what an Order does, and what may be awaited then
-abbrev row_tests : CacheState → CacheEvent → CacheCell → List Bool
-row_tests s e row =
-    (not (is_some (serving e)) || answers row.action) ∷ each (action_tests s e row.next row.action) ∷ each (order_tests s (is_own e) row.next)
-    ∷ (not (is_some (awaited_request row.next)) || same_request (awaited_request row.next) (may_await e (awaited_request s))) ∷ []
-
-abbrev row_test : Protocol → CacheState → CacheEvent → CacheCell → Bool
-row_test p s e row = each (row_tests s e row)
-
-row_test_holds : each_row row_test ≡ true
+rule : (each_cell row_claims).claim
 unfolding each_row all_protocols all_states all_events same
-row_test_holds = refl
+rule = (each_cell row_claims).sound refl
+
+pub action_rule : (p : Protocol) (s : CacheState) (e : CacheEvent) (a : CacheAction) (n : CacheState) → Cell p s e a n → (action_claims s e n a).claim
+action_rule p s e a n row = (rule p s e a n row).0
+
+-- at an Order a core's own request ends its waiting, and only what it asks may be awaited then; another's leaves what waits
+abbrev pub order_claims : CacheState → Bool → Request → CacheState → Tested
+order_claims s mine q n =
+    alike (keeps n) (keeps s && not (given_up n)) also same_request (missed_request s) (missed_request n) also same_request (waiting_request n) (if mine then None else waiting_request s)
+    also given (awaited_request n) (λ r. holds mine also same_request (Some q) (Some r))
+
+abbrev every_order : Tested
+every_order = each_protocol λ p. each_of all_states all_states-at λ s. each_bool λ mine. each_request λ q. given (cell_of p s (if mine then own q else other q)) λ row. order_claims s mine q row.next
+
+every_rule : every_order.claim
+unfolding all_protocols all_states all_requests same
+every_rule = every_order.sound refl
+
+pub order_rule : (p : Protocol) (s : CacheState) (k core : ℕ) (q : Request) (a : CacheAction) (n : CacheState) → Cell p s (seen_by k core q) a n → (order_claims s (k == core) q n).claim
+order_rule p s k core q a n row = every_rule p s (k == core) q (record { action = a; next = n }) row
 
 module _ (p : Protocol) (s : CacheState) (e : CacheEvent) (a : CacheAction) (n : CacheState) where
-  row_rule : Cell p s e a n → EachHolds (row_tests s e (record { action = a; next = n }))
-  row_rule row = each_holds (row_tests s e (record { action = a; next = n })) (each_row-at row_test row_test_holds p s e a n row)
-
-  action_rule : Cell p s e a n → EachHolds (action_tests s e n a)
-  action_rule row = each_holds (action_tests s e n a) (row_rule row).1.0
-
-  pub awaited_rule : (r : Request) → Cell p s e a n → awaited_request n ≡ Some r → may_await e (awaited_request s) ≡ Some r
-  awaited_rule r row awaits = sym (same_request-true (Some r) _ (rw awaits at (row_rule row).1.1.1.0))
-
   -- a fill ends all waiting and keeps a value
   abbrev IsFill : Op → Type 0
   IsFill asking = a ≡ (if is_load asking then action.FillLoad else action.FillStore)
 
-  fill_facts : (asking : Op) → IsFill asking → Cell p s e a n → (keeps n ≡ true) × (missed_request n ≡ None) × (waiting_request n ≡ waiting_request s)
-  fill_facts op.Load fill row = let (kept, (missed, (waits, _))) = rw fill at (action_rule row) in (kept, same_request-true _ _ missed, same_request-true _ _ waits)
-  fill_facts _ fill row = let (kept, (missed, (waits, _))) = rw fill at (action_rule row) in (kept, same_request-true _ _ missed, same_request-true _ _ waits)
+  fill_facts : (asking : Op) → IsFill asking → Cell p s e a n → (action_claims s e n action.FillLoad).claim
+  fill_facts op.Load fill row = rw fill at (action_rule p s e a n row)
+  fill_facts _ fill row = rw fill at (action_rule p s e a n row)
 
   pub fill-waits : (asking : Op) → IsFill asking → Cell p s e a n → waiting_request n ≡ waiting_request s
-  fill-waits asking fill row = (fill_facts asking fill row).2
+  fill-waits asking fill row = (fill_facts asking fill row).1.1.1
 
   pub IsProper-fill : (asking : Op) (after : List ℕ) → IsFill asking → Cell p s e a n → IsProper (record { state = n; kept = Some after; waiting = None })
-  IsProper-fill asking after fill row = let f = fill_facts asking fill row in record { kept = sym f.0; waiting = sym f.1 }
+  IsProper-fill asking after fill row = let f = fill_facts asking fill row in record { kept = sym f.1.0; waiting = sym f.1.1.0 }
 
 pub serving-asked : (asking : Op) → serving (asked asking) ≡ Some (request_for asking)
 serving-asked op.Evict = refl
 serving-asked _ = refl
 
-pub asked_answers : (p : Protocol) (s : CacheState) (asking : Op) (a : CacheAction) (n : CacheState) → Cell p s (asked asking) a n → answers a ≡ true
-asked_answers p s asking a n row = rw (serving-asked asking) at (row_rule p s (asked asking) a n row).0
+-- an Ask leaves what its core awaits
+pub awaited-asked : (p : Protocol) (s : CacheState) (asking : Op) (a : CacheAction) (n : CacheState) → Cell p s (asked asking) a n → (r : Request) → awaited_request n ≡ Some r → awaited_request s ≡ Some r
+awaited-asked p s asking a n row = (rule p s (asked asking) a n row).1 (request_for asking) (serving-asked asking)
 
 is_some-kept_on : (next : CacheState) (kept : Option (List ℕ)) (b : Bool) → is_some kept ≡ b → is_some (kept_on next kept) ≡ (b && not (given_up next))
 is_some-kept_on I kept b h = sym (and-false b)
@@ -142,21 +111,14 @@ IsProper-move : (old : Line) (n : CacheState) → IsProper old → keeps n ≡ (
     → IsProper (moves_to n old)
 IsProper-move old n proper kept missed = record { kept = is_some-kept_on n old.kept (keeps old.state) proper.kept ∙ sym kept; waiting = proper.waiting ∙ missed }
 
--- an issue makes a core wait that did not
 module _ (p : Protocol) (s : CacheState) (e : CacheEvent) (q : Request) (n : CacheState) (row : Cell p s e (action.Issue q) n) where
-  issue_facts : (keeps n ≡ (keeps s && not (given_up n))) × (Some q ≡ serving e)
-  issue_facts = let (kept, (_, (_, (_, (_, (served, _)))))) = action_rule p s e (action.Issue q) n row in (same_is _ _ kept, same_request-true _ _ served)
-
+  -- an issue makes a core wait that did not
   pub issue-waits : (waiting_request s ≡ None) × (waiting_request n ≡ Some q)
-  issue-waits = let (_, (stood, (waits, _))) = action_rule p s e (action.Issue q) n row in (same_request-true _ _ stood, same_request-true _ _ waits)
+  issue-waits = (action_rule p s e (action.Issue q) n row).1.0
 
   -- where a request is issued no operation had missed, and then the one that is asked has
   pub issue-missed : (missed_request s ≡ None) × (missed_request n ≡ missed_at e)
-  issue-missed = let (_, (_, (_, (none, (missed, _))))) = action_rule p s e (action.Issue q) n row in (same_request-true _ _ none, same_request-true _ _ missed)
-
-pub issue_serves : (p : Protocol) (s : CacheState) (asking : Op) (q : Request) (n : CacheState) → Cell p s (asked asking) (action.Issue q) n
-    → q ≡ request_for asking
-issue_serves p s asking q n row = same_Some _ _ ((issue_facts p s (asked asking) q n row).1 ∙ serving-asked asking)
+  issue-missed = (action_rule p s e (action.Issue q) n row).1.1.0
 
 pub asked_missed : (word : ℕ) (asking : Op) → option_map (λ access. request_for access.op) (kept_waiting word asking) ≡ missed_at (asked asking)
 asked_missed word op.Evict = refl
@@ -165,29 +127,22 @@ asked_missed word _ = refl
 pub IsProper-issue : (p : Protocol) (old : Line) (word : ℕ) (asking : Op) (q : Request) (n : CacheState) → IsProper old → Cell p old.state (asked asking) (action.Issue q) n
     → IsProper (record { state = n; kept = kept_on n old.kept; waiting = kept_waiting word asking })
 IsProper-issue p old word asking q n proper row = record {
-  kept = is_some-kept_on n old.kept (keeps old.state) proper.kept ∙ sym (issue_facts p old.state (asked asking) q n row).0;
+  kept = is_some-kept_on n old.kept (keeps old.state) proper.kept ∙ sym (action_rule p old.state (asked asking) (action.Issue q) n row).0;
   waiting = asked_missed word asking ∙ sym (issue-missed p old.state (asked asking) q n row).1;
 }
 
-module _ (p : Protocol) (s : CacheState) (e : CacheEvent) (n : CacheState) where
-  -- a hit keeps a value, and what waits goes on waiting
-  pub hit_facts : Cell p s e action.Hit n → (keeps n ≡ true) × (missed_request s ≡ missed_request n) × (waiting_request n ≡ waiting_request s)
-  hit_facts row = let (kept, (missed, (waits, _))) = action_rule p s e action.Hit n row in (kept, same_request-true _ _ missed, same_request-true _ _ waits)
+-- a hit is no Evict, of words that are kept
+pub hit_keeps : (p : Protocol) (s : CacheState) (e : CacheEvent) (n : CacheState) → Cell p s e action.Hit n → (keeps s ≡ true) × (is_evict e ≡ false)
+hit_keeps p s e n row = (action_rule p s e action.Hit n row).1.1.1
 
-  -- it is no Evict, of words that are kept
-  pub hit_keeps : Cell p s e action.Hit n → (keeps s ≡ true) × (not (is_evict e) ≡ true)
-  hit_keeps row = let (_, (_, (_, (kept, (no_evict, _))))) = action_rule p s e action.Hit n row in (kept, no_evict)
-
-  -- what waits at a drop, which leaves nothing, goes on waiting too
-  pub drop_facts : Cell p s e action.Drop n → (keeps n ≡ (keeps s && not (given_up n))) × (missed_request s ≡ missed_request n) × (waiting_request n ≡ waiting_request s)
-  drop_facts row = let (kept, (missed, (waits, _))) = action_rule p s e action.Drop n row in (same_is _ _ kept, same_request-true _ _ missed, same_request-true _ _ waits)
-
-  pub drop-waits : Cell p s e action.Drop n → waiting_request n ≡ waiting_request s
-  drop-waits row = (drop_facts row).2
+pub drop-waits : (p : Protocol) (s : CacheState) (e : CacheEvent) (n : CacheState) → Cell p s e action.Drop n → waiting_request n ≡ waiting_request s
+drop-waits p s e n row = (action_rule p s e action.Drop n row).1.1.0
 
 pub IsProper-hit : (p : Protocol) (old : Line) (e : CacheEvent) (n : CacheState) (after : List ℕ) → IsProper old → Cell p old.state e action.Hit n
     → IsProper (record { state = n; kept = Some after; waiting = old.waiting })
-IsProper-hit p old e n after proper row = let f = hit_facts p old.state e n row in record { kept = sym f.0; waiting = proper.waiting ∙ f.1 }
+IsProper-hit p old e n after proper row =
+    let (kept, (missed, _)) = action_rule p old.state e action.Hit n row in
+    record { kept = sym kept; waiting = proper.waiting ∙ missed }
 
 -- only an Evict drops a line
 pub drop_evicts : (p : Protocol) (s : CacheState) (asking : Op) (n : CacheState) → Cell p s (asked asking) action.Drop n → asking ≡ op.Evict
@@ -195,19 +150,7 @@ drop_evicts p s op.Evict n row = refl
 drop_evicts p s _ n row = let evicts = (action_rule p s _ action.Drop n row).1.1.1.0 in cc
 
 pub IsProper-drop : (p : Protocol) (old : Line) (e : CacheEvent) (n : CacheState) → IsProper old → Cell p old.state e action.Drop n → IsProper (moves_to n old)
-IsProper-drop p old e n proper row = let (kept, missed, _) = drop_facts p old.state e n row in IsProper-move old n proper kept missed
-
--- a core sees its own request exactly where it is the requestor
-seen_own : (mine : Bool) (q : Request) → is_own (if mine then own q else other q) ≡ Some mine
-seen_own true GetS = refl
-seen_own false GetS = refl
-seen_own _ _ = refl
-
-pub order_facts : (p : Protocol) (s : CacheState) (k core : ℕ) (q : Request) (a : CacheAction) (n : CacheState) → Cell p s (seen_by k core q) a n
-    → (keeps n ≡ (keeps s && not (given_up n))) × (missed_request s ≡ missed_request n) × (waiting_request n ≡ (if k == core then None else waiting_request s))
-order_facts p s k core q a n row =
-    let (kept, (missed, (waits, _))) = each_holds (order_tests s (Some (k == core)) n) (rw (seen_own (k == core) q) at (row_rule p s (seen_by k core q) a n row).1.1.0) in
-    (same_is _ _ kept, same_request-true _ _ missed, same_request-true _ _ waits)
+IsProper-drop p old e n proper row = let (kept, (missed, _)) = action_rule p old.state e action.Drop n row in IsProper-move old n proper kept missed
 
 pub IsProper-order : (p : Protocol) (old : Line) (k core : ℕ) (q : Request) (a : CacheAction) (n : CacheState) → IsProper old → Cell p old.state (seen_by k core q) a n → IsProper (moves_to n old)
-IsProper-order p old k core q a n proper row = let (kept, missed, _) = order_facts p old.state k core q a n row in IsProper-move old n proper kept missed
+IsProper-order p old k core q a n proper row = let (kept, (missed, _)) = order_rule p old.state k core q a n row in IsProper-move old n proper kept missed

@@ -1,14 +1,7 @@
 -- The table of senders as a test.
-use Rattle.std.proofs.Common.{◌≡◌, ◌&&◌, ℕ, Bool, true, false, Option, refl, ap}
-use Rattle.snoop_model.proofs.Common.{and_parts, Protocol, MemState, Request, Payload, arrival_at_memory, takes_payload, Picture, held_by, Sender, Memory, Requestor, Other, sender_of, lines_of, list_any}
-use denote.Enum.Bare.{same_true, sameb}
+use Rattle.snoop_model.proofs.Common.{and_parts, ap, arrival_at_memory, Bool, false, held_by, IsSenderLine, lines_of, list_any, memories, Memory, MemState, Option, Other, Payload, payloads, Picture, Protocol, refl, Request, Requestor, same_true, sameb, Sender, sender_of, states, takes_payload, true, ℕ, ◌&&◌, ◌≡◌}
 use Rattle.std.proofs.lemmas.Map.Views.{Contains-from_any}
-use Rattle.snoop_rules.specs.contracts.names.CacheState.{the_type as states}
-use Rattle.snoop_rules.specs.contracts.names.MemState.{the_type as memories}
-use Rattle.snoop_rules.specs.contracts.names.Payload.{the_type as payloads}
-use Rattle.snoop_model.specs.Moves.SenderTable.{IsSenderLine}
-use Rattle.snoop_model.proofs.Tables.StateTests.{is_some_and, some_and}
-use Rattle.snoop_model.proofs.Tables.RespondTests.{settled_row, settled_so}
+use Rattle.snoop_model.proofs.Tables.{Tested.Tested, Tested.found, Tested.holds, RespondTests.settled_row, RespondTests.settled_so}
 
 abbrev same_sender : Sender → Sender → Bool
 same_sender Memory Memory = true
@@ -37,17 +30,14 @@ same_row-true x y h =
     rw (same_sender-true x.0 y.0 sender, same_true payloads tt x.1 y.1 sent, same_true memories tt x.2 y.2 next, same_true memories tt x.3 y.3 done) refl
 
 -- these are on a line of the table, with memory's state after the Respond in its last column
-abbrev pub follows_sender_table : Protocol → Request → MemState → Sender → Payload → MemState → Bool
-follows_sender_table p q m sender sent next = is_some_and (settled_row p q next sent) (λ row. list_any (same_row (sender, sent, next, row.next)) (lines_of p q m))
+abbrev pub follows_sender_table : Protocol → Request → MemState → Sender → Payload → MemState → Tested
+follows_sender_table p q m sender sent next = found (settled_row p q next sent) (λ row. holds (list_any (same_row (sender, sent, next, row.next)) (lines_of p q m)))
 
--- what a test that is led says
 pub led_line : (p : Protocol) (before : Picture) (c : ℕ) (q : Request) (from : Option ℕ) (sent : Payload) (next : MemState)
-    → follows_sender_table p q before.memory.state (sender_of c (λ k. (held_by before k).state) from) sent next ≡ true → IsSenderLine p before c q from sent next
-led_line p before c q from sent next h =
-    let found = some_and (settled_row p q next sent) _ h in
-    record {
-      done = found.0.next;
-      line = Contains-from_any same_row-true _ (lines_of p q before.memory.state) found.2;
-      act = found.0.action;
-      settled = (settled_so (takes_payload q next) p (arrival_at_memory sent) next found.0.action found.0.next).1 found.1;
-    }
+    → (follows_sender_table p q before.memory.state (sender_of c (λ k. (held_by before k).state) from) sent next).claim → IsSenderLine p before c q from sent next
+led_line p before c q from sent next found = record {
+  done = found.0.next;
+  line = Contains-from_any same_row-true _ (lines_of p q before.memory.state) found.2;
+  act = found.0.action;
+  settled = (settled_so (takes_payload q next) p (arrival_at_memory sent) next found.0.action found.0.next).1 found.1;
+}

@@ -1,6 +1,5 @@
 -- What a row sends, as a test.
-use Rattle.std.proofs.Common.{◌≡◌, ℕ, Option, Some, None, ap}
-use Rattle.snoop_model.proofs.Common.{same_Some, Protocol, CacheState, CacheAction, CacheCell, MemState, MemAction, MemCell, Request, Payload, Target, cell_of, memory_cell_of, seen_by, at_memory, Picture, held_by, Sends}
+use Rattle.snoop_model.proofs.Common.{ap, at_memory, CacheAction, CacheCell, CacheState, cell_of, held_by, MemAction, MemCell, memory_cell_of, MemState, None, Option, Payload, Picture, Protocol, Request, same_Some, seen_by, Sends, Some, Target, ℕ, ◌≡◌}
 use Rattle.snoop_rules.specs.declared.names.CacheAction.TheVariants as action
 use Rattle.snoop_rules.specs.declared.names.MemAction.TheVariants as mem_action
 

@@ -1,63 +1,31 @@
 -- All laws of turns that follow the turn rule: what they keep, that they are never refused, what they cost, and when a work is over.
-use Rattle.std.proofs.Common.{◌≡◌, ◌≢◌, ℕ, ◌+◌, ◌≤◌, true, false, List, length, Option, Some, None, refl, sym, ◌∙◌, ap, subst, arith, inl, inr, ◌⊎◌, Bool, not, ◌||◌}
-use Rattle.std.proofs.lemmas.List.Elements.{All-contains, All-weaker, Contains-get_or}
-use Rattle.snoop_model.proofs.Common.{Access, All, Ask, asked, awaited_request, CacheAction, CacheEvent, CacheState, cases_eq, Cell, ClosedIsLast, ComesToRest, cond_some, Contains, Ends, EndsAtOnce, eq-eqb, FirstMove, has_transaction, held_by, is_some, IsServing, IsWellKept, Item, Line, ne_eqb, NeverRefused, none-some, nothing_there, Op, Open, or_cases, Order, Pays, Picture, picture_of, Protocol, queue_of, queues_after, Refused, Refuses, Reply, Request, Respond, same_Some, ServesOn, Situation, slice_index_or, slice_set, state_of, Step, sum_by, Takes, TurnLaws, waiting_request, Waits, with_line, ◌==◌}
+use Rattle.snoop_model.proofs.Common.{[], Access, All, All-contains, All-filter, All-push, All-weaker, ap, arith, Ask, asked, awaited_request, BusTaken, CacheAction, CacheEvent, CacheState, Cell, ClosedIsLast, ComesToRest, cond_some, Contains-get_or, Ends, EndsAtOnce, eq-eqb, false, FirstMove, has_transaction, held_by, I, inl, inr, is_some, IsServing, Issued, IsWellKept, Item, length, Line, List, missed_request, ne_eqb, NeverRefused, None, none-some, not, nothing_there, NothingWaiting, Op, Open, Option, or_cases, Order, Pays, Picture, picture_of, Protocol, queue_of, queues_after, refl, Refused, Refuses, Reply, Request, Respond, same_Some, ServesOn, Situation, slice_index_or, slice_set, Some, Stalled, state_of, sum_by, sym, Takes, true, TurnLaws, waiting_request, Waits, with_line, ℕ, ◌+◌, ◌==◌, ◌∙◌, ◌≡◌, ◌≢◌, ◌≤◌, ◌⊎◌}
 use Rattle.snoop_rules.specs.declared.names.CacheAction.TheVariants as action
-use Rattle.snoop_model.specs.declared.replies.Reply.TheVariants.{Issued}
-use Rattle.snoop_model.specs.declared.replies.Refused.TheVariants.{NoCore, NoBlock, Stalled, NothingWaiting, BusTaken, NoTransaction}
 use Rattle.snoop_model.specs.Turns.Turn.{step_under_way, turn_of}
-use Rattle.snoop_model.proofs.Lists.Facts.{one_if}
-use Rattle.snoop_model.proofs.Lists.Writes.{set_cases, all_first, all_issued, all_ordered, sum_issued, sum_ordered, one_small, count_set}
-use Rattle.snoop_model.proofs.OneBlock.OfBlocks.{same_everywhere}
+use Rattle.snoop_model.proofs.Lists.{Writes.all_first, Writes.each_still, Writes.sum_issued, Writes.sum_ordered, Writes.count_set}
 use Rattle.snoop_model.proofs.Queues.Moves.{none_there, starts_well, keeps_well, queued_waits, waits_queued}
-use Rattle.snoop_model.proofs.Once.Owed.{owes}
-use Rattle.snoop_rules.specs.declared.names.CacheState.TheVariants.{I}
-use Rattle.snoop_rules.proofs.Every.{all_protocols, all_states, all_events}
-use Rattle.snoop_rules.proofs.Rows.{each_row, each_row-at}
-use Rattle.snoop_model.proofs.Tables.StateTests.{some_of}
-use Rattle.snoop_model.proofs.Tables.WaitingRows.{has_missed}
-
--- the core waits in a state, for its own request to be ordered or for data
-abbrev pub is_busy : CacheState → Bool
-is_busy state = is_some (waiting_request state) || is_some (awaited_request state)
-
-abbrev is_stall : CacheAction → Bool
-is_stall action.Stall = true
-is_stall _ = false
-
-stalls_wait : each_row (λ p s e row. not (is_stall row.action) || is_busy s) ≡ true
-unfolding each_row all_protocols all_states all_events
-stalls_wait = refl
+use Rattle.snoop_model.proofs.Once.Owed.{owed_after}
+use Rattle.snoop_model.proofs.Tables.{Rows.action_rule, Rows.is_busy, StateTests.some_of}
 
 -- a stall comes only where the core waits
 pub stall_busy : (p : Protocol) (s : CacheState) (e : CacheEvent) (n : CacheState) → Cell p s e action.Stall n → is_busy s ≡ true
-stall_busy p s e n h = each_row-at _ stalls_wait p s e action.Stall n h
+stall_busy p s e n h = action_rule p s e action.Stall n h
 
 -- for one of the two, or the other
 pub busy_cases : (s : CacheState) → is_busy s ≡ true → ((request : Request) × (waiting_request s ≡ Some request)) ⊎ ((request : Request) × (awaited_request s ≡ Some request))
 busy_cases s busy = elim (or_cases _ _ busy) [ inl waits ↦ inl (some_of _ waits) | inr awaits ↦ inr (some_of _ awaits) ]
 
 pub busy_under_way : (s : Situation) (under_way : ℕ → Option ℕ) → IsServing under_way s → IsWellKept s → (core block : ℕ) → is_busy (state_of s core block) ≡ true → under_way core ≡ Some block
-busy_under_way s under_way serving kept core block busy = elim (busy_cases (state_of s core block) busy) [
-  | inl w ↦ All-contains (λ b. under_way core ≡ Some b) (queue_of s.queues core) block (serving.waits core) (waits_queued s kept.queued core block w.0 w.1)
-  | inr d ↦
-      let own = kept.awaits core block d.0 d.1 in
-      rw (← own.1.1) (serving.opened block own.0 own.1.0)
-]
+busy_under_way s under_way serving kept core block busy =
+    let queued = All-contains (λ b. under_way core ≡ Some b) (queue_of s.queues core) block (serving.waits core) in
+    grind (arith, busy_cases (state_of s core block) busy, waits_queued s kept.queued core block, queued, kept.awaits core block, serving.opened block)
 
 -- a core that has missed waits
-pub missed_busy : (s : CacheState) → has_missed s ≡ true → is_busy s ≡ true
+pub missed_busy : (s : CacheState) → is_some (missed_request s) ≡ true → is_busy s ≡ true
 missed_busy I h = cc
 missed_busy _ h = cc
 
--- which steps a work under way takes, and when it takes none
-under_way_step : (w : Option Request) (t : Option Open) (core block : ℕ) (step : Step) → step_under_way w t core block ≡ Some step
-    → ((step ≡ Order core) × (t ≡ None) × ((q : Request) × (w ≡ Some q))) ⊎ ((step ≡ Respond block) × ((o : Open) × (t ≡ Some o)))
-under_way_step (Some q) None core block step h = inl (sym (same_Some _ _ h), refl, (q, refl))
-under_way_step (Some q) (Some o) core block step h = inr (sym (same_Some _ _ h), (o, refl))
-under_way_step None None core block step h = cc
-under_way_step None (Some o) core block step h = inr (sym (cond_some (o.core == core) (Respond block) step h).1, (o, refl))
-
+-- what is so where a work under way takes no step
 none_left : (w : Option Request) (t : Option Open) (core block : ℕ) → step_under_way w t core block ≡ None
     → (w ≡ None) × ((o : Open) → t ≡ Some o → o.core ≡ core → ⊥)
 none_left (Some q) None core block h = cc
@@ -69,43 +37,51 @@ never_refused : NeverRefused
 never_refused s under_way core block word asking false step serving kept has_core has_block has_word idle is cause refused = ask_goes cause (rw (← (same_Some _ _ is)) at refused)
   where
     ask_goes : (cause : Refused) → Refuses s (Ask core block word asking) cause → ⊥
-    ask_goes NoCore h = absurd (omega arith)
-    ask_goes NoBlock h = elim h.1 [ inl l ↦ absurd (omega arith) | inr none ↦ absurd (none has_word) ]
     ask_goes (Stalled state) h =
         none-some block (sym idle ∙ busy_under_way s under_way serving kept core block (stall_busy s.protocol (state_of s core block) (asked asking) h.2.0 h.2.1))
-    ask_goes _ h = absurd h
+    ask_goes _ h = grind arith
 never_refused s under_way core block word asking true step serving kept has_core has_block has_word its is cause refused =
-    elim (under_way_step (waiting_request (state_of s core block)) (picture_of s block).transaction core block step is) [
-      | inl p ↦ order_goes p.1 p.2.0 p.2.1 cause (rw p.0 at refused)
-      | inr p ↦ respond_goes p.1.0 p.1.1 cause (rw p.0 at refused)
-    ]
+    goes (waiting_request (state_of s core block)) (picture_of s block).transaction refl refl is
   where
     order_goes : (picture_of s block).transaction ≡ None → (q : Request) → Waits s core block q → (cause : Refused) → Refuses s (Order core) cause → ⊥
-    order_goes free q waits NoCore h = absurd (omega arith)
     order_goes free q waits NothingWaiting h = h.1 block q waits
     order_goes free q waits (BusTaken b) h =
         let same : block ≡ b = same_Some _ _ (sym its ∙ all_first (λ x. under_way core ≡ Some x) (queue_of s.queues core) b (serving.waits core) h.1) in
         let clash : false ≡ true = rw (← same, free) at h.2 in
         cc
-    order_goes free q waits _ h = absurd h
+    order_goes free q waits _ h = grind arith
 
     respond_goes : (o : Open) → (picture_of s block).transaction ≡ Some o → (cause : Refused) → Refuses s (Respond block) cause → ⊥
-    respond_goes o open_here NoBlock h = absurd (omega arith)
-    respond_goes o open_here NoTransaction h = none-some o (sym h.1 ∙ open_here)
-    respond_goes o open_here _ h = absurd h
+    respond_goes o open_here _ h = grind arith
+
+    goes : (w : Option Request) (found : Option Open) → waiting_request (state_of s core block) ≡ w → (picture_of s block).transaction ≡ found → step_under_way w found core block ≡ Some step → ⊥
+    goes (Some q) None waits free is = order_goes free q waits cause (rw (← same_Some _ _ is) at refused)
+    goes (Some q) (Some o) waits opened is = respond_goes o opened cause (rw (← same_Some _ _ is) at refused)
+    goes None None waits free is = cc
+    goes None (Some o) waits opened is = respond_goes o opened cause (rw (← (cond_some (o.core == core) (Respond block) step is).1) at refused)
 
 module _ {s : Situation} {under_way : ℕ → Option ℕ} (serving : IsServing under_way s) where
-  asked_waits : (act : CacheAction) (core block : ℕ) → under_way core ≡ Some block → (k : ℕ) → All (λ b. under_way k ≡ Some b) (queue_of (queues_after act s.queues core block) k)
-  asked_waits (action.Issue request) core block its = all_issued (λ c b. under_way c ≡ Some b) s.queues core block serving.waits its
-  asked_waits _ core block its = serving.waits
-
   -- an open transaction where one block's picture was written
   set_opened : (place : ℕ) (next : Picture) → ((o : Open) → next.transaction ≡ Some o → under_way o.core ≡ Some place)
       → (block : ℕ) (o : Open) → (slice_index_or (slice_set s.pictures place next) block nothing_there).transaction ≡ Some o → under_way o.core ≡ Some block
-  set_opened place next its block o is = elim (set_cases s.pictures place block next nothing_there) [
-    | inl p ↦ rw p.0 (its o (ap (λ (x : Picture). x.transaction) (sym p.1) ∙ is))
-    | inr e ↦ serving.opened block o (ap (λ (x : Picture). x.transaction) (sym e) ∙ is)
+  set_opened place next its = each_still s.pictures place next nothing_there (λ b x. (o : Open) → x.transaction ≡ Some o → under_way o.core ≡ Some b) serving.opened its
+
+  -- an Ask, if one that issues is of a core that has the block under way
+  asked_serves : (core on word : ℕ) (asking : Op) (answer : Reply) (t : Situation) (m : FirstMove s (Ask core on word asking) answer t)
+      → ((request : Request) → answer ≡ Issued request → under_way core ≡ Some m.0) → IsServing under_way t
+  asked_serves core on word asking answer t m its = elim m.1.1.moves [
+    | inl absent ↦ rw absent.3 serving
+    | inr asks ↦ rw asks.after (record {
+      waits = queued asks.row.action asks.row.next asks.held asks.entry asks.taken;
+      opened = set_opened m.0 (with_line (picture_of s m.0) core asks.held) (serving.opened m.0);
+    })
   ]
+    where
+      queued : (act : CacheAction) (next : CacheState) (held : Line) (entry : Option Item) → Takes act next s.log core m.0 word asking (held_by (picture_of s m.0) core) held answer entry
+          → (k : ℕ) → All (λ b. under_way k ≡ Some b) (queue_of (queues_after act s.queues core m.0) k)
+      queued (action.Issue request) next held entry taken = each_still s.queues core _ [] (λ k queue. All (λ b. under_way k ≡ Some b) queue) serving.waits
+          (All-push (λ b. under_way core ≡ Some b) (queue_of s.queues core) m.0 (serving.waits core) (its request taken.1))
+      queued _ next held entry taken = serving.waits
 
 -- more works may be under way
 more_served : {s : Situation} {before after : ℕ → Option ℕ} → IsServing before s → ((core block : ℕ) → before core ≡ Some block → after core ≡ Some block) → IsServing after s
@@ -115,20 +91,14 @@ more_served {s} serving extends = record {
 }
 
 serves_on : ServesOn
-serves_on s t before after (Ask core on word asking) answer serving move extends its = elim move.1.1.moves [
-  | inl absent ↦ rw absent.3 (more_served serving extends)
-  | inr asks ↦
-      let now = more_served serving extends in
-      rw asks.after (record {
-        waits = asked_waits now asks.row.action core move.0 (rw (← move.1.1.on_block) its);
-        opened = set_opened now move.0 (with_line (picture_of s move.0) core asks.held) (now.opened move.0);
-      })
-]
+serves_on s t before after (Ask core on word asking) answer serving move extends its =
+    asked_serves (more_served serving extends) core on word asking answer t move (λ request is. rw (← move.1.1.on_block) its)
 serves_on s t before after (Order core) answer serving move extends its =
     let now = more_served serving extends in
     let orders = move.1.1.orders in
     rw orders.after (record {
-      waits = all_ordered (λ c b. after c ≡ Some b) s.queues core move.0 now.waits;
+      waits = each_still s.queues core _ [] (λ k queue. All (λ b. after k ≡ Some b) queue) now.waits
+          (All-filter (λ b. not (b == move.0)) (λ b. after core ≡ Some b) (queue_of s.queues core) (now.waits core));
       opened = set_opened now move.0 orders.next (λ o is. rw (ap (λ (x : Open). x.core) (same_Some _ _ (sym is ∙ orders.opened)))
           (all_first (λ b. after core ≡ Some b) (queue_of s.queues core) move.0 (now.waits core) move.1.0));
     })
@@ -144,21 +114,10 @@ ends : Ends
 ends s before after core block word asking serving kept works none others =
     let left = none_left (waiting_request (state_of s core block)) (picture_of s block).transaction core block none in
     record {
-      waits = λ k. elim (cases_eq k core) [
-        | inl e ↦ λ i d lt.
-            (let x : ℕ = slice_index_or (queue_of s.queues k) i d in
-            let same : x ≡ block = cc (serving.waits k i d lt, works, e) in
-            let w = queued_waits s kept.queued k x (Contains-get_or (queue_of s.queues k) i d lt) in
-            let here : waiting_request (state_of s core block) ≡ Some w.0 = rw (← same, ← e) w.1 in
-            absurd (none-some w.0 (sym left.0 ∙ here)))
-        | inr ne ↦ rw (others k ne) (serving.waits k)
-      ];
-      opened = λ b o is. elim (cases_eq o.core core) [
-        | inl e ↦
-            (let same : b ≡ block = cc (serving.opened b o is, works, e) in
-            absurd (left.1 o (rw same at is) e))
-        | inr ne ↦ others o.core ne ∙ serving.opened b o is
-      ];
+      waits = λ k i d lt.
+          let w = queued_waits s kept.queued k (slice_index_or (queue_of s.queues k) i d) (Contains-get_or (queue_of s.queues k) i d lt) in
+          others k (λ e. none-some w.0 (cc (left.0, w.1, e, serving.waits k i d lt, works))) ∙ serving.waits k i d lt;
+      opened = λ b o is. others o.core (λ e. left.1 o (cc (serving.opened b o is, works, e, is)) e) ∙ serving.opened b o is;
     }
 
 comes_to_rest : ComesToRest
@@ -179,31 +138,24 @@ pays : Pays
 pays s t (Ask core on word asking) answer move = elim move.1.1.moves [
   | inl absent ↦ rw absent.3 (omega arith)
   | inr asks ↦
-      let next : Picture = with_line (picture_of s move.0) core asks.held in
-      rw asks.after (omega (arith, sum_asked asks.row.action s.queues core move.0, count_set has_transaction s.pictures move.0 next nothing_there refl))
+      rw asks.after (omega (arith, sum_asked asks.row.action s.queues core move.0, count_set has_transaction s.pictures move.0 (with_line (picture_of s move.0) core asks.held) nothing_there refl))
 ]
 pays s t (Order core) answer move =
     let orders = move.1.1.orders in
-    rw orders.after (omega (arith, sum_ordered s.queues core move.0 move.1.0, count_set has_transaction s.pictures move.0 orders.next nothing_there refl, one_small (has_transaction orders.next)))
+    rw orders.after (grind (arith, sum_ordered s.queues core move.0 move.1.0, count_set has_transaction s.pictures move.0 orders.next nothing_there refl))
 pays s t (Respond on) answer move =
     let responds = move.1.1.responds in
-    let was : one_if (has_transaction (picture_of s move.0)) ≡ 1 = rw responds.opened refl in
-    let is : one_if (has_transaction responds.next) ≡ 0 = rw responds.closed refl in
-    rw responds.after (omega (arith, count_set has_transaction s.pictures move.0 responds.next nothing_there refl, was, is))
+    rw responds.after (grind (arith, count_set has_transaction s.pictures move.0 responds.next nothing_there refl, responds.opened, responds.closed))
 
 -- a work whose operation waits has a step left
 pub has_step : (s : Situation) (core block word : ℕ) (asking : Op) (wanted : Access) → IsWellKept s → (held_by (picture_of s block) core).waiting ≡ Some wanted → turn_of s core block word asking true ≡ None → ⊥
 has_step s core block word asking wanted kept waits none =
     let left = none_left (waiting_request (state_of s core block)) (picture_of s block).transaction core block none in
-    elim (busy_cases (state_of s core block) (missed_busy (state_of s core block) (kept.operations core block wanted waits))) [
-      | inl w ↦ none-some w.0 (sym left.0 ∙ w.1)
-      | inr a ↦ let its = kept.awaits core block a.0 a.1 in left.1 its.0 its.1.0 its.1.1
-    ]
+    grind (arith, busy_cases (state_of s core block) (missed_busy (state_of s core block) (kept.operations core block wanted waits)), left.0, left.1, kept.awaits core block)
 
 -- where no step is left, the operation is the core's last one
 closed_is_last : ClosedIsLast
-closed_is_last s core block word asking wanted kept (inl waits) none = absurd (has_step s core block word asking wanted kept waits none)
-closed_is_last s core block word asking wanted kept (inr last) none = last
+closed_is_last s core block word asking wanted kept owed none = elim owed [ inl waits ↦ absurd (has_step s core block word asking wanted kept waits none) | inr last ↦ last ]
 
 -- nothing of the core waits or is open
 idle_turn : (core block : ℕ) (w : Option Request) (o : Option Open) → ((r : Request) → w ≢ Some r) → ((t : Open) → o ≡ Some t → t.core ≢ core) → step_under_way w o core block ≡ None
@@ -211,27 +163,12 @@ idle_turn core block (Some r) o none_waits none_open = absurd (none_waits r refl
 idle_turn core block None None none_waits none_open = refl
 idle_turn core block None (Some t) none_waits none_open = rw (ne_eqb t.core core (none_open t refl)) refl
 
--- the queues and the transactions are as before
-same_queues : (s t : Situation) (core block word : ℕ) (asking : Op) (answer : Reply) → FirstMove s (Ask core block word asking) answer t → ((request : Request) → answer ≢ Issued request) → (t.queues ≡ s.queues) × ((b : ℕ) → (picture_of t b).transaction ≡ (picture_of s b).transaction)
-same_queues s t core block word asking answer m other = elim m.1.1.moves [
-  | inl absent ↦ rw absent.3 (refl, λ b. refl)
-  | inr a ↦
-      let transactions = same_everywhere s m.0 (with_line (picture_of s m.0) core a.held) s.queues s.log (λ (x : Picture). x.transaction) refl in
-      rw a.after (no_issue a.row.action a.row.next a.held a.entry a.taken, transactions)
-]
-  where
-    no_issue : (act : CacheAction) (next : CacheState) (held : Line) (entry : Option Item) → Takes act next s.log core m.0 word asking (held_by (picture_of s m.0) core) held answer entry
-        → queues_after act s.queues core m.0 ≡ s.queues
-    no_issue (action.Issue request) next held entry taken = absurd (other request taken.1)
-    no_issue _ next held entry taken = refl
-
 asked_once : EndsAtOnce
 asked_once s t under_way core block word asking answer serving idle kept m other =
-    let same = same_queues s t core block word asking answer m other in
+    let now = asked_serves serving core block word asking answer t m (λ request is. absurd (other request is)) in
     idle_turn core block (waiting_request (state_of t core block)) (picture_of t block).transaction
-    (λ r w. none-some block (sym idle ∙ All-contains (λ b. under_way core ≡ Some b) (queue_of s.queues core) block (serving.waits core)
-    (subst (λ q. Contains (queue_of q core) block) same.0 (waits_queued t kept.queued core block r w))))
-    (λ o is c. none-some block (sym (ap under_way c ∙ idle) ∙ serving.opened block o (sym (same.1 block) ∙ is)))
+    (λ r w. none-some block (sym idle ∙ All-contains (λ b. under_way core ≡ Some b) (queue_of t.queues core) block (now.waits core) (waits_queued t kept.queued core block r w)))
+    (λ o is c. none-some block (sym (ap under_way c ∙ idle) ∙ now.opened block o is))
 
 pub turn_rule : TurnLaws
 turn_rule = record {
@@ -242,7 +179,7 @@ turn_rule = record {
   ends = ends;
   comes_to_rest = comes_to_rest;
   pays = pays;
-  owes = owes;
+  owes = owed_after;
   closed_is_last = closed_is_last;
   ends_at_once = asked_once;
 }

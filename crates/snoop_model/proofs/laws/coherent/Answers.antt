@@ -1,10 +1,8 @@
 -- Every run is coherent, by the invariant of every run.
-use Rattle.snoop_model.specs.Pictures.Situation.{reset}
-use Rattle.snoop_model.proofs.Invariant.Runs.{reset_invariant}
-use Rattle.snoop_model.proofs.Invariant.Safety.{is_coherent, reset_keeps, run_keeps_all}
+use Rattle.snoop_model.proofs.Common.{reset}
+use Rattle.snoop_model.proofs.Invariant.{Runs.reset_invariant, Safety.is_coherent, Safety.reset_keeps, Safety.run_keeps_all}
 use Rattle.snoop_model.proofs.Once.Runs.{run_asked_once}
-use Rattle.snoop_model.proofs.Runs.Replies.{run_tells}
-use Rattle.snoop_model.proofs.Runs.Shape.{run_stays}
+use Rattle.snoop_model.proofs.Runs.{Replies.run_tells, Shape.run_stays}
 use Rattle.snoop_model.proofs.laws.coherent.Goals as goal
 
 pub returns : goal.returns
