@@ -1,9 +1,5 @@
 -- A transaction closes: memory takes its message, and the lines are those that took it.
-use Rattle.std.proofs.Common.{◌≡◌, ◌<◌, ℕ, ◌-◌, List, ◌++◌, ◌∷◌, [], length, Option, Some, None, refl, sym, ◌∙◌, ap, arith}
-use Rattle.std.specs.Prelude.{option_map, slice_set}
-use Rattle.std.proofs.lemmas.Option.{same_Some}
-use Rattle.std.proofs.lemmas.List.{length-set, length-append}
-use Rattle.snoop_machine.proofs.Common.{Came, Did, Open, transaction_on, ArrivesFor, RespondMove, came_of, written, Line, MemLine, Picture, picture_of, LosesLines, Held, KeepsMapsRoom, LinesGo, row_of, memory_line, Fields, standing, IsSound, IsWhole, IsClosing, Standing, KeepsRoom}
+use Rattle.snoop_machine.proofs.Common.{◌≡◌, ◌<◌, ℕ, ◌-◌, List, ◌++◌, ◌∷◌, [], length, Option, Some, None, refl, sym, ◌∙◌, ap, arith, option_map, slice_set, same_Some, length-set, length-append, Came, Did, Open, transaction_on, ArrivesFor, RespondMove, came_of, written, Line, MemLine, Picture, picture_of, LosesLines, Held, KeepsMapsRoom, LinesGo, row_of, memory_line, Fields, standing, IsSound, IsWhole, IsClosing, Standing, KeepsRoom, Protocol, Item, Request, ◌≢◌, PutM, FillsRequestor}
 use Rattle.snoop_rules.specs.declared.names.MemCell.{MemCell}
 use Rattle.snoop_history.specs.declared.items.Item.TheVariants as item
 use Rattle.snoop_model.specs.declared.replies.Reply.TheVariants as reply
@@ -29,6 +25,12 @@ module _ {count : ℕ} {m : Fields} (whole : IsWhole count m) {now : Standing} (
 
   abbrev pub as_closes : {closing : Open} → came.block < now.situation.shape.blocks → transaction_on m.bus came.block ≡ Some closing → Closes m now came memory closing
   as_closes within is_open = record { count = count; whole = whole; view = view; within = within; found = found; is_open = is_open }
+
+-- the data of another request than a PutM fills the requestor's line
+pub arrives_get : {closing : Open} {p : Protocol} {log : List Item} {old new : List Line} {did : Option Did} (q : Request) → q ≢ PutM
+    → FillsRequestor closing p log old new did → ArrivesFor q closing p log old new did
+arrives_get PutM get fills = absurd (get refl)
+arrives_get _ get fills = fills
 
 module _ {m : Fields} {now : Standing} {came : Came} {memory : MemCell} {closing : Open} (closes : Closes m now came memory closing) where
   -- callers see it open

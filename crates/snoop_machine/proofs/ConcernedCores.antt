@@ -1,12 +1,8 @@
 -- The cores that a request concerns; each other core's row changes nothing and sends nothing.
-use Rattle.std.proofs.Common.{◌≡◌, ◌≢◌, ℕ, ◌<◌, List, length, true, false, Some, refl, sym, ap, ◌∙◌, arith, inl, inr}
-use Rattle.std.proofs.lemmas.Bool.{ne_eqb, cases_lt}
-use Rattle.std.proofs.lemmas.List.{get_or_past}
-use Rattle.snoop_machine.proofs.Common.{Protocol, Cell, seen_by, other, waiting_request, CacheState, Request, PutM, has, TakesRow, Line, held_at, nothing_held, IsProper, concerns}
+use Rattle.snoop_machine.proofs.Common.{◌≡◌, ◌≢◌, ℕ, ◌<◌, List, length, true, false, Some, refl, sym, ap, ◌∙◌, arith, inl, inr, ne_eqb, cases_lt, get_or_past, Protocol, Cell, seen_by, other, waiting_request, CacheState, Request, PutM, has, TakesRow, Line, held_at, nothing_held, IsProper, concerns, is_owner}
 use Rattle.snoop_rules.specs.declared.names.CacheState.TheVariants as state
 use Rattle.snoop_rules.specs.declared.names.CacheAction.{CacheAction}
 use Rattle.snoop_rules.specs.declared.names.CacheAction.TheVariants as action
-use Rattle.snoop_model.specs.Invariant.Fits.{is_owner}
 use Rattle.snoop_model.specs.Moves.LookUps.{HasRow}
 use Rattle.snoop_machine.proofs.ProperLines.{moves_to_same}
 

@@ -1,9 +1,5 @@
 -- How many lines each core's map has after a step, or after the room for it was made.
-use Rattle.std.proofs.Common.{◌≡◌, ℕ, ◌+◌, ◌<◌, length, sym, ◌∙◌, ap, arith, inl, inr, ◌⊎◌}
-use Rattle.std.proofs.lemmas.Bool.{cases_eq}
-use Rattle.std.proofs.lemmas.List.{get_or-set_other}
-use Rattle.std.specs.Prelude.{slice_index}
-use Rattle.snoop_machine.proofs.Common.{Step, queue_of, FirstMove, Picture, held_by, with_line, Situation, picture_of, state_of, nothing_there, Reply, LosesLines, AddsLines, NeedsLine, MovesToI, HoldsOn, IsPlan, IsPlanFor, planned_step, Standing, KeepsRoom, line_count, Issue, Plan}
+use Rattle.snoop_machine.proofs.Common.{◌≡◌, ℕ, ◌+◌, ◌<◌, length, sym, ◌∙◌, ap, arith, inl, inr, ◌⊎◌, cases_eq, get_or-set_other, slice_index, Step, queue_of, FirstMove, Picture, held_by, with_line, Situation, picture_of, state_of, nothing_there, Reply, LosesLines, AddsLines, NeedsLine, MovesToI, HoldsOn, IsPlan, IsPlanFor, planned_step, Standing, KeepsRoom, line_count, Issue, Plan}
 use Rattle.snoop_trace.specs.declared.step.Step.TheVariants as step
 use Rattle.snoop_rules.specs.declared.names.CacheAction.TheVariants as action
 use Rattle.snoop_model.proofs.Tables.EvictInI.{no_row}

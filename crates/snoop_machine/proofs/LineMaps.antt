@@ -1,13 +1,94 @@
--- The lines that callers see, in the maps.
-use Rattle.std.proofs.Common.{◌≡◌, ◌≢◌, ℕ, ◌<◌, true, false, List, [], length, is_some, refl, sym, ◌∙◌, ap, inl, inr, ◌⊎◌, get_or}
-use Rattle.std.specs.Prelude.{slice_index_or, map, nat_eq}
-use Rattle.std.specs.Map.{lookup}
-use Rattle.std.proofs.lemmas.Bool.{true_from_ne_false}
-use Rattle.std.proofs.lemmas.List.{length-map, get_or_read}
-use Rattle.std.proofs.lemmas.Map.Made.{is_some-lookup}
-use Rattle.snoop_machine.proofs.Common.{CacheState, I, Line, Contents, no_cache, line_in, blocks_of, lines_held, Held, AreLines, held, MayMoveTo, is_among, gone, row_of, line_at, Holders}
+-- The lines of maps as rows, what one write does to them, and the lines that callers see.
+use Rattle.snoop_machine.proofs.Common.{◌≡◌, ℕ, zero, suc, ◌<◌, false, List, [], ◌∷◌, ◌++◌, length, replicate, refl, sym, ◌∙◌, ap, inl, inr, arith, slice_index_or, slice_set, map, nat_eq, unwrap_or, lookup, range_with_len, get_or-map, map-set_same, cases_lt, ne_eqb, map-set, length-map, length-set, get_or_past, get_or-replicate, length-replicate, has, Line, held_at, nothing_held, keeps, Contents, no_cache, line_in, blocks_of, lines_held, AreHolders, HaveMoved, held_by_block, line_at, with_line_at, Holders, is_owner, ◌≢◌, true, is_some, ◌⊎◌, get_or, true_from_ne_false, get_or_read, is_some-lookup, CacheState, I, Held, AreLines, held, MayMoveTo, is_among, gone, row_of, each_place, constant}
+use Rattle.std.proofs.lemmas.List.FromFn.{length-map-range_with_len, get_or-map-range_with_len, fill_by_all}
 use Rattle.snoop_machine.proofs.ProperLines.{is_none}
-use Rattle.snoop_machine.proofs.MapRows.{within-rows, line-rows, line-none, row-rows, blocks-at, spare-at}
+
+length-rows : (blocks : ℕ) (caches : List Contents) → length (held_by_block blocks caches) ≡ blocks
+length-rows blocks caches = length-map-range_with_len (lines_held caches) 0 blocks
+
+pub row-rows : (blocks : ℕ) (caches : List Contents) (block : ℕ) → block < blocks → slice_index_or (held_by_block blocks caches) block [] ≡ lines_held caches block
+row-rows blocks caches block h = get_or-map-range_with_len (lines_held caches) 0 blocks block block [] h (omega arith)
+
+pub length-row : (caches : List Contents) (block : ℕ) → length (lines_held caches block) ≡ length caches
+length-row caches block = length-map caches (λ cache. line_in cache block)
+
+pub line-row : (caches : List Contents) (core block : ℕ) → held_at (lines_held caches block) core ≡ line_in (slice_index_or caches core no_cache) block
+line-row caches core block = get_or-map (λ (cache : Contents). line_in cache block) caches core no_cache
+
+-- a map whose line of the block is as it was leaves the row as it was
+pub row-same : (caches : List Contents) (core block : ℕ) (new : Contents) → line_in new block ≡ line_in (slice_index_or caches core no_cache) block
+    → lines_held (slice_set caches core new) block ≡ lines_held caches block
+row-same caches core block new same = map-set_same (λ (cache : Contents). line_in cache block) caches core new no_cache same
+
+pub rows-same : (blocks : ℕ) (caches : List Contents) (core : ℕ) (new : Contents) → ((b : ℕ) → line_in new b ≡ line_in (slice_index_or caches core no_cache) b)
+    → held_by_block blocks (slice_set caches core new) ≡ held_by_block blocks caches
+rows-same blocks caches core new same = λ i. map (λ b. row-same caches core b new (same b) i) (range_with_len 0 blocks)
+
+-- the row of a block after one line of it is written
+pub row-set : (caches : List Contents) (core block : ℕ) (new : Contents) (line : Line) → line_in new block ≡ line → lines_held (slice_set caches core new) block ≡ slice_set (lines_held caches block) core line
+row-set caches core block new line here = map-set (λ cache. line_in cache block) caches core new ∙ ap (λ (x : Line). slice_set (lines_held caches block) core x) here
+
+pub rows-set : (blocks : ℕ) (caches : List Contents) (core block : ℕ) (new : Contents) (line : Line) → block < blocks
+    → line_in new block ≡ line → ((b : ℕ) → nat_eq block b ≡ false → line_in new b ≡ line_in (slice_index_or caches core no_cache) b)
+    → held_by_block blocks (slice_set caches core new) ≡ with_line_at (held_by_block blocks caches) core block line
+rows-set blocks caches core block new line inside here others =
+    let rows = held_by_block blocks caches in
+    let row = slice_set (slice_index_or rows block []) core line in
+    let after = slice_set caches core new in
+    let long : length rows ≡ blocks = length-rows blocks caches in
+    sym (fill_by_all (lines_held after) (slice_set rows block row) blocks [] (length-set rows block row ∙ long)
+    (each_place (λ b its. b < blocks → its ≡ lines_held after b) rows block row [] (omega arith)
+    (λ lt. rw (row-rows blocks caches block lt) (sym (row-set caches core block new line here)))
+    (λ b ne lt. row-rows blocks caches b lt ∙ sym (row-same caches core b new (others b (ne_eqb block b (λ e. ne (sym e))))))))
+
+-- the holders of a block are those of its row, once one of its lines has moved
+pub AreHolders-moved : (row : List Line) (core : ℕ) (line : Line) (old new : Holders) → core < length row → AreHolders old row → HaveMoved core line.state old new → AreHolders new (slice_set row core line)
+AreHolders-moved row core line old new within fits moved = record {
+  owners = each_place (λ k its. has new.owners k ≡ is_owner its.state) row core line nothing_held within moved.owner
+      (λ k ne. moved.other_owners k ne ∙ fits.owners k);
+  readers = each_place (λ k its. has new.readers k ≡ keeps its.state) row core line nothing_held within moved.reader
+      (λ k ne. moved.other_readers k ne ∙ fits.readers k);
+}
+
+-- one more map without entries
+pub empty-push : (caches : List Contents) (cache : Contents) → ((core : ℕ) → (slice_index_or caches core no_cache).entries ≡ []) → cache.entries ≡ []
+    → (core : ℕ) → (slice_index_or (caches ++ cache ∷ []) core no_cache).entries ≡ []
+empty-push [] cache empty own zero = own
+empty-push [] cache empty own (suc core) = refl
+empty-push (first ∷ caches) cache empty own zero = empty zero
+empty-push (first ∷ caches) cache empty own (suc core) = empty-push caches cache (λ k. empty (suc k)) own core
+
+-- maps without entries hold nothing anywhere
+pub line-empty : (caches : List Contents) → ((core : ℕ) → (slice_index_or caches core no_cache).entries ≡ []) → (core block : ℕ)
+    → line_in (slice_index_or caches core no_cache) block ≡ nothing_held
+line-empty caches empty core block = rw (empty core)
+
+pub row-empty : (caches : List Contents) → ((core : ℕ) → (slice_index_or caches core no_cache).entries ≡ []) → (block : ℕ)
+    → lines_held caches block ≡ replicate (length caches) nothing_held
+row-empty caches empty block = constant (λ (cache : Contents). line_in cache block) caches no_cache nothing_held (λ core. line-empty caches empty core block)
+
+pub rows-empty : (caches : List Contents) → ((core : ℕ) → (slice_index_or caches core no_cache).entries ≡ []) → (blocks : ℕ)
+    → held_by_block blocks caches ≡ replicate blocks (replicate (length caches) nothing_held)
+rows-empty caches empty blocks =
+    sym (fill_by_all (lines_held caches) (replicate blocks (replicate (length caches) nothing_held)) blocks [] (length-replicate blocks _)
+    (λ b within. get_or-replicate blocks b (replicate (length caches) nothing_held) [] within ∙ sym (row-empty caches empty b)))
+
+-- the blocks that a core's map has a line for
+pub blocks-at : (caches : List Contents) (core : ℕ) → slice_index_or (map blocks_of caches) core [] ≡ blocks_of (slice_index_or caches core no_cache)
+blocks-at caches core = get_or-map blocks_of caches core no_cache
+
+pub spare-at : (caches : List Contents) (core : ℕ) → slice_index_or (map (λ (cache : Contents). cache.spare) caches) core 0 ≡ (slice_index_or caches core no_cache).spare
+spare-at caches core = get_or-map (λ (cache : Contents). cache.spare) caches core no_cache
+
+pub length-blocks_of : (cache : Contents) → length (blocks_of cache) ≡ length cache.entries
+length-blocks_of cache = length-map cache.entries (λ (e : ℕ × Line). e.0)
+
+-- maps with the same entries have the same lines
+pub line-same : (new old : Contents) → new.entries ≡ old.entries → (block : ℕ) → line_in new block ≡ line_in old block
+line-same new old same block = ap (λ (entries : List (ℕ × Line)). unwrap_or (lookup (nat_eq block) entries) nothing_held) same
+
+pub blocks-empty : (caches : List Contents) → ((core : ℕ) → (slice_index_or caches core no_cache).entries ≡ []) → map blocks_of caches ≡ replicate (length caches) []
+blocks-empty caches empty = constant blocks_of caches no_cache [] (λ core. rw (empty core) refl)
 
 -- a core's map and its line of a block, where callers see both
 pub record IsMap (caches : List Contents) (holders : List Holders) (now : Held) (core block : ℕ) (map : Contents) : Type 0 where
@@ -27,15 +108,20 @@ module _ {caches : List Contents} {holders : List Holders} (lines : AreLines cac
   pub in_maps : (core : ℕ) → core < length now.lines → core < length caches
   in_maps core within = rw maps-long at within
 
-  -- a block and a core with a place in the rows
-  pub in_rows : (core block : ℕ) → block < length now.rows → core < length (row_of now.rows block) → (block < length holders) × (core < length caches)
-  in_rows core block in_blocks in_cores = within-rows (length holders) caches core block (rw (← view) at in_blocks) (rw (← view) at in_cores)
+  rows-long : length now.rows ≡ length holders
+  rows-long = sym (ap (λ (h : Held). length h.rows) view) ∙ length-rows (length holders) caches
 
   pub row_seen : (block : ℕ) → block < length holders → lines_held caches block ≡ row_of now.rows block
   row_seen block within = sym (row-rows (length holders) caches block within) ∙ ap (λ (h : Held). row_of h.rows block) view
 
   pub line_seen : (core block : ℕ) → block < length holders → line_in (slice_index_or caches core no_cache) block ≡ line_at now.rows core block
-  line_seen core block within = sym (line-rows (length holders) caches core block within) ∙ ap (λ (h : Held). line_at h.rows core block) view
+  line_seen core block within = sym (line-row caches core block) ∙ ap (λ (r : List Line). held_at r core) (row_seen block within)
+
+  -- a block and a core with a place in the rows
+  pub in_rows : (core block : ℕ) → block < length now.rows → core < length (row_of now.rows block) → (block < length holders) × (core < length caches)
+  in_rows core block in_blocks in_cores =
+      let within = rw rows-long at in_blocks in
+      (within, rw (← (row_seen block within), length-row caches block) at in_cores)
 
   pub blocks_seen : (core : ℕ) → blocks_of (slice_index_or caches core no_cache) ≡ slice_index_or now.lines core []
   blocks_seen core = sym (blocks-at caches core) ∙ ap (λ (h : Held). slice_index_or h.lines core []) view
@@ -63,9 +149,11 @@ module _ {caches : List Contents} {holders : List Holders} (lines : AreLines cac
 
   -- where the map has no line the core is in I
   pub none_held : (core block : ℕ) → is_some (lookup (nat_eq block) (slice_index_or caches core no_cache).entries) ≡ false → (line_at now.rows core block).state ≡ I
-  none_held core block none =
-      ap (λ (x : Line). x.state) (sym (ap (λ (h : Held). line_at h.rows core block) view) ∙ line-none (length holders) caches core block
-      (rw (is_none (lookup (nat_eq block) (slice_index_or caches core no_cache).entries) none) refl))
+  none_held core block none = elim (cases_lt block (length holders)) [
+    | inl inside ↦ ap (λ (x : Line). x.state) (sym (line_seen core block inside))
+        ∙ rw (is_none (lookup (nat_eq block) (slice_index_or caches core no_cache).entries) none) refl
+    | inr past ↦ ap (λ (r : List Line). (held_at r core).state) (get_or_past now.rows block [] (rw rows-long past))
+  ]
 
   -- where the core holds the block the map has a line
   pub held_placed : (core block : ℕ) → (line_at now.rows core block).state ≢ I → is_some (lookup (nat_eq block) (slice_index_or caches core no_cache).entries) ≡ true
@@ -82,17 +170,15 @@ is_I _ = inr (λ e. cc)
 
 -- no line goes to a state that is not I
 pub gone-none : (old new : CacheState) → new ≢ I → gone old new ≡ 0
-gone-none old I ne = absurd (ne refl)
-gone-none old _ ne = refl
+gone-none old new ne = grind arith
 
 -- nor where the line stays
 pub gone-same : (s : CacheState) → gone s s ≡ 0
-gone-same s = elim (is_I s) [ inl e ↦ rw e refl | inr ne ↦ gone-none s s ne ]
+gone-same s = grind arith
 
 -- one goes from another state to I
 pub gone-one : (old new : CacheState) → old ≢ I → new ≡ I → gone old new ≡ 1
-gone-one I new ne e = absurd (ne refl)
-gone-one _ new ne e = rw e refl
+gone-one old new ne e = grind arith
 
 -- one goes, or none
 pub gone-cases : (old new : CacheState) → ((old ≢ I) × (new ≡ I) × (gone old new ≡ 1)) ⊎ (gone old new ≡ 0)

@@ -1,37 +1,35 @@
 -- The pictures that the parts show.
-use Rattle.std.proofs.Common.{◌≡◌, ℕ, ◌<◌, zero, suc, List, [], ◌∷◌, length, replicate, Option, None, refl, sym, ◌∙◌, ap, arith}
-use Rattle.std.specs.Prelude.{slice_index_or, slice_set}
-use Rattle.std.proofs.lemmas.List.{set-get_or}
-use Rattle.snoop_machine.proofs.Common.{Data, zero_words, Open, Line, Picture, held_by, with_line, picture_of, state_of, nothing_there, line_at, row_of, with_line_at, memory_line, Fields, standing, pictures_of, IsSized, IsWhole, Standing}
+use Rattle.snoop_machine.proofs.Common.{◌≡◌, ℕ, ◌<◌, zero, suc, List, [], ◌∷◌, length, replicate, Option, None, refl, sym, ◌∙◌, ap, arith, slice_index_or, slice_set, set-get_or, Data, zero_words, Open, Line, Picture, held_by, with_line, picture_of, state_of, nothing_there, line_at, row_of, with_line_at, memory_line, Fields, standing, pictures_of, IsSized, IsWhole, Standing}
 use Rattle.snoop_rules.specs.declared.names.MemState.{MemState}
 use Rattle.snoop_rules.specs.declared.names.MemState.TheVariants.{IorS}
 
+-- the tables that pictures are made of are equally long
+abbrev AreAlike : List (List Line) → List MemState → List Data → List (Option Open) → Type 0
+AreAlike rows states values transactions = (length states ≡ length rows) × (length values ≡ length rows) × (length transactions ≡ length rows)
+
 pictures-get : (rows : List (List Line)) (states : List MemState) (values : List Data) (transactions : List (Option Open)) (block : ℕ)
-    → length states ≡ length rows → length values ≡ length rows → length transactions ≡ length rows
-    → slice_index_or (pictures_of rows states values transactions) block nothing_there
+    → AreAlike rows states values transactions → slice_index_or (pictures_of rows states values transactions) block nothing_there
     ≡ record { caches = row_of rows block; memory = record { state = slice_index_or states block IorS; value = slice_index_or values block zero_words }; transaction = slice_index_or transactions block None }
-pictures-get [] [] [] [] block d e f = refl
-pictures-get (r ∷ rs) (s ∷ ss) (v ∷ vs) (t ∷ ts) zero d e f = refl
-pictures-get (r ∷ rs) (s ∷ ss) (v ∷ vs) (t ∷ ts) (suc block) d e f = pictures-get rs ss vs ts block (omega arith) (omega arith) (omega arith)
-pictures-get _ _ _ _ block d e f = absurd (omega arith)
+pictures-get [] [] [] [] block alike = refl
+pictures-get (r ∷ rs) (s ∷ ss) (v ∷ vs) (t ∷ ts) zero alike = refl
+pictures-get (r ∷ rs) (s ∷ ss) (v ∷ vs) (t ∷ ts) (suc block) alike = pictures-get rs ss vs ts block (omega arith, omega arith, omega arith)
+pictures-get _ _ _ _ block alike = absurd (omega arith)
 
 pictures-length : (rows : List (List Line)) (states : List MemState) (values : List Data) (transactions : List (Option Open))
-    → length states ≡ length rows → length values ≡ length rows → length transactions ≡ length rows
-    → length (pictures_of rows states values transactions) ≡ length rows
-pictures-length [] [] [] [] d e f = refl
-pictures-length (r ∷ rs) (s ∷ ss) (v ∷ vs) (t ∷ ts) d e f = let same = pictures-length rs ss vs ts (omega arith) (omega arith) (omega arith) in omega arith
-pictures-length _ _ _ _ d e f = absurd (omega arith)
+    → AreAlike rows states values transactions → length (pictures_of rows states values transactions) ≡ length rows
+pictures-length [] [] [] [] alike = refl
+pictures-length (r ∷ rs) (s ∷ ss) (v ∷ vs) (t ∷ ts) alike = ap suc (pictures-length rs ss vs ts (omega arith, omega arith, omega arith))
+pictures-length _ _ _ _ alike = absurd (omega arith)
 
 pictures-set : (rows : List (List Line)) (states : List MemState) (values : List Data) (transactions : List (Option Open)) (block : ℕ) (next : Picture)
-    → length states ≡ length rows → length values ≡ length rows → length transactions ≡ length rows
+    → AreAlike rows states values transactions
     → pictures_of (slice_set rows block next.caches) (slice_set states block next.memory.state) (slice_set values block next.memory.value)
     (slice_set transactions block next.transaction)
     ≡ slice_set (pictures_of rows states values transactions) block next
-pictures-set [] [] [] [] block next d e f = refl
-pictures-set (r ∷ rs) (s ∷ ss) (v ∷ vs) (t ∷ ts) zero next d e f = refl
-pictures-set (r ∷ rs) (s ∷ ss) (v ∷ vs) (t ∷ ts) (suc block) next d e f =
-    rw (pictures-set rs ss vs ts block next (omega arith) (omega arith) (omega arith)) refl
-pictures-set _ _ _ _ block next d e f = absurd (omega arith)
+pictures-set [] [] [] [] block next alike = refl
+pictures-set (r ∷ rs) (s ∷ ss) (v ∷ vs) (t ∷ ts) zero next alike = refl
+pictures-set (r ∷ rs) (s ∷ ss) (v ∷ vs) (t ∷ ts) (suc block) next alike = rw (pictures-set rs ss vs ts block next (omega arith, omega arith, omega arith)) refl
+pictures-set _ _ _ _ block next alike = absurd (omega arith)
 
 pub pictures_of-replicate : (n : ℕ) (row : List Line) (state : MemState) (value : Data) (transaction : Option Open)
     → pictures_of (replicate n row) (replicate n state) (replicate n value) (replicate n transaction)
@@ -45,17 +43,11 @@ picture_in m block = record { caches = row_of m.lines.rows block; memory = memor
 
 -- what holds of the parts, of which callers see this
 module _ {count : ℕ} {m : Fields} (whole : IsWhole count m) {now : Standing} (view : standing m ≡ now) where
-  states_long : length m.memory.states ≡ length m.lines.rows
-  states_long = whole.sized.states ∙ sym whole.sound.rows
-
-  values_long : length m.memory.words ≡ length m.lines.rows
-  values_long = whole.sized.values ∙ sym whole.sound.rows
-
-  transactions_long : length m.bus.transactions ≡ length m.lines.rows
-  transactions_long = whole.sound.transactions ∙ sym whole.sound.rows
+  alike : AreAlike m.lines.rows m.memory.states m.memory.words m.bus.transactions
+  alike = rw whole.sound.rows (whole.sized.states, whole.sized.values, whole.sound.transactions)
 
   pub seen : (block : ℕ) → picture_of now.situation block ≡ picture_in m block
-  seen block = rw (← view) (pictures-get m.lines.rows m.memory.states m.memory.words m.bus.transactions block states_long values_long transactions_long)
+  seen block = rw (← view) (pictures-get m.lines.rows m.memory.states m.memory.words m.bus.transactions block alike)
 
   pub line_seen : (core block : ℕ) → held_by (picture_of now.situation block) core ≡ line_at m.lines.rows core block
   line_seen core block = ap (λ (x : Picture). held_by x core) (seen block)
@@ -85,7 +77,7 @@ module _ {count : ℕ} {m : Fields} (whole : IsWhole count m) {now : Standing} (
 
   pub has_picture : (block : ℕ) → block < now.situation.shape.blocks → block < length (standing m).situation.pictures
   has_picture block within =
-      let long = pictures-length m.lines.rows m.memory.states m.memory.words m.bus.transactions states_long values_long transactions_long in
+      let long = pictures-length m.lines.rows m.memory.states m.memory.words m.bus.transactions alike in
       let inside = rows_in block within in
       omega arith
 
@@ -96,7 +88,7 @@ module _ {count : ℕ} {m : Fields} (whole : IsWhole count m) {now : Standing} (
       → transactions ≡ slice_set m.bus.transactions block next.transaction
       → pictures_of rows states values transactions ≡ slice_set (standing m).situation.pictures block next
   picture-written block next rows states values transactions d e f h =
-      rw (d, e, f, h) (pictures-set m.lines.rows m.memory.states m.memory.words m.bus.transactions block next states_long values_long transactions_long)
+      rw (d, e, f, h) (pictures-set m.lines.rows m.memory.states m.memory.words m.bus.transactions block next alike)
 
   -- one line is written
   pub line-written : (block : ℕ) (rows : List (List Line)) (core : ℕ) (line : Line) → rows ≡ with_line_at m.lines.rows core block line

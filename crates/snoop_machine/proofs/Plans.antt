@@ -1,16 +1,12 @@
 -- A planned step is refused for no cause, adds the plan's item, and needs the plan's room.
-use Rattle.std.proofs.Common.{◌≡◌, ◌≢◌, ℕ, ◌<◌, List, [], ◌∷◌, ◌++◌, Option, Some, None, false, refl, sym, append-nil, ◌∙◌, ap, arith, ◌⊎◌, inl, inr}
-use Rattle.std.proofs.lemmas.Option.{same_Some}
-use Rattle.std.specs.Prelude.{option_map, option_to_list}
+use Rattle.snoop_machine.proofs.Common.{◌≡◌, ◌≢◌, ℕ, ◌<◌, List, [], ◌∷◌, ◌++◌, Option, Some, None, false, refl, sym, append-nil, ◌∙◌, ap, arith, ◌⊎◌, inl, inr, same_Some, option_map, option_to_list, HasWord, Protocol, Op, Step, cell_of, CacheCell, CacheState, Request, PutM, Came, Did, Item, Open, Performs, Takes, Fills, ArrivesFor, IsAbsent, Asks, RespondMove, FirstMove, came_of, next_did, Refuses, RefusedFor, Line, held_at, held_by, Situation, picture_of, IsHead, Access, Refused, NoCore, NoBlock, Stalled, NothingWaiting, BusTaken, NoTransaction, NoMemory, Reply, IsPlan, IsPlanFor, HasRoom, planned_step, room_for, room_for_ask, entry_of, entry_of_ask, room_to, IsFull, IsPrepared, Standing, Absent, Issue, Drop, Plan, Hit}
 use Rattle.std.specs.Option.{option_map_or}
 use Rattle.snoop_history.specs.declared.items.Item.TheVariants as item
-use Rattle.snoop_machine.proofs.Common.{HasWord, Protocol, Op, Step, cell_of, CacheCell, CacheState, Request, PutM, Came, Did, Item, Open, Performs, Takes, Fills, ArrivesFor, IsAbsent, Asks, RespondMove, FirstMove, came_of, next_did, Refuses, RefusedFor, Line, held_at, held_by, Situation, picture_of, IsHead, Access, Refused, NoCore, NoBlock, Stalled, NothingWaiting, BusTaken, NoTransaction, NoMemory, Reply, IsPlan, IsPlanFor, HasRoom, planned_step, room_for, room_for_ask, entry_of, entry_of_ask, room_to, IsFull, IsPrepared, Standing, Absent, Issue, Drop, Plan}
 use Rattle.snoop_trace.specs.declared.step.Op.TheVariants as op
 use Rattle.snoop_trace.specs.declared.step.Step.TheVariants as step
 use Rattle.snoop_rules.specs.declared.names.CacheAction.TheVariants as action
 use Rattle.snoop_rules.specs.Takers.{asked as event_asked}
 use Rattle.snoop_machine.specs.declared.ask.Asked.{Asked}
-use Rattle.snoop_machine.specs.declared.ask.Asked.TheVariants.{Hit}
 use Rattle.snoop_machine.specs.declared.plan.Plan.TheVariants as plan
 use Rattle.snoop_machine.specs.Asked.{TakesAsk, RefusesAsk}
 

@@ -1,7 +1,5 @@
 -- What is so of a proper line.
-use Rattle.std.proofs.Common.{◌≡◌, Option, None, Some, false, refl, sym, ◌∙◌, ap}
-use Rattle.std.specs.Prelude.{is_some, option_map}
-use Rattle.snoop_machine.proofs.Common.{Protocol, Cell, cell_of, CacheCell, CacheState, moves_to, Line, kept_on, nothing_held, IsProper, keeps, request_for, missed_request, Access, changed, words_after}
+use Rattle.snoop_machine.proofs.Common.{◌≡◌, Option, None, Some, false, refl, sym, ◌∙◌, ap, is_some, option_map, Protocol, Cell, cell_of, CacheCell, CacheState, moves_to, Line, kept_on, nothing_held, IsProper, keeps, request_for, missed_request, Access, changed, words_after}
 use Rattle.snoop_trace.specs.declared.words.Words.{Words}
 use Rattle.snoop_trace.specs.declared.protocol.Protocol.TheVariants.{Msi, Mesi}
 use Rattle.snoop_trace.specs.declared.step.Op.TheVariants as op

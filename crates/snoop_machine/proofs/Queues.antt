@@ -1,14 +1,5 @@
 -- The queues that callers see, and the requests in a queue for one block.
-use Rattle.std.proofs.Common.{◌≡◌, ◌≢◌, ℕ, ◌<◌, true, not, filter, drop, List, [], ◌∷◌, ◌++◌, length, map, Option, Some, None, refl, sym, ◌∙◌, ap, arith, inl, inr}
-use Rattle.std.specs.Prelude.{◌+◌, ◌==◌, is_some, nat_lt, option_map, option_to_list, position, slice_get, slice_index_or, slice_set, if◌then◌else◌}
-use Rattle.std.specs.List.{prefix_len}
-use Rattle.std.proofs.Math.ListN.{get_or-map}
-use Rattle.std.proofs.Math.Seq.{map-set_same}
-use Rattle.std.proofs.lemmas.Bool.{cases_eq, cases_lt, eq-eqb, ne_eqb, false≢true}
-use Rattle.std.proofs.lemmas.Option.{same_Some, slice_get-map}
-use Rattle.std.proofs.lemmas.List.{append-nil, get_or_past, length-map, map-append, map-set}
-use Rattle.std.proofs.lemmas.List.Elements.{filter-append}
-use Rattle.snoop_machine.proofs.Common.{Extent, waiting_request, Request, queue_of, after_issue, after_order, place_in, Traffic, Waiting, no_queue, waiting_of, head_of, Line, line_at, queues_of, requests_for, IsSound}
+use Rattle.snoop_machine.proofs.Common.{◌≡◌, ◌≢◌, ℕ, ◌<◌, true, not, filter, drop, List, [], ◌∷◌, ◌++◌, length, map, Option, Some, None, refl, sym, ◌∙◌, ap, arith, inl, inr, ◌+◌, ◌==◌, is_some, nat_lt, option_map, option_to_list, position, slice_get, slice_index_or, slice_set, if◌then◌else◌, prefix_len, get_or-map, map-set_same, cases_eq, cases_lt, eq-eqb, ne_eqb, false≢true, same_Some, slice_get-map, append-nil, get_or_past, length-map, map-append, map-set, filter-append, Extent, waiting_request, Request, queue_of, after_issue, after_order, place_in, Traffic, Waiting, no_queue, waiting_of, head_of, Line, line_at, queues_of, requests_for, IsSound}
 
 abbrev pub blocks_of : List (Request × ℕ) → List ℕ
 blocks_of requests = map (λ (r : Request × ℕ). r.1) requests

@@ -1,11 +1,5 @@
 -- The room that a machine has goes on from step to step.
-use Rattle.std.proofs.Common.{◌≡◌, ◌<◌, ◌≤◌, ◌+◌, ℕ, zero, suc, List, [], ◌∷◌, length, map, refl, sym, ap, arith, ◌∙◌}
-use Rattle.std.specs.Prelude.{slice_index, slice_index_or, slice_set}
-use Rattle.std.proofs.Math.ListN.{get_or-map}
-use Rattle.std.proofs.lemmas.List.{length-map}
-use Rattle.snoop_machine.proofs.Common.{Request, queue_of, Waiting, no_queue, Held, KeepsMapsRoom, Fields, queues_of, shown_line_room, shown_line_rooms, standing, places, Standing, KeepsRoom, waiting_of, Traffic, IsWhole, MemTables}
-use Rattle.snoop_history.specs.Journal.{Journal}
-use Rattle.snoop_machine.proofs.EachPlace.{each_place}
+use Rattle.snoop_machine.proofs.Common.{◌≡◌, ◌<◌, ◌≤◌, ◌+◌, ℕ, zero, suc, List, [], ◌∷◌, length, map, refl, sym, ap, arith, ◌∙◌, slice_index, slice_index_or, slice_set, get_or-map, length-map, Request, queue_of, Waiting, no_queue, Held, KeepsMapsRoom, Fields, queues_of, shown_line_room, shown_line_rooms, standing, places, Standing, KeepsRoom, waiting_of, Traffic, IsWhole, MemTables, Journal, each_place}
 use Rattle.snoop_machine.proofs.PictureViews.{core_in}
 use Rattle.snoop_machine.proofs.Queues.{queue_of-queues_of}
 
@@ -19,23 +13,17 @@ rooms_at queues core = get_or-map (λ (q : Waiting). q.room) queues core no_queu
 -- it is the capacity that callers see
 capacity_held : (queues : List Waiting) (core : ℕ) → length (queue_of (queues_of queues) core) + slice_index (map (λ (q : Waiting). q.room) queues) core ≡ held_in queues core
 capacity_held queues core =
-    let shown = ap (λ (l : List ℕ). length l) (queue_of-queues_of queues core) in
     let long = length-map (slice_index_or queues core no_queue).requests (λ (r : Request × ℕ). r.1) in
-    let room = rooms_at queues core in
-    omega arith
+    omega (arith, ap (λ (l : List ℕ). length l) (queue_of-queues_of queues core), long, rooms_at queues core)
 
 -- no room of a map is shown where the queue has none, and all of it where the queue has some
 shown : (room spare : ℕ) → (room ≡ 0 → shown_line_room room spare ≡ 0) × (0 < room → shown_line_room room spare ≡ spare) × (shown_line_room room spare ≤ spare)
 shown zero spare = ((λ full. refl), (λ some. absurd (omega arith)), omega arith)
 shown (suc room) spare = ((λ full. absurd (omega arith)), (λ some. refl), omega arith)
 
-shown-none : (room : ℕ) → shown_line_room room 0 ≡ 0
-shown-none zero = refl
-shown-none (suc room) = refl
-
 shown_at : (queues : List Waiting) (line_rooms : List ℕ) (core : ℕ) → slice_index (shown_line_rooms queues line_rooms) core ≡ shown_line_room (slice_index_or queues core no_queue).room (slice_index_or line_rooms core 0)
 shown_at [] line_rooms core = refl
-shown_at (q ∷ qs) [] core = sym (shown-none (slice_index_or (q ∷ qs) core no_queue).room)
+shown_at (q ∷ qs) [] core = (let least = (shown (slice_index_or (q ∷ qs) core no_queue).room 0).2 in omega arith)
 shown_at (q ∷ qs) (s ∷ ss) zero = refl
 shown_at (q ∷ qs) (s ∷ ss) (suc core) = shown_at qs ss core
 
@@ -85,7 +73,3 @@ module _ {count : ℕ} {m : Fields} (whole : IsWhole count m) {now : Standing} (
             let kept = line_rooms core in
             omega arith;
       })
-
--- what was not changed keeps its room
-pub KeepsMapsRoom-same : (held : Held) → KeepsMapsRoom held held
-KeepsMapsRoom-same held core = omega arith

@@ -1,13 +1,8 @@
 -- Steps in order keep the machine coherent.
-use Rattle.std.proofs.Common.{◌≡◌, ◌∷◌, [], ◌≤◌, ◌+◌, ◌∙◌, List, take, subst, sym, arith}
-use Rattle.std.specs.Prelude.{is_ok, count_by}
-use Rattle.std.proofs.lemmas.List.{take_all}
-use Rattle.snoop_machine.proofs.Common.{Step, MachineKeeps, stand, Standing}
-use Rattle.snoop_model.proofs.Invariant.Safety.{is_safe}
-use Rattle.snoop_machine.proofs.StepKeeps.{answers, steps_stay}
-use Rattle.snoop_machine.proofs.RunSteps.{Going, has_run, goes_on}
-use Rattle.snoop_machine.proofs.machine.run_steps.Goals.{then-is_ok, else-is_ok, At-loop-step}
+use Rattle.snoop_machine.proofs.Common.{◌≡◌, ◌∷◌, [], ◌≤◌, ◌+◌, ◌∙◌, List, take, subst, sym, arith, is_ok, count_by, take_all, Step, MachineKeeps, stand, Standing, is_safe}
+use Rattle.snoop_machine.proofs.Runs.{answers, steps_stay, Going, has_run, goes_on}
 use Rattle.snoop_machine.proofs.machine.run_steps.Goals as goal
+use Rattle.snoop_machine.proofs.machine.run_steps.Goals.{then-is_ok, else-is_ok, At-loop-step}
 
 -- the parts keep what every machine keeps after the steps so far
 keeps : (c : At-loop-step) → MachineKeeps (stand c.loop-step.machine-inside.parts).situation

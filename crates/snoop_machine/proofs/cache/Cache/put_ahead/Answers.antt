@@ -1,8 +1,4 @@
-use Rattle.std.proofs.Common.{ℕ, List, [], ◌∷◌, ◌++◌, ◌∙◌, ap}
-use Rattle.std.specs.Prelude.{Result, Ok, Err, IsOk, OnOk, nat_eq}
-use Rattle.std.specs.Map.{lookup, keys_of}
-use Rattle.std.proofs.lemmas.List.{map-append}
-use Rattle.snoop_machine.proofs.Common.{Line, Contents, blocks_of}
+use Rattle.snoop_machine.proofs.Common.{ℕ, List, [], ◌∷◌, ◌++◌, ◌∙◌, ap, Result, Ok, Err, IsOk, OnOk, nat_eq, lookup, keys_of, map-append, Line, Contents, blocks_of}
 use Rattle.snoop_machine.proofs.ProperLines.{is_none}
 use Rattle.indexmap.proofs.CallerLemmas.{insert_entry-new}
 use Rattle.snoop_machine.proofs.cache.Cache.put_ahead.Goals as goal

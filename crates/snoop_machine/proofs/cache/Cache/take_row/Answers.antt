@@ -1,5 +1,4 @@
-use Rattle.std.proofs.Common.{rules, ◌∙◌, ap}
-use Rattle.snoop_machine.proofs.Common.{blocks_of}
+use Rattle.snoop_machine.proofs.Common.{rules, ◌∙◌, ap, blocks_of}
 use Rattle.snoop_machine.proofs.cache.Cache.take_row.Goals as goal
 
 pub returns-then-eq-clause-still : goal.returns-then-eq-clause-still

@@ -1,8 +1,6 @@
-use Rattle.std.proofs.Common.{◌∙◌, ap, arith, inl, inr}
-use Rattle.snoop_machine.proofs.Common.{Line, changed, line_at}
-use Rattle.snoop_machine.proofs.LineChanges.{HasWritten, goes_from, lines_after, writes}
+use Rattle.snoop_machine.proofs.Common.{◌∙◌, ap, arith, inl, inr, Line, changed, line_at}
+use Rattle.snoop_machine.proofs.LineChanges.{HasWritten, goes_from, lines_after, writes, core_few, stands}
 use Rattle.snoop_machine.proofs.LineMaps.{IsMap, is_map, in_rows, mover_placed}
-use Rattle.snoop_machine.proofs.LineParts.{core_few, stands}
 use Rattle.snoop_machine.proofs.ProperLines.{settled}
 use Rattle.snoop_machine.proofs.lines.Lines.change.Given.{Over}
 use Rattle.snoop_machine.proofs.lines.Lines.change.Goals as goal

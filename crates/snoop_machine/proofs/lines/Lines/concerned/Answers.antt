@@ -1,7 +1,4 @@
-use Rattle.std.proofs.Common.{◌<◌, [], length, refl, ◌∙◌, arith}
-use Rattle.std.specs.Prelude.{slice_index_or}
-use Rattle.std.proofs.lemmas.List.{get_or_default}
-use Rattle.snoop_machine.proofs.Common.{AreHolders, no_holders}
+use Rattle.snoop_machine.proofs.Common.{◌<◌, [], length, refl, ◌∙◌, arith, slice_index_or, get_or_default, AreHolders, no_holders}
 use Rattle.snoop_machine.proofs.LineMaps.{in_rows, row_seen, line_seen}
 use Rattle.snoop_machine.proofs.lines.Lines.concerned.Given.{Over}
 use Rattle.snoop_machine.proofs.lines.Lines.concerned.Goals as goal

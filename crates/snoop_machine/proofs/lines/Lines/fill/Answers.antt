@@ -1,8 +1,6 @@
-use Rattle.std.proofs.Common.{arith, inl}
-use Rattle.snoop_machine.proofs.Common.{filled_line}
-use Rattle.snoop_machine.proofs.LineChanges.{HasWritten, lines_after, writes}
+use Rattle.snoop_machine.proofs.Common.{arith, inl, filled_line}
+use Rattle.snoop_machine.proofs.LineChanges.{HasWritten, lines_after, writes, core_few, stands}
 use Rattle.snoop_machine.proofs.LineMaps.{IsMap, is_map, in_rows, held_placed, gone-none}
-use Rattle.snoop_machine.proofs.LineParts.{core_few, stands}
 use Rattle.snoop_machine.proofs.lines.Lines.fill.Given.{Over}
 use Rattle.snoop_machine.proofs.lines.Lines.fill.Goals as goal
 use Rattle.snoop_machine.proofs.lines.Lines.fill.Goals.{After-index_mut-cache, After-follow}

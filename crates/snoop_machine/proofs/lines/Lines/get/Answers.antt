@@ -1,5 +1,4 @@
-use Rattle.std.proofs.Common.{◌∙◌, ap, arith}
-use Rattle.snoop_machine.proofs.Common.{line_or_nothing}
+use Rattle.snoop_machine.proofs.Common.{◌∙◌, ap, arith, line_or_nothing}
 use Rattle.snoop_machine.proofs.LineMaps.{IsMap, is_map, in_rows}
 use Rattle.snoop_machine.proofs.lines.Lines.get.Given.{Over}
 use Rattle.snoop_machine.proofs.lines.Lines.get.Goals as goal

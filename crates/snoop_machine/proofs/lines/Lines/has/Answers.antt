@@ -1,8 +1,4 @@
-use Rattle.std.proofs.Common.{◌≡◌, is_some, sym, ◌∙◌, ap}
-use Rattle.std.specs.Prelude.{slice_index_or, nat_eq}
-use Rattle.std.specs.Map.{lookup}
-use Rattle.std.proofs.lemmas.List.{get_or_read}
-use Rattle.snoop_machine.proofs.Common.{Contents, no_cache}
+use Rattle.snoop_machine.proofs.Common.{◌≡◌, is_some, sym, ◌∙◌, ap, slice_index_or, nat_eq, lookup, get_or_read, Contents, no_cache}
 use Rattle.snoop_machine.proofs.LineMaps.{in_maps, among_seen, none_held}
 use Rattle.snoop_machine.proofs.lines.Lines.has.Given.{Over}
 use Rattle.snoop_machine.proofs.lines.Lines.has.Goals as goal

@@ -1,12 +1,6 @@
-use Rattle.std.proofs.Common.{◌≡◌, ℕ, length, replicate, refl, ◌∙◌, ap, arith}
-use Rattle.std.proofs.lemmas.Grind.{common_steps}
-use Rattle.std.proofs.lemmas.Result.{err_from_is_err_and}
-use Rattle.std.proofs.lemmas.List.{length-replicate, get_or-replicate}
-use Rattle.snoop_machine.proofs.Common.{nothing_held, no_holders}
-use Rattle.snoop_model.specs.Invariant.Fits.{is_owner}
-use Rattle.snoop_model.proofs.Lists.Facts.{replicated}
+use Rattle.snoop_machine.proofs.Common.{◌≡◌, ℕ, length, replicate, refl, ◌∙◌, ap, arith, common_steps, err_from_is_err_and, length-replicate, get_or-replicate, nothing_held, no_holders, is_owner, replicated}
 use Rattle.snoop_model.proofs.Invariant.Runs.{nothing_proper}
-use Rattle.snoop_machine.proofs.MapRows.{empty-push, line-empty, row-empty, rows-empty, blocks-empty}
+use Rattle.snoop_machine.proofs.LineMaps.{empty-push, line-empty, row-empty, rows-empty, blocks-empty}
 use Rattle.snoop_machine.proofs.lines.Lines.new.Given.{Over}
 use Rattle.snoop_machine.proofs.lines.Lines.new.Goals as goal
 use Rattle.snoop_machine.proofs.lines.Lines.new.Goals.{In_ok-holders}

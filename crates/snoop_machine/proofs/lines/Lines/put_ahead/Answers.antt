@@ -1,11 +1,6 @@
-use Rattle.std.proofs.Common.{◌≡◌, ◌<◌, length, refl, ◌∙◌, ap}
-use Rattle.std.specs.Prelude.{slice_index_or}
-use Rattle.std.proofs.lemmas.List.{get_or_read, map-set}
-use Rattle.snoop_machine.proofs.Common.{Contents, no_cache, line_in, blocks_of, Held}
-use Rattle.snoop_machine.proofs.MapRows.{rows-same}
-use Rattle.snoop_machine.proofs.LineMaps.{in_maps, among_seen, spare_seen, blocks_seen}
-use Rattle.snoop_machine.proofs.LineParts.{AreLines-alike}
-use Rattle.snoop_machine.proofs.LineChanges.{spares_kept}
+use Rattle.snoop_machine.proofs.Common.{◌≡◌, ◌<◌, length, refl, ◌∙◌, ap, slice_index_or, get_or_read, map-set, Contents, no_cache, line_in, blocks_of, Held}
+use Rattle.snoop_machine.proofs.LineMaps.{rows-same, in_maps, among_seen, spare_seen, blocks_seen}
+use Rattle.snoop_machine.proofs.LineChanges.{AreLines-alike, spares_kept}
 use Rattle.snoop_machine.proofs.lines.Lines.put_ahead.Given.{Over}
 use Rattle.snoop_machine.proofs.lines.Lines.put_ahead.Goals as goal
 use Rattle.snoop_machine.proofs.lines.Lines.put_ahead.Goals.{After-index_mut-cache}

@@ -1,13 +1,6 @@
-use Rattle.std.proofs.Common.{◌≡◌, ℕ, ◌<◌, List, length, sym, ◌∙◌, ap}
-use Rattle.std.specs.Prelude.{slice_index_or, slice_set, map}
-use Rattle.std.specs.Map.{keys_of}
-use Rattle.std.proofs.Math.Seq.{map-set_same}
-use Rattle.std.proofs.lemmas.List.{get_or_read, get_or-set_same, map-set}
-use Rattle.snoop_machine.proofs.Common.{Contents, no_cache, blocks_of, Held}
-use Rattle.snoop_machine.proofs.MapRows.{rows-same, line-same, spare-at}
-use Rattle.snoop_machine.proofs.LineMaps.{in_maps}
-use Rattle.snoop_machine.proofs.LineParts.{AreLines-alike}
-use Rattle.snoop_machine.proofs.LineChanges.{spares_kept}
+use Rattle.snoop_machine.proofs.Common.{◌≡◌, ℕ, ◌<◌, List, length, sym, ◌∙◌, ap, slice_index_or, slice_set, map, keys_of, map-set_same, get_or_read, get_or-set_same, map-set, Contents, no_cache, blocks_of, Held}
+use Rattle.snoop_machine.proofs.LineMaps.{rows-same, line-same, spare-at, in_maps}
+use Rattle.snoop_machine.proofs.LineChanges.{AreLines-alike, spares_kept}
 use Rattle.snoop_machine.proofs.lines.Lines.reserve.Given.{Over}
 use Rattle.snoop_machine.proofs.lines.Lines.reserve.Goals as goal
 use Rattle.snoop_machine.proofs.lines.Lines.reserve.Goals.{After-reserve}

@@ -1,12 +1,10 @@
-use Rattle.std.proofs.Common.{List, sym, ◌∙◌, ap, arith, inl, inr}
-use Rattle.snoop_machine.proofs.Common.{Cell, CacheState, moves_to, Line, line_or_nothing, line_at, Holders}
+use Rattle.snoop_machine.proofs.Common.{List, sym, ◌∙◌, ap, arith, inl, inr, Cell, CacheState, moves_to, Line, line_or_nothing, line_at, Holders}
 use Rattle.snoop_machine.proofs.ProperLines.{settled, moves_to_same}
 use Rattle.snoop_machine.proofs.LineMaps.{IsMap, is_map, in_rows, gone-same, is_I}
-use Rattle.snoop_machine.proofs.LineParts.{core_few, stands, followed-still}
-use Rattle.snoop_machine.proofs.LineChanges.{HasWritten, goes_from, lines_after, writes}
+use Rattle.snoop_machine.proofs.LineChanges.{core_few, stands, followed-still, HasWritten, goes_from, lines_after, writes}
 use Rattle.snoop_machine.proofs.lines.Lines.take_row.Given.{Over}
 use Rattle.snoop_machine.proofs.lines.Lines.take_row.Goals as goal
-use Rattle.snoop_machine.proofs.lines.Lines.take_row.Goals.{After-index_mut-cache, After-take_row, In-Some, In_default, After-follow}
+use Rattle.snoop_machine.proofs.lines.Lines.take_row.Goals.{After-index_mut-cache, After-take_row, In_default, In-Some, After-follow}
 
 pub index_mut-cache-requires : goal.index_mut-cache-requires
 index_mut-cache-requires g c = let within = in_rows c.self.invariant c.self.view_is c.args.core c.args.block c.requires.block c.requires.core in omega arith

@@ -1,5 +1,4 @@
-use Rattle.snoop_machine.proofs.Common.{stand}
-use Rattle.snoop_model.proofs.Invariant.Safety.{is_safe}
+use Rattle.snoop_machine.proofs.Common.{stand, is_safe}
 use Rattle.snoop_machine.proofs.machine.Machine.coherent.Goals as goal
 
 pub returns : goal.returns

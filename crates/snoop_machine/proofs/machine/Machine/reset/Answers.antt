@@ -1,6 +1,4 @@
-use Rattle.std.proofs.Common.{sym, subst}
-use Rattle.snoop_machine.proofs.Common.{MachineKeeps, stand}
-use Rattle.snoop_model.proofs.Invariant.Safety.{reset_keeps, is_safe}
+use Rattle.snoop_machine.proofs.Common.{sym, subst, MachineKeeps, stand, reset_keeps, is_safe}
 use Rattle.snoop_machine.proofs.machine.Machine.reset.Goals as goal
 use Rattle.snoop_machine.proofs.machine.Machine.reset.Goals.{In_ok-parts}
 

@@ -1,8 +1,4 @@
-use Rattle.std.proofs.Common.{◌≡◌, [], ◌∙◌, ℕ, List, ap, length, arith, refl}
-use Rattle.std.specs.Prelude.{slice_index_or}
-use Rattle.std.proofs.lemmas.Result.{err_from_is_err_and}
-use Rattle.std.proofs.lemmas.List.{length-set}
-use Rattle.snoop_machine.proofs.Common.{Waiting, waiting_of, KeepsMapsRoom, shown_line_rooms}
+use Rattle.snoop_machine.proofs.Common.{◌≡◌, [], ◌∙◌, ℕ, List, ap, length, arith, refl, slice_index_or, err_from_is_err_and, length-set, Waiting, waiting_of, KeepsMapsRoom, shown_line_rooms}
 use Rattle.snoop_machine.proofs.Room.{held_in-set, keeps_room, shown-same, places-map, places-queue}
 use Rattle.snoop_machine.proofs.Queues.{queues_of-room}
 use Rattle.snoop_machine.proofs.Soundness.{IsSound-room}

@@ -1,10 +1,6 @@
-use Rattle.std.proofs.Common.{None, [], refl, sym, ◌∙◌}
-use Rattle.std.proofs.lemmas.List.{set-get_or}
-use Rattle.snoop_machine.proofs.Common.{row_of, fields}
+use Rattle.snoop_machine.proofs.Common.{None, [], refl, sym, ◌∙◌, set-get_or, row_of, fields, PutM, ◌≡◌, arith}
 use Rattle.snoop_machine.proofs.Closing.{Closes, as_closes, never_none, header, whole_after, room_after, responded, loses}
-use Rattle.snoop_machine.proofs.LinesGoing.{LinesGo-none}
-use Rattle.snoop_machine.proofs.Responses.{Arrives-put}
-use Rattle.snoop_machine.proofs.Room.{KeepsMapsRoom-same}
+use Rattle.snoop_machine.proofs.Following.{LinesGo-none}
 use Rattle.snoop_machine.proofs.parts.Parts.finish_put.Given.{Over}
 use Rattle.snoop_machine.proofs.parts.Parts.finish_put.Goals as goal
 use Rattle.snoop_machine.proofs.parts.Parts.finish_put.Goals.{In-Some}
@@ -27,8 +23,9 @@ returns g c =
     let lines = c.self.inside.lines in
     let row = row_of lines.rows c.args.came.block in
     let same = sym (set-get_or lines.rows c.args.came.block []) in
+    let put : c.in-Some.closing.request ≡ PutM = rw (← header its) at c.requires.put in
     rw (c.settle.ensures, c.finish.ensures.after, c.push.ensures) (record {
-      responded = responded its lines row None same (Arrives-put c.in-Some.closing c.self.inside.protocol c.self.inside.log.items row (rw (← header its) at c.requires.put));
-      room = room_after its lines None c.requires.room (KeepsMapsRoom-same lines);
+      responded = responded its lines row None same (rw put (refl, refl));
+      room = room_after its lines None c.requires.room (λ core. omega arith);
       lines = loses its lines row None same refl (LinesGo-none c.args.came.block lines);
     })

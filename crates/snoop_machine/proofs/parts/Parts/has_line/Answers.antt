@@ -1,4 +1,4 @@
-use Rattle.std.proofs.Common.{◌∙◌}
+use Rattle.snoop_machine.proofs.Common.{◌∙◌}
 use Rattle.snoop_machine.proofs.PictureViews.{state_seen}
 use Rattle.snoop_machine.proofs.parts.Parts.has_line.Goals as goal
 

@@ -1,6 +1,4 @@
-use Rattle.std.proofs.Common.{◌≡◌, ℕ, ◌<◌, Option, Some, None, refl, sym, ap, ◌∙◌, length, arith}
-use Rattle.std.specs.Prelude.{IfSome, IfNone, slice_get}
-use Rattle.snoop_machine.proofs.Common.{waiting_request, Request, queue_of, head_of, WaitsOnNone, IsHead}
+use Rattle.snoop_machine.proofs.Common.{◌≡◌, ℕ, ◌<◌, Option, Some, None, refl, sym, ap, ◌∙◌, length, arith, IfSome, IfNone, slice_get, waiting_request, Request, queue_of, head_of, WaitsOnNone, IsHead}
 use Rattle.snoop_machine.proofs.PictureViews.{state_seen}
 use Rattle.snoop_machine.proofs.Queues.{head_alone, idle_from_head, within_from_waits, first_shown}
 use Rattle.snoop_machine.proofs.parts.Parts.head.Given.{Over}

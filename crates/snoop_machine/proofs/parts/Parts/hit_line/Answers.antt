@@ -1,7 +1,4 @@
-use Rattle.std.proofs.Common.{◌≡◌, ℕ, refl, ◌∙◌}
-use Rattle.std.specs.Prelude.{slice_set}
-use Rattle.std.proofs.lemmas.List.{set-get_or}
-use Rattle.snoop_machine.proofs.Common.{held_by, with_line, nothing_held, Situation, picture_of, nothing_there}
+use Rattle.snoop_machine.proofs.Common.{◌≡◌, ℕ, refl, ◌∙◌, slice_set, set-get_or, held_by, with_line, nothing_held, Situation, picture_of, nothing_there}
 use Rattle.snoop_machine.proofs.ProperLines.{loaded_same}
 use Rattle.snoop_machine.proofs.parts.Parts.hit_line.Goals as goal
 

@@ -1,5 +1,4 @@
-use Rattle.std.proofs.Common.{◌∙◌, arith, refl, inl}
-use Rattle.snoop_machine.proofs.Common.{Line, with_line, changed, line_at, Fields, fields}
+use Rattle.snoop_machine.proofs.Common.{◌∙◌, arith, refl, inl, Line, with_line, changed, line_at, Fields, fields}
 use Rattle.snoop_machine.proofs.Following.{follows-set}
 use Rattle.snoop_machine.proofs.Soundness.{IsSound-line}
 use Rattle.snoop_machine.proofs.PictureViews.{seen, line_seen, state_seen, words_seen, picture_in, line-written, core_in, block_in, sized_on}

@@ -1,4 +1,4 @@
-use Rattle.std.proofs.Common.{refl}
+use Rattle.snoop_machine.proofs.Common.{refl}
 use Rattle.snoop_machine.proofs.PictureViews.{seen}
 use Rattle.snoop_machine.proofs.parts.Parts.open.Goals as goal
 

@@ -1,4 +1,4 @@
-use Rattle.std.proofs.Common.{◌∙◌}
+use Rattle.snoop_machine.proofs.Common.{◌∙◌}
 use Rattle.snoop_machine.proofs.Queues.{place_shown}
 use Rattle.snoop_machine.proofs.parts.Parts.place.Goals as goal
 

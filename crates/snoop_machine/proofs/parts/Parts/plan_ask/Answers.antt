@@ -1,13 +1,10 @@
-use Rattle.std.proofs.Common.{Some, refl}
-use Rattle.std.proofs.lemmas.Result.{err_from_is_err_and}
-use Rattle.snoop_machine.proofs.Common.{Ask, held_by, picture_of}
+use Rattle.snoop_machine.proofs.Common.{Some, refl, err_from_is_err_and, Ask, held_by, picture_of, finds_rows, ℕ, ◌≡◌, ◌<◌, ◌⊎◌, inl, inr, Extent, Op, HasWord}
 use Rattle.snoop_rules.specs.Takers.{asked as event_of}
 use Rattle.snoop_machine.specs.declared.plan.Plan.TheVariants as plan
-use Rattle.snoop_model.proofs.Invariant.Coherence.{finds_rows}
-use Rattle.snoop_machine.proofs.WordsHeld.{operation_held}
 use Rattle.snoop_machine.proofs.PictureViews.{protocol_seen, words_seen}
 use Rattle.snoop_machine.proofs.Plans.{refuses-ask, plan-allowed}
 use Rattle.snoop_machine.proofs.parts.Parts.plan_ask.Goals as goal
+use Rattle.snoop_trace.specs.declared.step.Op.TheVariants.{Evict}
 
 pub returns-in_err-asked-clause-denied : goal.returns-in_err-asked-clause-denied
 returns-in_err-asked-clause-denied g c =
@@ -32,6 +29,10 @@ ask-requires-clause-possible g c =
     rw (c.line-found.ensures.line, protocol_seen c.self.invariant c.self.view_is)
     (λ busy. finds.cache c.args.core c.args.block (Some (event_of c.args.op)) (refl, refl, busy, refl))
 
+-- the word of an operation is one that blocks have
+word_within : (shape : Extent) (count word : ℕ) (asking : Op) → shape.words ≡ count → HasWord shape word asking → (word < count) ⊎ (asking ≡ Evict)
+word_within shape count word Evict held within = inr refl
+word_within shape count word _ held within = inl (rw held at within.0)
+
 pub ask-requires-clause-word : goal.ask-requires-clause-word
-ask-requires-clause-word g c =
-    operation_held c.args.self.now.situation _ c.args.word c.args.op (words_seen c.self.invariant c.self.view_is) c.requires.word
+ask-requires-clause-word g c = word_within c.args.self.now.situation.shape _ c.args.word c.args.op (words_seen c.self.invariant c.self.view_is) c.requires.word

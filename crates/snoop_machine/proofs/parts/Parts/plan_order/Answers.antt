@@ -1,9 +1,6 @@
-use Rattle.std.proofs.Common.{◌≡◌, Option, Some, None, refl, sym, ap, ◌∙◌, false}
-use Rattle.std.specs.Prelude.{ℕ, is_some, option_copied}
+use Rattle.snoop_machine.proofs.Common.{◌≡◌, Option, Some, None, refl, sym, ap, ◌∙◌, false, ℕ, is_some, option_copied, Order, seen_by, Open, Picture, free_picture, picture_of, row_of, memory_line, Fields, standing, IsWhole, IsPlan, Standing, orders_follow_sender_table, finds_rows}
 use Rattle.std.specs.Borrow.{Bor}
-use Rattle.snoop_machine.proofs.Common.{Order, seen_by, Open, Picture, free_picture, picture_of, row_of, memory_line, Fields, standing, IsWhole, IsPlan, Standing}
 use Rattle.snoop_machine.proofs.ProperLines.{is_none}
-use Rattle.snoop_model.proofs.Invariant.Coherence.{orders_follow_sender_table, finds_rows}
 use Rattle.snoop_machine.specs.declared.plan.Plan.TheVariants as plan
 use Rattle.snoop_machine.proofs.Plans.{order-allowed}
 use Rattle.snoop_machine.proofs.parts.Parts.plan_order.Given.{Over}

@@ -1,9 +1,5 @@
-use Rattle.std.proofs.Common.{arith, ℕ, ◌≡◌, ◌≢◌, Some, refl, sym, ap, ◌∙◌, subst}
-use Rattle.std.specs.Prelude.{Option, option_copied, option_map}
-use Rattle.snoop_machine.proofs.Common.{Respond, arrival, arrival_at_memory, PutM, Came, Open, came_of, Line, held_by, picture_of, IsClosing}
-use Rattle.snoop_model.proofs.Invariant.Coherence.{finds_rows, sender_within}
+use Rattle.snoop_machine.proofs.Common.{arith, ℕ, ◌≡◌, ◌≢◌, Some, refl, sym, ap, ◌∙◌, subst, Option, option_copied, option_map, Respond, arrival, arrival_at_memory, PutM, Came, Open, came_of, Line, held_by, picture_of, IsClosing, finds_rows, sender_within, Access, if_some, ◌<◌}
 use Rattle.snoop_machine.proofs.PictureViews.{protocol_seen, words_seen}
-use Rattle.snoop_machine.proofs.WordsHeld.{waiting_held}
 use Rattle.snoop_machine.proofs.parts.Parts.plan_respond.Given.{Over}
 use Rattle.snoop_machine.proofs.parts.Parts.plan_respond.Goals as goal
 use Rattle.snoop_machine.proofs.parts.Parts.plan_respond.Goals.{After-came-came}
@@ -31,8 +27,9 @@ fill-filled-requires-clause-possible g c =
 
 pub fill-filled-requires-clause-word : goal.fill-filled-requires-clause-word
 fill-filled-requires-clause-word g c =
-    rw c.line-found.ensures.line (waiting_held c.args.self.now.situation _ c.in-Some.closing.now.core c.args.block
-    (words_seen c.self.invariant c.self.view_is) c.requires.inductive)
+    let count = words_seen c.self.invariant c.self.view_is in
+    rw c.line-found.ensures.line (if_some _ (λ (access : Access). access.word < _)
+    (λ access is. rw count at (c.requires.inductive.accesses c.in-Some.closing.now.core c.args.block access is).0))
 
 -- the transaction is open
 opened : (g : Over) (c : After-came-came g) → (picture_of c.args.self.now.situation c.args.block).transaction ≡ Some c.in-Some.closing.now

@@ -1,4 +1,4 @@
-use Rattle.std.proofs.lemmas.Result.{err_from_is_err_and}
+use Rattle.snoop_machine.proofs.Common.{err_from_is_err_and}
 use Rattle.snoop_machine.proofs.Plans.{RefusedFor-memory, IsPrepared-plan, IsFull-plan}
 use Rattle.snoop_machine.proofs.Holding.{HoldsOn-room}
 use Rattle.snoop_machine.proofs.parts.Parts.prepare.Goals as goal

@@ -1,6 +1,5 @@
-use Rattle.std.proofs.Common.{ap, arith, refl}
-use Rattle.snoop_machine.proofs.Common.{Waiting, waiting_of}
-use Rattle.snoop_machine.proofs.Room.{held_in-set, keeps_room, KeepsMapsRoom-same}
+use Rattle.snoop_machine.proofs.Common.{ap, arith, refl, Waiting, waiting_of}
+use Rattle.snoop_machine.proofs.Room.{held_in-set, keeps_room}
 use Rattle.snoop_machine.proofs.Queues.{queues_of-room}
 use Rattle.snoop_machine.proofs.Soundness.{IsSound-room}
 use Rattle.snoop_machine.proofs.parts.Parts.reserve_request.Goals as goal
@@ -26,4 +25,4 @@ returns-clause-room g c =
     let queue : Waiting = record { requests = (waiting_of c.self.inside.bus core).requests; room = (waiting_of c.reserve.new.self core).room } in
     let more = c.reserve.ensures.room in
     keeps_room c.self.invariant c.self.view_is lines c.self.inside.memory c.reserve.new.self c.self.inside.log (omega arith)
-    (held_in-set c.self.invariant c.self.view_is c.reserve.new.self core queue c.reserve.ensures.queue c.requires (omega arith)) (KeepsMapsRoom-same lines)
+    (held_in-set c.self.invariant c.self.view_is c.reserve.new.self core queue c.reserve.ensures.queue c.requires (omega arith)) (λ core. omega arith)

@@ -1,12 +1,38 @@
-use Rattle.std.proofs.Common.{rules, ℕ, List, [], length, replicate, refl, ap, ◌∙◌, None}
-use Rattle.snoop_history.specs.Journal.{Journal}
-use Rattle.std.specs.Prelude.{slice_index_or}
-use Rattle.std.proofs.lemmas.List.{length-replicate}
-use Rattle.snoop_machine.proofs.Common.{zero_words, first_memory, nothing_held}
-use Rattle.snoop_model.proofs.Lists.Facts.{replicated}
-use Rattle.snoop_machine.proofs.AtReset.{IsSound-reset, queues_of-reset}
+use Rattle.snoop_machine.proofs.Common.{◌≡◌, ℕ, List, [], ◌∷◌, length, replicate, Option, None, refl, ◌∙◌, ap, arith, inl, inr, slice_index_or, All, cases_lt, length-replicate, get_or-replicate, get_or_past, All-head, All-tail, Extent, Open, Traffic, Waiting, no_queue, waiting_of, transaction_on, Line, held_at, nothing_held, line_at, queues_of, IsSound, replicated, rules, Journal, zero_words, first_memory, constant, map, Request}
 use Rattle.snoop_machine.proofs.parts.Parts.reset.Goals as goal
 use Rattle.snoop_machine.proofs.PictureViews.{pictures_of-replicate}
+
+module _ (shape : Extent) (bus : Traffic) (long : length bus.queues ≡ shape.cores) (idle : All (λ q. q.requests ≡ []) bus.queues) (closed : bus.transactions ≡ replicate shape.blocks None) where
+  line_is : (k b : ℕ) → line_at (replicate shape.blocks (replicate shape.cores nothing_held)) k b ≡ nothing_held
+  line_is k b = elim (cases_lt b shape.blocks) [
+    | inl lt ↦ ap (λ (r : List Line). held_at r k) (get_or-replicate shape.blocks b (replicate shape.cores nothing_held) [] lt) ∙ replicated shape.cores k nothing_held
+    | inr ge ↦
+        let n = length-replicate shape.blocks (replicate shape.cores nothing_held) in
+        ap (λ (r : List Line). held_at r k) (get_or_past (replicate shape.blocks (replicate shape.cores nothing_held)) b [] (omega arith))
+  ]
+
+  queue_is : (k : ℕ) → (waiting_of bus k).requests ≡ []
+  queue_is k = elim (cases_lt k (length bus.queues)) [
+    | inl lt ↦ idle k no_queue lt
+    | inr ge ↦ ap (λ (q : Waiting). q.requests) (get_or_past bus.queues k no_queue ge)
+  ]
+
+  transaction_is : (b : ℕ) → transaction_on bus b ≡ None
+  transaction_is b = ap (λ (l : List (Option Open)). slice_index_or l b None) closed ∙ replicated shape.blocks b None
+
+  queues_of-reset : queues_of bus.queues ≡ replicate (length bus.queues) []
+  queues_of-reset = constant (λ (q : Waiting). map (λ (r : Request × ℕ). r.1) q.requests) bus.queues no_queue [] (λ k. rw (queue_is k) refl)
+
+  IsSound-reset : IsSound shape (replicate shape.blocks (replicate shape.cores nothing_held)) bus
+  IsSound-reset = record {
+    rows = length-replicate shape.blocks (replicate shape.cores nothing_held);
+    row = λ b h. ap length (get_or-replicate shape.blocks b (replicate shape.cores nothing_held) [] h) ∙ length-replicate shape.cores nothing_held;
+    queues = long;
+    transactions = ap length closed ∙ length-replicate shape.blocks None;
+    proper = λ k b. (rw (line_is k b) (record { kept = refl; waiting = refl }));
+    opened = λ b t h. cc (transaction_is b);
+    waits = λ k b. rw (queue_is k, line_is k b) refl;
+  }
 
 pub invariant_of-result : goal.invariant_of-result
 invariant_of-result g c =
@@ -35,7 +61,7 @@ returns-clause-situation g c =
       c.blocks-2.ensures.value,
       c.first_state.ensures,
       pictures_of-replicate shape.blocks (replicate shape.cores nothing_held) (first_memory c.args.protocol) zero_words None,
-      queues_of-reset c.in_ok-bus.bus.queues c.in_ok-bus.ensures.queues.1,
+      queues_of-reset shape c.in_ok-bus.bus c.in_ok-bus.ensures.queues.0 c.in_ok-bus.ensures.queues.1 c.in_ok-bus.ensures.transactions,
       c.in_ok-bus.ensures.queues.0,
       c.in_ok-log.ensures,
     ) refl

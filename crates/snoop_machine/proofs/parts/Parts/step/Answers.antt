@@ -1,5 +1,4 @@
-use Rattle.std.proofs.Common.{refl}
-use Rattle.std.proofs.lemmas.Result.{err_from_is_err_and}
+use Rattle.snoop_machine.proofs.Common.{refl, err_from_is_err_and}
 use Rattle.snoop_machine.proofs.Plans.{RefusedFor-memory, IsFull-plan}
 use Rattle.snoop_machine.proofs.Holding.{HoldsOn-taken, KeepsRoom-taken}
 use Rattle.snoop_machine.proofs.parts.Parts.step.Goals as goal

@@ -1,6 +1,5 @@
-use Rattle.snoop_model.proofs.Tables.Rows.{issue-waits, drop-waits, IsProper-issue, IsProper-hit, IsProper-drop}
+use Rattle.snoop_machine.proofs.Common.{issue-waits, drop-waits, IsProper-issue, IsProper-hit, IsProper-drop, refl, inr}
 use Rattle.snoop_machine.proofs.ProperLines.{load_stays}
-use Rattle.std.proofs.Common.{refl, inr}
 use Rattle.snoop_rules.specs.declared.names.CacheAction.TheVariants as action
 use Rattle.snoop_machine.proofs.parts.Parts.take_ask.Goals as goal
 

@@ -1,6 +1,4 @@
-use Rattle.std.proofs.Common.{sym, ap, ◌∙◌}
-use Rattle.std.specs.Prelude.{is_some}
-use Rattle.snoop_machine.proofs.Common.{queue_of, waiting_of, Standing}
+use Rattle.snoop_machine.proofs.Common.{sym, ap, ◌∙◌, is_some, queue_of, waiting_of, Standing}
 use Rattle.snoop_machine.proofs.Queues.{queue_of-queues_of, some_first}
 use Rattle.snoop_machine.proofs.parts.Parts.waiting.Goals as goal
 
