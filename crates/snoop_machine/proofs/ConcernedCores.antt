@@ -26,20 +26,13 @@ module _ {lines : List Line} {core : ℕ} {q : Request} {set : List ℕ} (concer
 
   -- they are cores that there are
   pub concerned_within : core < length lines → (k : ℕ) → has set k ≡ true → k < length lines
-  concerned_within within k in_set = elim (cases_lt k (length lines)) [
-    | inl less ↦ less
-    | inr past ↦
-        let none : has set k ≡ false = concerned.others k (λ e. absurd (omega arith)) ∙ rw (get_or_past lines k nothing_held past) (none_concerned q) in
-        cc
-  ]
+  concerned_within within k in_set = grind (arith, get_or_past lines k nothing_held, none_concerned q, concerned.others k)
 
   module _ (p : Protocol) (rows : (k : ℕ) → k < length lines → HasRow p (held_at lines k).state (seen_by k core q)) (k : ℕ) (within : k < length lines)
       (out : has set k ≡ false) where
     -- the row of a core that the request does not concern
     pub Cell-passed : Cell p (held_at lines k).state (seen_by k core q) action.None (held_at lines k).state
-    Cell-passed =
-        let e : seen_by k core q ≡ other q = rw (ne_eqb k core (not_own k out)) refl in
-        rw e (still p (held_at lines k).state q (sym (concerned.others k (not_own k out)) ∙ out) (rw e at (rows k within)))
+    Cell-passed = grind (arith, ne_eqb k core, not_own k out, still p (held_at lines k).state q, concerned.others k, rows k within)
 
     -- its line stays as it is
     pub TakesRow-passed : IsProper (held_at lines k) → TakesRow p (seen_by k core q) (held_at lines k) (held_at lines k)
@@ -47,10 +40,7 @@ module _ {lines : List Line} {core : ℕ} {q : Request} {set : List ℕ} (concer
 
 -- a core whose request waits is one that there is
 pub waits_within : (lines : List Line) (core : ℕ) (q : Request) → waiting_request (held_at lines core).state ≡ Some q → core < length lines
-waits_within lines core q waits = elim (cases_lt core (length lines)) [
-  | inl less ↦ less
-  | inr past ↦ (let none = rw (get_or_past lines core nothing_held past) at waits in cc)
-]
+waits_within lines core q waits = grind (arith, get_or_past lines core nothing_held)
 
 -- a core in I stays there at an Order
 pub Cell-leaves : (p : Protocol) (k core : ℕ) (q : Request) (act : CacheAction) (next : CacheState) → Cell p state.I (seen_by k core q) act next → next ≡ state.I

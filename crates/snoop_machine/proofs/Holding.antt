@@ -1,5 +1,5 @@
 -- How many lines each core's map has after a step, or after the room for it was made.
-use Rattle.snoop_machine.proofs.Common.{◌≡◌, ℕ, ◌+◌, ◌<◌, length, sym, ◌∙◌, ap, arith, inl, inr, ◌⊎◌, cases_eq, get_or-set_other, slice_index, Step, queue_of, FirstMove, Picture, held_by, with_line, Situation, picture_of, state_of, nothing_there, Reply, LosesLines, AddsLines, NeedsLine, MovesToI, HoldsOn, IsPlan, IsPlanFor, planned_step, Standing, KeepsRoom, line_count, Issue, Plan}
+use Rattle.snoop_machine.proofs.Common.{◌≡◌, ℕ, ◌+◌, ◌<◌, length, sym, ◌∙◌, ap, arith, inl, inr, ◌⊎◌, cases_eq, get_or-set_other, slice_index, Step, queue_of, FirstMove, Picture, held_by, with_line, Situation, picture_of, state_of, nothing_there, Reply, LosesLines, AddsLines, NeedsLine, MovesToI, HoldsOn, IsPlan, IsPlanFor, planned_step, Standing, KeepsRoom, line_count, Issue, Plan, get_or-set_same}
 use Rattle.snoop_trace.specs.declared.step.Step.TheVariants as step
 use Rattle.snoop_rules.specs.declared.names.CacheAction.TheVariants as action
 use Rattle.snoop_model.proofs.Tables.EvictInI.{no_row}
@@ -7,23 +7,14 @@ use Rattle.snoop_machine.specs.declared.plan.Plan.TheVariants as plan
 
 -- a core that leaves I on a block moves to I on none
 stays_out : (before : Standing) (new : Situation) (taking : Step) (core : ℕ) (answer : Reply) → FirstMove before.situation taking answer new → NeedsLine before taking core → ¬ MovesToI before.situation new core
-stays_out before new (step.Ask asker block word asking) core answer m leaves moved = elim m.1.1.moves [
-  | inl absent ↦ moved.1.0 (rw absent.3 at moved.1.1)
-  | inr asks ↦ elim (cases_eq moved.0 m.0) [
-    | inl e ↦ moved.1.0 (rw (e, ← m.1.1.on_block, ← leaves.0) leaves.3)
-    | inr ne ↦
-        let other = get_or-set_other before.situation.pictures m.0 moved.0 (with_line (picture_of before.situation m.0) asker asks.held) nothing_there ne in
-        moved.1.0 (ap (λ (x : Picture). (held_by x core).state) (sym other) ∙ rw asks.after at moved.1.1)
-  ]
-]
+stays_out before new (step.Ask asker block word asking) core answer m leaves moved =
+    grind (arith, m.1.1.moves, m.1.1.on_block, get_or-set_same before.situation.pictures m.0, get_or-set_other before.situation.pictures m.0 moved.0, cases_eq moved.0 m.0)
 stays_out before new _ core answer m leaves moved = leaves
 
 -- the room for a step adds a line where the step needs one
 adds_plan : (old new : Standing) (x : Plan) (core : ℕ) → IsPlan old.situation x → AddsLines x old new core → (line_count new core ≡ line_count old core) ⊎ (NeedsLine old (planned_step x) core × (line_count new core ≡ line_count old core + 1))
-adds_plan old new (plan.Ask asker block word asking (Issue request next)) core h (inl same) = inl same
-adds_plan old new (plan.Ask asker block word asking (Issue request next)) core h (inr more) =
-    let s = old.situation in
-    inr ((more.0, h.0, (λ e. no_row s.protocol (state_of s asker block) asking (action.Issue request) next e more.1 h.1), more.1, more.2, h.3), more.3)
+adds_plan old new (plan.Ask asker block word asking (Issue request next)) core h adds =
+    grind (arith, h, no_row old.situation.protocol (state_of old.situation asker block) asking (action.Issue request) next)
 adds_plan old new (plan.Ask asker block word asking _) core h same = inl same
 adds_plan old new _ core h same = inl same
 
@@ -32,36 +23,17 @@ adds_step old new taking x core h adds = rw h.0 at (adds_plan old new x core h.1
 
 -- the room for the step was made, and nothing else
 pub HoldsOn-room : (old new : Standing) (taking : Step) (x : Plan) (core : ℕ) → IsPlanFor old.situation taking x → new.situation ≡ old.situation → AddsLines x old new core → HoldsOn old new taking core
-HoldsOn-room old new taking x core h unchanged adds =
-    let all = adds_step old new taking x core h adds in
-    record {
-      raised = λ leaves. elim all [ inl same ↦ (omega arith, omega arith) | inr more ↦ let one = more.1 in (omega arith, omega arith) ];
-      lowered = λ moved. absurd (moved.1.0 (rw unchanged at moved.1.1));
-      same = λ stays still. elim all [ inl same ↦ same | inr more ↦ absurd (stays more.0) ];
-    }
+HoldsOn-room old new taking x core h unchanged adds = grind (arith, adds_step old new taking x core h adds)
 
 -- the room was made, and the step was taken
 module _ (old middle new : Standing) (taking : Step) (x : Plan) (answer : Reply) (h : IsPlanFor old.situation taking x)
     (unchanged : middle.situation ≡ old.situation)
     (adds : (core : ℕ) → AddsLines x old middle core) (loses : (core : ℕ) → LosesLines middle new core)
     (move : FirstMove old.situation taking answer new.situation) where
-  still_in : (core : ℕ) → ¬ MovesToI old.situation new.situation core → line_count new core ≡ line_count middle core
-  still_in core still = (loses core).same (λ moved. still (moved.0, (rw unchanged at moved.1.0, moved.1.1)))
-
   pub HoldsOn-taken : (core : ℕ) → HoldsOn old new taking core
   HoldsOn-taken core =
-      let all = adds_step old middle taking x core h (adds core) in
-      record {
-        raised = λ leaves.
-            let same = still_in core (stays_out old new.situation taking core answer move leaves) in
-            elim all [ inl none ↦ (omega arith, omega arith) | inr more ↦ let one = more.1 in (omega arith, omega arith) ];
-        lowered = λ moved.
-            let fewer = (loses core).lowered (moved.0, (rw (← unchanged) at moved.1.0, moved.1.1)) in
-            elim all [ inl none ↦ omega arith | inr more ↦ absurd (stays_out old new.situation taking core answer move more.0 moved) ];
-        same = λ stays still.
-            let same = still_in core still in
-            elim all [ inl none ↦ omega arith | inr more ↦ absurd (stays more.0) ];
-      }
+      let out = stays_out old new.situation taking core answer move in
+      grind (arith, adds_step old middle taking x core h (adds core), loses core, unchanged, out)
 
   -- and of the room as much is there as before, but for what was put in
   pub KeepsRoom-taken : KeepsRoom old middle → KeepsRoom middle new → KeepsRoom old new
@@ -74,11 +46,6 @@ module _ (old middle new : Standing) (taking : Step) (x : Plan) (answer : Reply)
         let some : 0 < slice_index middle.request_rooms core = omega arith in
         let first = made.lines core had some in
         let then = taken.lines core some has in
-        elim (adds_step old middle taking x core h (adds core)) [
-          | inl none ↦ omega arith
-          | inr more ↦
-              let one = more.1 in
-              let same = still_in core (stays_out old new.situation taking core answer move more.0) in
-              omega arith
-        ];
+        let out = stays_out old new.situation taking core answer move in
+        grind (arith, adds_step old middle taking x core h (adds core), loses core, unchanged, out);
   }

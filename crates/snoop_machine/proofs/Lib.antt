@@ -1,11 +1,9 @@
 pub mod Common
-pub mod Queues
 pub mod Soundness
-pub mod PictureViews
+pub mod PartsViews
 pub mod Closing
 pub mod ConcernedCores
 pub mod Plans
-pub mod Room
 pub mod Runs
 pub mod ProperLines
 pub mod LineMaps

@@ -1,6 +1,7 @@
 -- One map was given another line of one block, and the holders have followed.
-use Rattle.snoop_machine.proofs.Common.{◌≡◌, ℕ, ◌<◌, false, List, length, refl, sym, ◌∙◌, ap, inl, inr, arith, slice_index_or, slice_set, nat_eq, cases_eq, ne_eqb, length-set, set-get_or, CacheState, Line, held_at, IsProper, keeps, Contents, no_cache, line_in, lines_held, AreHolders, HaveFollowed, StandsAs, no_holders, Held, AreLines, Holders, is_owner, ◌≢◌, ◌+◌, Option, None, [], ◌⊎◌, map, is_some, lookup, map-set, get_or-set_same, get_or-set_other, is_some-lookup, I, line_or_nothing, blocks_of, KeepsMapRoom, KeepsMapsRoom, WritesLine, held, held_by_block, gone, line_at, with_line_at, each_place}
-use Rattle.snoop_machine.proofs.LineMaps.{IsMap, line-row, row-same, row-set, length-row, AreHolders-moved, rows-set, blocks-at, spare-at, length-blocks_of, blocks_seen, spare_seen, maps-long, gone-none, gone-one, is_I}
+use Rattle.snoop_machine.proofs.Common.{◌≡◌, ℕ, ◌<◌, false, List, length, refl, sym, ◌∙◌, ap, inl, inr, arith, slice_index_or, slice_set, nat_eq, cases_eq, ne_eqb, length-set, set-get_or, CacheState, Line, held_at, IsProper, keeps, Contents, no_cache, line_in, lines_held, AreHolders, HaveFollowed, StandsAs, no_holders, Held, AreLines, Holders, is_owner, ◌≢◌, ◌+◌, Option, None, [], ◌⊎◌, map, is_some, lookup, map-set, get_or-set_same, get_or-set_other, is_some-lookup, I, line_or_nothing, blocks_of, KeepsMapRoom, KeepsMapsRoom, WritesLine, held, held_by_block, gone, line_at, with_line_at, each_place, common_steps, get_or-map}
+use Rattle.snoop_machine.proofs.LineMaps.{IsMap, line-row, row-same, row-set, length-row, AreHolders-moved, rows-set, blocks_seen, spare_seen, maps-long, gone-none, gone-one, is_I}
+use Rattle.std.proofs.lemmas.Map.Entries.{length-keys_of}
 
 module _ {caches : List Contents} {holders : List Holders} (lines : AreLines caches holders) (core : ℕ) (new : Contents) (within : core < length caches) where
   -- each line is proper, if those of the new map are
@@ -47,8 +48,7 @@ module _ {caches : List Contents} {holders : List Holders} {now : Held} {core bl
   pub stands : (before : CacheState) → before ≡ (line_in old block).state → StandsAs core before (slice_index_or holders block no_holders)
   stands before was =
       let sets = its.lines.indexed block its.in_blocks in
-      let stood : (held_at (lines_held caches block) core).state ≡ before = rw (line-row caches core block, ← its.read) (sym was) in
-      (sets.owners core ∙ ap is_owner stood, sets.readers core ∙ ap keeps stood)
+      grind (arith, line-row caches core block, its.read, sets.owners core, sets.readers core)
 
 -- the holders follow a core that stays
 pub followed-still : (core block : ℕ) (state : CacheState) (holders : List Holders) → StandsAs core state (slice_index_or holders block no_holders) → HaveFollowed core block state holders holders
@@ -64,27 +64,23 @@ pub spares_kept : {caches : List Contents} {holders : List Holders} → AreLines
     → KeepsMapRoom (slice_index_or caches core no_cache) new → KeepsMapsRoom now (held (slice_set caches core new) after)
 spares_kept {caches} lines_are view core new after within kept k =
     let maps = slice_set caches core new in
-    let room = spare-at maps k in
-    let had_room = spare_seen lines_are view k in
-    let lines = ap (λ (blocks : List ℕ). length blocks) (blocks-at maps k) ∙ length-blocks_of (slice_index_or maps k no_cache) in
-    let had_lines = sym (length-blocks_of (slice_index_or caches k no_cache)) ∙ ap (λ (blocks : List ℕ). length blocks) (blocks_seen lines_are view k) in
     let each = each_place (λ k cache. KeepsMapRoom (slice_index_or caches k no_cache) cache) caches core new no_cache within kept (λ k ne. omega arith) k in
-    omega (arith, each, room, had_room, lines, had_lines)
+    grind (
+      arith,
+      each,
+      get_or-map (λ (cache : Contents). cache.spare) maps k no_cache,
+      spare_seen lines_are view k,
+      get_or-map blocks_of maps k no_cache,
+      blocks_seen lines_are view k,
+      length-keys_of (slice_index_or maps k no_cache).entries,
+      length-keys_of (slice_index_or caches k no_cache).entries,
+    )
 
 -- what goes of a map with the line of a block that moves from one state to another: nothing, or that line
 abbrev pub GoesFrom : CacheState → CacheState → ℕ → Contents → Contents → Type 0
 GoesFrom before after block old new =
     ((gone before after ≡ 0) × (blocks_of new ≡ blocks_of old))
     ⊎ ((gone before after ≡ 1) × (lookup (nat_eq block) new.entries ≡ None) × (length new.entries + 1 ≡ length old.entries))
-
--- a line that leaves its state, or does not come to I
-pub goes_from : (before after : CacheState) (block : ℕ) (old new : Contents) → (before ≢ I) ⊎ (after ≢ I)
-    → (after ≡ I → lookup (nat_eq block) new.entries ≡ None)
-    → (after ≡ I → length new.entries + 1 ≡ length old.entries) → (after ≢ I → blocks_of new ≡ blocks_of old) → GoesFrom before after block old new
-goes_from before after block old new place taken fewer stays = elim (is_I after) [
-  | inl e ↦ inr (gone-one before after (elim place [ inl left ↦ left | inr ne ↦ absurd (ne e) ]) e, taken e, fewer e)
-  | inr ne ↦ inl (gone-none before after ne, stays ne)
-]
 
 -- the core's map `old` was given this line of the block, and is `new` now
 pub record HasWritten (caches : List Contents) (holders : List Holders) (now : Held) (core block : ℕ) (line : Line) (old new : Contents)
@@ -127,21 +123,11 @@ module _ {caches : List Contents} {holders : List Holders} {now : Held} {core bl
       let before = (line_at now.rows core block).state in
       record {
         rows = rows_wrote;
-        stays = λ ne. elim wrote.goes [
-          | inl still ↦ rw (lines_set, still.1, ← blocks_were) (set-get_or now.lines core [])
-          | inr went ↦ (let one = went.0 in let none = gone-none before line.state ne in absurd (omega arith))
-        ];
-        taken = λ left e. elim wrote.goes [
-          | inl still ↦ (let none = still.0 in let one = gone-one before line.state left e in absurd (omega arith))
-          | inr went ↦ rw blocks_now (sym (is_some-lookup (nat_eq block) new.entries) ∙ ap (λ (o : Option Line). is_some o) went.1)
-        ];
-        elsewhere = λ b ne. rw (blocks_now, blocks_were) (sym (is_some-lookup (nat_eq b) new.entries)
-            ∙ (ap (λ (o : Option Line). is_some o) (wrote.others b ne) ∙ is_some-lookup (nat_eq b) old.entries));
+        stays = λ ne. grind (arith, wrote.goes, lines_set, blocks_were, set-get_or now.lines core []);
+        taken = λ left e. grind (arith, wrote.goes, blocks_now, is_some-lookup (nat_eq block) new.entries);
+        elsewhere = λ b ne. grind (arith, blocks_now, blocks_were, is_some-lookup (nat_eq b) new.entries, is_some-lookup (nat_eq b) old.entries, wrote.others b ne);
         many = rw lines_set (length-set now.lines core (blocks_of new));
-        lines = rw (blocks_now, blocks_were) (elim wrote.goes [
-          | inl still ↦ (let none = still.0 in let same = ap (λ (blocks : List ℕ). length blocks) still.1 in omega arith)
-          | inr went ↦ (let one = went.0 in let fewer = went.2 in let count = length-blocks_of new in let had = length-blocks_of old in omega arith)
-        ]);
+        lines = grind (arith, wrote.goes, blocks_now, blocks_were, length-keys_of new.entries, length-keys_of old.entries);
         others = λ k ne. rw lines_set (get_or-set_other now.lines core k (blocks_of new) [] ne);
         room = spares_kept wrote.map.lines wrote.map.view core new after wrote.map.in_cores (rw wrote.map.read at wrote.room);
       }

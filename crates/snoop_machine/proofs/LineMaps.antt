@@ -1,5 +1,5 @@
 -- The lines of maps as rows, what one write does to them, and the lines that callers see.
-use Rattle.snoop_machine.proofs.Common.{◌≡◌, ℕ, zero, suc, ◌<◌, false, List, [], ◌∷◌, ◌++◌, length, replicate, refl, sym, ◌∙◌, ap, inl, inr, arith, slice_index_or, slice_set, map, nat_eq, unwrap_or, lookup, range_with_len, get_or-map, map-set_same, cases_lt, ne_eqb, map-set, length-map, length-set, get_or_past, get_or-replicate, length-replicate, has, Line, held_at, nothing_held, keeps, Contents, no_cache, line_in, blocks_of, lines_held, AreHolders, HaveMoved, held_by_block, line_at, with_line_at, Holders, is_owner, ◌≢◌, true, is_some, ◌⊎◌, get_or, true_from_ne_false, get_or_read, is_some-lookup, CacheState, I, Held, AreLines, held, MayMoveTo, is_among, gone, row_of, each_place, constant}
+use Rattle.snoop_machine.proofs.Common.{◌≡◌, ℕ, zero, suc, ◌<◌, false, List, [], ◌∷◌, ◌++◌, length, replicate, refl, sym, ◌∙◌, ap, inl, inr, arith, slice_index_or, slice_set, map, nat_eq, unwrap_or, lookup, range_with_len, get_or-map, map-set_same, cases_lt, ne_eqb, map-set, length-map, length-set, get_or_past, get_or-replicate, length-replicate, has, Line, held_at, nothing_held, keeps, Contents, no_cache, line_in, blocks_of, lines_held, AreHolders, HaveMoved, held_by_block, line_at, with_line_at, Holders, is_owner, ◌≢◌, true, is_some, ◌⊎◌, get_or, true_from_ne_false, get_or_read, is_some-lookup, CacheState, I, Held, AreLines, held, MayMoveTo, is_among, gone, row_of, each_place, constant, common_steps, get_or-set_same, get_or-set_other}
 use Rattle.std.proofs.lemmas.List.FromFn.{length-map-range_with_len, get_or-map-range_with_len, fill_by_all}
 use Rattle.snoop_machine.proofs.ProperLines.{is_none}
 
@@ -53,10 +53,7 @@ AreHolders-moved row core line old new within fits moved = record {
 -- one more map without entries
 pub empty-push : (caches : List Contents) (cache : Contents) → ((core : ℕ) → (slice_index_or caches core no_cache).entries ≡ []) → cache.entries ≡ []
     → (core : ℕ) → (slice_index_or (caches ++ cache ∷ []) core no_cache).entries ≡ []
-empty-push [] cache empty own zero = own
-empty-push [] cache empty own (suc core) = refl
-empty-push (first ∷ caches) cache empty own zero = empty zero
-empty-push (first ∷ caches) cache empty own (suc core) = empty-push caches cache (λ k. empty (suc k)) own core
+empty-push caches cache empty own core = grind (arith, common_steps, empty core)
 
 -- maps without entries hold nothing anywhere
 pub line-empty : (caches : List Contents) → ((core : ℕ) → (slice_index_or caches core no_cache).entries ≡ []) → (core block : ℕ)
@@ -72,16 +69,6 @@ pub rows-empty : (caches : List Contents) → ((core : ℕ) → (slice_index_or 
 rows-empty caches empty blocks =
     sym (fill_by_all (lines_held caches) (replicate blocks (replicate (length caches) nothing_held)) blocks [] (length-replicate blocks _)
     (λ b within. get_or-replicate blocks b (replicate (length caches) nothing_held) [] within ∙ sym (row-empty caches empty b)))
-
--- the blocks that a core's map has a line for
-pub blocks-at : (caches : List Contents) (core : ℕ) → slice_index_or (map blocks_of caches) core [] ≡ blocks_of (slice_index_or caches core no_cache)
-blocks-at caches core = get_or-map blocks_of caches core no_cache
-
-pub spare-at : (caches : List Contents) (core : ℕ) → slice_index_or (map (λ (cache : Contents). cache.spare) caches) core 0 ≡ (slice_index_or caches core no_cache).spare
-spare-at caches core = get_or-map (λ (cache : Contents). cache.spare) caches core no_cache
-
-pub length-blocks_of : (cache : Contents) → length (blocks_of cache) ≡ length cache.entries
-length-blocks_of cache = length-map cache.entries (λ (e : ℕ × Line). e.0)
 
 -- maps with the same entries have the same lines
 pub line-same : (new old : Contents) → new.entries ≡ old.entries → (block : ℕ) → line_in new block ≡ line_in old block
@@ -124,10 +111,10 @@ module _ {caches : List Contents} {holders : List Holders} (lines : AreLines cac
       (within, rw (← (row_seen block within), length-row caches block) at in_cores)
 
   pub blocks_seen : (core : ℕ) → blocks_of (slice_index_or caches core no_cache) ≡ slice_index_or now.lines core []
-  blocks_seen core = sym (blocks-at caches core) ∙ ap (λ (h : Held). slice_index_or h.lines core []) view
+  blocks_seen core = sym (get_or-map blocks_of caches core no_cache) ∙ ap (λ (h : Held). slice_index_or h.lines core []) view
 
   pub spare_seen : (core : ℕ) → (slice_index_or caches core no_cache).spare ≡ slice_index_or now.line_rooms core 0
-  spare_seen core = sym (spare-at caches core) ∙ ap (λ (h : Held). slice_index_or h.line_rooms core 0) view
+  spare_seen core = sym (get_or-map (λ (cache : Contents). cache.spare) caches core no_cache) ∙ ap (λ (h : Held). slice_index_or h.line_rooms core 0) view
 
   pub among_seen : (core block : ℕ) → is_some (lookup (nat_eq block) (slice_index_or caches core no_cache).entries) ≡ is_among (slice_index_or now.lines core []) block
   among_seen core block =
@@ -149,11 +136,9 @@ module _ {caches : List Contents} {holders : List Holders} (lines : AreLines cac
 
   -- where the map has no line the core is in I
   pub none_held : (core block : ℕ) → is_some (lookup (nat_eq block) (slice_index_or caches core no_cache).entries) ≡ false → (line_at now.rows core block).state ≡ I
-  none_held core block none = elim (cases_lt block (length holders)) [
-    | inl inside ↦ ap (λ (x : Line). x.state) (sym (line_seen core block inside))
-        ∙ rw (is_none (lookup (nat_eq block) (slice_index_or caches core no_cache).entries) none) refl
-    | inr past ↦ ap (λ (r : List Line). (held_at r core).state) (get_or_past now.rows block [] (rw rows-long past))
-  ]
+  none_held core block none =
+      let past = get_or_past now.rows block [] in
+      grind (arith, line_seen core block, past, rows-long, is_none (lookup (nat_eq block) (slice_index_or caches core no_cache).entries) none)
 
   -- where the core holds the block the map has a line
   pub held_placed : (core block : ℕ) → (line_at now.rows core block).state ≢ I → is_some (lookup (nat_eq block) (slice_index_or caches core no_cache).entries) ≡ true
@@ -165,8 +150,7 @@ module _ {caches : List Contents} {holders : List Holders} (lines : AreLines cac
   mover_placed core block next (inr new) = among_seen core block ∙ new.0
 
 pub is_I : (s : CacheState) → (s ≡ I) ⊎ (s ≢ I)
-is_I I = inl refl
-is_I _ = inr (λ e. cc)
+is_I s = grind arith
 
 -- no line goes to a state that is not I
 pub gone-none : (old new : CacheState) → new ≢ I → gone old new ≡ 0
@@ -182,6 +166,4 @@ gone-one old new ne e = grind arith
 
 -- one goes, or none
 pub gone-cases : (old new : CacheState) → ((old ≢ I) × (new ≡ I) × (gone old new ≡ 1)) ⊎ (gone old new ≡ 0)
-gone-cases I I = inr refl
-gone-cases _ I = inl ((λ e. cc), refl, refl)
-gone-cases _ _ = inr refl
+gone-cases old new = grind arith

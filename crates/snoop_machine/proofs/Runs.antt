@@ -1,5 +1,5 @@
 -- What each step of a machine keeps, and one more of the steps that a machine takes.
-use Rattle.snoop_machine.proofs.Common.{◌≡◌, ℕ, List, refl, ap, Result, Ok, Err, IfOk, IfErr, Step, MachineKeeps, FirstMove, RefusedFor, RunBy, Refused, NoMemory, Reply, HoldsOn, IsFull, Answers, AnswersSafely, Standing, KeepsRoom, move_keeps_all, kept_along, ◌<◌, take, length, get_or, ◌+◌, [], ◌∷◌, ◌++◌, arith, cond, is_ok, count_by, take_more, Invariant, Goes, HasRun, is_safe, run_more, seen_along}
+use Rattle.snoop_machine.proofs.Common.{◌≡◌, ℕ, List, refl, ap, Result, Ok, Err, IfOk, IfErr, Step, MachineKeeps, FirstMove, RefusedFor, RunBy, Refused, NoMemory, Reply, HoldsOn, IsFull, Answers, AnswersSafely, Standing, KeepsRoom, move_keeps_all, kept_along, ◌<◌, take, length, get_or, ◌+◌, [], ◌∷◌, ◌++◌, arith, cond, is_ok, count_by, take_more, Invariant, Goes, HasRun, is_safe, run_more, seen_along, common_steps}
 use Rattle.snoop_model.specs.Moves.Replies.{Tells}
 use Rattle.snoop_model.proofs.Runs.Replies.{move_tells, refusal_tells}
 use Rattle.snoop_model.proofs.Runs.Shape.{IsAlike, alike_on, move_stays, same_alike}
@@ -11,8 +11,7 @@ module _ (old new : Standing) (step : Step) where
   pub answers : (result : Result Reply Refused) → IfOk result (λ reply. FirstMove old.situation step reply new.situation)
       → IfErr result (λ cause. RefusedFor old.situation step cause × (new ≡ old)) → (result ≡ Err NoMemory → IsFull old step) → KeepsRoom old new
       → ((core : ℕ) → HoldsOn old new step core) → Answers old step result new
-  answers (Ok reply) taken refused full room lines = (taken, room, lines)
-  answers (Err cause) taken refused full room lines = (refused.0, λ e. full (ap (λ (x : Refused). Err x) e), refused.1)
+  answers result taken refused full room lines = grind arith
 
   -- a step, taken or refused, leaves the protocol and the shape
   pub step_stays : (outcome : Result Reply Refused) → Answers old step outcome new → IsAlike old.situation new.situation
@@ -49,13 +48,11 @@ pub goes_on : (old middle new : Standing) (steps : List Step) (i : ℕ) (d : Ste
     → Answers middle (get_or steps i d) result new → (count : ℕ) → count ≡ taken + count_by is_ok (result ∷ []) → Going old (take (i + 1) steps) count new
 goes_on old middle new steps i d taken result within so_far goes count more =
     let keeps = step_keeps middle new (get_or steps i d) result so_far.keeps goes in
-    let all : count_by is_ok (so_far.outcomes ++ result ∷ []) ≡ count_by is_ok so_far.outcomes + count_by is_ok (result ∷ []) =
-    sum_by-append (λ x. cond (is_ok x) 1 0) so_far.outcomes (result ∷ []) in
     let was = so_far.many in
     rw (take_more steps i d within) (record {
       outcomes = so_far.outcomes ++ result ∷ [];
       run = run_more AnswersSafely (take i steps) so_far.outcomes old middle new (get_or steps i d) result so_far.run (goes, is_safe new.situation keeps);
-      many = omega arith;
+      many = grind (arith, common_steps, more, was);
       keeps = keeps;
     })
 
@@ -64,9 +61,11 @@ goes_so old step (Ok answer) new a = (a.0.0.0, a.0.0.1.1)
 goes_so old step (Err NoMemory) new a = ap (λ (s : Standing). s.situation) a.0.2
 goes_so old step (Err cause) new a = (a.0.0, ap (λ (s : Standing). s.situation) a.0.2)
 
--- it is a run, in which each Order is on the block that stands first
-runs_on_run : (steps : List Step) (outcomes : List (Result Reply Refused)) (old new : Standing) → RunBy AnswersSafely old steps outcomes new → RunBy Goes old.situation steps outcomes new.situation
-runs_on_run = seen_along AnswersSafely Goes (λ s. s.situation) goes_so
-
+-- they are a run, in which each Order is on the block that stands first
 pub has_run : (old new : Standing) (steps : List Step) (taken : ℕ) → Invariant old.situation → Going old steps taken new → HasRun old steps taken new
-has_run old new steps taken g r = record { outcomes = r.outcomes; run = r.run; many = r.many; once = run_once steps r.outcomes old.situation new.situation g (runs_on_run steps r.outcomes old new r.run) }
+has_run old new steps taken g r = record {
+  outcomes = r.outcomes;
+  run = r.run;
+  many = r.many;
+  once = run_once steps r.outcomes old.situation new.situation g (seen_along AnswersSafely Goes (λ s. s.situation) goes_so steps r.outcomes old new r.run);
+}

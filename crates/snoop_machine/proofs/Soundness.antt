@@ -1,7 +1,110 @@
--- Lines, queues and open transactions fit together after each change.
-use Rattle.snoop_machine.proofs.Common.{◌≡◌, ◌≢◌, ℕ, ◌<◌, List, ◌∷◌, ◌++◌, [], length, drop, Option, Some, None, refl, sym, ◌∙◌, ap, arith, inl, inr, option_to_list, slice_set, cases_lt, same_Some, length-set, get_or_past, get_or-set_same, get_or-set_other, Extent, Data, Protocol, waiting_request, Payload, Request, Open, Traffic, Waiting, Starts, no_queue, waiting_of, head_of, transaction_on, TakesRows, Line, held_at, nothing_held, IsProper, row_of, line_at, with_line_at, requests_for, IsSound, WaitsAs, IsProper-order, each_place, set-get_or}
+-- Queues as callers see them, the requests in one for a block, and that lines, queues and open transactions fit together after each change.
+use Rattle.snoop_machine.proofs.Common.{◌≡◌, ◌≢◌, ℕ, ◌<◌, true, not, filter, drop, List, [], ◌∷◌, ◌++◌, length, map, Option, Some, None, refl, sym, ◌∙◌, ap, arith, inl, inr, ◌+◌, ◌==◌, is_some, nat_lt, option_map, option_to_list, position, slice_get, slice_index_or, slice_set, if◌then◌else◌, prefix_len, get_or-map, map-set_same, cases_eq, cases_lt, eq-eqb, ne_eqb, false≢true, same_Some, slice_get-map, append-nil, get_or_past, length-map, map-append, map-set, filter-append, Extent, waiting_request, Request, queue_of, after_issue, after_order, place_in, Traffic, Waiting, no_queue, waiting_of, head_of, Line, line_at, queues_of, requests_for, IsSound, length-set, get_or-set_same, get_or-set_other, Data, Protocol, Payload, Open, Starts, transaction_on, TakesRows, held_at, nothing_held, IsProper, row_of, with_line_at, WaitsAs, IsProper-order, each_place, set-get_or, common_steps}
 use Rattle.snoop_model.proofs.Queues.Orders.{own_waits, others_wait}
-use Rattle.snoop_machine.proofs.Queues.{issued_own, issued_other, head_other, head_alone}
+
+abbrev pub blocks_of : List (Request × ℕ) → List ℕ
+blocks_of requests = map (λ (r : Request × ℕ). r.1) requests
+
+pub queue_of-queues_of : (queues : List Waiting) (core : ℕ) → queue_of (queues_of queues) core ≡ blocks_of (slice_index_or queues core no_queue).requests
+queue_of-queues_of queues core = get_or-map (λ (q : Waiting). blocks_of q.requests) queues core no_queue
+
+pub queues_of-set : (queues : List Waiting) (core : ℕ) (queue : Waiting) → queues_of (slice_set queues core queue) ≡ slice_set (queues_of queues) core (blocks_of queue.requests)
+queues_of-set queues core queue = map-set (λ (q : Waiting). blocks_of q.requests) queues core queue
+
+pub queues_of-room : (queues : List Waiting) (core room : ℕ) → queues_of (slice_set queues core (record { requests = (slice_index_or queues core no_queue).requests; room = room })) ≡ queues_of queues
+queues_of-room queues core room = map-set_same (λ (q : Waiting). blocks_of q.requests) queues core _ no_queue refl
+
+pub queues_of-issue : (queues : List Waiting) (core block room : ℕ) (request : Request)
+    → queues_of (slice_set queues core (record { requests = (slice_index_or queues core no_queue).requests ++ (request, block) ∷ []; room = room })) ≡ after_issue (queues_of queues) core block
+queues_of-issue queues core block room request =
+    queues_of-set queues core _ ∙ rw (map-append, queue_of-queues_of queues core) refl
+
+-- one more request: the first for its block
+pub issued_own : (rs : List (Request × ℕ)) (q : Request) (block : ℕ) → requests_for block rs ≡ [] → requests_for block (rs ++ (q, block) ∷ []) ≡ q ∷ []
+issued_own rs q block none = rw (filter-append, map-append, none, eq-eqb block block refl) refl
+
+-- and none for another
+pub issued_other : (rs : List (Request × ℕ)) (q : Request) (block other : ℕ) → other ≢ block
+    → requests_for other (rs ++ (q, block) ∷ []) ≡ requests_for other rs
+issued_other rs q block other ne = rw (filter-append, map-append, ne_eqb block other (λ e. ne (sym e)), append-nil) refl
+
+-- the oldest request is the first of those for its block, and none of those for another
+head_own : (rs : List (Request × ℕ)) (q : Request) (block : ℕ) → slice_get rs 0 ≡ Some (q, block)
+    → requests_for block rs ≡ q ∷ requests_for block (drop 1 rs)
+head_own rs q block first = grind (arith, common_steps, eq-eqb block block refl)
+
+pub head_other : (rs : List (Request × ℕ)) (q : Request) (block other : ℕ) → slice_get rs 0 ≡ Some (q, block) → other ≢ block
+    → requests_for other (drop 1 rs) ≡ requests_for other rs
+head_other rs q block other first ne = grind (arith, common_steps, ne_eqb block other)
+
+-- a list of one at most
+pub only_one : {A : Type 0} {x : A} {l : List A} (o : Option A) → x ∷ l ≡ option_to_list o → (o ≡ Some x) × (l ≡ [])
+only_one o e = grind arith
+
+-- where no request is for the block, each is for another
+blocks_without : (block : ℕ) (rs : List (Request × ℕ)) → requests_for block rs ≡ [] → filter (λ x. not (x == block)) (blocks_of rs) ≡ blocks_of rs
+blocks_without block [] none = refl
+blocks_without block (r ∷ rs) none = grind (arith, common_steps, eq-eqb r.1 block, ne_eqb r.1 block, blocks_without block rs)
+
+-- the oldest request was the only one for its block
+blocks_of-rest : (rs : List (Request × ℕ)) (q : Request) (block : ℕ) → slice_get rs 0 ≡ Some (q, block) → requests_for block (drop 1 rs) ≡ []
+    → blocks_of (drop 1 rs) ≡ filter (λ x. not (x == block)) (blocks_of rs)
+blocks_of-rest rs q block first none = grind (arith, common_steps, eq-eqb block block refl, blocks_without block (drop 1 rs) none)
+
+pub queues_of-order : (queues : List Waiting) (core block room : ℕ) (request : Request)
+    → slice_get (slice_index_or queues core no_queue).requests 0 ≡ Some (request, block)
+    → requests_for block (drop 1 (slice_index_or queues core no_queue).requests) ≡ []
+    → queues_of (slice_set queues core (record { requests = drop 1 (slice_index_or queues core no_queue).requests; room = room }))
+    ≡ after_order (queues_of queues) core block
+queues_of-order queues core block room request first none =
+    queues_of-set queues core _ ∙ rw (queue_of-queues_of queues core, blocks_of-rest _ request block first none) refl
+
+first_of : (rs : List (Request × ℕ)) (block : ℕ) → slice_get (blocks_of rs) 0 ≡ Some block → (q : Request) × (slice_get rs 0 ≡ Some (q, block))
+first_of [] block h = cc
+first_of (x ∷ xs) block h = (x.0, ap (λ (b : ℕ). let r : Option (Request × ℕ) = Some (x.0, b) in r) (same_Some _ _ h))
+
+nothing_for : (rs : List (Request × ℕ)) (block : ℕ) → slice_get rs 0 ≡ None → requests_for block rs ≡ []
+nothing_for [] block none = refl
+nothing_for (x ∷ xs) block none = cc
+
+module _ {shape : Extent} {caches : List (List Line)} {bus : Traffic} (sound : IsSound shape caches bus) (core : ℕ) where
+  -- the head of a queue is the one request of its block
+  pub head_alone : (request : Request) (block : ℕ) → head_of bus core ≡ Some (request, block)
+      → (waiting_request (line_at caches core block).state ≡ Some request) × (requests_for block (drop 1 (waiting_of bus core).requests) ≡ [])
+  head_alone request block head =
+      only_one (waiting_request (line_at caches core block).state) (sym (head_own (waiting_of bus core).requests request block head) ∙ sound.waits core block)
+
+  -- the first of the line, with the request that waits, is the head of the queue
+  pub head_from_line : (request : Request) (block : ℕ) → slice_get (queue_of (queues_of bus.queues) core) 0 ≡ Some block → waiting_request (line_at caches core block).state ≡ Some request → head_of bus core ≡ Some (request, block)
+  head_from_line request block first waits =
+      let f = first_of (waiting_of bus core).requests block (rw (queue_of-queues_of bus.queues core) at first) in
+      grind (arith, head_alone f.0 block f.1, f.1)
+
+  pub idle_from_head : head_of bus core ≡ None → (block : ℕ) (request : Request) → waiting_request (line_at caches core block).state ≡ Some request → ⊥
+  idle_from_head head block request waits =
+      grind (arith, nothing_for (waiting_of bus core).requests block head, sound.waits core block)
+
+-- what the queue that callers see shows first
+pub first_shown : (bus : Traffic) (core : ℕ) → slice_get (queue_of (queues_of bus.queues) core) 0 ≡ option_map (λ (r : Request × ℕ). r.1) (head_of bus core)
+first_shown bus core = rw (queue_of-queues_of bus.queues core) (slice_get-map (λ (r : Request × ℕ). r.1) (waiting_of bus core).requests 0)
+
+-- a core waits on no block that there is not
+pub within_from_waits : (caches : List (List Line)) (core block : ℕ) (request : Request) → waiting_request (line_at caches core block).state ≡ Some request → block < length caches
+within_from_waits caches core block request waits = grind (arith, get_or_past caches block [])
+
+pub some_first : (rs : List (Request × ℕ)) → (is_some (slice_get rs 0) ≡ true → 0 < length (blocks_of rs)) × (0 < length (blocks_of rs) → is_some (slice_get rs 0) ≡ true)
+some_first [] = (λ e. absurd (false≢true e), λ h. absurd (omega arith))
+some_first (x ∷ xs) = (λ e. omega arith, λ h. refl)
+
+prefix_shown : (block : ℕ) (rs : List (Request × ℕ)) → prefix_len (λ (r : Request × ℕ). not (r.1 == block)) rs ≡ prefix_len (λ b. not (b == block)) (blocks_of rs)
+prefix_shown block [] = refl
+prefix_shown block (x ∷ xs) = ap (λ n. if not (x.1 == block) then 1 + n else 0) (prefix_shown block xs)
+
+-- a block's place in the line is that of its request in the queue
+pub place_shown : (bus : Traffic) (core block : ℕ) → option_map (λ older. older + 1) (position (λ (r : Request × ℕ). r.1 == block) (waiting_of bus core).requests) ≡ place_in (queue_of (queues_of bus.queues) core) block
+place_shown bus core block =
+    let rs : List (Request × ℕ) = (waiting_of bus core).requests in
+    grind (arith, common_steps, length-map rs (λ (r : Request × ℕ). r.1), prefix_shown block rs, queue_of-queues_of bus.queues core)
 
 -- an open transaction is of the block on which it is found, and its core one that there is
 abbrev IsOpened : Extent → ℕ → Option Open → Type 0
@@ -10,16 +113,9 @@ IsOpened shape block found = (transaction : Open) → found ≡ Some transaction
 module _ {shape : Extent} {caches : List (List Line)} {bus : Traffic} (sound : IsSound shape caches bus) where
   -- a transaction closes
   pub IsSound-close : (block : ℕ) → block < shape.blocks → IsSound shape caches (record bus { transactions = slice_set bus.transactions block None })
-  IsSound-close block in_blocks = record {
-    rows = sound.rows;
-    row = sound.row;
-    queues = sound.queues;
-    transactions = length-set bus.transactions block None ∙ sound.transactions;
-    proper = sound.proper;
-    opened = each_place (λ b found. IsOpened shape b found) bus.transactions block None None (rw sound.transactions in_blocks) (λ t e. cc)
-        (λ b ne. sound.opened b);
-    waits = sound.waits;
-  }
+  IsSound-close block in_blocks =
+      let each = each_place (λ b found. IsOpened shape b found) bus.transactions block None None (rw sound.transactions in_blocks) (λ t e. cc) (λ b ne. sound.opened b) in
+      grind (arith, length-set bus.transactions block None, each)
 
   -- one core has another queue
   module _ (now : Traffic) (core : ℕ) (queue : Waiting) (in_cores : core < shape.cores) (wrote : now.queues ≡ slice_set bus.queues core queue) where
@@ -31,15 +127,9 @@ module _ {shape : Extent} {caches : List (List Line)} {bus : Traffic} (sound : I
 
     -- with other room
     pub IsSound-room : queue.requests ≡ (waiting_of bus core).requests → now.transactions ≡ bus.transactions → IsSound shape caches now
-    IsSound-room same transactions = record {
-      rows = sound.rows;
-      row = sound.row;
-      queues = as_many;
-      transactions = rw transactions sound.transactions;
-      proper = sound.proper;
-      opened = rw transactions sound.opened;
-      waits = λ k b. each_queue (λ k its. WaitsAs b its (line_at caches k b)) (rw same (sound.waits core b)) (λ k ne. sound.waits k b) k;
-    }
+    IsSound-room same transactions =
+        let each = λ (k b : ℕ). each_queue (λ k its. WaitsAs b its (line_at caches k b)) (rw same (sound.waits core b)) (λ k ne. sound.waits k b) k in
+        grind (arith, as_many, each)
 
     -- and the row of one block is written: the queue has the same requests for each other block
     module _ (block : ℕ) (in_blocks : block < shape.blocks)

@@ -1,12 +1,11 @@
-use Rattle.snoop_machine.proofs.Common.{ℕ, List, [], ◌∷◌, ◌++◌, ◌∙◌, ap, Result, Ok, Err, IsOk, OnOk, nat_eq, lookup, keys_of, map-append, Line, Contents, blocks_of}
+use Rattle.snoop_machine.proofs.Common.{ℕ, List, [], ◌∷◌, ◌++◌, ◌∙◌, ap, Result, Ok, Err, IsOk, OnOk, nat_eq, lookup, keys_of, map-append, Line, Contents, blocks_of, arith}
 use Rattle.snoop_machine.proofs.ProperLines.{is_none}
 use Rattle.indexmap.proofs.CallerLemmas.{insert_entry-new}
 use Rattle.snoop_machine.proofs.cache.Cache.put_ahead.Goals as goal
 
 -- what holds on success holds of a success
 on_ok : {A B : Type 0} {P : Type 0} (r : Result A B) → OnOk r P → IsOk r → P
-on_ok (Ok a) p h = p
-on_ok (Err b) p h = cc
+on_ok r p h = grind arith
 
 pub returns-clause-blocks : goal.returns-clause-blocks
 returns-clause-blocks g c =

@@ -45,12 +45,11 @@ invariant_of-result g c =
           });
     }
 
-pub returns-clause-rows : goal.returns-clause-rows
-returns-clause-rows g c =
-    let d = (goal.at.returns-clause-rows g c).In_ok-holders in
-    rw (holders_are g d, length-replicate c.args.shape.blocks c.empty.result, rows-empty c.loop.caches.items c.loop.invariant.0 c.args.shape.blocks, counted g d) refl
-
-pub returns-clause-lines : goal.returns-clause-lines
-returns-clause-lines g c =
-    let d = (goal.at.returns-clause-lines g c).In_ok-holders in
-    rw (blocks-empty c.loop.caches.items c.loop.invariant.0, counted g d) refl
+pub returns : goal.returns
+returns g c =
+    let d = (goal.at.returns g c).In_ok-holders in
+    let caches = c.loop.caches.items in
+    record {
+      rows = rw (holders_are g d, length-replicate c.args.shape.blocks c.empty.result, rows-empty caches c.loop.invariant.0 c.args.shape.blocks, counted g d) refl;
+      lines = rw (blocks-empty caches c.loop.invariant.0, counted g d) refl;
+    }

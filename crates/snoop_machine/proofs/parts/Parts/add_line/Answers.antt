@@ -1,11 +1,9 @@
 use Rattle.snoop_machine.proofs.Common.{◌≡◌, [], ◌∙◌, ℕ, List, ap, length, arith, refl, slice_index_or, err_from_is_err_and, length-set, Waiting, waiting_of, KeepsMapsRoom, shown_line_rooms}
-use Rattle.snoop_machine.proofs.Room.{held_in-set, keeps_room, shown-same, places-map, places-queue}
-use Rattle.snoop_machine.proofs.Queues.{queues_of-room}
-use Rattle.snoop_machine.proofs.Soundness.{IsSound-room}
+use Rattle.snoop_machine.proofs.PartsViews.{held_in-set, keeps_room, shown-same, places-map, places-queue, core_in, sized_on}
+use Rattle.snoop_machine.proofs.Soundness.{queues_of-room, IsSound-room}
 use Rattle.snoop_machine.proofs.parts.Parts.add_line.Given.{Over}
 use Rattle.snoop_machine.proofs.parts.Parts.add_line.Goals as goal
 use Rattle.snoop_machine.proofs.parts.Parts.add_line.Goals.{After-put_ahead}
-use Rattle.snoop_machine.proofs.PictureViews.{core_in, sized_on}
 
 rows : (g : Over) (c : After-put_ahead g) → c.put_ahead.new.self.rows ≡ c.self.inside.lines.rows
 rows g c = c.put_ahead.ensures.rows ∙ c.reserve.ensures.rows
@@ -52,9 +50,7 @@ returns-clause-unchanged g c =
 
 pub returns-clause-room : goal.returns-clause-room
 returns-clause-room g c =
-    let bus = c.self.inside.bus in
     let core = c.args.core in
-    let queue : Waiting = record { requests = (waiting_of bus core).requests; room = (waiting_of c.reserve-2.new.self core).room } in
     let more = c.reserve-2.ensures.room in
     let line_rooms : KeepsMapsRoom c.self.inside.lines c.put_ahead.new.self = λ k.
     (let grown = c.reserve.ensures.room k in
@@ -62,4 +58,4 @@ returns-clause-room g c =
     let same = ap (λ (lines : List (List ℕ)). length (slice_index_or lines k [])) c.reserve.ensures.lines in
     omega arith) in
     keeps_room c.self.invariant c.self.view_is c.put_ahead.new.self c.self.inside.memory c.reserve-2.new.self c.self.inside.log (omega arith)
-    (held_in-set c.self.invariant c.self.view_is c.reserve-2.new.self core queue c.reserve-2.ensures.queue c.requires.core (omega arith)) line_rooms
+    (held_in-set c.self.invariant c.self.view_is c.reserve-2.new.self core _ c.reserve-2.ensures.queue c.requires.core (omega arith)) line_rooms

@@ -1,8 +1,8 @@
 use Rattle.snoop_machine.proofs.Common.{◌≡◌, ◌≢◌, false, Some, refl, sym, ◌∙◌, arith, slice_set, PutM, Fills, next_did, Line, filled_line, row_of, line_at, fields, Open, Protocol, Access, ℕ, IsProper, IsProper-fill, waiting_request, ap, fill-waits, I, Did}
-use Rattle.snoop_machine.proofs.Closing.{Closes, as_closes, never_none, opened, header, in_cores, whole_after, room_after, responded, loses, arrives_get}
+use Rattle.snoop_machine.proofs.Closing.{Closes, never_none, opened, header, in_cores, whole_after, room_after, responded, loses, arrives_get}
 use Rattle.snoop_machine.proofs.Following.{LinesGo-none, LinesGo-more, row_after}
 use Rattle.snoop_machine.proofs.Soundness.{IsSound-line}
-use Rattle.snoop_machine.proofs.PictureViews.{line_seen, core_in, block_in, rows_in, row_in, words_seen}
+use Rattle.snoop_machine.proofs.PartsViews.{line_seen, core_in, block_in, rows_in, row_in, words_seen}
 use Rattle.snoop_machine.proofs.parts.Parts.finish_get.Given.{Over}
 use Rattle.snoop_machine.proofs.parts.Parts.finish_get.Goals as goal
 use Rattle.snoop_machine.proofs.parts.Parts.finish_get.Goals.{In-Some}
@@ -22,7 +22,7 @@ module _ {closing : Open} {p : Protocol} {old new : Line} {asking : Access} {val
 
 abbrev closes : (g : Over) (c : In-Some g)
     → Closes (fields c.self.inside.protocol c.self.inside.shape c.self.inside.lines c.self.inside.memory c.self.inside.bus c.self.inside.log) c.args.self.now c.args.came c.args.memory c.in-Some.closing
-closes g c = as_closes c.self.invariant c.self.view_is c.requires.closing c.requires.block (sym c.finish.ensures.closed ∙ c.in-Some.is)
+closes g c = record { count = _; whole = c.self.invariant; view = c.self.view_is; within = c.requires.block; found = c.requires.closing; is_open = sym c.finish.ensures.closed ∙ c.in-Some.is }
 
 -- the requestor's line now
 abbrev line : (g : Over) (c : In-Some g) → Line
@@ -56,7 +56,7 @@ invariant_of-self g c =
     let d = (goal.at.invariant_of-self g c).In-Some in
     let core = c.in-Some.closing.core in
     let block = c.args.came.block in
-    rw (c.settle.ensures, c.finish.ensures.after, c.push.ensures) (whole_after (closes g d) c.fill.new.self (Some c.next_did-did.result)
+    rw (c.settle.ensures, c.finish.ensures.after, c.push.ensures) (whole_after (closes g d) (Some c.next_did-did.result) c.fill.new.self _ c.fill.ensures.rows
     (rw c.fill.ensures.rows (IsSound-line c.self.invariant.sound core block (line g d)
     (core_in c.self.invariant c.self.view_is core (in_cores (closes g d))) (block_in c.self.invariant c.self.view_is block c.requires.block)
     (proper-filled (fills g d)) (waits-filled (fills g d))))
@@ -67,20 +67,18 @@ returns g c =
     let d = (goal.at.returns g c).In-Some in
     let closing = c.in-Some.closing in
     let access = c.args.filled.access in
-    let filled = c.fill.new.self in
-    let did = c.next_did-did.result in
-    let row = row_of c.self.inside.lines.rows c.args.came.block in
+    let wrote = c.fill.ensures in
+    let did = Some c.next_did-did.result in
     let get : closing.request ≢ PutM = rw (← header (closes g d)) at c.requires.get in
-    let performed : did ≡ next_did c.self.inside.log.items closing.core closing.block access.word access.op c.args.filled.value false =
+    let performed : c.next_did-did.result ≡ next_did c.self.inside.log.items closing.core closing.block access.word access.op c.args.filled.value false =
     rw (← c.self.view_is, ← header (closes g d)) at c.next_did-did.ensures in
     let lines = c.self.inside.lines in
     let in_rows = rows_in c.self.invariant c.self.view_is c.args.came.block c.requires.block in
     let in_row = row_in c.self.invariant c.self.view_is closing.core c.args.came.block (in_cores (closes g d)) c.requires.block in
     rw (c.settle.ensures, c.finish.ensures.after, c.push.ensures) (record {
-      responded = responded (closes g d) filled (slice_set row closing.core (line g d)) (Some did) c.fill.ensures.rows
-          (arrives_get closing.request get
+      responded = responded (closes g d) did c.fill.new.self _ wrote.rows (arrives_get closing.request get
           (record { line = line g d; asking = access; value = c.args.filled.value; fills = fills g d; held = refl; logged = ap (λ (x : Did). Some x) performed }));
-      room = room_after (closes g d) filled (Some did) c.requires.room c.fill.ensures.room;
-      lines = loses (closes g d) filled (slice_set row closing.core (line g d)) (Some did) c.fill.ensures.rows (sym (row_after c.fill.ensures in_rows))
-          (LinesGo-more c.fill.ensures in_rows lines (LinesGo-none c.args.came.block lines) in_row refl);
+      room = room_after (closes g d) did c.fill.new.self _ wrote.rows c.requires.room wrote.room;
+      lines = loses (closes g d) did c.fill.new.self _ wrote.rows (sym (row_after wrote in_rows))
+          (LinesGo-more wrote in_rows lines (LinesGo-none c.args.came.block lines) in_row refl);
     })

@@ -1,6 +1,6 @@
 use Rattle.snoop_machine.proofs.Common.{◌≡◌, ℕ, ◌<◌, Option, Some, None, refl, sym, ap, ◌∙◌, length, arith, IfSome, IfNone, slice_get, waiting_request, Request, queue_of, head_of, WaitsOnNone, IsHead}
-use Rattle.snoop_machine.proofs.PictureViews.{state_seen}
-use Rattle.snoop_machine.proofs.Queues.{head_alone, idle_from_head, within_from_waits, first_shown}
+use Rattle.snoop_machine.proofs.PartsViews.{state_seen}
+use Rattle.snoop_machine.proofs.Soundness.{head_alone, idle_from_head, within_from_waits, first_shown}
 use Rattle.snoop_machine.proofs.parts.Parts.head.Given.{Over}
 use Rattle.snoop_machine.proofs.parts.Parts.head.Goals as goal
 use Rattle.snoop_machine.proofs.parts.Parts.head.Goals.{After-head}
@@ -17,9 +17,8 @@ shown g c None is = (
   rw (← c.self.view_is) (first_shown c.self.inside.bus c.args.core ∙ rw is refl),
 )
 shown g c (Some head) is =
-    let lines = c.self.inside.lines.rows in
     let waits = (head_alone c.self.invariant.sound c.args.core head.0 head.1 is).0 in
-    let within : head.1 < length lines = within_from_waits lines c.args.core head.1 head.0 waits in
+    let within = within_from_waits c.self.inside.lines.rows c.args.core head.1 head.0 waits in
     let rows = c.self.invariant.sound.rows in (
       rw (← c.self.view_is) (record {
         first = first_shown c.self.inside.bus c.args.core ∙ rw is refl;
@@ -30,11 +29,7 @@ shown g c (Some head) is =
       tt,
     )
 
-pub returns-clause-some : goal.returns-clause-some
-returns-clause-some g c = (shown g (goal.at.returns-clause-some g c).After-head c.head.result (sym c.head.ensures)).0
-
-pub returns-clause-none : goal.returns-clause-none
-returns-clause-none g c = (shown g (goal.at.returns-clause-none g c).After-head c.head.result (sym c.head.ensures)).1
-
-pub returns-clause-empty : goal.returns-clause-empty
-returns-clause-empty g c = (shown g (goal.at.returns-clause-empty g c).After-head c.head.result (sym c.head.ensures)).2
+pub returns : goal.returns
+returns g c =
+    let its = shown g (goal.at.returns g c).After-head c.head.result (sym c.head.ensures) in
+    record { some = its.0; none = its.1; empty = its.2 }

@@ -1,4 +1,4 @@
-use Rattle.snoop_machine.proofs.Common.{◌≡◌, ℕ, refl, ◌∙◌, slice_set, set-get_or, held_by, with_line, nothing_held, Situation, picture_of, nothing_there}
+use Rattle.snoop_machine.proofs.Common.{◌≡◌, ℕ, refl, ◌∙◌, slice_set, set-get_or, held_by, with_line, nothing_held, Situation, picture_of, nothing_there, arith}
 use Rattle.snoop_machine.proofs.ProperLines.{loaded_same}
 use Rattle.snoop_machine.proofs.parts.Parts.hit_line.Goals as goal
 
@@ -19,23 +19,15 @@ returns-in-Load-clause-written g c =
     ) refl
 
 pub returns-in-Load-clause-lines : goal.returns-in-Load-clause-lines
-returns-in-Load-clause-lines g c k = rw (← c.self.view_is) (record { lowered = λ moved. absurd (moved.1.0 moved.1.1); same = λ still. refl })
+returns-in-Load-clause-lines g c k = rw (← c.self.view_is) (grind arith)
 
 -- a store moves it
 pub move_line-requires : goal.move_line-requires
-move_line-requires g c = record {
-  core = rw (← c.self.view_is) at c.requires.core;
-  block = rw (← c.self.view_is) at c.requires.block;
-  words = rw (← c.self.view_is) at c.requires.word.0;
-  same = rw (← c.self.view_is) at c.requires.same;
-  held = rw (← c.self.view_is) at c.requires.held;
-  proper = rw (← c.self.view_is) at c.requires.proper;
-}
+move_line-requires g c = grind (arith, c.self.view_is, c.requires)
 
 pub returns-clause-written : goal.returns-clause-written
 returns-clause-written g c = c.move_line.ensures.written ∙ rw (c.push.ensures, c.next_did-did.ensures, ← c.self.view_is) refl
 
 pub returns-clause-lines : goal.returns-clause-lines
 returns-clause-lines g c k =
-    let its = c.move_line.ensures.lines k in
-    rw (← c.self.view_is) (record { lowered = its.lowered; same = its.same })
+    rw (← c.self.view_is) (grind (arith, c.move_line.ensures.lines k))

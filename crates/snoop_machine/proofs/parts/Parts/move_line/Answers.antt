@@ -1,8 +1,7 @@
 use Rattle.snoop_machine.proofs.Common.{◌∙◌, arith, refl, inl, Line, with_line, changed, line_at, Fields, fields}
 use Rattle.snoop_machine.proofs.Following.{follows-set}
 use Rattle.snoop_machine.proofs.Soundness.{IsSound-line}
-use Rattle.snoop_machine.proofs.PictureViews.{seen, line_seen, state_seen, words_seen, picture_in, line-written, core_in, block_in, sized_on}
-use Rattle.snoop_machine.proofs.Room.{keeps_room}
+use Rattle.snoop_machine.proofs.PartsViews.{seen, line_seen, state_seen, words_seen, picture_in, line-written, core_in, block_in, sized_on, keeps_room}
 use Rattle.snoop_machine.proofs.parts.Parts.move_line.Given.{Over}
 use Rattle.snoop_machine.proofs.parts.Parts.move_line.Goals as goal
 use Rattle.snoop_machine.proofs.parts.Parts.move_line.Goals.{After-change}

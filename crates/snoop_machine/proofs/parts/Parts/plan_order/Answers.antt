@@ -2,11 +2,11 @@ use Rattle.snoop_machine.proofs.Common.{◌≡◌, Option, Some, None, refl, sym
 use Rattle.std.specs.Borrow.{Bor}
 use Rattle.snoop_machine.proofs.ProperLines.{is_none}
 use Rattle.snoop_machine.specs.declared.plan.Plan.TheVariants as plan
-use Rattle.snoop_machine.proofs.Plans.{order-allowed}
+use Rattle.snoop_machine.proofs.Plans.{plan-allowed}
 use Rattle.snoop_machine.proofs.parts.Parts.plan_order.Given.{Over}
 use Rattle.snoop_machine.proofs.parts.Parts.plan_order.Goals as goal
 use Rattle.snoop_machine.proofs.parts.Parts.plan_order.Goals.{After-sender-from}
-use Rattle.snoop_machine.proofs.PictureViews.{seen, line_seen, protocol_seen}
+use Rattle.snoop_machine.proofs.PartsViews.{seen, line_seen, protocol_seen}
 
 -- a block that was found without an open transaction
 free_copied : (found : Option (Bor Open)) (transaction : Option Open) → option_copied found ≡ transaction → is_some found ≡ false → transaction ≡ None
@@ -62,5 +62,5 @@ returns-clause-found g c = (refl, plan_is g (goal.at.returns-clause-found g c).A
 
 pub returns-clause-exactly : goal.returns-clause-exactly
 returns-clause-exactly g c cause refuses =
-    let its = (plan_is g (goal.at.returns-clause-exactly g c).After-sender-from).1 in
-    absurd (order-allowed _ c.args.core c.in-Some.block c.in-Some.request c.requires.core its.head its.free cause refuses)
+    let found = plan.Order c.args.core c.in-Some.request c.in-Some.block c.sender-from.result.from c.sender-from.result.payload c.sender-from.result.memory in
+    absurd (plan-allowed c.args.self.now.situation found (plan_is g (goal.at.returns-clause-exactly g c).After-sender-from) cause refuses)

@@ -1,9 +1,7 @@
 use Rattle.snoop_machine.proofs.Common.{ap, arith, refl, Waiting, waiting_of}
-use Rattle.snoop_machine.proofs.Room.{held_in-set, keeps_room}
-use Rattle.snoop_machine.proofs.Queues.{queues_of-room}
-use Rattle.snoop_machine.proofs.Soundness.{IsSound-room}
+use Rattle.snoop_machine.proofs.PartsViews.{held_in-set, keeps_room, core_in, sized_on}
+use Rattle.snoop_machine.proofs.Soundness.{queues_of-room, IsSound-room}
 use Rattle.snoop_machine.proofs.parts.Parts.reserve_request.Goals as goal
-use Rattle.snoop_machine.proofs.PictureViews.{core_in, sized_on}
 
 pub invariant_of-self : goal.invariant_of-self
 invariant_of-self g c = record {
@@ -22,7 +20,6 @@ pub returns-clause-room : goal.returns-clause-room
 returns-clause-room g c =
     let lines = c.self.inside.lines in
     let core = c.args.core in
-    let queue : Waiting = record { requests = (waiting_of c.self.inside.bus core).requests; room = (waiting_of c.reserve.new.self core).room } in
     let more = c.reserve.ensures.room in
     keeps_room c.self.invariant c.self.view_is lines c.self.inside.memory c.reserve.new.self c.self.inside.log (omega arith)
-    (held_in-set c.self.invariant c.self.view_is c.reserve.new.self core queue c.reserve.ensures.queue c.requires (omega arith)) (λ core. omega arith)
+    (held_in-set c.self.invariant c.self.view_is c.reserve.new.self core _ c.reserve.ensures.queue c.requires (omega arith)) (λ core. omega arith)

@@ -1,10 +1,8 @@
 use Rattle.snoop_machine.proofs.Common.{◌≡◌, ℕ, List, ◌<◌, ◌-◌, ◌++◌, ◌∷◌, [], length, drop, Option, Some, ◌∙◌, refl, sym, ap, arith, slice_set, length-set, length-append, length-drop, set-get_or, zero_words, Open, Waiting, waiting_of, head_of, Starts, MemLine, Picture, picture_of, row_of, MemTables, memory_line, Fields, fields, standing, pictures_of, Standing}
 use Rattle.snoop_history.specs.declared.items.Item.TheVariants as item
 use Rattle.snoop_machine.proofs.Following.{follows-rows}
-use Rattle.snoop_machine.proofs.PictureViews.{seen, line_seen, picture-written, core_in, block_in, sized_on}
-use Rattle.snoop_machine.proofs.Queues.{head_from_line, head_alone, queues_of-order}
-use Rattle.snoop_machine.proofs.Room.{held_in-set, keeps_room}
-use Rattle.snoop_machine.proofs.Soundness.{IsSound-order}
+use Rattle.snoop_machine.proofs.PartsViews.{seen, line_seen, picture-written, core_in, block_in, sized_on, held_in-set, keeps_room}
+use Rattle.snoop_machine.proofs.Soundness.{head_from_line, head_alone, queues_of-order, IsSound-order}
 use Rattle.snoop_machine.proofs.parts.Parts.start.Given.{Over}
 use Rattle.snoop_machine.proofs.parts.Parts.start.Goals as goal
 use Rattle.snoop_machine.proofs.parts.Parts.start.Goals.{After-words_sent-words, After-start}
@@ -44,10 +42,6 @@ starts : (g : Over) (c : After-start g)
     → Starts c.self.inside.bus c.start.new.self c.args.core c.args.request c.args.block c.args.payload c.words_sent-words.result c.args.from
 starts g c = rw (head g (goal.at.After-start g c).After-words_sent-words) at c.start.ensures
 
--- the queue that is left
-abbrev queue : (g : Over) (c : After-start g) → Waiting
-queue g c = record { requests = drop 1 (waiting_of c.self.inside.bus c.args.core).requests; room = (starts g c).room }
-
 -- the transaction that is open now
 abbrev opened : (g : Over) (c : After-start g) → Open
 opened g c = record {
@@ -59,12 +53,13 @@ opened g c = record {
   from = c.args.from;
 }
 
--- memory's line now, and the block's picture
-abbrev memory_now : (g : Over) (c : After-start g) → MemLine
-memory_now g c = record { state = c.args.memory; value = (memory_line c.self.inside.memory c.args.block).value }
-
+-- the block's picture now
 abbrev next : (g : Over) (c : After-start g) → Picture
-next g c = record { caches = row_of c.take_rows.new.self.rows c.args.block; memory = memory_now g c; transaction = Some (opened g c) }
+next g c = record {
+  caches = row_of c.take_rows.new.self.rows c.args.block;
+  memory = record { state = c.args.memory; value = (memory_line c.self.inside.memory c.args.block).value };
+  transaction = Some (opened g c);
+}
 
 wrote : (g : Over) (c : After-start g)
     → pictures_of c.take_rows.new.self.rows c.move_to.new.self.states c.move_to.new.self.words c.start.new.self.transactions
@@ -90,12 +85,11 @@ returns g c =
     let m = parts g d in
     let core = c.args.core in
     let block = c.args.block in
-    let before = waiting_of m.bus core in
     let here = seen c.self.invariant refl block in
     let its = head g (goal.at.returns g c).After-words_sent-words in
-    let left = queues_of-order m.bus.queues core block (queue g d).room c.args.request its
+    let left = queues_of-order m.bus.queues core block (starts g d).room c.args.request its
     (head_alone c.self.invariant.sound core c.args.request block its).1 in
-    let fewer = length-drop 1 before.requests in
+    let fewer = length-drop 1 (waiting_of m.bus core).requests in
     let more = (starts g d).more in
     let items = m.log.items ++ item.Sent (record { core = core; request = c.args.request; block = block }) ∷ [] in
     let long = length-append m.log.items (item.Sent (record { core = core; request = c.args.request; block = block }) ∷ []) in
@@ -115,6 +109,6 @@ returns g c =
       });
       room = rw c.push.ensures (keeps_room c.self.invariant c.self.view_is c.take_rows.new.self c.move_to.new.self c.start.new.self
           (record m.log { items = items; room = m.log.room - 1 }) (omega arith)
-          (held_in-set c.self.invariant c.self.view_is c.start.new.self core (queue g d) (starts g d).queues c.requires.core (omega arith)) c.take_rows.ensures.room);
+          (held_in-set c.self.invariant c.self.view_is c.start.new.self core _ (starts g d).queues c.requires.core (omega arith)) c.take_rows.ensures.room);
       lines = follows-rows c.self.invariant c.self.view_is _ block (next g d) c.take_rows.new.self c.requires.head.within (wrote g d) refl refl c.take_rows.ensures.lines;
     }

@@ -1,7 +1,8 @@
--- The pictures that the parts show.
-use Rattle.snoop_machine.proofs.Common.{◌≡◌, ℕ, ◌<◌, zero, suc, List, [], ◌∷◌, length, replicate, Option, None, refl, sym, ◌∙◌, ap, arith, slice_index_or, slice_set, set-get_or, Data, zero_words, Open, Line, Picture, held_by, with_line, picture_of, state_of, nothing_there, line_at, row_of, with_line_at, memory_line, Fields, standing, pictures_of, IsSized, IsWhole, Standing}
+-- The pictures and the room that the parts show.
+use Rattle.snoop_machine.proofs.Common.{◌≡◌, ℕ, ◌<◌, zero, suc, List, [], ◌∷◌, length, replicate, Option, None, refl, sym, ◌∙◌, ap, arith, slice_index_or, slice_set, set-get_or, Data, zero_words, Open, Line, Picture, held_by, with_line, picture_of, state_of, nothing_there, line_at, row_of, with_line_at, memory_line, Fields, standing, pictures_of, IsSized, IsWhole, Standing, ◌≤◌, ◌+◌, map, slice_index, get_or-map, length-map, Request, queue_of, Waiting, no_queue, Held, KeepsMapsRoom, queues_of, shown_line_room, shown_line_rooms, places, KeepsRoom, waiting_of, Traffic, MemTables, Journal, each_place}
 use Rattle.snoop_rules.specs.declared.names.MemState.{MemState}
 use Rattle.snoop_rules.specs.declared.names.MemState.TheVariants.{IorS}
+use Rattle.snoop_machine.proofs.Soundness.{queue_of-queues_of}
 
 -- the tables that pictures are made of are equally long
 abbrev AreAlike : List (List Line) → List MemState → List Data → List (Option Open) → Type 0
@@ -103,14 +104,59 @@ module _ {count : ℕ} {m : Fields} (whole : IsWhole count m) {now : Standing} (
 pub sized_on : {count : ℕ} (m n : Fields) → IsSized count m → n.shape ≡ m.shape → length n.lines.lines ≡ length m.lines.lines
     → (length n.memory.states ≡ length m.memory.states) × (length n.memory.words ≡ length m.memory.words)
     → (n.log.cores ≡ m.log.cores) × (n.log.blocks ≡ m.log.blocks) × (n.log.words ≡ m.log.words) → IsSized count n
-sized_on m n sized shape lines memory log = record {
-  few = rw shape sized.few;
-  lines = cc;
-  states = cc;
-  values = cc;
-  cores = cc;
-  blocks = cc;
-  words = cc;
-  held = cc;
-  few_words = sized.few_words;
-}
+sized_on m n sized shape lines memory log = grind arith
+
+-- how many requests of the core find room in all
+abbrev pub held_in : List Waiting → ℕ → ℕ
+held_in queues core = length (slice_index_or queues core no_queue).requests + (slice_index_or queues core no_queue).room
+
+rooms_at : (queues : List Waiting) (core : ℕ) → slice_index (map (λ (q : Waiting). q.room) queues) core ≡ (slice_index_or queues core no_queue).room
+rooms_at queues core = get_or-map (λ (q : Waiting). q.room) queues core no_queue
+
+-- it is the capacity that callers see
+capacity_held : (queues : List Waiting) (core : ℕ) → length (queue_of (queues_of queues) core) + slice_index (map (λ (q : Waiting). q.room) queues) core ≡ held_in queues core
+capacity_held queues core =
+    grind (arith, queue_of-queues_of queues core, length-map (slice_index_or queues core no_queue).requests (λ (r : Request × ℕ). r.1), rooms_at queues core)
+
+-- the room of a map as callers see it
+shown_at : (queues : List Waiting) (line_rooms : List ℕ) (core : ℕ) → slice_index (shown_line_rooms queues line_rooms) core ≡ shown_line_room (slice_index_or queues core no_queue).room (slice_index_or line_rooms core 0)
+shown_at [] line_rooms core = refl
+shown_at (q ∷ qs) [] core = grind arith
+shown_at (q ∷ qs) (s ∷ ss) zero = refl
+shown_at (q ∷ qs) (s ∷ ss) (suc core) = shown_at qs ss core
+
+-- where the queue has no room, that of the map is not shown
+pub shown-same : (queues : List Waiting) (line_rooms : List ℕ) (core spare : ℕ) → (slice_index_or queues core no_queue).room ≡ 0 → shown_line_rooms queues (slice_set line_rooms core spare) ≡ shown_line_rooms queues line_rooms
+shown-same [] line_rooms core spare full = refl
+shown-same (q ∷ qs) [] core spare full = refl
+shown-same (q ∷ qs) (s ∷ ss) zero spare full = grind arith
+shown-same (q ∷ qs) (s ∷ ss) (suc core) spare full = ap (λ (l : List ℕ). shown_line_room q.room s ∷ l) (shown-same qs ss core spare full)
+
+-- what holds of the room of parts, of which callers see this
+module _ {count : ℕ} {m : Fields} (whole : IsWhole count m) {now : Standing} (view : standing m ≡ now) where
+  -- there is no place where the queue has no room, nor where the map has none
+  pub places-queue : (core : ℕ) → (waiting_of m.bus core).room ≡ 0 → places now core ≡ 0
+  places-queue core full = let its = rooms_at m.bus.queues core in rw (← view) (omega arith)
+
+  pub places-map : (core : ℕ) → slice_index_or m.lines.line_rooms core 0 ≡ 0 → places now core ≡ 0
+  places-map core full =
+      rw (← view) (grind (arith, shown_at m.bus.queues m.lines.line_rooms core))
+
+  -- another queue for one core, of no less capacity
+  pub held_in-set : (bus : Traffic) (core : ℕ) (queue : Waiting) → bus.queues ≡ slice_set m.bus.queues core queue → core < now.situation.shape.cores
+      → held_in m.bus.queues core ≤ length queue.requests + queue.room → (k : ℕ) → held_in m.bus.queues k ≤ held_in bus.queues k
+  held_in-set bus core queue wrote within more =
+      rw wrote (each_place (λ k its. held_in m.bus.queues k ≤ length its.requests + its.room) m.bus.queues core queue no_queue
+      (rw whole.sound.queues (core_in whole view core within)) more (λ k ne. omega arith))
+
+  -- as long as neither the log's capacity nor a queue's falls, and the maps keep their room for lines, no room is lost
+  pub keeps_room : (lines : Held) (memory : MemTables) (bus : Traffic) (log : Journal) → length m.log.items + m.log.room ≤ length log.items + log.room
+      → ((core : ℕ) → held_in m.bus.queues core ≤ held_in bus.queues core) → KeepsMapsRoom m.lines lines
+      → KeepsRoom now (standing (record m { lines = lines; memory = memory; bus = bus; log = log }))
+  keeps_room lines memory bus log items queues line_rooms =
+      rw (← view) (record {
+        items = items;
+        requests = λ core. grind (arith, capacity_held m.bus.queues core, capacity_held bus.queues core, queues core);
+        lines = λ core had has.
+            grind (arith, shown_at m.bus.queues m.lines.line_rooms core, shown_at bus.queues lines.line_rooms core, rooms_at m.bus.queues core, rooms_at bus.queues core, line_rooms core);
+      })
