@@ -41,7 +41,3 @@ module _ {lines : List Line} {core : ℕ} {q : Request} {set : List ℕ} (concer
 -- a core whose request waits is one that there is
 pub waits_within : (lines : List Line) (core : ℕ) (q : Request) → waiting_request (held_at lines core).state ≡ Some q → core < length lines
 waits_within lines core q waits = grind (arith, get_or_past lines core nothing_held)
-
--- a core in I stays there at an Order
-pub Cell-leaves : (p : Protocol) (k core : ℕ) (q : Request) (act : CacheAction) (next : CacheState) → Cell p state.I (seen_by k core q) act next → next ≡ state.I
-Cell-leaves p k core q act next row = grind arith

@@ -1,6 +1,5 @@
 -- How many lines each core's map has after a step: one fewer where the core moves to I.
 use Rattle.snoop_machine.proofs.Common.{◌≡◌, ℕ, ◌+◌, ◌<◌, ◌≤◌, List, [], length, ap, arith, inl, inr, slice_index_or, slice_set, cases_eq, get_or-set_same, Line, nothing_held, Held, KeepsMapsRoom, LinesGo, WritesLine, gone, row_of, line_at, ◌≢◌, sym, ◌∙◌, refl, I, Picture, held_by, state_of, nothing_there, LosesLines, Fields, standing, IsWhole, Standing, line_count, each_place, get_or-set_other}
-use Rattle.snoop_machine.proofs.LineMaps.{gone-same, gone-one, gone-cases}
 use Rattle.snoop_machine.proofs.PartsViews.{state_seen, rows_in, row_in, has_picture}
 
 -- no line has gone yet

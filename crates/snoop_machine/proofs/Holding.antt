@@ -12,14 +12,8 @@ stays_out before new (step.Ask asker block word asking) core answer m leaves mov
 stays_out before new _ core answer m leaves moved = leaves
 
 -- the room for a step adds a line where the step needs one
-adds_plan : (old new : Standing) (x : Plan) (core : ℕ) → IsPlan old.situation x → AddsLines x old new core → (line_count new core ≡ line_count old core) ⊎ (NeedsLine old (planned_step x) core × (line_count new core ≡ line_count old core + 1))
-adds_plan old new (plan.Ask asker block word asking (Issue request next)) core h adds =
-    grind (arith, h, no_row old.situation.protocol (state_of old.situation asker block) asking (action.Issue request) next)
-adds_plan old new (plan.Ask asker block word asking _) core h same = inl same
-adds_plan old new _ core h same = inl same
-
 adds_step : (old new : Standing) (taking : Step) (x : Plan) (core : ℕ) → IsPlanFor old.situation taking x → AddsLines x old new core → (line_count new core ≡ line_count old core) ⊎ (NeedsLine old taking core × (line_count new core ≡ line_count old core + 1))
-adds_step old new taking x core h adds = rw h.0 at (adds_plan old new x core h.1 adds)
+adds_step old new taking x core h adds = rw (← h.0) (grind (arith, h, adds, no_row old.situation.protocol))
 
 -- the room for the step was made, and nothing else
 pub HoldsOn-room : (old new : Standing) (taking : Step) (x : Plan) (core : ℕ) → IsPlanFor old.situation taking x → new.situation ≡ old.situation → AddsLines x old new core → HoldsOn old new taking core

@@ -1,6 +1,6 @@
 -- One map was given another line of one block, and the holders have followed.
-use Rattle.snoop_machine.proofs.Common.{◌≡◌, ℕ, ◌<◌, false, List, length, refl, sym, ◌∙◌, ap, inl, inr, arith, slice_index_or, slice_set, nat_eq, cases_eq, ne_eqb, length-set, set-get_or, CacheState, Line, held_at, IsProper, keeps, Contents, no_cache, line_in, lines_held, AreHolders, HaveFollowed, StandsAs, no_holders, Held, AreLines, Holders, is_owner, ◌≢◌, ◌+◌, Option, None, [], ◌⊎◌, map, is_some, lookup, map-set, get_or-set_same, get_or-set_other, is_some-lookup, I, line_or_nothing, blocks_of, KeepsMapRoom, KeepsMapsRoom, WritesLine, held, held_by_block, gone, line_at, with_line_at, each_place, common_steps, get_or-map}
-use Rattle.snoop_machine.proofs.LineMaps.{IsMap, line-row, row-same, row-set, length-row, AreHolders-moved, rows-set, blocks_seen, spare_seen, maps-long, gone-none, gone-one, is_I}
+use Rattle.snoop_machine.proofs.Common.{◌≡◌, ℕ, ◌<◌, false, List, length, refl, sym, ◌∙◌, ap, inl, inr, arith, slice_index_or, slice_set, nat_eq, cases_eq, ne_eqb, length-set, set-get_or, CacheState, Line, held_at, IsProper, keeps, Contents, no_cache, line_in, lines_held, AreHolders, HaveFollowed, StandsAs, no_holders, Held, AreLines, Holders, is_owner, ◌≢◌, ◌+◌, Option, None, [], ◌⊎◌, map, is_some, lookup, map-set, get_or-set_same, get_or-set_other, is_some-lookup, I, line_or_nothing, blocks_of, KeepsMapRoom, KeepsMapsRoom, WritesLine, held, held_by_block, gone, line_at, with_line_at, each_place, common_steps, get_or-map, length-map}
+use Rattle.snoop_machine.proofs.LineMaps.{IsMap, line-row, row-same, row-set, AreHolders-moved, rows-set, blocks_seen, spare_seen, maps-long}
 use Rattle.std.proofs.lemmas.Map.Entries.{length-keys_of}
 
 module _ {caches : List Contents} {holders : List Holders} (lines : AreLines caches holders) (core : ℕ) (new : Contents) (within : core < length caches) where
@@ -16,28 +16,6 @@ module _ {caches : List Contents} {holders : List Holders} (lines : AreLines cac
         proper = proper_after (λ b. rw (same b) (lines.proper core b));
         indexed = λ b lt. rw (row-same caches core b new (same b)) (lines.indexed b lt);
       }
-
-  -- the new map has another line of one block, and the holders have followed
-  pub AreLines-followed : (block : ℕ) (line : Line) (after : List Holders) → block < length holders → IsProper line → line_in new block ≡ line
-      → ((b : ℕ) → nat_eq block b ≡ false → line_in new b ≡ line_in (slice_index_or caches core no_cache) b)
-      → HaveFollowed core block line.state holders after
-      → AreLines (slice_set caches core new) after
-  AreLines-followed block line after in_blocks proper wrote others followed =
-      let moved = followed.moved in
-      let elsewhere : (b : ℕ) → (b ≡ block → ⊥) → line_in new b ≡ line_in (slice_index_or caches core no_cache) b = λ b ne. others b (ne_eqb block b (λ e. ne (sym e))) in
-      rw followed.set (record {
-        few = rw (length-set caches core new) lines.few;
-        proper = proper_after (λ b. elim (cases_eq b block) [
-          | inl e ↦ rw (e, wrote) proper
-          | inr ne ↦ rw (elsewhere b ne) (lines.proper core b)
-        ]);
-        indexed = each_place (λ b its. b < length (slice_set holders block moved) → AreHolders its (lines_held (slice_set caches core new) b))
-            holders block moved no_holders in_blocks
-            (λ lt. rw (row-set caches core block new line wrote)
-            (AreHolders-moved (lines_held caches block) core line (slice_index_or holders block no_holders) moved
-            (rw (length-row caches block) within) (lines.indexed block in_blocks) followed.follows))
-            (λ b ne lt. rw (row-same caches core b new (elsewhere b ne)) (lines.indexed b (rw (length-set holders block moved) at lt)));
-      })
 
 module _ {caches : List Contents} {holders : List Holders} {now : Held} {core block : ℕ} {old : Contents} (its : IsMap caches holders now core block old) where
   -- there are few cores
@@ -65,22 +43,11 @@ pub spares_kept : {caches : List Contents} {holders : List Holders} → AreLines
 spares_kept {caches} lines_are view core new after within kept k =
     let maps = slice_set caches core new in
     let each = each_place (λ k cache. KeepsMapRoom (slice_index_or caches k no_cache) cache) caches core new no_cache within kept (λ k ne. omega arith) k in
-    grind (
-      arith,
-      each,
-      get_or-map (λ (cache : Contents). cache.spare) maps k no_cache,
-      spare_seen lines_are view k,
-      get_or-map blocks_of maps k no_cache,
-      blocks_seen lines_are view k,
-      length-keys_of (slice_index_or maps k no_cache).entries,
-      length-keys_of (slice_index_or caches k no_cache).entries,
-    )
-
--- what goes of a map with the line of a block that moves from one state to another: nothing, or that line
-abbrev pub GoesFrom : CacheState → CacheState → ℕ → Contents → Contents → Type 0
-GoesFrom before after block old new =
-    ((gone before after ≡ 0) × (blocks_of new ≡ blocks_of old))
-    ⊎ ((gone before after ≡ 1) × (lookup (nat_eq block) new.entries ≡ None) × (length new.entries + 1 ≡ length old.entries))
+    let rooms = get_or-map (λ (cache : Contents). cache.spare) maps k no_cache in
+    let lines = get_or-map blocks_of maps k no_cache in
+    let long = length-keys_of (slice_index_or maps k no_cache).entries in
+    let was_long = length-keys_of (slice_index_or caches k no_cache).entries in
+    grind (arith, each, rooms, lines, long, was_long, spare_seen lines_are view k, blocks_seen lines_are view k)
 
 -- the core's map `old` was given this line of the block, and is `new` now
 pub record HasWritten (caches : List Contents) (holders : List Holders) (now : Held) (core block : ℕ) (line : Line) (old new : Contents)
@@ -89,7 +56,8 @@ pub record HasWritten (caches : List Contents) (holders : List Holders) (now : H
   pub proper : IsProper line
   pub here : line_in new block ≡ line
   pub others : (b : ℕ) → nat_eq block b ≡ false → lookup (nat_eq b) new.entries ≡ lookup (nat_eq b) old.entries
-  pub goes : GoesFrom (line_at now.rows core block).state line.state block old new
+  pub goes : ((gone (line_at now.rows core block).state line.state ≡ 0) × (blocks_of new ≡ blocks_of old))
+      ⊎ ((gone (line_at now.rows core block).state line.state ≡ 1) × (lookup (nat_eq block) new.entries ≡ None) × (length new.entries + 1 ≡ length old.entries))
   pub followed : HaveFollowed core block line.state holders after
   pub room : KeepsMapRoom old new
 
@@ -100,12 +68,22 @@ module _ {caches : List Contents} {holders : List Holders} {now : Held} {core bl
 
   pub lines_after : AreLines (slice_set caches core new) after
   lines_after =
-      AreLines-followed wrote.map.lines core new wrote.map.in_cores block line after wrote.map.in_blocks wrote.proper wrote.here elsewhere wrote.followed
-
-  rows_wrote : held_by_block (length after) (slice_set caches core new) ≡ with_line_at now.rows core block line
-  rows_wrote =
-      rw (wrote.followed.set, length-set holders block wrote.followed.moved, ← wrote.map.view)
-      (rows-set (length holders) caches core block new line wrote.map.in_blocks wrote.here elsewhere)
+      let lines = wrote.map.lines in
+      let moved = wrote.followed.moved in
+      let others : (b : ℕ) → (b ≡ block → ⊥) → line_in new b ≡ line_in (slice_index_or caches core no_cache) b = λ b ne. elsewhere b (ne_eqb block b (λ e. ne (sym e))) in
+      rw wrote.followed.set (record {
+        few = rw (length-set caches core new) lines.few;
+        proper = proper_after lines core new wrote.map.in_cores (λ b. elim (cases_eq b block) [
+          | inl e ↦ rw (e, wrote.here) wrote.proper
+          | inr ne ↦ rw (others b ne) (lines.proper core b)
+        ]);
+        indexed = each_place (λ b its. b < length (slice_set holders block moved) → AreHolders its (lines_held (slice_set caches core new) b))
+            holders block moved no_holders wrote.map.in_blocks
+            (λ lt. rw (row-set caches core block new line wrote.here)
+            (AreHolders-moved (lines_held caches block) core line (slice_index_or holders block no_holders) moved
+            (rw (length-map caches (λ (cache : Contents). line_in cache block)) wrote.map.in_cores) (lines.indexed block wrote.map.in_blocks) wrote.followed.follows))
+            (λ b ne lt. rw (row-same caches core b new (others b ne)) (lines.indexed b (rw (length-set holders block moved) at lt)));
+      })
 
   -- the blocks that the maps have lines for now
   lines_set : map blocks_of (slice_set caches core new) ≡ slice_set now.lines core (blocks_of new)
@@ -122,7 +100,8 @@ module _ {caches : List Contents} {holders : List Holders} {now : Held} {core bl
   writes =
       let before = (line_at now.rows core block).state in
       record {
-        rows = rows_wrote;
+        rows = rw (wrote.followed.set, length-set holders block wrote.followed.moved, ← wrote.map.view)
+            (rows-set (length holders) caches core block new line wrote.map.in_blocks wrote.here elsewhere);
         stays = λ ne. grind (arith, wrote.goes, lines_set, blocks_were, set-get_or now.lines core []);
         taken = λ left e. grind (arith, wrote.goes, blocks_now, is_some-lookup (nat_eq block) new.entries);
         elsewhere = λ b ne. grind (arith, blocks_now, blocks_were, is_some-lookup (nat_eq b) new.entries, is_some-lookup (nat_eq b) old.entries, wrote.others b ne);

@@ -1,16 +1,12 @@
 -- The lines of maps as rows, what one write does to them, and the lines that callers see.
 use Rattle.snoop_machine.proofs.Common.{◌≡◌, ℕ, zero, suc, ◌<◌, false, List, [], ◌∷◌, ◌++◌, length, replicate, refl, sym, ◌∙◌, ap, inl, inr, arith, slice_index_or, slice_set, map, nat_eq, unwrap_or, lookup, range_with_len, get_or-map, map-set_same, cases_lt, ne_eqb, map-set, length-map, length-set, get_or_past, get_or-replicate, length-replicate, has, Line, held_at, nothing_held, keeps, Contents, no_cache, line_in, blocks_of, lines_held, AreHolders, HaveMoved, held_by_block, line_at, with_line_at, Holders, is_owner, ◌≢◌, true, is_some, ◌⊎◌, get_or, true_from_ne_false, get_or_read, is_some-lookup, CacheState, I, Held, AreLines, held, MayMoveTo, is_among, gone, row_of, each_place, constant, common_steps, get_or-set_same, get_or-set_other}
 use Rattle.std.proofs.lemmas.List.FromFn.{length-map-range_with_len, get_or-map-range_with_len, fill_by_all}
-use Rattle.snoop_machine.proofs.ProperLines.{is_none}
 
 length-rows : (blocks : ℕ) (caches : List Contents) → length (held_by_block blocks caches) ≡ blocks
 length-rows blocks caches = length-map-range_with_len (lines_held caches) 0 blocks
 
 pub row-rows : (blocks : ℕ) (caches : List Contents) (block : ℕ) → block < blocks → slice_index_or (held_by_block blocks caches) block [] ≡ lines_held caches block
 row-rows blocks caches block h = get_or-map-range_with_len (lines_held caches) 0 blocks block block [] h (omega arith)
-
-pub length-row : (caches : List Contents) (block : ℕ) → length (lines_held caches block) ≡ length caches
-length-row caches block = length-map caches (λ cache. line_in cache block)
 
 pub line-row : (caches : List Contents) (core block : ℕ) → held_at (lines_held caches block) core ≡ line_in (slice_index_or caches core no_cache) block
 line-row caches core block = get_or-map (λ (cache : Contents). line_in cache block) caches core no_cache
@@ -50,32 +46,9 @@ AreHolders-moved row core line old new within fits moved = record {
       (λ k ne. moved.other_readers k ne ∙ fits.readers k);
 }
 
--- one more map without entries
-pub empty-push : (caches : List Contents) (cache : Contents) → ((core : ℕ) → (slice_index_or caches core no_cache).entries ≡ []) → cache.entries ≡ []
-    → (core : ℕ) → (slice_index_or (caches ++ cache ∷ []) core no_cache).entries ≡ []
-empty-push caches cache empty own core = grind (arith, common_steps, empty core)
-
--- maps without entries hold nothing anywhere
-pub line-empty : (caches : List Contents) → ((core : ℕ) → (slice_index_or caches core no_cache).entries ≡ []) → (core block : ℕ)
-    → line_in (slice_index_or caches core no_cache) block ≡ nothing_held
-line-empty caches empty core block = rw (empty core)
-
-pub row-empty : (caches : List Contents) → ((core : ℕ) → (slice_index_or caches core no_cache).entries ≡ []) → (block : ℕ)
-    → lines_held caches block ≡ replicate (length caches) nothing_held
-row-empty caches empty block = constant (λ (cache : Contents). line_in cache block) caches no_cache nothing_held (λ core. line-empty caches empty core block)
-
-pub rows-empty : (caches : List Contents) → ((core : ℕ) → (slice_index_or caches core no_cache).entries ≡ []) → (blocks : ℕ)
-    → held_by_block blocks caches ≡ replicate blocks (replicate (length caches) nothing_held)
-rows-empty caches empty blocks =
-    sym (fill_by_all (lines_held caches) (replicate blocks (replicate (length caches) nothing_held)) blocks [] (length-replicate blocks _)
-    (λ b within. get_or-replicate blocks b (replicate (length caches) nothing_held) [] within ∙ sym (row-empty caches empty b)))
-
 -- maps with the same entries have the same lines
 pub line-same : (new old : Contents) → new.entries ≡ old.entries → (block : ℕ) → line_in new block ≡ line_in old block
 line-same new old same block = ap (λ (entries : List (ℕ × Line)). unwrap_or (lookup (nat_eq block) entries) nothing_held) same
-
-pub blocks-empty : (caches : List Contents) → ((core : ℕ) → (slice_index_or caches core no_cache).entries ≡ []) → map blocks_of caches ≡ replicate (length caches) []
-blocks-empty caches empty = constant blocks_of caches no_cache [] (λ core. rw (empty core) refl)
 
 -- a core's map and its line of a block, where callers see both
 pub record IsMap (caches : List Contents) (holders : List Holders) (now : Held) (core block : ℕ) (map : Contents) : Type 0 where
@@ -108,7 +81,7 @@ module _ {caches : List Contents} {holders : List Holders} (lines : AreLines cac
   pub in_rows : (core block : ℕ) → block < length now.rows → core < length (row_of now.rows block) → (block < length holders) × (core < length caches)
   in_rows core block in_blocks in_cores =
       let within = rw rows-long at in_blocks in
-      (within, rw (← (row_seen block within), length-row caches block) at in_cores)
+      (within, rw (← (row_seen block within), length-map caches (λ (cache : Contents). line_in cache block)) at in_cores)
 
   pub blocks_seen : (core : ℕ) → blocks_of (slice_index_or caches core no_cache) ≡ slice_index_or now.lines core []
   blocks_seen core = sym (get_or-map blocks_of caches core no_cache) ∙ ap (λ (h : Held). slice_index_or h.lines core []) view
@@ -138,7 +111,7 @@ module _ {caches : List Contents} {holders : List Holders} (lines : AreLines cac
   pub none_held : (core block : ℕ) → is_some (lookup (nat_eq block) (slice_index_or caches core no_cache).entries) ≡ false → (line_at now.rows core block).state ≡ I
   none_held core block none =
       let past = get_or_past now.rows block [] in
-      grind (arith, line_seen core block, past, rows-long, is_none (lookup (nat_eq block) (slice_index_or caches core no_cache).entries) none)
+      grind (arith, line_seen core block, past, rows-long, none)
 
   -- where the core holds the block the map has a line
   pub held_placed : (core block : ℕ) → (line_at now.rows core block).state ≢ I → is_some (lookup (nat_eq block) (slice_index_or caches core no_cache).entries) ≡ true
@@ -148,22 +121,3 @@ module _ {caches : List Contents} {holders : List Holders} (lines : AreLines cac
   pub mover_placed : (core block : ℕ) (next : CacheState) → MayMoveTo now core block next → is_some (lookup (nat_eq block) (slice_index_or caches core no_cache).entries) ≡ true
   mover_placed core block next (inl held) = held_placed core block held
   mover_placed core block next (inr new) = among_seen core block ∙ new.0
-
-pub is_I : (s : CacheState) → (s ≡ I) ⊎ (s ≢ I)
-is_I s = grind arith
-
--- no line goes to a state that is not I
-pub gone-none : (old new : CacheState) → new ≢ I → gone old new ≡ 0
-gone-none old new ne = grind arith
-
--- nor where the line stays
-pub gone-same : (s : CacheState) → gone s s ≡ 0
-gone-same s = grind arith
-
--- one goes from another state to I
-pub gone-one : (old new : CacheState) → old ≢ I → new ≡ I → gone old new ≡ 1
-gone-one old new ne e = grind arith
-
--- one goes, or none
-pub gone-cases : (old new : CacheState) → ((old ≢ I) × (new ≡ I) × (gone old new ≡ 1)) ⊎ (gone old new ≡ 0)
-gone-cases old new = grind arith

@@ -78,9 +78,7 @@ module _ {count : ℕ} {m : Fields} (whole : IsWhole count m) {now : Standing} (
 
   pub has_picture : (block : ℕ) → block < now.situation.shape.blocks → block < length (standing m).situation.pictures
   has_picture block within =
-      let long = pictures-length m.lines.rows m.memory.states m.memory.words m.bus.transactions alike in
-      let inside = rows_in block within in
-      omega arith
+      omega (arith, pictures-length m.lines.rows m.memory.states m.memory.words m.bus.transactions alike, rows_in block within)
 
   -- all that is shown of a block is written
   pub picture-written : (block : ℕ) (next : Picture) (rows : List (List Line)) (states : List MemState) (values : List Data) (transactions : List (Option Open))

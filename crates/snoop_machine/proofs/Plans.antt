@@ -10,24 +10,9 @@ use Rattle.snoop_machine.specs.declared.ask.Asked.{Asked}
 use Rattle.snoop_machine.specs.declared.plan.Plan.TheVariants as plan
 use Rattle.snoop_machine.specs.Asked.{TakesAsk, RefusesAsk}
 
--- an Ask that is refused on its line
-pub refuses-ask : (s : Situation) (core block word : ℕ) (asking : Op) (cause : Refused) → core < s.shape.cores → block < s.shape.blocks → HasWord s.shape word asking
-    → RefusesAsk s.protocol (held_by (picture_of s block) core) asking cause → Refuses s (step.Ask core block word asking) cause
-refuses-ask s core block word asking cause in_cores in_blocks in_words h = grind arith
-
 -- a planned step is refused for no cause
 pub plan-allowed : (s : Situation) (x : Plan) → IsPlan s x → (cause : Refused) → ¬ Refuses s (planned_step x) cause
-plan-allowed s (plan.Order core request block from payload memory) h cause g = grind (arith, h.1.head.first, h.1.head.waits, h.1.free)
-plan-allowed s (plan.Writeback came memory) h cause g = grind (arith, h.1.opened)
-plan-allowed s (plan.Fill came memory filled) h cause g = grind (arith, h.1.opened)
-plan-allowed s (plan.Ask core block word asking asked) h cause g = grind (arith, h)
-
--- an Ask adds the item that was found
-ask-adds : (s : Situation) (core block word : ℕ) (asking : Op) (answer : Reply) (new : Situation) (asked : Asked)
-    → TakesAsk s.protocol (held_by (picture_of s block) core) word asking asked → IsAbsent s core block asking answer new ⊎ Asks s core block word asking answer new
-    → new.log ≡ s.log ++ option_to_list (entry_of_ask s.log core block word asking asked)
-ask-adds s core block word asking answer new asked t (inl absent) = grind (arith, append-nil s.log)
-ask-adds s core block word asking answer new asked t (inr asks) = grind (arith, asks.after, asks.is_row, asks.taken)
+plan-allowed s x h cause g = grind (arith, h)
 
 -- the requestor performs the operation that waits
 fills-adds : (q : Request) (closing : Open) (p : Protocol) (log : List Item) (old new : List Line) (did : Option Did) (line : Line) (asking : Access) (value : ℕ)
@@ -44,7 +29,7 @@ its_response opened m = same_Some _ _ (sym (ap (option_map came_of) (rw (← m.o
 -- a planned step adds the plan's item, whatever move it is
 plan-adds : (s : Situation) (x : Plan) → IsPlan s x → (answer : Reply) (new : Situation) → FirstMove s (planned_step x) answer new → new.log ≡ s.log ++ option_to_list (entry_of s.log x)
 plan-adds s (plan.Ask core block word asking asked) h answer new m =
-    ask-adds s core block word asking answer new asked h.1 (rw (← m.1.1.on_block) at m.1.1.moves)
+    grind (arith, h.1, rw (← m.1.1.on_block) at m.1.1.moves, append-nil s.log)
 plan-adds s (plan.Order core request block from payload memory) h answer new m =
     grind (arith, m.1.0, h.1.head.first, h.1.head.waits, m.1.1.orders.ready, m.1.1.orders.after)
 plan-adds s (plan.Writeback came memory) h answer new m =
@@ -56,18 +41,9 @@ plan-adds s (plan.Fill came memory filled) h answer new m =
     (λ e. h.2 (sym (ap (λ (x : Came). x.request) its) ∙ e)) responds.requestor (rw (m.1.1.on_block, responds.opened) at h.3) in
     rw (responds.after, ← its) (ap (λ (did : Option Did). s.log ++ item.Came (came_of m.1.1.closing) did ∷ []) did)
 
--- where the room for the plan was made the step has room
-plan-room : (before : Standing) (x : Plan) → IsPlan before.situation x → HasRoom before x → ¬ IsFull before (planned_step x)
-plan-room before (plan.Ask core block word asking asked) h some full = grind (arith, h, full)
-plan-room before _ h some full = absurd (omega arith)
-
 -- where the plan has no room the step has none
-plan-full : (before : Standing) (x : Plan) → IsPlan before.situation x → room_for before x ≡ 0 → IsFull before (planned_step x)
-plan-full before (plan.Ask core block word asking asked) h none = grind (arith, h)
-plan-full before _ h none = none
-
 pub IsFull-plan : (before : Standing) (taking : Step) (x : Plan) → IsPlanFor before.situation taking x → room_for before x ≡ 0 → IsFull before taking
-IsFull-plan before taking x h none = rw h.0 at (plan-full before x h.1 none)
+IsFull-plan before taking x h none = rw (← h.0) (grind (arith, h))
 
 -- a planned step is refused as out of memory alone
 pub RefusedFor-memory : (s : Situation) (taking : Step) (x : Plan) → IsPlanFor s taking x → RefusedFor s taking NoMemory
@@ -79,6 +55,6 @@ pub IsPrepared-plan : (before : Standing) (taking : Step) (x : Plan) (entry : Op
 IsPrepared-plan before taking x entry h some is =
     rw (← h.0) (record {
       allowed = plan-allowed before.situation x h.1;
-      room = plan-room before x h.1 some;
+      room = λ full. grind (arith, h, some, full);
       adds = λ answer new move. rw is (plan-adds before.situation x h.1 answer new move);
     })

@@ -8,10 +8,6 @@ use Rattle.snoop_rules.specs.declared.names.CacheEvent.TheVariants as event
 use Rattle.snoop_rules.specs.declared.names.CacheState.TheVariants as state
 use Rattle.snoop_machine.specs.declared.cache.LineChange.TheVariants.{Hit}
 
--- where there is no value
-pub is_none : {X : Type 0} (o : Option X) → is_some o ≡ false → o ≡ None
-is_none o e = grind arith
-
 -- a proper line in I holds nothing
 pub settled : (line : Line) → IsProper line → line.state ≡ state.I → line ≡ nothing_held
 settled line proper e = grind arith
@@ -20,10 +16,6 @@ settled line proper e = grind arith
 pub moves_to_same : (line : Line) → IsProper line → moves_to line.state line ≡ line
 moves_to_same line proper = grind arith
 
--- a load that hits leaves the state
-pub load_stays : (p : Protocol) (s n : CacheState) → Cell p s event.Load action.Hit n → n ≡ s
-load_stays p s n row = grind arith
-
--- and the line
+-- a load that hits leaves the line
 pub loaded_same : (access : Access) (next : CacheState) (line : Line) → access.op ≡ op.Load → next ≡ line.state → changed next (Hit access) line ≡ line
 loaded_same access next line load still = grind arith

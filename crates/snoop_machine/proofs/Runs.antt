@@ -31,8 +31,7 @@ module _ (old new : Standing) (step : Step) where
 -- steps in order leave the protocol and the shape
 pub steps_stay : (steps : List Step) (outcomes : List (Result Reply Refused)) (old new : Standing) → RunBy AnswersSafely old steps outcomes new → IsAlike old.situation new.situation
 steps_stay steps outcomes old new =
-    let P : Standing → Type 0 = λ s. IsAlike old.situation s.situation in
-    kept_along AnswersSafely P (λ s step outcome t far goes. alike_on old.situation s.situation t.situation far
+    kept_along AnswersSafely (λ (s : Standing). IsAlike old.situation s.situation) (λ s step outcome t far goes. alike_on old.situation s.situation t.situation far
     (step_stays s t step outcome goes.0)) steps outcomes old new (refl, refl)
 
 -- the steps so far

@@ -37,19 +37,10 @@ pub head_other : (rs : List (Request × ℕ)) (q : Request) (block other : ℕ) 
     → requests_for other (drop 1 rs) ≡ requests_for other rs
 head_other rs q block other first ne = grind (arith, common_steps, ne_eqb block other)
 
--- a list of one at most
-pub only_one : {A : Type 0} {x : A} {l : List A} (o : Option A) → x ∷ l ≡ option_to_list o → (o ≡ Some x) × (l ≡ [])
-only_one o e = grind arith
-
 -- where no request is for the block, each is for another
 blocks_without : (block : ℕ) (rs : List (Request × ℕ)) → requests_for block rs ≡ [] → filter (λ x. not (x == block)) (blocks_of rs) ≡ blocks_of rs
 blocks_without block [] none = refl
 blocks_without block (r ∷ rs) none = grind (arith, common_steps, eq-eqb r.1 block, ne_eqb r.1 block, blocks_without block rs)
-
--- the oldest request was the only one for its block
-blocks_of-rest : (rs : List (Request × ℕ)) (q : Request) (block : ℕ) → slice_get rs 0 ≡ Some (q, block) → requests_for block (drop 1 rs) ≡ []
-    → blocks_of (drop 1 rs) ≡ filter (λ x. not (x == block)) (blocks_of rs)
-blocks_of-rest rs q block first none = grind (arith, common_steps, eq-eqb block block refl, blocks_without block (drop 1 rs) none)
 
 pub queues_of-order : (queues : List Waiting) (core block room : ℕ) (request : Request)
     → slice_get (slice_index_or queues core no_queue).requests 0 ≡ Some (request, block)
@@ -57,7 +48,9 @@ pub queues_of-order : (queues : List Waiting) (core block room : ℕ) (request :
     → queues_of (slice_set queues core (record { requests = drop 1 (slice_index_or queues core no_queue).requests; room = room }))
     ≡ after_order (queues_of queues) core block
 queues_of-order queues core block room request first none =
-    queues_of-set queues core _ ∙ rw (queue_of-queues_of queues core, blocks_of-rest _ request block first none) refl
+    let rest = drop 1 (slice_index_or queues core no_queue).requests in
+    queues_of-set queues core _ ∙ rw (queue_of-queues_of queues core) (ap (λ (queue : List ℕ). slice_set (queues_of queues) core queue)
+    (grind (arith, common_steps, first, eq-eqb block block refl, blocks_without block rest none)))
 
 first_of : (rs : List (Request × ℕ)) (block : ℕ) → slice_get (blocks_of rs) 0 ≡ Some block → (q : Request) × (slice_get rs 0 ≡ Some (q, block))
 first_of [] block h = cc
@@ -71,8 +64,7 @@ module _ {shape : Extent} {caches : List (List Line)} {bus : Traffic} (sound : I
   -- the head of a queue is the one request of its block
   pub head_alone : (request : Request) (block : ℕ) → head_of bus core ≡ Some (request, block)
       → (waiting_request (line_at caches core block).state ≡ Some request) × (requests_for block (drop 1 (waiting_of bus core).requests) ≡ [])
-  head_alone request block head =
-      only_one (waiting_request (line_at caches core block).state) (sym (head_own (waiting_of bus core).requests request block head) ∙ sound.waits core block)
+  head_alone request block head = grind (arith, head_own (waiting_of bus core).requests request block head, sound.waits core block)
 
   -- the first of the line, with the request that waits, is the head of the queue
   pub head_from_line : (request : Request) (block : ℕ) → slice_get (queue_of (queues_of bus.queues) core) 0 ≡ Some block → waiting_request (line_at caches core block).state ≡ Some request → head_of bus core ≡ Some (request, block)
@@ -87,10 +79,6 @@ module _ {shape : Extent} {caches : List (List Line)} {bus : Traffic} (sound : I
 -- what the queue that callers see shows first
 pub first_shown : (bus : Traffic) (core : ℕ) → slice_get (queue_of (queues_of bus.queues) core) 0 ≡ option_map (λ (r : Request × ℕ). r.1) (head_of bus core)
 first_shown bus core = rw (queue_of-queues_of bus.queues core) (slice_get-map (λ (r : Request × ℕ). r.1) (waiting_of bus core).requests 0)
-
--- a core waits on no block that there is not
-pub within_from_waits : (caches : List (List Line)) (core block : ℕ) (request : Request) → waiting_request (line_at caches core block).state ≡ Some request → block < length caches
-within_from_waits caches core block request waits = grind (arith, get_or_past caches block [])
 
 pub some_first : (rs : List (Request × ℕ)) → (is_some (slice_get rs 0) ≡ true → 0 < length (blocks_of rs)) × (0 < length (blocks_of rs) → is_some (slice_get rs 0) ≡ true)
 some_first [] = (λ e. absurd (false≢true e), λ h. absurd (omega arith))
@@ -177,8 +165,9 @@ module _ {shape : Extent} {caches : List (List Line)} {bus : Traffic} (sound : I
         → now.transactions ≡ bus.transactions → waiting_request (line_at caches core block).state ≡ None → waiting_request line.state ≡ Some request
         → IsSound shape (with_line_at caches core block line) now
     IsSound-issue now request room wrote transactions idle waits =
-        IsSound-placed now core _ in_cores wrote block in_blocks (issued_other (waiting_of bus core).requests request block) line proper transactions
-        (rw waits (issued_own (waiting_of bus core).requests request block (rw idle at (sound.waits core block))))
+        let before = rw idle at (sound.waits core block) in
+        IsSound-placed now core _ in_cores wrote block in_blocks (λ b ne. rw (filter-append, map-append, ne_eqb block b (λ e. ne (sym e)), append-nil) refl) line proper
+        transactions (rw (waits, filter-append, map-append, before, eq-eqb block block refl) refl)
 
   -- a core's oldest request leaves its queue, and its transaction opens: each core has taken its row for it
   pub IsSound-order : {now : Traffic} {p : Protocol} {core block : ℕ} {request : Request} {payload : Payload} {value : Data} {from : Option ℕ} {row : List Line}
@@ -193,7 +182,7 @@ module _ {shape : Extent} {caches : List (List Line)} {bus : Traffic} (sound : I
         | inr ge ↦ (let same = takes.same_length in rw (get_or_past row k nothing_held (omega arith) ∙ sym (get_or_past old k nothing_held ge))
             (sound.proper k block))
       ] in
-      IsSound-row now core _ in_cores starts.queues block in_blocks (λ b ne. head_other (waiting_of bus core).requests request block b head ne) row
+      IsSound-row now core _ in_cores starts.queues block in_blocks (λ b ne. grind (arith, common_steps, head, ne_eqb block b)) row
       (takes.same_length ∙ wide) proper (rw (starts.transactions, length-set bus.transactions block (Some opened)) sound.transactions)
       (rw starts.transactions (each_place (λ b found. IsOpened shape b found) bus.transactions block (Some opened) None (rw sound.transactions in_blocks)
       (λ t e. rw (← (same_Some _ _ e)) (refl, in_cores)) (λ b ne. sound.opened b)))

@@ -2,14 +2,10 @@
 use Rattle.snoop_machine.proofs.Common.{◌≡◌, ◌∷◌, [], ◌≤◌, ◌+◌, ◌∙◌, List, take, subst, sym, arith, is_ok, count_by, take_all, Step, MachineKeeps, stand, Standing, is_safe}
 use Rattle.snoop_machine.proofs.Runs.{answers, steps_stay, Going, has_run, goes_on}
 use Rattle.snoop_machine.proofs.machine.run_steps.Goals as goal
-use Rattle.snoop_machine.proofs.machine.run_steps.Goals.{then-is_ok, else-is_ok, At-loop-step}
-
--- the parts keep what every machine keeps after the steps so far
-keeps : (c : At-loop-step) → MachineKeeps (stand c.loop-step.machine-inside.parts).situation
-keeps c = c.loop-step.invariant.0.keeps
+use Rattle.snoop_machine.proofs.machine.run_steps.Goals.{then-is_ok, else-is_ok}
 
 pub step-requires : goal.step-requires
-step-requires c = (keeps (goal.at.step-requires c).At-loop-step).inductive
+step-requires c = c.loop-step.invariant.0.keeps.inductive
 
 pub loop-step-preserved : goal.loop-step-preserved
 loop-step-preserved c =
@@ -20,19 +16,15 @@ loop-step-preserved c =
     let goes = answers middle new _ c.step.result c.step.ensures.taken c.step.ensures.refused c.step.ensures.full c.step.ensures.room c.step.ensures.lines in
     let more = goes_on old middle new c.args.steps.now c.loop-step.step-index _ c.loop-step.taken c.step.result c.loop-step-test.true c.loop-step.invariant.0 goes in
     elim c.if-is_ok.branch [
-      | then-is_ok w ↦
-          let one : count_by is_ok (c.step.result ∷ []) ≡ 1 = rw (sym c.is_ok.ensures.value ∙ w.if-is_ok.true) in
-          rw w.taken-is (more (c.loop-step.taken + 1) (omega arith), omega arith)
-      | else-is_ok w ↦
-          let none : count_by is_ok (c.step.result ∷ []) ≡ 0 = rw (sym c.is_ok.ensures.value ∙ w.if-is_ok.false) in
-          rw w.taken-is (more c.loop-step.taken (omega arith), omega arith)
+      | then-is_ok w ↦ rw w.taken-is (more (c.loop-step.taken + 1) (grind (arith, c.is_ok.ensures.value, w.if-is_ok.true)), omega arith)
+      | else-is_ok w ↦ rw w.taken-is (more c.loop-step.taken (grind (arith, c.is_ok.ensures.value, w.if-is_ok.false)), omega arith)
     ]
 
 pub invariant_of-machine : goal.invariant_of-machine
-invariant_of-machine c = keeps (goal.at.invariant_of-machine c).At-loop-step
+invariant_of-machine c = c.loop-step.invariant.0.keeps
 
 pub returns-clause-safe : goal.returns-clause-safe
-returns-clause-safe c = is_safe (stand c.loop-step.machine-inside.parts).situation (keeps (goal.at.returns-clause-safe c).At-loop-step)
+returns-clause-safe c = is_safe (stand c.loop-step.machine-inside.parts).situation c.loop-step.invariant.0.keeps
 
 pub returns-clause-run : goal.returns-clause-run
 returns-clause-run c =

@@ -6,9 +6,8 @@ use Rattle.snoop_machine.proofs.lines.Lines.concerned.Goals.{After-concerned}
 
 pub concerned-requires : goal.concerned-requires
 concerned-requires g c =
-    let h = (in_rows c.self.invariant c.self.view_is c.args.requestor c.args.block c.requires.block c.requires.requestor).1 in
-    let few = c.self.invariant.few in
-    omega (arith, h, few)
+    let within = (in_rows c.self.invariant c.self.view_is c.args.requestor c.args.block c.requires.block c.requires.requestor).1 in
+    omega (arith, within, c.self.invariant.few)
 
 in_block : (g : Over) (c : After-concerned g) → c.args.block < length c.self.inside.holders
 in_block g c = (in_rows c.self.invariant c.self.view_is c.args.requestor c.args.block c.requires.block c.requires.requestor).0

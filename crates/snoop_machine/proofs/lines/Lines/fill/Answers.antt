@@ -1,6 +1,6 @@
 use Rattle.snoop_machine.proofs.Common.{arith, inl, filled_line}
 use Rattle.snoop_machine.proofs.LineChanges.{HasWritten, lines_after, writes, core_few, stands}
-use Rattle.snoop_machine.proofs.LineMaps.{IsMap, is_map, in_rows, held_placed, gone-none}
+use Rattle.snoop_machine.proofs.LineMaps.{IsMap, is_map, in_rows, held_placed}
 use Rattle.snoop_machine.proofs.lines.Lines.fill.Given.{Over}
 use Rattle.snoop_machine.proofs.lines.Lines.fill.Goals as goal
 use Rattle.snoop_machine.proofs.lines.Lines.fill.Goals.{After-follow}
@@ -28,7 +28,7 @@ wrote g c =
       proper = c.requires.proper;
       here = did.here;
       others = did.others;
-      goes = inl (gone-none _ c.args.next (λ e. (let kept = rw e at c.requires.proper.kept in cc)), did.blocks);
+      goes = grind (arith, c.requires.proper.kept, did.blocks);
       followed = c.follow.ensures;
       room = did.room;
     }

@@ -1,9 +1,29 @@
-use Rattle.snoop_machine.proofs.Common.{◌≡◌, ℕ, length, replicate, refl, ◌∙◌, ap, arith, common_steps, err_from_is_err_and, length-replicate, get_or-replicate, nothing_held, no_holders, is_owner, replicated}
+use Rattle.snoop_machine.proofs.Common.{◌≡◌, ℕ, length, replicate, refl, ◌∙◌, ap, arith, common_steps, err_from_is_err_and, length-replicate, get_or-replicate, nothing_held, no_holders, is_owner, replicated, List, Contents, slice_index_or, no_cache, [], line_in, lines_held, constant, held_by_block, sym, map, blocks_of, ◌++◌, ◌∷◌}
 use Rattle.snoop_model.proofs.Invariant.Runs.{nothing_proper}
-use Rattle.snoop_machine.proofs.LineMaps.{empty-push, line-empty, row-empty, rows-empty, blocks-empty}
+use Rattle.std.proofs.lemmas.List.FromFn.{fill_by_all}
 use Rattle.snoop_machine.proofs.lines.Lines.new.Given.{Over}
 use Rattle.snoop_machine.proofs.lines.Lines.new.Goals as goal
 use Rattle.snoop_machine.proofs.lines.Lines.new.Goals.{In_ok-holders}
+
+-- maps without entries hold nothing anywhere
+module _ (caches : List Contents) (empty : (core : ℕ) → (slice_index_or caches core no_cache).entries ≡ []) where
+  line-empty : (core block : ℕ) → line_in (slice_index_or caches core no_cache) block ≡ nothing_held
+  line-empty core block = rw (empty core)
+
+  row-empty : (block : ℕ) → lines_held caches block ≡ replicate (length caches) nothing_held
+  row-empty block = constant (λ (cache : Contents). line_in cache block) caches no_cache nothing_held (λ core. line-empty core block)
+
+  rows-empty : (blocks : ℕ) → held_by_block blocks caches ≡ replicate blocks (replicate (length caches) nothing_held)
+  rows-empty blocks =
+      sym (fill_by_all (lines_held caches) (replicate blocks (replicate (length caches) nothing_held)) blocks [] (length-replicate blocks _)
+      (λ b within. get_or-replicate blocks b (replicate (length caches) nothing_held) [] within ∙ sym (row-empty b)))
+
+  blocks-empty : map blocks_of caches ≡ replicate (length caches) []
+  blocks-empty = constant blocks_of caches no_cache [] (λ core. rw (empty core) refl)
+
+  -- nor does one more
+  empty-push : (cache : Contents) → cache.entries ≡ [] → (core : ℕ) → (slice_index_or (caches ++ cache ∷ []) core no_cache).entries ≡ []
+  empty-push cache own core = grind (arith, common_steps, empty core)
 
 counted : (g : Over) (c : In_ok-holders g) → length c.loop.caches.items ≡ c.args.shape.cores
 counted g c =
@@ -15,7 +35,7 @@ holders_are g c = c.in_ok-holders.ensures ∙ ap (λ (n : ℕ). replicate n c.em
 
 pub loop-preserved : goal.loop-preserved
 loop-preserved g c = (
-  rw c.push_reserved.ensures.items (empty-push _ _ c.loop.invariant.0 c.new.ensures),
+  rw c.push_reserved.ensures.items (empty-push _ c.loop.invariant.0 _ c.new.ensures),
   grind (arith, common_steps),
   grind (arith, common_steps),
 )

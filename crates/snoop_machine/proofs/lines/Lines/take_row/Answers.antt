@@ -1,6 +1,6 @@
 use Rattle.snoop_machine.proofs.Common.{List, sym, ◌∙◌, ap, arith, inl, inr, Cell, CacheState, moves_to, Line, line_or_nothing, line_at, Holders}
 use Rattle.snoop_machine.proofs.ProperLines.{settled, moves_to_same}
-use Rattle.snoop_machine.proofs.LineMaps.{IsMap, is_map, in_rows, gone-same, is_I}
+use Rattle.snoop_machine.proofs.LineMaps.{IsMap, is_map, in_rows}
 use Rattle.snoop_machine.proofs.LineChanges.{core_few, stands, followed-still, HasWritten, lines_after, writes}
 use Rattle.snoop_machine.proofs.lines.Lines.take_row.Given.{Over}
 use Rattle.snoop_machine.proofs.lines.Lines.take_row.Goals as goal
@@ -37,7 +37,7 @@ stayed g c =
       proper = rw kept proper;
       here = c.in_default.ensures.still.same ∙ (its.was ∙ sym kept);
       others = c.take_row.ensures.others;
-      goes = inl (gone-same old.state, c.in_default.ensures.still.places);
+      goes = grind (arith, c.in_default.ensures.still.places);
       followed = followed-still c.args.core c.args.block old.state c.self.inside.holders
           (stands its old.state (sym (ap (λ (x : Line). x.state) its.was)));
       room = c.take_row.ensures.room;

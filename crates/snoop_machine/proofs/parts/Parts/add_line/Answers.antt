@@ -53,9 +53,6 @@ returns-clause-room g c =
     let core = c.args.core in
     let more = c.reserve-2.ensures.room in
     let line_rooms : KeepsMapsRoom c.self.inside.lines c.put_ahead.new.self = λ k.
-    (let grown = c.reserve.ensures.room k in
-    let used = c.put_ahead.ensures.room k in
-    let same = ap (λ (lines : List (List ℕ)). length (slice_index_or lines k [])) c.reserve.ensures.lines in
-    omega arith) in
+    grind (arith, c.reserve.ensures.room k, c.put_ahead.ensures.room k, c.reserve.ensures.lines) in
     keeps_room c.self.invariant c.self.view_is c.put_ahead.new.self c.self.inside.memory c.reserve-2.new.self c.self.inside.log (omega arith)
     (held_in-set c.self.invariant c.self.view_is c.reserve-2.new.self core _ c.reserve-2.ensures.queue c.requires.core (omega arith)) line_rooms

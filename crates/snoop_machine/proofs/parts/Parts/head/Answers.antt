@@ -1,6 +1,6 @@
-use Rattle.snoop_machine.proofs.Common.{◌≡◌, ℕ, ◌<◌, Option, Some, None, refl, sym, ap, ◌∙◌, length, arith, IfSome, IfNone, slice_get, waiting_request, Request, queue_of, head_of, WaitsOnNone, IsHead}
+use Rattle.snoop_machine.proofs.Common.{◌≡◌, ℕ, ◌<◌, Option, Some, None, refl, sym, ap, ◌∙◌, length, arith, IfSome, IfNone, slice_get, waiting_request, Request, queue_of, head_of, WaitsOnNone, IsHead, get_or_past, []}
 use Rattle.snoop_machine.proofs.PartsViews.{state_seen}
-use Rattle.snoop_machine.proofs.Soundness.{head_alone, idle_from_head, within_from_waits, first_shown}
+use Rattle.snoop_machine.proofs.Soundness.{head_alone, idle_from_head, first_shown}
 use Rattle.snoop_machine.proofs.parts.Parts.head.Given.{Over}
 use Rattle.snoop_machine.proofs.parts.Parts.head.Goals as goal
 use Rattle.snoop_machine.proofs.parts.Parts.head.Goals.{After-head}
@@ -18,7 +18,7 @@ shown g c None is = (
 )
 shown g c (Some head) is =
     let waits = (head_alone c.self.invariant.sound c.args.core head.0 head.1 is).0 in
-    let within = within_from_waits c.self.inside.lines.rows c.args.core head.1 head.0 waits in
+    let within : head.1 < length c.self.inside.lines.rows = grind (arith, get_or_past c.self.inside.lines.rows head.1 []) in
     let rows = c.self.invariant.sound.rows in (
       rw (← c.self.view_is) (record {
         first = first_shown c.self.inside.bus c.args.core ∙ rw is refl;

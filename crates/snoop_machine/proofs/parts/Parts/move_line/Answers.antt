@@ -6,10 +6,6 @@ use Rattle.snoop_machine.proofs.parts.Parts.move_line.Given.{Over}
 use Rattle.snoop_machine.proofs.parts.Parts.move_line.Goals as goal
 use Rattle.snoop_machine.proofs.parts.Parts.move_line.Goals.{After-change}
 
--- the parts before it
-abbrev parts : (g : Over) (c : After-change g) → Fields
-parts g c = fields c.self.inside.protocol c.self.inside.shape c.self.inside.lines c.self.inside.memory c.self.inside.bus c.self.inside.log
-
 -- the line that the core has now
 abbrev line : (g : Over) (c : After-change g) → Line
 line g c = changed c.args.next c.args.change (line_at c.self.inside.lines.rows c.args.core c.args.block)
@@ -36,7 +32,7 @@ invariant_of-self g c =
 pub returns : goal.returns
 returns g c =
     let d = (goal.at.returns g c).After-change in
-    let m = parts g d in
+    let m = fields c.self.inside.protocol c.self.inside.shape c.self.inside.lines c.self.inside.memory c.self.inside.bus c.self.inside.log in
     let next = with_line (picture_in m c.args.block) c.args.core (line g d) in
     let wrote = line-written c.self.invariant refl c.args.block c.change.new.self.rows c.args.core (line g d) c.change.ensures.rows in
     record {

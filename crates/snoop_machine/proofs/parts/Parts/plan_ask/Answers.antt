@@ -2,15 +2,14 @@ use Rattle.snoop_machine.proofs.Common.{Some, refl, err_from_is_err_and, Ask, he
 use Rattle.snoop_rules.specs.Takers.{asked as event_of}
 use Rattle.snoop_machine.specs.declared.plan.Plan.TheVariants as plan
 use Rattle.snoop_machine.proofs.PartsViews.{protocol_seen, words_seen}
-use Rattle.snoop_machine.proofs.Plans.{refuses-ask, plan-allowed}
+use Rattle.snoop_machine.proofs.Plans.{plan-allowed}
 use Rattle.snoop_machine.proofs.parts.Parts.plan_ask.Goals as goal
 use Rattle.snoop_trace.specs.declared.step.Op.TheVariants.{Evict}
 
 pub returns-in_err-asked-clause-denied : goal.returns-in_err-asked-clause-denied
 returns-in_err-asked-clause-denied g c =
     let p = err_from_is_err_and c.from_residual.result c.from_residual.ensures.1 in
-    rw (p.1, p.2) (refuses-ask c.args.self.now.situation c.args.core c.args.block c.args.word c.args.op c.in_err-asked.field-0.0 c.requires.core c.requires.block
-    c.requires.word (rw (c.line-found.ensures.line, protocol_seen c.self.invariant c.self.view_is) at c.in_err-asked.ensures.refused))
+    rw (p.1, p.2) (grind (arith, c.in_err-asked.ensures.refused, c.line-found.ensures.line, protocol_seen c.self.invariant c.self.view_is, c.requires))
 
 pub returns-clause-exactly : goal.returns-clause-exactly
 returns-clause-exactly g c =

@@ -1,6 +1,5 @@
-use Rattle.snoop_machine.proofs.Common.{◌≡◌, Option, Some, None, refl, sym, ap, ◌∙◌, false, ℕ, is_some, option_copied, Order, seen_by, Open, Picture, free_picture, picture_of, row_of, memory_line, Fields, standing, IsWhole, IsPlan, Standing, orders_follow_sender_table, finds_rows}
+use Rattle.snoop_machine.proofs.Common.{◌≡◌, Option, Some, None, refl, sym, ap, ◌∙◌, false, ℕ, is_some, option_copied, Order, seen_by, Open, Picture, free_picture, picture_of, row_of, memory_line, Fields, standing, IsWhole, IsPlan, Standing, orders_follow_sender_table, finds_rows, arith}
 use Rattle.std.specs.Borrow.{Bor}
-use Rattle.snoop_machine.proofs.ProperLines.{is_none}
 use Rattle.snoop_machine.specs.declared.plan.Plan.TheVariants as plan
 use Rattle.snoop_machine.proofs.Plans.{plan-allowed}
 use Rattle.snoop_machine.proofs.parts.Parts.plan_order.Given.{Over}
@@ -10,7 +9,7 @@ use Rattle.snoop_machine.proofs.PartsViews.{seen, line_seen, protocol_seen}
 
 -- a block that was found without an open transaction
 free_copied : (found : Option (Bor Open)) (transaction : Option Open) → option_copied found ≡ transaction → is_some found ≡ false → transaction ≡ None
-free_copied found transaction shown none = sym shown ∙ ap option_copied (is_none found none)
+free_copied found transaction shown none = grind arith
 
 -- has this picture
 free_seen : {count : ℕ} {m : Fields} (whole : IsWhole count m) {now : Standing} (view : standing m ≡ now) (block : ℕ)

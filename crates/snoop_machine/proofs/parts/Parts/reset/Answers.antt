@@ -30,18 +30,11 @@ module _ (shape : Extent) (bus : Traffic) (long : length bus.queues ≡ shape.co
 
 pub invariant_of-result : goal.invariant_of-result
 invariant_of-result g c =
+    let lines = length-replicate {A = List ℕ} c.args.shape.cores [] in
+    let states = length-replicate c.blocks-2.result c.first_state.result in
+    let words = length-replicate c.blocks-2.result zero_words in
     record {
-      sized = grind (
-        arith,
-        c.in_ok-lines.ensures.lines,
-        length-replicate {A = List ℕ} c.args.shape.cores [],
-        c.in_ok-memory.ensures,
-        c.blocks-2.ensures.value,
-        length-replicate c.blocks-2.result c.first_state.result,
-        length-replicate c.blocks-2.result zero_words,
-        c.in_ok-log.ensures,
-        c.requires.words,
-      );
+      sized = grind (arith, c.in_ok-lines.ensures.lines, c.in_ok-memory.ensures, c.blocks-2.ensures.value, c.in_ok-log.ensures, c.requires.words, lines, states, words);
       sound = rw (← c.in_ok-lines.ensures.rows) at (IsSound-reset c.args.shape c.in_ok-bus.bus c.in_ok-bus.ensures.queues.0 c.in_ok-bus.ensures.queues.1 c.in_ok-bus.ensures.transactions);
     }
 

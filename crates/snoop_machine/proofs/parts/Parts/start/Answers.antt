@@ -26,12 +26,8 @@ start-requires-clause-free g c =
 
 pub words_sent-words-requires-clause-sender : goal.words_sent-words-requires-clause-sender
 words_sent-words-requires-clause-sender g c =
-    let s = c.args.self.now.situation in
-    let wide : length (picture_of s c.args.block).caches ≡ s.shape.cores =
-    ap (λ (x : Picture). length x.caches) (seen c.self.invariant c.self.view_is c.args.block)
-    ∙ (c.self.invariant.sound.row c.args.block (block_in c.self.invariant c.self.view_is c.args.block c.requires.head.within)
-    ∙ ap (λ (x : Standing). x.situation.shape.cores) c.self.view_is) in
-    rw (← wide) (λ sender is. (rw is at c.requires.sender.sends).0)
+    let row = c.self.invariant.sound.row c.args.block (block_in c.self.invariant c.self.view_is c.args.block c.requires.head.within) in
+    grind (arith, seen c.self.invariant c.self.view_is c.args.block, row, c.self.view_is, c.requires.sender.sends)
 
 -- the parts before it
 abbrev parts : (g : Over) (c : After-start g) → Fields
@@ -91,8 +87,8 @@ returns g c =
     (head_alone c.self.invariant.sound core c.args.request block its).1 in
     let fewer = length-drop 1 (waiting_of m.bus core).requests in
     let more = (starts g d).more in
-    let items = m.log.items ++ item.Sent (record { core = core; request = c.args.request; block = block }) ∷ [] in
-    let long = length-append m.log.items (item.Sent (record { core = core; request = c.args.request; block = block }) ∷ []) in
+    let sent = item.Sent (record { core = core; request = c.args.request; block = block }) ∷ [] in
+    let long = length-append m.log.items sent in
     let room : 0 < m.log.room = rw (← c.self.view_is) at c.requires.room in
     record {
       ordered = rw (← c.self.view_is) (record {
@@ -108,7 +104,7 @@ returns g c =
         after = rw (wrote g d, (starts g d).queues, left, c.push.ensures);
       });
       room = rw c.push.ensures (keeps_room c.self.invariant c.self.view_is c.take_rows.new.self c.move_to.new.self c.start.new.self
-          (record m.log { items = items; room = m.log.room - 1 }) (omega arith)
+          (record m.log { items = m.log.items ++ sent; room = m.log.room - 1 }) (omega arith)
           (held_in-set c.self.invariant c.self.view_is c.start.new.self core _ (starts g d).queues c.requires.core (omega arith)) c.take_rows.ensures.room);
       lines = follows-rows c.self.invariant c.self.view_is _ block (next g d) c.take_rows.new.self c.requires.head.within (wrote g d) refl refl c.take_rows.ensures.lines;
     }

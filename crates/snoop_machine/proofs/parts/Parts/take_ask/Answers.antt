@@ -1,5 +1,4 @@
-use Rattle.snoop_machine.proofs.Common.{issue-waits, drop-waits, IsProper-issue, IsProper-hit, IsProper-drop, refl, inr}
-use Rattle.snoop_machine.proofs.ProperLines.{load_stays}
+use Rattle.snoop_machine.proofs.Common.{issue-waits, drop-waits, IsProper-issue, IsProper-hit, IsProper-drop, refl, inr, arith}
 use Rattle.snoop_rules.specs.declared.names.CacheAction.TheVariants as action
 use Rattle.snoop_machine.proofs.parts.Parts.take_ask.Goals as goal
 
@@ -11,7 +10,7 @@ hit_line-requires-clause-proper g c =
 pub hit_line-requires-clause-still : goal.hit_line-requires-clause-still
 hit_line-requires-clause-still g c =
     let t = rw c.in-Hit.is at c.requires.found in
-    λ is. load_stays _ _ _ (rw is at t.0)
+    λ is. (let row = rw is at t.0 in grind arith)
 
 pub issue_line-requires-clause-waits : goal.issue_line-requires-clause-waits
 issue_line-requires-clause-waits g c =

@@ -4,11 +4,6 @@ use Rattle.snoop_machine.proofs.parts.Parts.waiting.Goals as goal
 
 pub returns : goal.returns
 returns g c =
-    grind (
-      arith,
-      some_first (waiting_of c.self.inside.bus c.args.core).requests,
-      c.is_some.ensures,
-      c.head.ensures,
-      c.self.view_is,
-      queue_of-queues_of c.self.inside.bus.queues c.args.core,
-    )
+    let first = some_first (waiting_of c.self.inside.bus c.args.core).requests in
+    let line = queue_of-queues_of c.self.inside.bus.queues c.args.core in
+    grind (arith, first, line, c.is_some.ensures, c.head.ensures, c.self.view_is)
