@@ -63,18 +63,12 @@ module _ {count : ℕ} {m : Fields} (whole : IsWhole count m) {now : Standing} (
   pub words_seen : now.situation.shape.words ≡ count
   words_seen = sym (ap (λ (s : Standing). s.situation.shape.words) view) ∙ whole.sized.held
 
-  pub core_in : (core : ℕ) → core < now.situation.shape.cores → core < m.shape.cores
-  core_in core within = rw (← view) at within
-
-  pub block_in : (block : ℕ) → block < now.situation.shape.blocks → block < m.shape.blocks
-  block_in block within = rw (← view) at within
-
   -- where a block and a core stand in the rows
   pub rows_in : (block : ℕ) → block < now.situation.shape.blocks → block < length m.lines.rows
-  rows_in block within = rw whole.sound.rows (block_in block within)
+  rows_in block within = rw whole.sound.rows (rw (← view) at within)
 
   pub row_in : (core block : ℕ) → core < now.situation.shape.cores → block < now.situation.shape.blocks → core < length (row_of m.lines.rows block)
-  row_in core block in_cores within = rw (whole.sound.row block (block_in block within)) (core_in core in_cores)
+  row_in core block in_cores within = rw (whole.sound.row block (rw (← view) at within)) (rw (← view) at in_cores)
 
   pub has_picture : (block : ℕ) → block < now.situation.shape.blocks → block < length (standing m).situation.pictures
   has_picture block within =
@@ -145,7 +139,7 @@ module _ {count : ℕ} {m : Fields} (whole : IsWhole count m) {now : Standing} (
       → held_in m.bus.queues core ≤ length queue.requests + queue.room → (k : ℕ) → held_in m.bus.queues k ≤ held_in bus.queues k
   held_in-set bus core queue wrote within more =
       rw wrote (each_place (λ k its. held_in m.bus.queues k ≤ length its.requests + its.room) m.bus.queues core queue no_queue
-      (rw whole.sound.queues (core_in whole view core within)) more (λ k ne. omega arith))
+      (rw whole.sound.queues (rw (← view) at within)) more (λ k ne. omega arith))
 
   -- as long as neither the log's capacity nor a queue's falls, and the maps keep their room for lines, no room is lost
   pub keeps_room : (lines : Held) (memory : MemTables) (bus : Traffic) (log : Journal) → length m.log.items + m.log.room ≤ length log.items + log.room

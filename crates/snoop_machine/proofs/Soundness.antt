@@ -19,23 +19,10 @@ pub queues_of-issue : (queues : List Waiting) (core block room : ℕ) (request :
 queues_of-issue queues core block room request =
     queues_of-set queues core _ ∙ rw (map-append, queue_of-queues_of queues core) refl
 
--- one more request: the first for its block
-pub issued_own : (rs : List (Request × ℕ)) (q : Request) (block : ℕ) → requests_for block rs ≡ [] → requests_for block (rs ++ (q, block) ∷ []) ≡ q ∷ []
-issued_own rs q block none = rw (filter-append, map-append, none, eq-eqb block block refl) refl
-
--- and none for another
-pub issued_other : (rs : List (Request × ℕ)) (q : Request) (block other : ℕ) → other ≢ block
-    → requests_for other (rs ++ (q, block) ∷ []) ≡ requests_for other rs
-issued_other rs q block other ne = rw (filter-append, map-append, ne_eqb block other (λ e. ne (sym e)), append-nil) refl
-
--- the oldest request is the first of those for its block, and none of those for another
+-- the oldest request is the first of those for its block
 head_own : (rs : List (Request × ℕ)) (q : Request) (block : ℕ) → slice_get rs 0 ≡ Some (q, block)
     → requests_for block rs ≡ q ∷ requests_for block (drop 1 rs)
 head_own rs q block first = grind (arith, common_steps, eq-eqb block block refl)
-
-pub head_other : (rs : List (Request × ℕ)) (q : Request) (block other : ℕ) → slice_get rs 0 ≡ Some (q, block) → other ≢ block
-    → requests_for other (drop 1 rs) ≡ requests_for other rs
-head_other rs q block other first ne = grind (arith, common_steps, ne_eqb block other)
 
 -- where no request is for the block, each is for another
 blocks_without : (block : ℕ) (rs : List (Request × ℕ)) → requests_for block rs ≡ [] → filter (λ x. not (x == block)) (blocks_of rs) ≡ blocks_of rs

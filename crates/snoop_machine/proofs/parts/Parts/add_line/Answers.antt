@@ -1,5 +1,5 @@
 use Rattle.snoop_machine.proofs.Common.{◌≡◌, [], ◌∙◌, ℕ, List, ap, length, arith, refl, slice_index_or, err_from_is_err_and, length-set, Waiting, waiting_of, KeepsMapsRoom, shown_line_rooms}
-use Rattle.snoop_machine.proofs.PartsViews.{held_in-set, keeps_room, shown-same, places-map, places-queue, core_in, sized_on}
+use Rattle.snoop_machine.proofs.PartsViews.{held_in-set, keeps_room, shown-same, places-map, places-queue, sized_on}
 use Rattle.snoop_machine.proofs.Soundness.{queues_of-room, IsSound-room}
 use Rattle.snoop_machine.proofs.parts.Parts.add_line.Given.{Over}
 use Rattle.snoop_machine.proofs.parts.Parts.add_line.Goals as goal
@@ -13,7 +13,7 @@ invariant_of-self-2 g c =
     let core = c.args.core in
     record {
       sound = rw (rows g (goal.at.invariant_of-self-2 g c).After-put_ahead) (IsSound-room c.self.invariant.sound c.reserve-2.new.self core _
-          (core_in c.self.invariant c.self.view_is core c.requires.core) c.reserve-2.ensures.queue refl c.reserve-2.ensures.transactions);
+          (rw (← c.self.view_is) at c.requires.core) c.reserve-2.ensures.queue refl c.reserve-2.ensures.transactions);
       sized = sized_on _ _ c.self.invariant.sized refl
           (rw (c.put_ahead.ensures.lines, length-set, c.reserve.ensures.lines) refl) (refl, refl) (refl, refl, refl);
     }

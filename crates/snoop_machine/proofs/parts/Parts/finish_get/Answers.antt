@@ -2,7 +2,7 @@ use Rattle.snoop_machine.proofs.Common.{◌≡◌, ◌≢◌, false, Some, refl,
 use Rattle.snoop_machine.proofs.Closing.{Closes, never_none, opened, header, in_cores, whole_after, room_after, responded, loses, arrives_get}
 use Rattle.snoop_machine.proofs.Following.{LinesGo-none, LinesGo-more, row_after}
 use Rattle.snoop_machine.proofs.Soundness.{IsSound-line}
-use Rattle.snoop_machine.proofs.PartsViews.{line_seen, core_in, block_in, rows_in, row_in, words_seen}
+use Rattle.snoop_machine.proofs.PartsViews.{line_seen, rows_in, row_in, words_seen}
 use Rattle.snoop_machine.proofs.parts.Parts.finish_get.Given.{Over}
 use Rattle.snoop_machine.proofs.parts.Parts.finish_get.Goals as goal
 use Rattle.snoop_machine.proofs.parts.Parts.finish_get.Goals.{In-Some}
@@ -58,7 +58,7 @@ invariant_of-self g c =
     let block = c.args.came.block in
     rw (c.settle.ensures, c.finish.ensures.after, c.push.ensures) (whole_after (closes g d) (Some c.next_did-did.result) c.fill.new.self _ c.fill.ensures.rows
     (rw c.fill.ensures.rows (IsSound-line c.self.invariant.sound core block (line g d)
-    (core_in c.self.invariant c.self.view_is core (in_cores (closes g d))) (block_in c.self.invariant c.self.view_is block c.requires.block)
+    (rw (← c.self.view_is) at (in_cores (closes g d))) (rw (← c.self.view_is) at c.requires.block)
     (proper-filled (fills g d)) (waits-filled (fills g d))))
     c.fill.ensures.many)
 

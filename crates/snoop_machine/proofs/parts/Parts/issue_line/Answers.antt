@@ -1,7 +1,7 @@
 use Rattle.snoop_machine.proofs.Common.{◌≡◌, ◌+◌, ◌-◌, ◌++◌, ◌∷◌, [], length, refl, arith, length-append, slice_set, Waiting, waiting_of, Line, with_line, changed, line_at, Fields, fields, standing, pictures_of, Wait}
 use Rattle.snoop_machine.proofs.Following.{follows-set}
 use Rattle.snoop_machine.proofs.Soundness.{IsSound-issue, queues_of-issue}
-use Rattle.snoop_machine.proofs.PartsViews.{seen, line_seen, picture_in, line-written, core_in, block_in, sized_on, held_in-set, keeps_room}
+use Rattle.snoop_machine.proofs.PartsViews.{seen, line_seen, picture_in, line-written, sized_on, held_in-set, keeps_room}
 use Rattle.snoop_machine.proofs.parts.Parts.issue_line.Given.{Over}
 use Rattle.snoop_machine.proofs.parts.Parts.issue_line.Goals as goal
 use Rattle.snoop_machine.proofs.parts.Parts.issue_line.Goals.{After-issue}
@@ -29,7 +29,7 @@ invariant_of-self g c =
     let here = line_seen c.self.invariant c.self.view_is c.args.core c.args.block in
     record {
       sound = rw c.change.ensures.rows (IsSound-issue c.self.invariant.sound c.args.core c.args.block (line g d)
-          (core_in c.self.invariant c.self.view_is c.args.core c.requires.core) (block_in c.self.invariant c.self.view_is c.args.block c.requires.block)
+          (rw (← c.self.view_is) at c.requires.core) (rw (← c.self.view_is) at c.requires.block)
           (rw here at c.requires.proper) c.issue.new.self c.args.request _ c.issue.ensures.queue c.issue.ensures.transactions
           (rw here at c.requires.idle) c.requires.waits);
       sized = sized_on _ _ c.self.invariant.sized refl c.change.ensures.many (refl, refl) (refl, refl, refl);

@@ -1,7 +1,7 @@
 use Rattle.snoop_machine.proofs.Common.{◌∙◌, arith, refl, inl, Line, with_line, changed, line_at, Fields, fields}
 use Rattle.snoop_machine.proofs.Following.{follows-set}
 use Rattle.snoop_machine.proofs.Soundness.{IsSound-line}
-use Rattle.snoop_machine.proofs.PartsViews.{seen, line_seen, state_seen, words_seen, picture_in, line-written, core_in, block_in, sized_on, keeps_room}
+use Rattle.snoop_machine.proofs.PartsViews.{seen, line_seen, state_seen, words_seen, picture_in, line-written, sized_on, keeps_room}
 use Rattle.snoop_machine.proofs.parts.Parts.move_line.Given.{Over}
 use Rattle.snoop_machine.proofs.parts.Parts.move_line.Goals as goal
 use Rattle.snoop_machine.proofs.parts.Parts.move_line.Goals.{After-change}
@@ -24,7 +24,7 @@ invariant_of-self g c =
     let here = line_seen c.self.invariant c.self.view_is c.args.core c.args.block in
     record {
       sound = rw c.change.ensures.rows (IsSound-line c.self.invariant.sound c.args.core c.args.block (line g (goal.at.invariant_of-self g c).After-change)
-          (core_in c.self.invariant c.self.view_is c.args.core c.requires.core) (block_in c.self.invariant c.self.view_is c.args.block c.requires.block)
+          (rw (← c.self.view_is) at c.requires.core) (rw (← c.self.view_is) at c.requires.block)
           (rw here at c.requires.proper) (rw here at c.requires.same));
       sized = sized_on _ _ c.self.invariant.sized refl c.change.ensures.many (refl, refl) (refl, refl, refl);
     }

@@ -1,12 +1,12 @@
 use Rattle.snoop_machine.proofs.Common.{ap, arith, refl, Waiting, waiting_of}
-use Rattle.snoop_machine.proofs.PartsViews.{held_in-set, keeps_room, core_in, sized_on}
+use Rattle.snoop_machine.proofs.PartsViews.{held_in-set, keeps_room, sized_on}
 use Rattle.snoop_machine.proofs.Soundness.{queues_of-room, IsSound-room}
 use Rattle.snoop_machine.proofs.parts.Parts.reserve_request.Goals as goal
 
 pub invariant_of-self : goal.invariant_of-self
 invariant_of-self g c = record {
   sound = IsSound-room c.self.invariant.sound c.reserve.new.self c.args.core _
-      (core_in c.self.invariant c.self.view_is c.args.core c.requires) c.reserve.ensures.queue refl c.reserve.ensures.transactions;
+      (rw (← c.self.view_is) at c.requires) c.reserve.ensures.queue refl c.reserve.ensures.transactions;
   sized = sized_on _ _ c.self.invariant.sized refl refl (refl, refl) (refl, refl, refl);
 }
 

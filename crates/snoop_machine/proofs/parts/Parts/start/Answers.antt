@@ -1,7 +1,7 @@
 use Rattle.snoop_machine.proofs.Common.{◌≡◌, ℕ, List, ◌<◌, ◌-◌, ◌++◌, ◌∷◌, [], length, drop, Option, Some, ◌∙◌, refl, sym, ap, arith, slice_set, length-set, length-append, length-drop, set-get_or, zero_words, Open, Waiting, waiting_of, head_of, Starts, MemLine, Picture, picture_of, row_of, MemTables, memory_line, Fields, fields, standing, pictures_of, Standing}
 use Rattle.snoop_history.specs.declared.items.Item.TheVariants as item
 use Rattle.snoop_machine.proofs.Following.{follows-rows}
-use Rattle.snoop_machine.proofs.PartsViews.{seen, line_seen, picture-written, core_in, block_in, sized_on, held_in-set, keeps_room}
+use Rattle.snoop_machine.proofs.PartsViews.{seen, line_seen, picture-written, sized_on, held_in-set, keeps_room}
 use Rattle.snoop_machine.proofs.Soundness.{head_from_line, head_alone, queues_of-order, IsSound-order}
 use Rattle.snoop_machine.proofs.parts.Parts.start.Given.{Over}
 use Rattle.snoop_machine.proofs.parts.Parts.start.Goals as goal
@@ -26,7 +26,7 @@ start-requires-clause-free g c =
 
 pub words_sent-words-requires-clause-sender : goal.words_sent-words-requires-clause-sender
 words_sent-words-requires-clause-sender g c =
-    let row = c.self.invariant.sound.row c.args.block (block_in c.self.invariant c.self.view_is c.args.block c.requires.head.within) in
+    let row = c.self.invariant.sound.row c.args.block (rw (← c.self.view_is) at c.requires.head.within) in
     grind (arith, seen c.self.invariant c.self.view_is c.args.block, row, c.self.view_is, c.requires.sender.sends)
 
 -- the parts before it
@@ -68,8 +68,8 @@ pub invariant_of-self : goal.invariant_of-self
 invariant_of-self g c =
     let d = (goal.at.invariant_of-self g c).After-start in
     record {
-      sound = rw c.take_rows.ensures.others (IsSound-order c.self.invariant.sound (core_in c.self.invariant c.self.view_is c.args.core c.requires.core)
-          (block_in c.self.invariant c.self.view_is c.args.block c.requires.head.within)
+      sound = rw c.take_rows.ensures.others (IsSound-order c.self.invariant.sound (rw (← c.self.view_is) at c.requires.core)
+          (rw (← c.self.view_is) at c.requires.head.within)
           (head g (goal.at.invariant_of-self g c).After-words_sent-words) (starts g d) c.take_rows.ensures.taken);
       sized = rw c.push.ensures (sized_on (parts g d) _ c.self.invariant.sized refl c.take_rows.ensures.many
           (rw c.move_to.ensures (length-set c.self.inside.memory.states c.args.block c.args.memory, refl)) (refl, refl, refl));
