@@ -4,7 +4,7 @@ use Rattle.snoop_rules.specs.declared.names.CacheState.TheVariants as state
 use Rattle.snoop_rules.specs.declared.names.CacheAction.{CacheAction}
 use Rattle.snoop_rules.specs.declared.names.CacheAction.TheVariants as action
 use Rattle.snoop_model.specs.Moves.LookUps.{HasRow}
-use Rattle.snoop_machine.proofs.ProperLines.{moves_to_same}
+use Rattle.snoop_machine.proofs.LineMaps.{moves_to_same}
 
 still : (p : Protocol) (s : CacheState) (q : Request) → concerns q s ≡ false → HasRow p s (other q) → Cell p s (other q) action.None s
 unfolding is_owner

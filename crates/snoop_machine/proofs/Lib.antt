@@ -1,12 +1,9 @@
 pub mod Common
-pub mod Soundness
 pub mod PartsViews
 pub mod Closing
 pub mod ConcernedCores
 pub mod Plans
 pub mod Runs
-pub mod ProperLines
 pub mod LineMaps
 pub mod LineChanges
 pub mod Following
-pub mod Holding

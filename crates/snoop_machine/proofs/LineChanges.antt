@@ -18,10 +18,6 @@ module _ {caches : List Contents} {holders : List Holders} (lines : AreLines cac
       }
 
 module _ {caches : List Contents} {holders : List Holders} {now : Held} {core block : ℕ} {old : Contents} (its : IsMap caches holders now core block old) where
-  -- there are few cores
-  pub core_few : core < 256
-  core_few = let few = its.lines.few in let within = its.in_cores in omega arith
-
   -- the holders of the block have the core as its line says
   pub stands : (before : CacheState) → before ≡ (line_in old block).state → StandsAs core before (slice_index_or holders block no_holders)
   stands before was =

@@ -1,8 +1,6 @@
 use Rattle.snoop_machine.proofs.Common.{◌∙◌, ap, arith, inl, inr, Line, changed, line_at}
-use Rattle.snoop_machine.proofs.LineChanges.{HasWritten, lines_after, writes, core_few, stands}
-use Rattle.snoop_machine.proofs.LineMaps.{IsMap, is_map, in_rows, mover_placed}
-use Rattle.snoop_machine.proofs.ProperLines.{settled}
-use Rattle.snoop_machine.proofs.lines.Lines.change.Given.{Over}
+use Rattle.snoop_machine.proofs.LineChanges.{HasWritten, lines_after, writes, stands}
+use Rattle.snoop_machine.proofs.LineMaps.{IsMap, is_map, in_rows, mover_placed, settled}
 use Rattle.snoop_machine.proofs.lines.Lines.change.Goals as goal
 use Rattle.snoop_machine.proofs.lines.Lines.change.Goals.{After-index_mut-cache, After-follow}
 
@@ -10,7 +8,7 @@ pub index_mut-cache-requires : goal.index_mut-cache-requires
 index_mut-cache-requires g c = let within = in_rows c.self.invariant c.self.view_is c.args.core c.args.block c.requires.block c.requires.core in omega arith
 
 -- the line that it has now
-abbrev line : (g : Over) (c : After-index_mut-cache g) → Line
+abbrev line : (g : _) (c : After-index_mut-cache g) → Line
 line g c = changed c.args.next c.args.change (line_at c.args.self.now.rows c.args.core c.args.block)
 
 pub change-before-requires-clause-place : goal.change-before-requires-clause-place
@@ -26,10 +24,10 @@ change-before-requires-clause-settled g c =
 pub follow-requires : goal.follow-requires
 follow-requires g c =
     let its = is_map c.self.invariant c.self.view_is c.args.core c.args.block c.requires.block c.requires.core _ c.index_mut-cache.ensures.value in
-    record { core = core_few its; block = its.in_blocks; stands = stands its _ c.change-before.ensures.before }
+    record { core = omega (arith, its.lines.few, its.in_cores); block = its.in_blocks; stands = stands its _ c.change-before.ensures.before }
 
 -- the map has the changed line, and the holders have followed
-wrote : (g : Over) (c : After-follow g)
+wrote : (g : _) (c : After-follow g)
     → HasWritten c.self.inside.caches.items c.self.inside.holders c.args.self.now c.args.core c.args.block (line g (goal.at.After-follow g c).After-index_mut-cache) c.index_mut-cache.result.now c.change-before.new.self c.follow.new.holders
 wrote g c =
     let its = is_map c.self.invariant c.self.view_is c.args.core c.args.block c.requires.block c.requires.core _ c.index_mut-cache.ensures.value in

@@ -1,6 +1,5 @@
 use Rattle.snoop_machine.proofs.Common.{◌<◌, [], length, refl, ◌∙◌, arith, slice_index_or, get_or_default, AreHolders, no_holders}
 use Rattle.snoop_machine.proofs.LineMaps.{in_rows, row_seen, line_seen}
-use Rattle.snoop_machine.proofs.lines.Lines.concerned.Given.{Over}
 use Rattle.snoop_machine.proofs.lines.Lines.concerned.Goals as goal
 use Rattle.snoop_machine.proofs.lines.Lines.concerned.Goals.{After-concerned}
 
@@ -9,11 +8,11 @@ concerned-requires g c =
     let within = (in_rows c.self.invariant c.self.view_is c.args.requestor c.args.block c.requires.block c.requires.requestor).1 in
     omega (arith, within, c.self.invariant.few)
 
-in_block : (g : Over) (c : After-concerned g) → c.args.block < length c.self.inside.holders
+in_block : (g : _) (c : After-concerned g) → c.args.block < length c.self.inside.holders
 in_block g c = (in_rows c.self.invariant c.self.view_is c.args.requestor c.args.block c.requires.block c.requires.requestor).0
 
 -- the holders are those of the row
-fits : (g : Over) (c : After-concerned g) → AreHolders c.get_or-holders.result (slice_index_or c.args.self.now.rows c.args.block [])
+fits : (g : _) (c : After-concerned g) → AreHolders c.get_or-holders.result (slice_index_or c.args.self.now.rows c.args.block [])
 fits g c =
     let read = c.get_or-holders.ensures ∙ get_or_default c.self.inside.holders c.args.block c.empty.result no_holders (in_block g c) in
     rw (read, ← (row_seen c.self.invariant c.self.view_is c.args.block (in_block g c))) (c.self.invariant.indexed c.args.block (in_block g c))

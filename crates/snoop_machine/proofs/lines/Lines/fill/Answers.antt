@@ -1,7 +1,6 @@
 use Rattle.snoop_machine.proofs.Common.{arith, inl, filled_line}
-use Rattle.snoop_machine.proofs.LineChanges.{HasWritten, lines_after, writes, core_few, stands}
+use Rattle.snoop_machine.proofs.LineChanges.{HasWritten, lines_after, writes, stands}
 use Rattle.snoop_machine.proofs.LineMaps.{IsMap, is_map, in_rows, held_placed}
-use Rattle.snoop_machine.proofs.lines.Lines.fill.Given.{Over}
 use Rattle.snoop_machine.proofs.lines.Lines.fill.Goals as goal
 use Rattle.snoop_machine.proofs.lines.Lines.fill.Goals.{After-follow}
 
@@ -16,10 +15,10 @@ fill-before-requires-clause-place g c =
 pub follow-requires : goal.follow-requires
 follow-requires g c =
     let its = is_map c.self.invariant c.self.view_is c.args.core c.args.block c.requires.block c.requires.core _ c.index_mut-cache.ensures.value in
-    record { core = core_few its; block = its.in_blocks; stands = stands its _ c.fill-before.ensures.before }
+    record { core = omega (arith, its.lines.few, its.in_cores); block = its.in_blocks; stands = stands its _ c.fill-before.ensures.before }
 
 -- the map has the filled line, and the holders have followed
-wrote : (g : Over) (c : After-follow g)
+wrote : (g : _) (c : After-follow g)
     → HasWritten c.self.inside.caches.items c.self.inside.holders c.args.self.now c.args.core c.args.block (filled_line c.args.next c.args.access c.args.words.now) c.index_mut-cache.result.now c.fill-before.new.self c.follow.new.holders
 wrote g c =
     let did = c.fill-before.ensures in

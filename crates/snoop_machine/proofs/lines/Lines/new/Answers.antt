@@ -1,7 +1,6 @@
 use Rattle.snoop_machine.proofs.Common.{◌≡◌, ℕ, length, replicate, refl, ◌∙◌, ap, arith, common_steps, err_from_is_err_and, length-replicate, get_or-replicate, nothing_held, no_holders, is_owner, replicated, List, Contents, slice_index_or, no_cache, [], line_in, lines_held, constant, held_by_block, sym, map, blocks_of, ◌++◌, ◌∷◌}
 use Rattle.snoop_model.proofs.Invariant.Runs.{nothing_proper}
 use Rattle.std.proofs.lemmas.List.FromFn.{fill_by_all}
-use Rattle.snoop_machine.proofs.lines.Lines.new.Given.{Over}
 use Rattle.snoop_machine.proofs.lines.Lines.new.Goals as goal
 use Rattle.snoop_machine.proofs.lines.Lines.new.Goals.{In_ok-holders}
 
@@ -25,12 +24,12 @@ module _ (caches : List Contents) (empty : (core : ℕ) → (slice_index_or cach
   empty-push : (cache : Contents) → cache.entries ≡ [] → (core : ℕ) → (slice_index_or (caches ++ cache ∷ []) core no_cache).entries ≡ []
   empty-push cache own core = grind (arith, common_steps, empty core)
 
-counted : (g : Over) (c : In_ok-holders g) → length c.loop.caches.items ≡ c.args.shape.cores
+counted : (g : _) (c : In_ok-holders g) → length c.loop.caches.items ≡ c.args.shape.cores
 counted g c =
     let many = c.loop.invariant.1 in
     omega (arith, many, c.loop-test.false, c.loop.auto.counter-end, c.cores-cores.ensures.value)
 
-holders_are : (g : Over) (c : In_ok-holders g) → c.in_ok-holders.holders ≡ replicate c.args.shape.blocks c.empty.result
+holders_are : (g : _) (c : In_ok-holders g) → c.in_ok-holders.holders ≡ replicate c.args.shape.blocks c.empty.result
 holders_are g c = c.in_ok-holders.ensures ∙ ap (λ (n : ℕ). replicate n c.empty.result) c.blocks-2.ensures.value
 
 pub loop-preserved : goal.loop-preserved

@@ -2,7 +2,6 @@ use Rattle.snoop_machine.proofs.Common.{ℕ, ◌<◌, length, arith, sym, ap, �
 use Rattle.snoop_rules.specs.MemoryCell.{MemoryCell}
 use Rattle.snoop_model.proofs.Tables.SentBy.{sent_by, sends_row}
 use Rattle.snoop_machine.proofs.ConcernedCores.{AreConcerned, concerned_within, waits_within, Cell-passed}
-use Rattle.snoop_machine.proofs.lines.Lines.sender.Given.{Over}
 use Rattle.snoop_machine.proofs.lines.Lines.sender.Goals as goal
 use Rattle.snoop_machine.proofs.lines.Lines.sender.Goals.{After-concerned-concerned, In-Some-next}
 
@@ -17,11 +16,11 @@ returns-in-Send-clause-sender g c =
     sends None c.in-Send.payload c.requires.line.sent (c.in-Some.row.next, rw c.in-Send.is at row)
 
 -- the set has the cores that the request concerns
-concerned : (g : Over) (c : After-concerned-concerned g)
+concerned : (g : _) (c : After-concerned-concerned g)
     → AreConcerned (row_of c.args.self.now.rows c.args.block) c.args.requestor c.args.request c.concerned-concerned.result
 concerned g c = record { own = c.concerned-concerned.ensures.own; others = c.concerned-concerned.ensures.others }
 
-within_row : (g : Over) (c : In-Some-next g) → c.in-Some-next.core < length (row_of c.args.self.now.rows c.args.block)
+within_row : (g : _) (c : In-Some-next g) → c.in-Some-next.core < length (row_of c.args.self.now.rows c.args.block)
 within_row g c =
     concerned_within (concerned g (goal.at.In-Some-next g c).After-concerned-concerned) (waits_within _ _ _ c.requires.waits) c.in-Some-next.core c.in-Some-next.ensures.some.2
 

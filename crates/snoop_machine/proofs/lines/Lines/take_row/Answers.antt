@@ -1,8 +1,6 @@
 use Rattle.snoop_machine.proofs.Common.{List, sym, ◌∙◌, ap, arith, inl, inr, Cell, CacheState, moves_to, Line, line_or_nothing, line_at, Holders}
-use Rattle.snoop_machine.proofs.ProperLines.{settled, moves_to_same}
-use Rattle.snoop_machine.proofs.LineMaps.{IsMap, is_map, in_rows}
-use Rattle.snoop_machine.proofs.LineChanges.{core_few, stands, followed-still, HasWritten, lines_after, writes}
-use Rattle.snoop_machine.proofs.lines.Lines.take_row.Given.{Over}
+use Rattle.snoop_machine.proofs.LineMaps.{settled, moves_to_same, IsMap, is_map, in_rows}
+use Rattle.snoop_machine.proofs.LineChanges.{stands, followed-still, HasWritten, lines_after, writes}
 use Rattle.snoop_machine.proofs.lines.Lines.take_row.Goals as goal
 use Rattle.snoop_machine.proofs.lines.Lines.take_row.Goals.{After-take_row, In_default, After-follow}
 
@@ -16,17 +14,17 @@ take_row-requires-clause-row g c =
 pub follow-requires : goal.follow-requires
 follow-requires g c =
     let its = is_map c.self.invariant c.self.view_is c.args.core c.args.block c.requires.block c.requires.core _ c.index_mut-cache.ensures.value in
-    record { core = core_few its; block = its.in_blocks; stands = stands its _ c.in-Some.ensures.moved.from }
+    record { core = omega (arith, its.lines.few, its.in_cores); block = its.in_blocks; stands = stands its _ c.in-Some.ensures.moved.from }
 
 -- the map has the line in this state, and these are the holders
-abbrev Wrote : (g : Over) (c : After-take_row g) → CacheState → List Holders → Type 0
+abbrev Wrote : (g : _) (c : After-take_row g) → CacheState → List Holders → Type 0
 Wrote g c next after =
     HasWritten c.self.inside.caches.items c.self.inside.holders c.args.self.now c.args.core c.args.block
     (moves_to next (line_at c.args.self.now.rows c.args.core c.args.block))
     c.index_mut-cache.result.now c.take_row.new.self after
 
 -- a line that stays is as after its row
-stayed : (g : Over) (c : In_default g) → Wrote g (goal.at.In_default g c).After-take_row (line_at c.args.self.now.rows c.args.core c.args.block).state c.self.inside.holders
+stayed : (g : _) (c : In_default g) → Wrote g (goal.at.In_default g c).After-take_row (line_at c.args.self.now.rows c.args.core c.args.block).state c.self.inside.holders
 stayed g c =
     let its = is_map c.self.invariant c.self.view_is c.args.core c.args.block c.requires.block c.requires.core _ c.index_mut-cache.ensures.value in
     let old = line_at c.args.self.now.rows c.args.core c.args.block in
@@ -43,7 +41,7 @@ stayed g c =
       room = c.take_row.ensures.room;
     }
 
-moved : (g : Over) (c : After-follow g) → Wrote g (goal.at.After-follow g c).After-take_row c.in-Some.after c.follow.new.holders
+moved : (g : _) (c : After-follow g) → Wrote g (goal.at.After-follow g c).After-take_row c.in-Some.after c.follow.new.holders
 moved g c =
     let its = is_map c.self.invariant c.self.view_is c.args.core c.args.block c.requires.block c.requires.core _ c.index_mut-cache.ensures.value in
     let next = c.in-Some.after in

@@ -1,20 +1,19 @@
 use Rattle.snoop_machine.proofs.Common.{◌≡◌, ◌<◌, List, length, arith, sym, ap, ◌∙◌, slice_set, set-set, length-set, moves_to, Line, IsProper, row_of, line_at, IsProper-order, Taking, Taking-more, Taking-past}
 use Rattle.snoop_machine.proofs.Following.{LinesGo-more, KeepsMapsRoom-more, row_after}
 use Rattle.snoop_machine.proofs.ConcernedCores.{AreConcerned, concerned_within, TakesRow-passed}
-use Rattle.snoop_machine.proofs.lines.Lines.take_rows.Given.{Over}
 use Rattle.snoop_machine.proofs.lines.Lines.take_rows.Goals as goal
 use Rattle.snoop_machine.proofs.lines.Lines.take_rows.Goals.{After-concerned-concerned, In-Some}
 
 -- the set has the cores that the request concerns
-concerned : (g : Over) (c : After-concerned-concerned g)
+concerned : (g : _) (c : After-concerned-concerned g)
     → AreConcerned (row_of c.args.self.now.rows c.args.block) c.args.requestor c.args.request c.concerned-concerned.result
 concerned g c = record { own = c.concerned-concerned.ensures.own; others = c.concerned-concerned.ensures.others }
 
-within_row : (g : Over) (c : In-Some g) → c.in-Some.core < length (row_of c.args.self.now.rows c.args.block)
+within_row : (g : _) (c : In-Some g) → c.in-Some.core < length (row_of c.args.self.now.rows c.args.block)
 within_row g c = concerned_within (concerned g (goal.at.In-Some g c).After-concerned-concerned) c.requires.requestor c.in-Some.core c.in-Some.ensures.some.2
 
 -- the cores up to the one that is looked at have taken their rows
-so_far : (g : Over) (c : In-Some g) → Taking c.args.protocol c.args.requestor c.args.request (row_of c.args.self.now.rows c.args.block) (row_of c.loop-core.self.rows c.args.block) c.in-Some.core
+so_far : (g : _) (c : In-Some g) → Taking c.args.protocol c.args.requestor c.args.request (row_of c.args.self.now.rows c.args.block) (row_of c.loop-core.self.rows c.args.block) c.in-Some.core
 so_far g c =
     let within = within_row g c in
     Taking-past c.args.protocol c.args.requestor c.args.request _ _ c.loop-core.from c.in-Some.core
@@ -22,14 +21,14 @@ so_far g c =
     (c.in-Some.ensures.some.3 k above below) (c.concerned-concerned.ensures.proper k))
     c.in-Some.ensures.some.0 c.loop-core.invariant.0
 
-in_blocks : (g : Over) (c : In-Some g) → c.args.block < length c.loop-core.self.rows
+in_blocks : (g : _) (c : In-Some g) → c.args.block < length c.loop-core.self.rows
 in_blocks g c = rw (c.loop-core.invariant.2, length-set c.args.self.now.rows c.args.block (row_of c.loop-core.self.rows c.args.block)) c.requires.block
 
-in_row : (g : Over) (c : In-Some g) → c.in-Some.core < length (row_of c.loop-core.self.rows c.args.block)
+in_row : (g : _) (c : In-Some g) → c.in-Some.core < length (row_of c.loop-core.self.rows c.args.block)
 in_row g c = rw c.loop-core.invariant.0.same_length (within_row g c)
 
 -- the line that is looked at is the one that stood there at first
-first_line : (g : Over) (c : In-Some g) → line_at c.loop-core.self.rows c.in-Some.core c.args.block ≡ line_at c.args.self.now.rows c.in-Some.core c.args.block
+first_line : (g : _) (c : In-Some g) → line_at c.loop-core.self.rows c.in-Some.core c.args.block ≡ line_at c.args.self.now.rows c.in-Some.core c.args.block
 first_line g c = (so_far g c).left c.in-Some.core (omega arith)
 
 pub take_row-requires : goal.take_row-requires

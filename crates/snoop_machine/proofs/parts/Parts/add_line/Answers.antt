@@ -1,11 +1,9 @@
 use Rattle.snoop_machine.proofs.Common.{◌≡◌, [], ◌∙◌, ℕ, List, ap, length, arith, refl, slice_index_or, err_from_is_err_and, length-set, Waiting, waiting_of, KeepsMapsRoom, shown_line_rooms}
-use Rattle.snoop_machine.proofs.PartsViews.{held_in-set, keeps_room, shown-same, places-map, places-queue, sized_on}
-use Rattle.snoop_machine.proofs.Soundness.{queues_of-room, IsSound-room}
-use Rattle.snoop_machine.proofs.parts.Parts.add_line.Given.{Over}
+use Rattle.snoop_machine.proofs.PartsViews.{held_in-set, keeps_room, shown-same, places-map, places-queue, sized_on, queues_of-room, IsSound-room}
 use Rattle.snoop_machine.proofs.parts.Parts.add_line.Goals as goal
 use Rattle.snoop_machine.proofs.parts.Parts.add_line.Goals.{After-put_ahead}
 
-rows : (g : Over) (c : After-put_ahead g) → c.put_ahead.new.self.rows ≡ c.self.inside.lines.rows
+rows : (g : _) (c : After-put_ahead g) → c.put_ahead.new.self.rows ≡ c.self.inside.lines.rows
 rows g c = c.put_ahead.ensures.rows ∙ c.reserve.ensures.rows
 
 pub invariant_of-self-2 : goal.invariant_of-self-2

@@ -1,9 +1,7 @@
 use Rattle.snoop_machine.proofs.Common.{◌≡◌, ◌≢◌, false, Some, refl, sym, ◌∙◌, arith, slice_set, PutM, Fills, next_did, Line, filled_line, row_of, line_at, fields, Open, Protocol, Access, ℕ, IsProper, IsProper-fill, waiting_request, ap, fill-waits, I, Did}
 use Rattle.snoop_machine.proofs.Closing.{Closes, never_none, opened, header, in_cores, whole_after, room_after, responded, loses, arrives_get}
 use Rattle.snoop_machine.proofs.Following.{LinesGo-none, LinesGo-more, row_after}
-use Rattle.snoop_machine.proofs.Soundness.{IsSound-line}
-use Rattle.snoop_machine.proofs.PartsViews.{line_seen, rows_in, row_in, words_seen}
-use Rattle.snoop_machine.proofs.parts.Parts.finish_get.Given.{Over}
+use Rattle.snoop_machine.proofs.PartsViews.{IsSound-line, line_seen, rows_in, row_in, words_seen}
 use Rattle.snoop_machine.proofs.parts.Parts.finish_get.Goals as goal
 use Rattle.snoop_machine.proofs.parts.Parts.finish_get.Goals.{In-Some}
 
@@ -20,16 +18,16 @@ module _ {closing : Open} {p : Protocol} {old new : Line} {asking : Access} {val
   held-filled : IsProper old → old.state ≢ I
   held-filled proper e = let waits = proper.waiting in let waited = its.waited in cc
 
-abbrev closes : (g : Over) (c : In-Some g)
+abbrev closes : (g : _) (c : In-Some g)
     → Closes (fields c.self.inside.protocol c.self.inside.shape c.self.inside.lines c.self.inside.memory c.self.inside.bus c.self.inside.log) c.args.self.now c.args.came c.args.memory c.in-Some.closing
 closes g c = record { count = _; whole = c.self.invariant; view = c.self.view_is; within = c.requires.block; found = c.requires.closing; is_open = sym c.finish.ensures.closed ∙ c.in-Some.is }
 
 -- the requestor's line now
-abbrev line : (g : Over) (c : In-Some g) → Line
+abbrev line : (g : _) (c : In-Some g) → Line
 line g c = filled_line c.args.filled.next c.args.filled.access c.in-Some.closing.value
 
 -- the fill, on the line that the maps hold
-fills : (g : Over) (c : In-Some g)
+fills : (g : _) (c : In-Some g)
     → Fills c.in-Some.closing c.self.inside.protocol (line_at c.self.inside.lines.rows c.in-Some.closing.core c.args.came.block) (line g c) c.args.filled.access c.args.filled.value
 fills g c = rw (opened (closes g c), line_seen c.self.invariant c.self.view_is c.in-Some.closing.core c.args.came.block, ← c.self.view_is) at c.requires.filled
 

@@ -1,11 +1,10 @@
 use Rattle.snoop_machine.proofs.Common.{None, [], refl, sym, ◌∙◌, set-get_or, row_of, fields, PutM, ◌≡◌, arith, List, Line, ℕ, slice_set}
 use Rattle.snoop_machine.proofs.Closing.{Closes, never_none, header, whole_after, room_after, responded, loses}
 use Rattle.snoop_machine.proofs.Following.{LinesGo-none}
-use Rattle.snoop_machine.proofs.parts.Parts.finish_put.Given.{Over}
 use Rattle.snoop_machine.proofs.parts.Parts.finish_put.Goals as goal
 use Rattle.snoop_machine.proofs.parts.Parts.finish_put.Goals.{In-Some}
 
-abbrev closes : (g : Over) (c : In-Some g)
+abbrev closes : (g : _) (c : In-Some g)
     → Closes (fields c.self.inside.protocol c.self.inside.shape c.self.inside.lines c.self.inside.memory c.self.inside.bus c.self.inside.log) c.args.self.now c.args.came c.args.memory c.in-Some.closing
 closes g c = record { count = _; whole = c.self.invariant; view = c.self.view_is; within = c.requires.block; found = c.requires.closing; is_open = sym c.finish.ensures.closed ∙ c.in-Some.is }
 

@@ -1,12 +1,10 @@
 use Rattle.snoop_machine.proofs.Common.{◌≡◌, ℕ, ◌<◌, Option, Some, None, refl, sym, ap, ◌∙◌, length, arith, IfSome, IfNone, slice_get, waiting_request, Request, queue_of, head_of, WaitsOnNone, IsHead, get_or_past, []}
-use Rattle.snoop_machine.proofs.PartsViews.{state_seen}
-use Rattle.snoop_machine.proofs.Soundness.{head_alone, idle_from_head, first_shown}
-use Rattle.snoop_machine.proofs.parts.Parts.head.Given.{Over}
+use Rattle.snoop_machine.proofs.PartsViews.{state_seen, head_alone, idle_from_head, first_shown}
 use Rattle.snoop_machine.proofs.parts.Parts.head.Goals as goal
 use Rattle.snoop_machine.proofs.parts.Parts.head.Goals.{After-head}
 
 -- what callers see of the head of a queue, and of one without
-shown : (g : Over) (c : After-head g) (o : Option (Request × ℕ)) → head_of c.self.inside.bus c.args.core ≡ o
+shown : (g : _) (c : After-head g) (o : Option (Request × ℕ)) → head_of c.self.inside.bus c.args.core ≡ o
     → IfSome o (λ head. IsHead c.args.self.now.situation c.args.core head.0 head.1)
     × IfNone o (WaitsOnNone c.args.self.now.situation c.args.core)
     × IfNone o (slice_get (queue_of c.args.self.now.situation.queues c.args.core) 0 ≡ None)

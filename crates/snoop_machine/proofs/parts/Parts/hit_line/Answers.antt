@@ -1,6 +1,11 @@
-use Rattle.snoop_machine.proofs.Common.{◌≡◌, ℕ, refl, ◌∙◌, slice_set, set-get_or, held_by, with_line, nothing_held, Situation, picture_of, nothing_there, arith}
-use Rattle.snoop_machine.proofs.ProperLines.{loaded_same}
+use Rattle.snoop_machine.proofs.Common.{◌≡◌, ℕ, refl, ◌∙◌, slice_set, set-get_or, held_by, with_line, nothing_held, Situation, picture_of, nothing_there, arith, Access, CacheState, Line, changed}
 use Rattle.snoop_machine.proofs.parts.Parts.hit_line.Goals as goal
+use Rattle.snoop_trace.specs.declared.step.Op.TheVariants as op
+use Rattle.snoop_machine.specs.declared.cache.LineChange.TheVariants.{Hit}
+
+-- a load that hits leaves the line
+loaded_same : (access : Access) (next : CacheState) (line : Line) → access.op ≡ op.Load → next ≡ line.state → changed next (Hit access) line ≡ line
+loaded_same access next line load still = grind arith
 
 -- a line that is written as it was
 line_kept : (s : Situation) (block core : ℕ) → slice_set s.pictures block (with_line (picture_of s block) core (held_by (picture_of s block) core)) ≡ s.pictures

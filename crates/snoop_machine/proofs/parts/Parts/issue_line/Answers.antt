@@ -1,21 +1,19 @@
 use Rattle.snoop_machine.proofs.Common.{◌≡◌, ◌+◌, ◌-◌, ◌++◌, ◌∷◌, [], length, refl, arith, length-append, slice_set, Waiting, waiting_of, Line, with_line, changed, line_at, Fields, fields, standing, pictures_of, Wait}
 use Rattle.snoop_machine.proofs.Following.{follows-set}
-use Rattle.snoop_machine.proofs.Soundness.{IsSound-issue, queues_of-issue}
-use Rattle.snoop_machine.proofs.PartsViews.{seen, line_seen, picture_in, line-written, sized_on, held_in-set, keeps_room}
-use Rattle.snoop_machine.proofs.parts.Parts.issue_line.Given.{Over}
+use Rattle.snoop_machine.proofs.PartsViews.{IsSound-issue, queues_of-issue, seen, line_seen, picture_in, line-written, sized_on, held_in-set, keeps_room}
 use Rattle.snoop_machine.proofs.parts.Parts.issue_line.Goals as goal
 use Rattle.snoop_machine.proofs.parts.Parts.issue_line.Goals.{After-issue}
 
 -- the parts before it
-abbrev parts : (g : Over) (c : After-issue g) → Fields
+abbrev parts : (g : _) (c : After-issue g) → Fields
 parts g c = fields c.self.inside.protocol c.self.inside.shape c.self.inside.lines c.self.inside.memory c.self.inside.bus c.self.inside.log
 
 -- the line that the core has now
-abbrev line : (g : Over) (c : After-issue g) → Line
+abbrev line : (g : _) (c : After-issue g) → Line
 line g c = changed c.args.next (Wait c.args.waiting) (line_at c.self.inside.lines.rows c.args.core c.args.block)
 
 -- the picture that the block has now
-wrote : (g : Over) (c : After-issue g) → pictures_of c.change.new.self.rows c.self.inside.memory.states c.self.inside.memory.words c.issue.new.self.transactions
+wrote : (g : _) (c : After-issue g) → pictures_of c.change.new.self.rows c.self.inside.memory.states c.self.inside.memory.words c.issue.new.self.transactions
     ≡ slice_set (standing (parts g c)).situation.pictures c.args.block (with_line (picture_in (parts g c) c.args.block) c.args.core (line g c))
 wrote g c =
     rw c.issue.ensures.transactions (line-written c.self.invariant refl c.args.block c.change.new.self.rows c.args.core (line g c) c.change.ensures.rows)

@@ -1,13 +1,11 @@
 use Rattle.snoop_machine.proofs.Common.{◌∙◌, arith, refl, inl, Line, with_line, changed, line_at, Fields, fields}
 use Rattle.snoop_machine.proofs.Following.{follows-set}
-use Rattle.snoop_machine.proofs.Soundness.{IsSound-line}
-use Rattle.snoop_machine.proofs.PartsViews.{seen, line_seen, state_seen, words_seen, picture_in, line-written, sized_on, keeps_room}
-use Rattle.snoop_machine.proofs.parts.Parts.move_line.Given.{Over}
+use Rattle.snoop_machine.proofs.PartsViews.{IsSound-line, seen, line_seen, state_seen, words_seen, picture_in, line-written, sized_on, keeps_room}
 use Rattle.snoop_machine.proofs.parts.Parts.move_line.Goals as goal
 use Rattle.snoop_machine.proofs.parts.Parts.move_line.Goals.{After-change}
 
 -- the line that the core has now
-abbrev line : (g : Over) (c : After-change g) → Line
+abbrev line : (g : _) (c : After-change g) → Line
 line g c = changed c.args.next c.args.change (line_at c.self.inside.lines.rows c.args.core c.args.block)
 
 pub change-requires-clause-words : goal.change-requires-clause-words

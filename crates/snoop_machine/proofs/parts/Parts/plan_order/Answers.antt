@@ -2,7 +2,6 @@ use Rattle.snoop_machine.proofs.Common.{◌≡◌, Option, Some, None, refl, sym
 use Rattle.std.specs.Borrow.{Bor}
 use Rattle.snoop_machine.specs.declared.plan.Plan.TheVariants as plan
 use Rattle.snoop_machine.proofs.Plans.{plan-allowed}
-use Rattle.snoop_machine.proofs.parts.Parts.plan_order.Given.{Over}
 use Rattle.snoop_machine.proofs.parts.Parts.plan_order.Goals as goal
 use Rattle.snoop_machine.proofs.parts.Parts.plan_order.Goals.{After-sender-from}
 use Rattle.snoop_machine.proofs.PartsViews.{seen, line_seen, protocol_seen}
@@ -15,9 +14,7 @@ free_copied found transaction shown none = grind arith
 free_seen : {count : ℕ} {m : Fields} (whole : IsWhole count m) {now : Standing} (view : standing m ≡ now) (block : ℕ)
     → (picture_of now.situation block).transaction ≡ None
     → free_picture (row_of m.lines.rows block) (memory_line m.memory block) ≡ picture_of now.situation block
-free_seen whole view block free =
-    let shown = seen whole view block in
-    rw (shown, sym (ap (λ (x : Picture). x.transaction) shown) ∙ free)
+free_seen whole view block free = grind (arith, seen whole view block)
 
 pub sender-from-requires-clause-waits : goal.sender-from-requires-clause-waits
 sender-from-requires-clause-waits g c = rw (line_seen c.self.invariant c.self.view_is c.args.core c.in-Some.block) at c.in-Some.ensures.some.waits
@@ -39,7 +36,7 @@ sender-from-requires-clause-line g c =
     (c.in-Some.ensures.some.waits, free))
 
 -- what was found of the core's oldest request
-plan_is : (g : Over) (c : After-sender-from g) → IsPlan c.args.self.now.situation (plan.Order c.args.core c.in-Some.request c.in-Some.block c.sender-from.result.from c.sender-from.result.payload c.sender-from.result.memory)
+plan_is : (g : _) (c : After-sender-from g) → IsPlan c.args.self.now.situation (plan.Order c.args.core c.in-Some.request c.in-Some.block c.sender-from.result.from c.sender-from.result.payload c.sender-from.result.memory)
 plan_is g c =
     let free = free_copied _ _ c.transaction.ensures.value (sym c.is_some.ensures ∙ c.if-is_some.false) in
     let protocol = protocol_seen c.self.invariant c.self.view_is in

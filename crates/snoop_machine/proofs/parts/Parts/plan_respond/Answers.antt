@@ -1,6 +1,5 @@
 use Rattle.snoop_machine.proofs.Common.{arith, ℕ, ◌≡◌, ◌≢◌, Some, refl, sym, ap, ◌∙◌, subst, Option, option_copied, option_map, Respond, arrival, arrival_at_memory, PutM, Came, Open, came_of, Line, held_by, picture_of, IsClosing, finds_rows, sender_within, Access, if_some, ◌<◌}
 use Rattle.snoop_machine.proofs.PartsViews.{protocol_seen, words_seen}
-use Rattle.snoop_machine.proofs.parts.Parts.plan_respond.Given.{Over}
 use Rattle.snoop_machine.proofs.parts.Parts.plan_respond.Goals as goal
 use Rattle.snoop_machine.proofs.parts.Parts.plan_respond.Goals.{After-came-came}
 
@@ -25,14 +24,14 @@ fill-filled-requires-clause-word g c =
     (λ access is. rw count at (c.requires.inductive.accesses c.in-Some.closing.now.core c.args.block access is).0))
 
 -- the transaction is open
-opened : (g : Over) (c : After-came-came g) → (picture_of c.args.self.now.situation c.args.block).transaction ≡ Some c.in-Some.closing.now
+opened : (g : _) (c : After-came-came g) → (picture_of c.args.self.now.situation c.args.block).transaction ≡ Some c.in-Some.closing.now
 opened g c = sym c.transaction.ensures.value ∙ ap option_copied c.in-Some.is
 
 -- the response is to this block's
-its : (g : Over) (c : After-came-came g) → c.came-came.result.block ≡ c.args.block
+its : (g : _) (c : After-came-came g) → c.came-came.result.block ≡ c.args.block
 its g c = ap (λ (x : Came). x.block) c.came-came.ensures ∙ c.in-Some.ensures.within.0
 
-closes : (g : Over) (c : After-came-came g) → IsClosing c.args.self.now.situation c.came-came.result c.settle-memory.result
+closes : (g : _) (c : After-came-came g) → IsClosing c.args.self.now.situation c.came-came.result c.settle-memory.result
 closes g c =
     let here = c.in-Some.ensures.within.0 in
     rw c.came-came.ensures (record {

@@ -1,14 +1,12 @@
 use Rattle.snoop_machine.proofs.Common.{◌≡◌, ℕ, List, ◌<◌, ◌-◌, ◌++◌, ◌∷◌, [], length, drop, Option, Some, ◌∙◌, refl, sym, ap, arith, slice_set, length-set, length-append, length-drop, set-get_or, zero_words, Open, Waiting, waiting_of, head_of, Starts, MemLine, Picture, picture_of, row_of, MemTables, memory_line, Fields, fields, standing, pictures_of, Standing}
 use Rattle.snoop_history.specs.declared.items.Item.TheVariants as item
 use Rattle.snoop_machine.proofs.Following.{follows-rows}
-use Rattle.snoop_machine.proofs.PartsViews.{seen, line_seen, picture-written, sized_on, held_in-set, keeps_room}
-use Rattle.snoop_machine.proofs.Soundness.{head_from_line, head_alone, queues_of-order, IsSound-order}
-use Rattle.snoop_machine.proofs.parts.Parts.start.Given.{Over}
+use Rattle.snoop_machine.proofs.PartsViews.{seen, line_seen, picture-written, sized_on, held_in-set, keeps_room, head_from_line, head_alone, queues_of-order, IsSound-order}
 use Rattle.snoop_machine.proofs.parts.Parts.start.Goals as goal
 use Rattle.snoop_machine.proofs.parts.Parts.start.Goals.{After-words_sent-words, After-start}
 
 -- the head of the core's queue
-head : (g : Over) (c : After-words_sent-words g) → head_of c.self.inside.bus c.args.core ≡ Some (c.args.request, c.args.block)
+head : (g : _) (c : After-words_sent-words g) → head_of c.self.inside.bus c.args.core ≡ Some (c.args.request, c.args.block)
 head g c =
     head_from_line c.self.invariant.sound c.args.core c.args.request c.args.block (rw (← c.self.view_is) at c.requires.head.first)
     (rw (line_seen c.self.invariant c.self.view_is c.args.core c.args.block) at c.requires.head.waits)
@@ -30,34 +28,28 @@ words_sent-words-requires-clause-sender g c =
     grind (arith, seen c.self.invariant c.self.view_is c.args.block, row, c.self.view_is, c.requires.sender.sends)
 
 -- the parts before it
-abbrev parts : (g : Over) (c : After-start g) → Fields
+abbrev parts : (g : _) (c : After-start g) → Fields
 parts g c = fields c.self.inside.protocol c.self.inside.shape c.self.inside.lines c.self.inside.memory c.self.inside.bus c.self.inside.log
 
 -- the request leaves the core's queue, and its transaction opens
-starts : (g : Over) (c : After-start g)
+starts : (g : _) (c : After-start g)
     → Starts c.self.inside.bus c.start.new.self c.args.core c.args.request c.args.block c.args.payload c.words_sent-words.result c.args.from
 starts g c = rw (head g (goal.at.After-start g c).After-words_sent-words) at c.start.ensures
 
 -- the transaction that is open now
-abbrev opened : (g : Over) (c : After-start g) → Open
-opened g c = record {
-  core = c.args.core;
-  request = c.args.request;
-  block = c.args.block;
-  payload = c.args.payload;
-  value = c.words_sent-words.result;
-  from = c.args.from;
-}
+abbrev opened : (g : _) (c : After-start g) → Open
+opened g c =
+    record { core = c.args.core; request = c.args.request; block = c.args.block; payload = c.args.payload; value = c.words_sent-words.result; from = c.args.from }
 
 -- the block's picture now
-abbrev next : (g : Over) (c : After-start g) → Picture
+abbrev next : (g : _) (c : After-start g) → Picture
 next g c = record {
   caches = row_of c.take_rows.new.self.rows c.args.block;
   memory = record { state = c.args.memory; value = (memory_line c.self.inside.memory c.args.block).value };
   transaction = Some (opened g c);
 }
 
-wrote : (g : Over) (c : After-start g)
+wrote : (g : _) (c : After-start g)
     → pictures_of c.take_rows.new.self.rows c.move_to.new.self.states c.move_to.new.self.words c.start.new.self.transactions
     ≡ slice_set (standing (parts g c)).situation.pictures c.args.block (next g c)
 wrote g c =
