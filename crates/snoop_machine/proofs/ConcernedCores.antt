@@ -10,29 +10,22 @@ still : (p : Protocol) (s : CacheState) (q : Request) → concerns q s ≡ false
 unfolding is_owner
 still p s q h there = (let row = there.1 in grind arith)
 
-none_concerned : (q : Request) → concerns q state.I ≡ false
-unfolding is_owner
-none_concerned PutM = refl
-none_concerned _ = refl
-
 -- a set of the requestor and of the cores that its request concerns
 pub record AreConcerned (lines : List Line) (core : ℕ) (q : Request) (set : List ℕ) : Type 0 where
   pub own : has set core ≡ true
   pub others : (k : ℕ) → k ≢ core → has set k ≡ concerns q (held_at lines k).state
 
 module _ {lines : List Line} {core : ℕ} {q : Request} {set : List ℕ} (concerned : AreConcerned lines core q set) where
-  not_own : (k : ℕ) → has set k ≡ false → k ≢ core
-  not_own k out e = let both = ap (has set) e ∙ concerned.own in cc
-
   -- they are cores that there are
   pub concerned_within : core < length lines → (k : ℕ) → has set k ≡ true → k < length lines
-  concerned_within within k in_set = grind (arith, get_or_past lines k nothing_held, none_concerned q, concerned.others k)
+  unfolding is_owner
+  concerned_within within k in_set = grind (arith, get_or_past lines k nothing_held, concerned.others k)
 
   module _ (p : Protocol) (rows : (k : ℕ) → k < length lines → HasRow p (held_at lines k).state (seen_by k core q)) (k : ℕ) (within : k < length lines)
       (out : has set k ≡ false) where
     -- the row of a core that the request does not concern
     pub Cell-passed : Cell p (held_at lines k).state (seen_by k core q) action.None (held_at lines k).state
-    Cell-passed = grind (arith, ne_eqb k core, not_own k out, still p (held_at lines k).state q, concerned.others k, rows k within)
+    Cell-passed = grind (arith, ne_eqb k core, concerned.own, still p (held_at lines k).state q, concerned.others k, rows k within)
 
     -- its line stays as it is
     pub TakesRow-passed : IsProper (held_at lines k) → TakesRow p (seen_by k core q) (held_at lines k) (held_at lines k)

@@ -2,10 +2,6 @@
 use Rattle.snoop_machine.proofs.Common.{◌≡◌, ℕ, ◌+◌, ◌<◌, ◌≤◌, List, [], length, ap, arith, inl, inr, slice_index_or, slice_set, cases_eq, get_or-set_same, Line, nothing_held, Held, KeepsMapsRoom, LinesGo, WritesLine, gone, row_of, line_at, ◌≢◌, sym, ◌∙◌, refl, I, Picture, held_by, state_of, nothing_there, LosesLines, Fields, standing, IsWhole, Standing, line_count, each_place, get_or-set_other}
 use Rattle.snoop_machine.proofs.PartsViews.{state_seen, rows_in, row_in, has_picture}
 
--- no line has gone yet
-pub LinesGo-none : (block : ℕ) (held : Held) → LinesGo block held held
-LinesGo-none block held core = grind arith
-
 -- one core's line is written
 module _ {core block : ℕ} {line : Line} {old new : Held} (wrote : WritesLine core block line old new) (in_blocks : block < length old.rows) where
   pub row_after : row_of new.rows block ≡ slice_set (row_of old.rows block) core line
@@ -21,18 +17,7 @@ module _ {core block : ℕ} {line : Line} {old new : Held} (wrote : WritesLine c
 
     -- the room for lines is kept
     pub KeepsMapsRoom-more : KeepsMapsRoom first old → KeepsMapsRoom first new
-    KeepsMapsRoom-more kept k =
-        grind (arith, so_far k, kept k, wrote.room k, wrote.lines, wrote.others k, cases_eq k core)
-
-module _ (old new : Standing) (block : ℕ) (next : Picture) (within : block < length old.situation.pictures) (wrote : new.situation.pictures ≡ slice_set old.situation.pictures block next)
-    (lines : (k : ℕ) → line_count new k + gone (state_of old.situation k block) (held_by next k).state ≡ line_count old k) where
-  -- only the block's lines have changed
-  follows : (k : ℕ) → LosesLines old new k
-  follows k =
-      let was = state_of old.situation k block in
-      let here = get_or-set_same old.situation.pictures block next nothing_there within in
-      let others = get_or-set_other old.situation.pictures block in
-      grind (arith, lines k, wrote, here, others)
+    KeepsMapsRoom-more kept k = grind (arith, so_far k, kept k, wrote.room k, wrote.lines, wrote.others k, cases_eq k core)
 
 module _ {count : ℕ} {m : Fields} (whole : IsWhole count m) {old : Standing} (view : standing m ≡ old) (new : Standing) (block : ℕ) (next : Picture)
     (held : Held)
@@ -40,8 +25,9 @@ module _ {count : ℕ} {m : Fields} (whole : IsWhole count m) {old : Standing} (
   -- the lines of one block have moved
   pub follows-rows : next.caches ≡ row_of held.rows block → LinesGo block m.lines held → (k : ℕ) → LosesLines old new k
   follows-rows row go k =
-      rw (← view) (follows (standing m) new block next (has_picture whole view block within) wrote
-      (λ j. rw (lines, state_seen whole refl j block, row) (go j)) k)
+      let here = get_or-set_same (standing m).situation.pictures block next nothing_there (has_picture whole view block within) in
+      let others = get_or-set_other (standing m).situation.pictures block in
+      rw (← view) (grind (arith, go k, lines, wrote, here, others, state_seen whole refl k block, row))
 
   -- one line has moved
   pub follows-set : {core : ℕ} {line : Line} → WritesLine core block line m.lines held → core < old.situation.shape.cores
@@ -50,4 +36,4 @@ module _ {count : ℕ} {m : Fields} (whole : IsWhole count m) {old : Standing} (
   follows-set {core} moved in_cores row =
       let in_rows = rows_in whole view block within in
       follows-rows (row ∙ sym (row_after moved in_rows))
-      (LinesGo-more moved in_rows m.lines (LinesGo-none block m.lines) (row_in whole view core block in_cores within) refl)
+      (LinesGo-more moved in_rows m.lines (λ k. grind arith) (row_in whole view core block in_cores within) refl)

@@ -1,6 +1,6 @@
 -- One map was given another line of one block, and the holders have followed.
 use Rattle.snoop_machine.proofs.Common.{◌≡◌, ℕ, ◌<◌, false, List, length, refl, sym, ◌∙◌, ap, inl, inr, arith, slice_index_or, slice_set, nat_eq, cases_eq, ne_eqb, length-set, set-get_or, CacheState, Line, held_at, IsProper, keeps, Contents, no_cache, line_in, lines_held, AreHolders, HaveFollowed, StandsAs, no_holders, Held, AreLines, Holders, is_owner, ◌≢◌, ◌+◌, Option, None, [], ◌⊎◌, map, is_some, lookup, map-set, get_or-set_same, get_or-set_other, is_some-lookup, I, line_or_nothing, blocks_of, KeepsMapRoom, KeepsMapsRoom, WritesLine, held, held_by_block, gone, line_at, with_line_at, each_place, common_steps, get_or-map, length-map}
-use Rattle.snoop_machine.proofs.LineMaps.{IsMap, line-row, row-same, row-set, AreHolders-moved, rows-set, blocks_seen, spare_seen, maps-long}
+use Rattle.snoop_machine.proofs.LineMaps.{IsMap, row-same, row-set, AreHolders-moved, rows-set, blocks_seen, spare_seen, maps-long}
 use Rattle.std.proofs.lemmas.Map.Entries.{length-keys_of}
 
 module _ {caches : List Contents} {holders : List Holders} (lines : AreLines caches holders) (core : ℕ) (new : Contents) (within : core < length caches) where
@@ -22,7 +22,7 @@ module _ {caches : List Contents} {holders : List Holders} {now : Held} {core bl
   pub stands : (before : CacheState) → before ≡ (line_in old block).state → StandsAs core before (slice_index_or holders block no_holders)
   stands before was =
       let sets = its.lines.indexed block its.in_blocks in
-      grind (arith, line-row caches core block, its.read, sets.owners core, sets.readers core)
+      grind (arith, get_or-map (λ (cache : Contents). line_in cache block) caches core no_cache, its.read, sets.owners core, sets.readers core)
 
 -- the holders follow a core that stays
 pub followed-still : (core block : ℕ) (state : CacheState) (holders : List Holders) → StandsAs core state (slice_index_or holders block no_holders) → HaveFollowed core block state holders holders

@@ -17,14 +17,8 @@ settled line proper e = grind arith
 pub moves_to_same : (line : Line) → IsProper line → moves_to line.state line ≡ line
 moves_to_same line proper = grind arith
 
-length-rows : (blocks : ℕ) (caches : List Contents) → length (held_by_block blocks caches) ≡ blocks
-length-rows blocks caches = length-map-range_with_len (lines_held caches) 0 blocks
-
 pub row-rows : (blocks : ℕ) (caches : List Contents) (block : ℕ) → block < blocks → slice_index_or (held_by_block blocks caches) block [] ≡ lines_held caches block
 row-rows blocks caches block h = get_or-map-range_with_len (lines_held caches) 0 blocks block block [] h (omega arith)
-
-pub line-row : (caches : List Contents) (core block : ℕ) → held_at (lines_held caches block) core ≡ line_in (slice_index_or caches core no_cache) block
-line-row caches core block = get_or-map (λ (cache : Contents). line_in cache block) caches core no_cache
 
 -- a map whose line of the block is as it was leaves the row as it was
 pub row-same : (caches : List Contents) (core block : ℕ) (new : Contents) → line_in new block ≡ line_in (slice_index_or caches core no_cache) block
@@ -46,7 +40,7 @@ rows-set blocks caches core block new line inside here others =
     let rows = held_by_block blocks caches in
     let row = slice_set (slice_index_or rows block []) core line in
     let after = slice_set caches core new in
-    let long : length rows ≡ blocks = length-rows blocks caches in
+    let long : length rows ≡ blocks = length-map-range_with_len (lines_held caches) 0 blocks in
     sym (fill_by_all (lines_held after) (slice_set rows block row) blocks [] (length-set rows block row ∙ long)
     (each_place (λ b its. b < blocks → its ≡ lines_held after b) rows block row [] (omega arith)
     (λ lt. rw (row-rows blocks caches block lt) (sym (row-set caches core block new line here)))
@@ -84,13 +78,13 @@ module _ {caches : List Contents} {holders : List Holders} (lines : AreLines cac
   in_maps core within = rw maps-long at within
 
   rows-long : length now.rows ≡ length holders
-  rows-long = sym (ap (λ (h : Held). length h.rows) view) ∙ length-rows (length holders) caches
+  rows-long = sym (ap (λ (h : Held). length h.rows) view) ∙ length-map-range_with_len (lines_held caches) 0 (length holders)
 
   pub row_seen : (block : ℕ) → block < length holders → lines_held caches block ≡ row_of now.rows block
   row_seen block within = sym (row-rows (length holders) caches block within) ∙ ap (λ (h : Held). row_of h.rows block) view
 
   pub line_seen : (core block : ℕ) → block < length holders → line_in (slice_index_or caches core no_cache) block ≡ line_at now.rows core block
-  line_seen core block within = sym (line-row caches core block) ∙ ap (λ (r : List Line). held_at r core) (row_seen block within)
+  line_seen core block within = sym (get_or-map (λ (cache : Contents). line_in cache block) caches core no_cache) ∙ ap (λ (r : List Line). held_at r core) (row_seen block within)
 
   -- a block and a core with a place in the rows
   pub in_rows : (core block : ℕ) → block < length now.rows → core < length (row_of now.rows block) → (block < length holders) × (core < length caches)
@@ -113,14 +107,7 @@ module _ {caches : List Contents} {holders : List Holders} (lines : AreLines cac
   is_map core block in_blocks in_cores map found =
       let within = in_rows core block in_blocks in_cores in
       let read = get_or_read caches core map within.1 found no_cache in
-      record {
-        lines = lines;
-        view = view;
-        in_blocks = within.0;
-        in_cores = within.1;
-        read = read;
-        was = ap (λ (cache : Contents). line_in cache block) read ∙ line_seen core block within.0;
-      }
+      grind (arith, lines, view, within, read, line_seen core block within.0)
 
   -- where the map has no line the core is in I
   pub none_held : (core block : ℕ) → is_some (lookup (nat_eq block) (slice_index_or caches core no_cache).entries) ≡ false → (line_at now.rows core block).state ≡ I
@@ -131,8 +118,3 @@ module _ {caches : List Contents} {holders : List Holders} (lines : AreLines cac
   -- where the core holds the block the map has a line
   pub held_placed : (core block : ℕ) → (line_at now.rows core block).state ≢ I → is_some (lookup (nat_eq block) (slice_index_or caches core no_cache).entries) ≡ true
   held_placed core block held = true_from_ne_false _ (λ none. held (none_held core block none))
-
-  -- a line that may be written has a place
-  pub mover_placed : (core block : ℕ) (next : CacheState) → MayMoveTo now core block next → is_some (lookup (nat_eq block) (slice_index_or caches core no_cache).entries) ≡ true
-  mover_placed core block next (inl held) = held_placed core block held
-  mover_placed core block next (inr new) = among_seen core block ∙ new.0

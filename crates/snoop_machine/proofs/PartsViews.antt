@@ -276,7 +276,7 @@ sized_on m n sized shape lines memory log = grind arith
 abbrev pub held_in : List Waiting → ℕ → ℕ
 held_in queues core = length (slice_index_or queues core no_queue).requests + (slice_index_or queues core no_queue).room
 
-rooms_at : (queues : List Waiting) (core : ℕ) → slice_index (map (λ (q : Waiting). q.room) queues) core ≡ (slice_index_or queues core no_queue).room
+pub rooms_at : (queues : List Waiting) (core : ℕ) → slice_index (map (λ (q : Waiting). q.room) queues) core ≡ (slice_index_or queues core no_queue).room
 rooms_at queues core = get_or-map (λ (q : Waiting). q.room) queues core no_queue
 
 -- it is the capacity that callers see
@@ -285,7 +285,7 @@ capacity_held queues core =
     grind (arith, queue_of-queues_of queues core, length-map (slice_index_or queues core no_queue).requests (λ (r : Request × ℕ). r.1), rooms_at queues core)
 
 -- the room of a map as callers see it
-shown_at : (queues : List Waiting) (line_rooms : List ℕ) (core : ℕ) → slice_index (shown_line_rooms queues line_rooms) core ≡ shown_line_room (slice_index_or queues core no_queue).room (slice_index_or line_rooms core 0)
+pub shown_at : (queues : List Waiting) (line_rooms : List ℕ) (core : ℕ) → slice_index (shown_line_rooms queues line_rooms) core ≡ shown_line_room (slice_index_or queues core no_queue).room (slice_index_or line_rooms core 0)
 shown_at [] line_rooms core = refl
 shown_at (q ∷ qs) [] core = grind arith
 shown_at (q ∷ qs) (s ∷ ss) zero = refl
@@ -300,14 +300,6 @@ shown-same (q ∷ qs) (s ∷ ss) (suc core) spare full = ap (λ (l : List ℕ). 
 
 -- what holds of the room of parts, of which callers see this
 module _ {count : ℕ} {m : Fields} (whole : IsWhole count m) {now : Standing} (view : standing m ≡ now) where
-  -- there is no place where the queue has no room, nor where the map has none
-  pub places-queue : (core : ℕ) → (waiting_of m.bus core).room ≡ 0 → places now core ≡ 0
-  places-queue core full = let its = rooms_at m.bus.queues core in rw (← view) (omega arith)
-
-  pub places-map : (core : ℕ) → slice_index_or m.lines.line_rooms core 0 ≡ 0 → places now core ≡ 0
-  places-map core full =
-      rw (← view) (grind (arith, shown_at m.bus.queues m.lines.line_rooms core))
-
   -- another queue for one core, of no less capacity
   pub held_in-set : (bus : Traffic) (core : ℕ) (queue : Waiting) → bus.queues ≡ slice_set m.bus.queues core queue → core < now.situation.shape.cores
       → held_in m.bus.queues core ≤ length queue.requests + queue.room → (k : ℕ) → held_in m.bus.queues k ≤ held_in bus.queues k

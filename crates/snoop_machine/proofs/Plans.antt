@@ -15,18 +15,6 @@ use Rattle.snoop_model.proofs.Tables.EvictInI.{no_row}
 pub plan-allowed : (s : Situation) (x : Plan) → IsPlan s x → (cause : Refused) → ¬ Refuses s (planned_step x) cause
 plan-allowed s x h cause g = grind (arith, h)
 
--- the requestor performs the operation that waits
-fills-adds : (q : Request) (closing : Open) (p : Protocol) (log : List Item) (old new : List Line) (did : Option Did) (line : Line) (asking : Access) (value : ℕ)
-    → q ≢ PutM → ArrivesFor q closing p log old new did → Fills closing p (held_at old closing.core) line asking value
-    → did ≡ Some (next_did log closing.core closing.block asking.word asking.op value false)
-fills-adds q closing p log old new did line asking value get f t = grind arith
-
--- a Respond is of the transaction whose response this is
-its_response : {s : Situation} {came : Came} {block : ℕ} {answer : Reply} {new : Situation}
-    → option_map came_of (picture_of s came.block).transaction ≡ Some came
-    → (m : RespondMove block s came.block answer new) → came_of m.closing ≡ came
-its_response opened m = same_Some _ _ (sym (ap (option_map came_of) (rw (← m.on_block) at m.responds.opened)) ∙ opened)
-
 -- a planned step adds the plan's item, whatever move it is
 plan-adds : (s : Situation) (x : Plan) → IsPlan s x → (answer : Reply) (new : Situation) → FirstMove s (planned_step x) answer new → new.log ≡ s.log ++ option_to_list (entry_of s.log x)
 plan-adds s (plan.Ask core block word asking asked) h answer new m =
@@ -34,21 +22,15 @@ plan-adds s (plan.Ask core block word asking asked) h answer new m =
 plan-adds s (plan.Order core request block from payload memory) h answer new m =
     grind (arith, m.1.0, h.1.head.first, h.1.head.waits, m.1.1.orders.ready, m.1.1.orders.after)
 plan-adds s (plan.Writeback came memory) h answer new m =
-    grind (arith, its_response h.1.opened m.1.1, h.2, m.1.1.responds.after, m.1.1.responds.requestor)
+    grind (arith, h.1.opened, m.1.1.on_block, m.1.1.responds.opened, h.2, m.1.1.responds.after, m.1.1.responds.requestor)
 plan-adds s (plan.Fill came memory filled) h answer new m =
-    let its = its_response h.1.opened m.1.1 in
     let responds = m.1.1.responds in
-    let did = fills-adds m.1.1.closing.request m.1.1.closing s.protocol s.log (picture_of s m.0).caches responds.next.caches m.1.1.did _ filled.access filled.value
-    (λ e. h.2 (sym (ap (λ (x : Came). x.request) its) ∙ e)) responds.requestor (rw (m.1.1.on_block, responds.opened) at h.3) in
-    rw (responds.after, ← its) (ap (λ (did : Option Did). s.log ++ item.Came (came_of m.1.1.closing) did ∷ []) did)
+    let fills = rw (m.1.1.on_block, responds.opened) at h.3 in
+    grind (arith, h.1.opened, m.1.1.on_block, m.1.1.responds.opened, h.2, responds.after, responds.requestor, fills)
 
 -- where the plan has no room the step has none
 pub IsFull-plan : (before : Standing) (taking : Step) (x : Plan) → IsPlanFor before.situation taking x → room_for before x ≡ 0 → IsFull before taking
 IsFull-plan before taking x h none = rw (← h.0) (grind (arith, h))
-
--- a planned step is refused as out of memory alone
-pub RefusedFor-memory : (s : Situation) (taking : Step) (x : Plan) → IsPlanFor s taking x → RefusedFor s taking NoMemory
-RefusedFor-memory s taking x h = rw h.0 at (plan-allowed s x h.1)
 
 -- a planned step with its room is prepared
 pub IsPrepared-plan : (before : Standing) (taking : Step) (x : Plan) (entry : Option Item) → IsPlanFor before.situation taking x → HasRoom before x → entry ≡ entry_of before.situation.log x

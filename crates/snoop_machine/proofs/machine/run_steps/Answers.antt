@@ -35,7 +35,5 @@ returns-clause-run c =
 
 pub returns-clause-stays : goal.returns-clause-stays
 returns-clause-stays c =
-    let old : Standing = (stand c.machine.inside.parts) in
-    let new : Standing = (stand c.loop-step.machine-inside.parts) in
     let so_far = c.loop-step.invariant.0 in
-    rw c.machine.view_is at (steps_stay (take c.loop-step.step-index c.args.steps.now) so_far.outcomes old new so_far.run)
+    rw c.machine.view_is at (steps_stay (take c.loop-step.step-index c.args.steps.now) so_far.outcomes (stand c.machine.inside.parts) _ so_far.run)

@@ -1,6 +1,6 @@
 use Rattle.snoop_machine.proofs.Common.{◌∙◌, ap, arith, inl, inr, Line, changed, line_at}
 use Rattle.snoop_machine.proofs.LineChanges.{HasWritten, lines_after, writes, stands}
-use Rattle.snoop_machine.proofs.LineMaps.{IsMap, is_map, in_rows, mover_placed, settled}
+use Rattle.snoop_machine.proofs.LineMaps.{IsMap, is_map, in_rows, held_placed, among_seen, settled}
 use Rattle.snoop_machine.proofs.lines.Lines.change.Goals as goal
 use Rattle.snoop_machine.proofs.lines.Lines.change.Goals.{After-index_mut-cache, After-follow}
 
@@ -14,7 +14,8 @@ line g c = changed c.args.next c.args.change (line_at c.args.self.now.rows c.arg
 pub change-before-requires-clause-place : goal.change-before-requires-clause-place
 change-before-requires-clause-place g c =
     let its = is_map c.self.invariant c.self.view_is c.args.core c.args.block c.requires.block c.requires.core _ c.index_mut-cache.ensures.value in
-    rw its.read (mover_placed c.self.invariant c.self.view_is c.args.core c.args.block c.args.next c.requires.place)
+    let held = held_placed c.self.invariant c.self.view_is c.args.core c.args.block in
+    rw its.read (grind (arith, held, among_seen c.self.invariant c.self.view_is c.args.core c.args.block, c.requires.place))
 
 pub change-before-requires-clause-settled : goal.change-before-requires-clause-settled
 change-before-requires-clause-settled g c =

@@ -25,9 +25,7 @@ module _ (caches : List Contents) (empty : (core : ℕ) → (slice_index_or cach
   empty-push cache own core = grind (arith, common_steps, empty core)
 
 counted : (g : _) (c : In_ok-holders g) → length c.loop.caches.items ≡ c.args.shape.cores
-counted g c =
-    let many = c.loop.invariant.1 in
-    omega (arith, many, c.loop-test.false, c.loop.auto.counter-end, c.cores-cores.ensures.value)
+counted g c = omega (arith, c.loop.invariant.1, c.loop-test.false, c.loop.auto.counter-end, c.cores-cores.ensures.value)
 
 holders_are : (g : _) (c : In_ok-holders g) → c.in_ok-holders.holders ≡ replicate c.args.shape.blocks c.empty.result
 holders_are g c = c.in_ok-holders.ensures ∙ ap (λ (n : ℕ). replicate n c.empty.result) c.blocks-2.ensures.value

@@ -29,9 +29,9 @@ state-state-requires-clause-core g c = within_row g (goal.at.state-state-require
 
 pub unreachable-requires-in_default-cache_cell : goal.unreachable-requires-in_default-cache_cell
 unreachable-requires-in_default-cache_cell g c =
-    let core = c.in-Some-next.core in
     let none = rw (c.event_seen.ensures, c.state-state.ensures) at c.in_default-cache_cell.ensures.impossible in
-    let there = (c.requires.rows core (within_row g (goal.at.unreachable-requires-in_default-cache_cell g c).In-Some-next)).1 in
+    let within = within_row g (goal.at.unreachable-requires-in_default-cache_cell g c).In-Some-next in
+    let there = (c.requires.rows c.in-Some-next.core within).1 in
     cc
 
 pub returns-in-Send-action-clause-sender : goal.returns-in-Send-action-clause-sender

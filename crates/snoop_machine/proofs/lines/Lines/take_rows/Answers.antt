@@ -24,9 +24,6 @@ so_far g c =
 in_blocks : (g : _) (c : In-Some g) → c.args.block < length c.loop-core.self.rows
 in_blocks g c = rw (c.loop-core.invariant.2, length-set c.args.self.now.rows c.args.block (row_of c.loop-core.self.rows c.args.block)) c.requires.block
 
-in_row : (g : _) (c : In-Some g) → c.in-Some.core < length (row_of c.loop-core.self.rows c.args.block)
-in_row g c = rw c.loop-core.invariant.0.same_length (within_row g c)
-
 -- the line that is looked at is the one that stood there at first
 first_line : (g : _) (c : In-Some g) → line_at c.loop-core.self.rows c.in-Some.core c.args.block ≡ line_at c.args.self.now.rows c.in-Some.core c.args.block
 first_line g c = (so_far g c).left c.in-Some.core (omega arith)
@@ -36,7 +33,7 @@ take_row-requires g c =
     let d = (goal.at.take_row-requires g c).In-Some in
     record {
       block = in_blocks g d;
-      core = in_row g d;
+      core = rw c.loop-core.invariant.0.same_length (within_row g d);
       row = rw (c.event_seen.ensures, first_line g d) (c.requires.rows c.in-Some.core (within_row g d));
       lands = λ action next cell. rw (first_line g d) (IsProper-order c.args.protocol _ c.in-Some.core c.args.requestor c.args.request action next
           (c.concerned-concerned.ensures.proper c.in-Some.core) (rw (c.event_seen.ensures, first_line g d) at cell));
@@ -63,7 +60,7 @@ loop-core-preserved g c =
       omega arith,
       cc (wrote.rows, before.2, set-set first.rows block (row_of now.rows block) (row_of new.rows block), after),
       wrote.many ∙ before.3,
-      LinesGo-more wrote in_rows first before.4 (in_row g d) (first_line g d),
+      LinesGo-more wrote in_rows first before.4 (rw before.0.same_length within) (first_line g d),
       KeepsMapsRoom-more wrote in_rows first before.4 before.5,
     )
 

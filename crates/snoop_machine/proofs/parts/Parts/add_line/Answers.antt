@@ -1,5 +1,5 @@
 use Rattle.snoop_machine.proofs.Common.{◌≡◌, [], ◌∙◌, ℕ, List, ap, length, arith, refl, slice_index_or, err_from_is_err_and, length-set, Waiting, waiting_of, KeepsMapsRoom, shown_line_rooms}
-use Rattle.snoop_machine.proofs.PartsViews.{held_in-set, keeps_room, shown-same, places-map, places-queue, sized_on, queues_of-room, IsSound-room}
+use Rattle.snoop_machine.proofs.PartsViews.{held_in-set, keeps_room, shown-same, rooms_at, shown_at, sized_on, queues_of-room, IsSound-room}
 use Rattle.snoop_machine.proofs.parts.Parts.add_line.Goals as goal
 use Rattle.snoop_machine.proofs.parts.Parts.add_line.Goals.{After-put_ahead}
 
@@ -19,21 +19,21 @@ invariant_of-self-2 g c =
 pub returns-in_err-reserve-clause-full : goal.returns-in_err-reserve-clause-full
 returns-in_err-reserve-clause-full g c =
     let p = err_from_is_err_and c.from_residual.result c.from_residual.ensures.1 in
-    rw p.1 (places-map c.self.invariant c.self.view_is c.args.core c.in_err-reserve.ensures.full)
+    rw (p.1, ← c.self.view_is)
+    (grind (arith, shown_at c.self.inside.bus.queues c.self.inside.lines.line_rooms c.args.core, c.in_err-reserve.ensures.full))
 
 pub returns-in_err-reserve-2-clause-full : goal.returns-in_err-reserve-2-clause-full
 returns-in_err-reserve-2-clause-full g c =
     let p = err_from_is_err_and c.from_residual-in_err-reserve-2.result c.from_residual-in_err-reserve-2.ensures.1 in
-    rw p.1 (places-queue c.self.invariant c.self.view_is c.args.core c.in_err-reserve-2.ensures.full)
+    rw (p.1, ← c.self.view_is) (grind (arith, rooms_at c.self.inside.bus.queues c.args.core, c.in_err-reserve-2.ensures.full))
 
 pub returns-in_err-reserve-2-clause-refused : goal.returns-in_err-reserve-2-clause-refused
 returns-in_err-reserve-2-clause-refused g c =
-    let queues = c.self.inside.bus.queues in
-    let line_rooms = c.self.inside.lines.line_rooms in
     let p = err_from_is_err_and c.from_residual-in_err-reserve-2.result c.from_residual-in_err-reserve-2.ensures.1 in
-    let shown : shown_line_rooms queues c.reserve.new.self.line_rooms ≡ shown_line_rooms queues line_rooms =
-    rw c.reserve.ensures.line_rooms (shown-same queues line_rooms c.args.core _ c.in_err-reserve-2.ensures.full) in
-    rw (p.1, c.in_err-reserve-2.ensures.refused, c.reserve.ensures.rows, c.reserve.ensures.lines, shown) c.self.view_is
+    let did = c.reserve.ensures in
+    let shown = shown-same c.self.inside.bus.queues c.self.inside.lines.line_rooms c.args.core (slice_index_or c.reserve.new.self.line_rooms c.args.core 0)
+    c.in_err-reserve-2.ensures.full in
+    rw (p.1, c.in_err-reserve-2.ensures.refused, did.rows, did.lines, did.line_rooms, shown) c.self.view_is
 
 pub returns-in_err-reserve-2-clause-room : goal.returns-in_err-reserve-2-clause-room
 returns-in_err-reserve-2-clause-room g c =
@@ -42,9 +42,9 @@ returns-in_err-reserve-2-clause-room g c =
 
 pub returns-clause-unchanged : goal.returns-clause-unchanged
 returns-clause-unchanged g c =
-    let bus = c.self.inside.bus in
-    let room = (waiting_of c.reserve-2.new.self c.args.core).room in
-    rw (rows g (goal.at.returns-clause-unchanged g c).After-put_ahead, c.reserve-2.ensures.queue, queues_of-room bus.queues c.args.core room, c.reserve-2.ensures.transactions) (ap (λ s. s.situation) c.self.view_is)
+    let rows = rows g (goal.at.returns-clause-unchanged g c).After-put_ahead in
+    let shown = queues_of-room c.self.inside.bus.queues c.args.core (waiting_of c.reserve-2.new.self c.args.core).room in
+    rw (rows, c.reserve-2.ensures.queue, shown, c.reserve-2.ensures.transactions) (ap (λ s. s.situation) c.self.view_is)
 
 pub returns-clause-room : goal.returns-clause-room
 returns-clause-room g c =

@@ -1,6 +1,6 @@
 use Rattle.snoop_machine.proofs.Common.{◌≡◌, ◌≢◌, false, Some, refl, sym, ◌∙◌, arith, slice_set, PutM, Fills, next_did, Line, filled_line, row_of, line_at, fields, Open, Protocol, Access, ℕ, IsProper, IsProper-fill, waiting_request, ap, fill-waits, I, Did}
 use Rattle.snoop_machine.proofs.Closing.{Closes, never_none, opened, header, in_cores, whole_after, room_after, responded, loses, arrives_get}
-use Rattle.snoop_machine.proofs.Following.{LinesGo-none, LinesGo-more, row_after}
+use Rattle.snoop_machine.proofs.Following.{LinesGo-more, row_after}
 use Rattle.snoop_machine.proofs.PartsViews.{IsSound-line, line_seen, rows_in, row_in, words_seen}
 use Rattle.snoop_machine.proofs.parts.Parts.finish_get.Goals as goal
 use Rattle.snoop_machine.proofs.parts.Parts.finish_get.Goals.{In-Some}
@@ -78,5 +78,5 @@ returns g c =
           (record { line = line g d; asking = access; value = c.args.filled.value; fills = fills g d; held = refl; logged = ap (λ (x : Did). Some x) performed }));
       room = room_after (closes g d) did c.fill.new.self _ wrote.rows c.requires.room wrote.room;
       lines = loses (closes g d) did c.fill.new.self _ wrote.rows (sym (row_after wrote in_rows))
-          (LinesGo-more wrote in_rows lines (LinesGo-none c.args.came.block lines) in_row refl);
+          (LinesGo-more wrote in_rows lines (λ k. grind arith) in_row refl);
     })

@@ -16,12 +16,11 @@ shown g c None is = (
 )
 shown g c (Some head) is =
     let waits = (head_alone c.self.invariant.sound c.args.core head.0 head.1 is).0 in
-    let within : head.1 < length c.self.inside.lines.rows = grind (arith, get_or_past c.self.inside.lines.rows head.1 []) in
-    let rows = c.self.invariant.sound.rows in (
+    let within : head.1 < length c.self.inside.lines.rows = grind (arith, get_or_past c.self.inside.lines.rows head.1 []) in (
       rw (← c.self.view_is) (record {
         first = first_shown c.self.inside.bus c.args.core ∙ rw is refl;
         waits = ap waiting_request (state_seen c.self.invariant refl c.args.core head.1) ∙ waits;
-        within = omega arith;
+        within = rw (← c.self.invariant.sound.rows) within;
       }),
       tt,
       tt,

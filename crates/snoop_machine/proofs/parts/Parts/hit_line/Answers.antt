@@ -15,13 +15,9 @@ line_kept s block core = rw (set-get_or (picture_of s block).caches core nothing
 pub returns-in-Load-clause-written : goal.returns-in-Load-clause-written
 returns-in-Load-clause-written g c =
     let s = c.args.self.now.situation in
-    rw (
-      loaded_same c.args.access c.args.next (held_by (picture_of s c.args.block) c.args.core) c.in-Load.is (c.requires.still c.in-Load.is),
-      line_kept s c.args.block c.args.core,
-      c.push.ensures,
-      c.next_did-did.ensures,
-      ← c.self.view_is,
-    ) refl
+    let line = held_by (picture_of s c.args.block) c.args.core in
+    let same = loaded_same c.args.access c.args.next line c.in-Load.is (c.requires.still c.in-Load.is) in
+    rw (same, line_kept s c.args.block c.args.core, c.push.ensures, c.next_did-did.ensures, ← c.self.view_is) refl
 
 pub returns-in-Load-clause-lines : goal.returns-in-Load-clause-lines
 returns-in-Load-clause-lines g c k = rw (← c.self.view_is) (grind arith)
@@ -34,5 +30,4 @@ pub returns-clause-written : goal.returns-clause-written
 returns-clause-written g c = c.move_line.ensures.written ∙ rw (c.push.ensures, c.next_did-did.ensures, ← c.self.view_is) refl
 
 pub returns-clause-lines : goal.returns-clause-lines
-returns-clause-lines g c k =
-    rw (← c.self.view_is) (grind (arith, c.move_line.ensures.lines k))
+returns-clause-lines g c k = rw (← c.self.view_is) (grind (arith, c.move_line.ensures.lines k))

@@ -11,9 +11,8 @@ invariant_of-self g c = record {
 
 pub returns-clause-unchanged : goal.returns-clause-unchanged
 returns-clause-unchanged g c =
-    let bus = c.self.inside.bus in
-    let room = (waiting_of c.reserve.new.self c.args.core).room in
-    rw (c.reserve.ensures.queue, queues_of-room bus.queues c.args.core room, c.reserve.ensures.transactions) (ap (λ s. s.situation) c.self.view_is)
+    let shown = queues_of-room c.self.inside.bus.queues c.args.core (waiting_of c.reserve.new.self c.args.core).room in
+    rw (c.reserve.ensures.queue, shown, c.reserve.ensures.transactions) (ap (λ s. s.situation) c.self.view_is)
 
 pub returns-clause-room : goal.returns-clause-room
 returns-clause-room g c =

@@ -42,17 +42,9 @@ pub returns : goal.returns
 returns g c =
     let shape = c.args.shape in
     let bus = c.in_ok-bus.ensures in
+    let queues = queues_of-reset shape c.in_ok-bus.bus bus.queues.0 bus.queues.1 bus.transactions in
+    let pictures = pictures_of-replicate shape.blocks (replicate shape.cores nothing_held) (first_memory c.args.protocol) zero_words None in
     record {
-      situation = rw (
-        c.in_ok-lines.ensures.rows,
-        c.in_ok-memory.ensures,
-        bus.transactions,
-        c.blocks-2.ensures.value,
-        c.first_state.ensures,
-        pictures_of-replicate shape.blocks (replicate shape.cores nothing_held) (first_memory c.args.protocol) zero_words None,
-        queues_of-reset shape c.in_ok-bus.bus bus.queues.0 bus.queues.1 bus.transactions,
-        bus.queues.0,
-        c.in_ok-log.ensures,
-      ) refl;
+      situation = rw (c.in_ok-lines.ensures.rows, c.in_ok-memory.ensures, bus.transactions, c.blocks-2.ensures.value, c.first_state.ensures, pictures, queues, bus.queues.0, c.in_ok-log.ensures) refl;
       empty = λ core. rw (c.in_ok-lines.ensures.lines, replicated {X = List ℕ} shape.cores core []) refl;
     }
