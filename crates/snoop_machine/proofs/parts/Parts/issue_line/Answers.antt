@@ -4,19 +4,9 @@ use Rattle.snoop_machine.proofs.PartsViews.{IsSound-issue, queues_of-issue, seen
 use Rattle.snoop_machine.proofs.parts.Parts.issue_line.Goals as goal
 use Rattle.snoop_machine.proofs.parts.Parts.issue_line.Goals.{After-issue}
 
--- the parts before it
-abbrev parts : (g : _) (c : After-issue g) → Fields
-parts g c = fields c.self.inside.protocol c.self.inside.shape c.self.inside.lines c.self.inside.memory c.self.inside.bus c.self.inside.log
-
 -- the line that the core has now
 abbrev line : (g : _) (c : After-issue g) → Line
 line g c = changed c.args.next (Wait c.args.waiting) (line_at c.self.inside.lines.rows c.args.core c.args.block)
-
--- the picture that the block has now
-wrote : (g : _) (c : After-issue g) → pictures_of c.change.new.self.rows c.self.inside.memory.states c.self.inside.memory.words c.issue.new.self.transactions
-    ≡ slice_set (standing (parts g c)).situation.pictures c.args.block (with_line (picture_in (parts g c) c.args.block) c.args.core (line g c))
-wrote g c =
-    rw c.issue.ensures.transactions (line-written c.self.invariant refl c.args.block c.change.new.self.rows c.args.core (line g c) c.change.ensures.rows)
 
 pub change-requires-clause-proper : goal.change-requires-clause-proper
 change-requires-clause-proper g c = rw (line_seen c.self.invariant c.self.view_is c.args.core c.args.block) at c.requires.proper
@@ -36,15 +26,16 @@ invariant_of-self g c =
 pub returns : goal.returns
 returns g c =
     let d = (goal.at.returns g c).After-issue in
-    let m = parts g d in
+    let m = fields c.self.inside.protocol c.self.inside.shape c.self.inside.lines c.self.inside.memory c.self.inside.bus c.self.inside.log in
     let core = c.args.core in
     let before = waiting_of m.bus core in
     let long = length-append before.requests ((c.args.request, c.args.block) ∷ []) in
     let shown = queues_of-issue m.bus.queues core c.args.block (before.room - 1) c.args.request in
+    let wrote = line-written c.self.invariant refl c.args.block c.change.new.self.rows core (line g d) c.change.ensures.rows in
     record {
-      written = rw (← c.self.view_is, seen c.self.invariant refl c.args.block, wrote g d, c.issue.ensures.queue, shown);
+      written = rw (← c.self.view_is, seen c.self.invariant refl c.args.block, c.issue.ensures.transactions, wrote, c.issue.ensures.queue, shown);
       room = keeps_room c.self.invariant c.self.view_is c.change.new.self m.memory c.issue.new.self m.log (omega arith)
           (held_in-set c.self.invariant c.self.view_is c.issue.new.self core _ c.issue.ensures.queue c.requires.core (omega arith)) c.change.ensures.room;
       lines = follows-set c.self.invariant c.self.view_is _ c.args.block (with_line (picture_in m c.args.block) core (line g d)) c.change.new.self c.requires.block
-          (wrote g d) refl c.change.ensures c.requires.core refl;
+          (rw c.issue.ensures.transactions wrote) refl c.change.ensures c.requires.core refl;
     }

@@ -11,9 +11,6 @@ module _ (shape : Extent) (bus : Traffic) (long : length bus.queues ≡ shape.co
   queue_is : (k : ℕ) → (waiting_of bus k).requests ≡ []
   queue_is k = grind (arith, idle k no_queue, get_or_past bus.queues k no_queue)
 
-  transaction_is : (b : ℕ) → transaction_on bus b ≡ None
-  transaction_is b = ap (λ (l : List (Option Open)). slice_index_or l b None) closed ∙ replicated shape.blocks b None
-
   queues_of-reset : queues_of bus.queues ≡ replicate (length bus.queues) []
   queues_of-reset = constant (λ (q : Waiting). map (λ (r : Request × ℕ). r.1) q.requests) bus.queues no_queue [] (λ k. rw (queue_is k) refl)
 
@@ -24,7 +21,7 @@ module _ (shape : Extent) (bus : Traffic) (long : length bus.queues ≡ shape.co
     queues = long;
     transactions = ap length closed ∙ length-replicate shape.blocks None;
     proper = λ k b. (rw (line_is k b) (record { kept = refl; waiting = refl }));
-    opened = λ b t h. cc (transaction_is b);
+    opened = λ b t h. cc (ap (λ (l : List (Option Open)). slice_index_or l b None) closed ∙ replicated shape.blocks b None);
     waits = λ k b. rw (queue_is k, line_is k b) refl;
   }
 

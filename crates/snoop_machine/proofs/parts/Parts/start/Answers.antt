@@ -27,10 +27,6 @@ words_sent-words-requires-clause-sender g c =
     let row = c.self.invariant.sound.row c.args.block (rw (← c.self.view_is) at c.requires.head.within) in
     grind (arith, seen c.self.invariant c.self.view_is c.args.block, row, c.self.view_is, c.requires.sender.sends)
 
--- the parts before it
-abbrev parts : (g : _) (c : After-start g) → Fields
-parts g c = fields c.self.inside.protocol c.self.inside.shape c.self.inside.lines c.self.inside.memory c.self.inside.bus c.self.inside.log
-
 -- the request leaves the core's queue, and its transaction opens
 starts : (g : _) (c : After-start g)
     → Starts c.self.inside.bus c.start.new.self c.args.core c.args.request c.args.block c.args.payload c.words_sent-words.result c.args.from
@@ -49,13 +45,6 @@ next g c = record {
   transaction = Some (opened g c);
 }
 
-wrote : (g : _) (c : After-start g)
-    → pictures_of c.take_rows.new.self.rows c.move_to.new.self.states c.move_to.new.self.words c.start.new.self.transactions
-    ≡ slice_set (standing (parts g c)).situation.pictures c.args.block (next g c)
-wrote g c =
-    picture-written c.self.invariant refl c.args.block (next g c) _ _ _ _ c.take_rows.ensures.others (ap (λ (m : MemTables). m.states) c.move_to.ensures)
-    (ap (λ (m : MemTables). m.words) c.move_to.ensures ∙ sym (set-get_or c.self.inside.memory.words c.args.block zero_words)) (starts g c).transactions
-
 pub invariant_of-self : goal.invariant_of-self
 invariant_of-self g c =
     let d = (goal.at.invariant_of-self g c).After-start in
@@ -63,18 +52,21 @@ invariant_of-self g c =
       sound = rw c.take_rows.ensures.others (IsSound-order c.self.invariant.sound (rw (← c.self.view_is) at c.requires.core)
           (rw (← c.self.view_is) at c.requires.head.within)
           (head g (goal.at.invariant_of-self g c).After-words_sent-words) (starts g d) c.take_rows.ensures.taken);
-      sized = rw c.push.ensures (sized_on (parts g d) _ c.self.invariant.sized refl c.take_rows.ensures.many
+      sized = rw c.push.ensures (sized_on _ _ c.self.invariant.sized refl c.take_rows.ensures.many
           (rw c.move_to.ensures (length-set c.self.inside.memory.states c.args.block c.args.memory, refl)) (refl, refl, refl));
     }
 
 pub returns : goal.returns
 returns g c =
     let d = (goal.at.returns g c).After-start in
-    let m = parts g d in
+    let m = fields c.self.inside.protocol c.self.inside.shape c.self.inside.lines c.self.inside.memory c.self.inside.bus c.self.inside.log in
     let core = c.args.core in
     let block = c.args.block in
     let here = seen c.self.invariant refl block in
     let its = head g (goal.at.returns g c).After-words_sent-words in
+    let words = ap (λ (m : MemTables). m.words) c.move_to.ensures ∙ sym (set-get_or m.memory.words block zero_words) in
+    let wrote = picture-written c.self.invariant refl block (next g d) _ _ _ _ c.take_rows.ensures.others (ap (λ (m : MemTables). m.states) c.move_to.ensures) words
+    (starts g d).transactions in
     let left = queues_of-order m.bus.queues core block (starts g d).room c.args.request its
     (head_alone c.self.invariant.sound core c.args.request block its).1 in
     let fewer = length-drop 1 (waiting_of m.bus core).requests in
@@ -93,10 +85,10 @@ returns g c =
         memory = rw (← c.self.view_is) at c.requires.memory;
         value = sym (ap (λ (x : Picture). x.memory.value) here);
         opened = ap (λ (x : List ℕ). let o : Option Open = Some (record (opened g d) { value = x }) in o) (rw (← c.self.view_is) at c.words_sent-words.ensures);
-        after = rw (wrote g d, (starts g d).queues, left, c.push.ensures);
+        after = rw (wrote, (starts g d).queues, left, c.push.ensures);
       });
       room = rw c.push.ensures (keeps_room c.self.invariant c.self.view_is c.take_rows.new.self c.move_to.new.self c.start.new.self
           (record m.log { items = m.log.items ++ sent; room = m.log.room - 1 }) (omega arith)
           (held_in-set c.self.invariant c.self.view_is c.start.new.self core _ (starts g d).queues c.requires.core (omega arith)) c.take_rows.ensures.room);
-      lines = follows-rows c.self.invariant c.self.view_is _ block (next g d) c.take_rows.new.self c.requires.head.within (wrote g d) refl refl c.take_rows.ensures.lines;
+      lines = follows-rows c.self.invariant c.self.view_is _ block (next g d) c.take_rows.new.self c.requires.head.within wrote refl refl c.take_rows.ensures.lines;
     }
