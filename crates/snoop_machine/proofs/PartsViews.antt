@@ -10,16 +10,13 @@ blocks_of requests = map (λ (r : Request × ℕ). r.1) requests
 pub queue_of-queues_of : (queues : List Waiting) (core : ℕ) → queue_of (queues_of queues) core ≡ blocks_of (slice_index_or queues core no_queue).requests
 queue_of-queues_of queues core = get_or-map (λ (q : Waiting). blocks_of q.requests) queues core no_queue
 
-pub queues_of-set : (queues : List Waiting) (core : ℕ) (queue : Waiting) → queues_of (slice_set queues core queue) ≡ slice_set (queues_of queues) core (blocks_of queue.requests)
-queues_of-set queues core queue = map-set (λ (q : Waiting). blocks_of q.requests) queues core queue
-
 pub queues_of-room : (queues : List Waiting) (core room : ℕ) → queues_of (slice_set queues core (record { requests = (slice_index_or queues core no_queue).requests; room = room })) ≡ queues_of queues
 queues_of-room queues core room = map-set_same (λ (q : Waiting). blocks_of q.requests) queues core _ no_queue refl
 
 pub queues_of-issue : (queues : List Waiting) (core block room : ℕ) (request : Request)
     → queues_of (slice_set queues core (record { requests = (slice_index_or queues core no_queue).requests ++ (request, block) ∷ []; room = room })) ≡ after_issue (queues_of queues) core block
 queues_of-issue queues core block room request =
-    queues_of-set queues core _ ∙ rw (map-append, queue_of-queues_of queues core) refl
+    map-set (λ (q : Waiting). blocks_of q.requests) queues core _ ∙ rw (map-append, queue_of-queues_of queues core) refl
 
 -- the oldest request is the first of those for its block
 head_own : (rs : List (Request × ℕ)) (q : Request) (block : ℕ) → slice_get rs 0 ≡ Some (q, block)
@@ -38,7 +35,7 @@ pub queues_of-order : (queues : List Waiting) (core block room : ℕ) (request :
     ≡ after_order (queues_of queues) core block
 queues_of-order queues core block room request first none =
     let rest = drop 1 (slice_index_or queues core no_queue).requests in
-    queues_of-set queues core _ ∙ rw (queue_of-queues_of queues core) (ap (λ (queue : List ℕ). slice_set (queues_of queues) core queue)
+    map-set (λ (q : Waiting). blocks_of q.requests) queues core _ ∙ rw (queue_of-queues_of queues core) (ap (λ (queue : List ℕ). slice_set (queues_of queues) core queue)
     (grind (arith, common_steps, first, eq-eqb block block refl, blocks_without block rest none)))
 
 first_of : (rs : List (Request × ℕ)) (block : ℕ) → slice_get (blocks_of rs) 0 ≡ Some block → (q : Request) × (slice_get rs 0 ≡ Some (q, block))

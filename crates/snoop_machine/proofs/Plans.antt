@@ -72,11 +72,7 @@ module _ (old middle new : Standing) (taking : Step) (x : Plan) (answer : Reply)
     items = (let first = made.items in let then = taken.items in omega arith);
     requests = λ core. (let first = made.requests core in let then = taken.requests core in omega arith);
     lines = λ core had has.
-        let waits = ap (λ (s : Situation). length (queue_of s.queues core)) unchanged in
-        let capacity = made.requests core in
-        let some : 0 < slice_index middle.request_rooms core = omega arith in
-        let first = made.lines core had some in
-        let then = taken.lines core some has in
         let out = stays_out old new.situation taking core answer move in
-        grind (arith, adds_step old middle taking x core h (adds core), loses core, unchanged, out);
+        let adds = adds_step old middle taking x core h (adds core) in
+        grind (arith, made.requests core, made.lines core, taken.lines core, adds, loses core, unchanged, out);
   }

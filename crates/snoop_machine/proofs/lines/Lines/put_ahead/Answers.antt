@@ -1,4 +1,4 @@
-use Rattle.snoop_machine.proofs.Common.{◌≡◌, ◌<◌, length, refl, ◌∙◌, ap, slice_index_or, get_or_read, map-set, Contents, no_cache, line_in, blocks_of, Held}
+use Rattle.snoop_machine.proofs.Common.{◌≡◌, ◌<◌, length, refl, ◌∙◌, ap, slice_index_or, get_or_read, map-set, Contents, no_cache, line_in, blocks_of, Held, ℕ}
 use Rattle.snoop_machine.proofs.LineMaps.{rows-same, in_maps, among_seen, spare_seen, blocks_seen}
 use Rattle.snoop_machine.proofs.LineChanges.{AreLines-alike, spares_kept}
 use Rattle.snoop_machine.proofs.lines.Lines.put_ahead.Goals as goal
@@ -26,10 +26,9 @@ returns g c =
     let d = (goal.at.returns g c).After-index_mut-cache in
     let caches = c.self.inside.caches.items in
     let core = c.args.core in
+    let same = λ (b : ℕ). c.put_ahead.ensures.same b ∙ ap (λ (cache : Contents). line_in cache b) (read g d) in
     record {
-      rows = rows-same (length c.self.inside.holders) caches core c.put_ahead.new.self
-          (λ b. c.put_ahead.ensures.same b ∙ ap (λ (cache : Contents). line_in cache b) (read g d))
-          ∙ ap (λ (h : Held). h.rows) c.self.view_is;
+      rows = rw (← c.self.view_is) (rows-same (length c.self.inside.holders) caches core c.put_ahead.new.self same);
       lines = rw (map-set blocks_of caches core c.put_ahead.new.self, c.put_ahead.ensures.blocks, read g d, blocks_seen c.self.invariant c.self.view_is core, ← c.self.view_is) refl;
       room = spares_kept c.self.invariant c.self.view_is core c.put_ahead.new.self c.self.inside.holders (in_maps c.self.invariant c.self.view_is c.args.core c.requires.core) (rw (read g d) at c.put_ahead.ensures.room);
     }

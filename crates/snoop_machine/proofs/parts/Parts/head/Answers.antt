@@ -8,12 +8,9 @@ shown : (g : _) (c : After-head g) (o : Option (Request × ℕ)) → head_of c.s
     → IfSome o (λ head. IsHead c.args.self.now.situation c.args.core head.0 head.1)
     × IfNone o (WaitsOnNone c.args.self.now.situation c.args.core)
     × IfNone o (slice_get (queue_of c.args.self.now.situation.queues c.args.core) 0 ≡ None)
-shown g c None is = (
-  tt,
-  λ block request waits. idle_from_head c.self.invariant.sound c.args.core is block request
-      (sym (ap waiting_request (state_seen c.self.invariant c.self.view_is c.args.core block)) ∙ waits),
-  rw (← c.self.view_is) (first_shown c.self.inside.bus c.args.core ∙ rw is refl),
-)
+shown g c None is =
+    let idle = idle_from_head c.self.invariant.sound c.args.core is in
+    grind (arith, is, c.self.view_is, first_shown c.self.inside.bus c.args.core, idle, state_seen c.self.invariant c.self.view_is c.args.core)
 shown g c (Some head) is =
     let waits = (head_alone c.self.invariant.sound c.args.core head.0 head.1 is).0 in
     let within : head.1 < length c.self.inside.lines.rows = grind (arith, get_or_past c.self.inside.lines.rows head.1 []) in (

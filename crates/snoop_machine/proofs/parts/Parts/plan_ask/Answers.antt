@@ -24,9 +24,5 @@ ask-requires-clause-possible g c =
     (λ busy. (finds_rows c.args.self.now.situation c.requires.inductive (Ask c.args.core c.args.block c.args.word c.args.op)).cache c.args.core c.args.block
     (Some (event_of c.args.op)) (refl, refl, busy, refl))
 
--- the word of an operation is one that blocks have
-word_within : (shape : Extent) (count word : ℕ) (asking : Op) → shape.words ≡ count → HasWord shape word asking → (word < count) ⊎ (asking ≡ Evict)
-word_within shape count word asking held within = grind arith
-
 pub ask-requires-clause-word : goal.ask-requires-clause-word
-ask-requires-clause-word g c = word_within c.args.self.now.situation.shape _ c.args.word c.args.op (words_seen c.self.invariant c.self.view_is) c.requires.word
+ask-requires-clause-word g c = grind (arith, words_seen c.self.invariant c.self.view_is, c.requires.word)

@@ -50,13 +50,7 @@ pub returns-clause-found : goal.returns-clause-found
 returns-clause-found g c =
     let d = (goal.at.returns-clause-found g c).After-came-came in
     let fills = rw (c.line-found.ensures.line, protocol_seen c.self.invariant c.self.view_is) at c.fill-filled.ensures in
-    let waits = ap (λ (x : Line). x.waiting) (sym c.line-found.ensures.line) ∙ c.fill-filled.ensures.waited in (
-      ap Respond (its g d),
-      (
-        rw (its g d) c.requires.block,
-        closes g d,
-        (λ e. c.in_default-request.not-PutM (sym (ap (λ (x : Came). x.request) c.came-came.ensures) ∙ e)),
-        rw (its g d, opened g d) fills,
-        c.requires.inductive.accesses c.in-Some.closing.now.core c.args.block c.fill-filled.result.access waits,
-      ),
-    )
+    let waits = ap (λ (x : Line). x.waiting) (sym c.line-found.ensures.line) ∙ c.fill-filled.ensures.waited in
+    let word = c.requires.inductive.accesses c.in-Some.closing.now.core c.args.block c.fill-filled.result.access waits in
+    let get = c.in_default-request.not-PutM in
+    (ap Respond (its g d), grind (arith, its g d, c.requires.block, closes g d, get, c.came-came.ensures, opened g d, fills, word))
