@@ -4,16 +4,13 @@ use Rattle.snoop_machine.proofs.LineMaps.{IsMap, row-same, row-set, AreHolders-m
 use Rattle.std.proofs.lemmas.Map.Entries.{length-keys_of}
 
 module _ {caches : List Contents} {holders : List Holders} (lines : AreLines caches holders) (core : ℕ) (new : Contents) (within : core < length caches) where
-  -- each line is proper, if those of the new map are
-  proper_after : ((b : ℕ) → IsProper (line_in new b)) → (k b : ℕ) → IsProper (line_in (slice_index_or (slice_set caches core new) k no_cache) b)
-  proper_after proper = each_place (λ k cache. (b : ℕ) → IsProper (line_in cache b)) caches core new no_cache within proper (λ k ne. lines.proper k)
-
   -- the new map has the lines that the old one had
   pub AreLines-alike : ((b : ℕ) → line_in new b ≡ line_in (slice_index_or caches core no_cache) b) → AreLines (slice_set caches core new) holders
   AreLines-alike same =
       record {
         few = rw (length-set caches core new) lines.few;
-        proper = proper_after (λ b. rw (same b) (lines.proper core b));
+        proper = each_place (λ k cache. (b : ℕ) → IsProper (line_in cache b)) caches core new no_cache within (λ b. rw (same b) (lines.proper core b))
+            (λ k ne. lines.proper k);
         indexed = λ b lt. rw (row-same caches core b new (same b)) (lines.indexed b lt);
       }
 
@@ -69,10 +66,10 @@ module _ {caches : List Contents} {holders : List Holders} {now : Held} {core bl
       let others : (b : ℕ) → (b ≡ block → ⊥) → line_in new b ≡ line_in (slice_index_or caches core no_cache) b = λ b ne. elsewhere b (ne_eqb block b (λ e. ne (sym e))) in
       rw wrote.followed.set (record {
         few = rw (length-set caches core new) lines.few;
-        proper = proper_after lines core new wrote.map.in_cores (λ b. elim (cases_eq b block) [
+        proper = each_place (λ k cache. (b : ℕ) → IsProper (line_in cache b)) caches core new no_cache wrote.map.in_cores (λ b. elim (cases_eq b block) [
           | inl e ↦ rw (e, wrote.here) wrote.proper
           | inr ne ↦ rw (others b ne) (lines.proper core b)
-        ]);
+        ]) (λ k ne. lines.proper k);
         indexed = each_place (λ b its. b < length (slice_set holders block moved) → AreHolders its (lines_held (slice_set caches core new) b))
             holders block moved no_holders wrote.map.in_blocks
             (λ lt. rw (row-set caches core block new line wrote.here)

@@ -2,14 +2,10 @@ use Rattle.snoop_machine.proofs.Common.{◌∙◌, ap, arith, inl, inr, Line, ch
 use Rattle.snoop_machine.proofs.LineChanges.{HasWritten, lines_after, writes, stands}
 use Rattle.snoop_machine.proofs.LineMaps.{IsMap, is_map, in_rows, held_placed, among_seen, settled}
 use Rattle.snoop_machine.proofs.lines.Lines.change.Goals as goal
-use Rattle.snoop_machine.proofs.lines.Lines.change.Goals.{After-index_mut-cache, After-follow}
+use Rattle.snoop_machine.proofs.lines.Lines.change.Goals.{After-follow}
 
 pub index_mut-cache-requires : goal.index_mut-cache-requires
 index_mut-cache-requires g c = let within = in_rows c.self.invariant c.self.view_is c.args.core c.args.block c.requires.block c.requires.core in omega arith
-
--- the line that it has now
-abbrev line : (g : _) (c : After-index_mut-cache g) → Line
-line g c = changed c.args.next c.args.change (line_at c.args.self.now.rows c.args.core c.args.block)
 
 pub change-before-requires-clause-place : goal.change-before-requires-clause-place
 change-before-requires-clause-place g c =
@@ -20,7 +16,7 @@ change-before-requires-clause-place g c =
 pub change-before-requires-clause-settled : goal.change-before-requires-clause-settled
 change-before-requires-clause-settled g c =
     let its = is_map c.self.invariant c.self.view_is c.args.core c.args.block c.requires.block c.requires.core _ c.index_mut-cache.ensures.value in
-    rw its.was (settled (line g (goal.at.change-before-requires-clause-settled g c).After-index_mut-cache) c.requires.proper)
+    rw its.was (settled _ c.requires.proper)
 
 pub follow-requires : goal.follow-requires
 follow-requires g c =
@@ -29,7 +25,8 @@ follow-requires g c =
 
 -- the map has the changed line, and the holders have followed
 wrote : (g : _) (c : After-follow g)
-    → HasWritten c.self.inside.caches.items c.self.inside.holders c.args.self.now c.args.core c.args.block (line g (goal.at.After-follow g c).After-index_mut-cache) c.index_mut-cache.result.now c.change-before.new.self c.follow.new.holders
+    → HasWritten c.self.inside.caches.items c.self.inside.holders c.args.self.now c.args.core c.args.block (changed c.args.next c.args.change (line_at c.args.self.now.rows c.args.core c.args.block))
+    c.index_mut-cache.result.now c.change-before.new.self c.follow.new.holders
 wrote g c =
     let its = is_map c.self.invariant c.self.view_is c.args.core c.args.block c.requires.block c.requires.core _ c.index_mut-cache.ensures.value in
     let did = c.change-before.ensures in

@@ -22,13 +22,10 @@ abbrev closes : (g : _) (c : In-Some g)
     → Closes (fields c.self.inside.protocol c.self.inside.shape c.self.inside.lines c.self.inside.memory c.self.inside.bus c.self.inside.log) c.args.self.now c.args.came c.args.memory c.in-Some.closing
 closes g c = record { count = _; whole = c.self.invariant; view = c.self.view_is; within = c.requires.block; found = c.requires.closing; is_open = sym c.finish.ensures.closed ∙ c.in-Some.is }
 
--- the requestor's line now
-abbrev line : (g : _) (c : In-Some g) → Line
-line g c = filled_line c.args.filled.next c.args.filled.access c.in-Some.closing.value
-
 -- the fill, on the line that the maps hold
 fills : (g : _) (c : In-Some g)
-    → Fills c.in-Some.closing c.self.inside.protocol (line_at c.self.inside.lines.rows c.in-Some.closing.core c.args.came.block) (line g c) c.args.filled.access c.args.filled.value
+    → Fills c.in-Some.closing c.self.inside.protocol (line_at c.self.inside.lines.rows c.in-Some.closing.core c.args.came.block)
+    (filled_line c.args.filled.next c.args.filled.access c.in-Some.closing.value) c.args.filled.access c.args.filled.value
 fills g c = rw (opened (closes g c), line_seen c.self.invariant c.self.view_is c.in-Some.closing.core c.args.came.block, ← c.self.view_is) at c.requires.filled
 
 pub unreachable-requires : goal.unreachable-requires
@@ -55,7 +52,7 @@ invariant_of-self g c =
     let core = c.in-Some.closing.core in
     let block = c.args.came.block in
     rw (c.settle.ensures, c.finish.ensures.after, c.push.ensures) (whole_after (closes g d) (Some c.next_did-did.result) c.fill.new.self _ c.fill.ensures.rows
-    (rw c.fill.ensures.rows (IsSound-line c.self.invariant.sound core block (line g d)
+    (rw c.fill.ensures.rows (IsSound-line c.self.invariant.sound core block _
     (rw (← c.self.view_is) at (in_cores (closes g d))) (rw (← c.self.view_is) at c.requires.block)
     (proper-filled (fills g d)) (waits-filled (fills g d))))
     c.fill.ensures.many)
@@ -75,7 +72,7 @@ returns g c =
     let in_row = row_in c.self.invariant c.self.view_is closing.core c.args.came.block (in_cores (closes g d)) c.requires.block in
     rw (c.settle.ensures, c.finish.ensures.after, c.push.ensures) (record {
       responded = responded (closes g d) did c.fill.new.self _ wrote.rows (arrives_get closing.request get
-          (record { line = line g d; asking = access; value = c.args.filled.value; fills = fills g d; held = refl; logged = ap (λ (x : Did). Some x) performed }));
+          (record { line = _; asking = access; value = c.args.filled.value; fills = fills g d; held = refl; logged = ap (λ (x : Did). Some x) performed }));
       room = room_after (closes g d) did c.fill.new.self _ wrote.rows c.requires.room wrote.room;
       lines = loses (closes g d) did c.fill.new.self _ wrote.rows (sym (row_after wrote in_rows))
           (LinesGo-more wrote in_rows lines (λ k. grind arith) in_row refl);

@@ -1,23 +1,18 @@
 use Rattle.snoop_machine.proofs.Common.{◌≡◌, ℕ, refl, ◌∙◌, slice_set, set-get_or, held_by, with_line, nothing_held, Situation, picture_of, nothing_there, arith, Access, CacheState, Line, changed}
 use Rattle.snoop_machine.proofs.parts.Parts.hit_line.Goals as goal
-use Rattle.snoop_trace.specs.declared.step.Op.TheVariants as op
 use Rattle.snoop_machine.specs.declared.cache.LineChange.TheVariants.{Hit}
-
--- a load that hits leaves the line
-loaded_same : (access : Access) (next : CacheState) (line : Line) → access.op ≡ op.Load → next ≡ line.state → changed next (Hit access) line ≡ line
-loaded_same access next line load still = grind arith
-
--- a line that is written as it was
-line_kept : (s : Situation) (block core : ℕ) → slice_set s.pictures block (with_line (picture_of s block) core (held_by (picture_of s block) core)) ≡ s.pictures
-line_kept s block core = rw (set-get_or (picture_of s block).caches core nothing_held) (set-get_or s.pictures block nothing_there)
 
 -- a load leaves the line as it is
 pub returns-in-Load-clause-written : goal.returns-in-Load-clause-written
 returns-in-Load-clause-written g c =
     let s = c.args.self.now.situation in
     let line = held_by (picture_of s c.args.block) c.args.core in
-    let same = loaded_same c.args.access c.args.next line c.in-Load.is (c.requires.still c.in-Load.is) in
-    rw (same, line_kept s c.args.block c.args.core, c.push.ensures, c.next_did-did.ensures, ← c.self.view_is) refl
+    let load = c.in-Load.is in
+    let still = c.requires.still load in
+    let same : changed c.args.next (Hit c.args.access) line ≡ line = grind arith in
+    let kept : slice_set s.pictures c.args.block (with_line (picture_of s c.args.block) c.args.core line) ≡ s.pictures =
+    rw (set-get_or (picture_of s c.args.block).caches c.args.core nothing_held) (set-get_or s.pictures c.args.block nothing_there) in
+    rw (same, kept, c.push.ensures, c.next_did-did.ensures, ← c.self.view_is) refl
 
 pub returns-in-Load-clause-lines : goal.returns-in-Load-clause-lines
 returns-in-Load-clause-lines g c k = rw (← c.self.view_is) (grind arith)
