@@ -3,8 +3,7 @@ use Rattle.snoop_machine.proofs.Common.{◌≡◌, ◌<◌, ℕ, ◌-◌, List, 
 use Rattle.snoop_rules.specs.declared.names.MemCell.{MemCell}
 use Rattle.snoop_history.specs.declared.items.Item.TheVariants as item
 use Rattle.snoop_model.specs.declared.replies.Reply.TheVariants as reply
-use Rattle.snoop_machine.proofs.Following.{follows-rows}
-use Rattle.snoop_machine.proofs.PartsViews.{IsSound-close, keeps_room, seen, picture-written, sized_on}
+use Rattle.snoop_machine.proofs.PartsViews.{follows-rows, IsSound-close, keeps_room, seen, picture-written, sized_on}
 
 -- of the block of this response the transaction is open, and what memory does was found
 pub record Closes (m : Fields) (now : Standing) (came : Came) (memory : MemCell) (closing : Open) : Type 0 where

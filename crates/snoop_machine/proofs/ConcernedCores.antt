@@ -6,10 +6,6 @@ use Rattle.snoop_rules.specs.declared.names.CacheAction.TheVariants as action
 use Rattle.snoop_model.specs.Moves.LookUps.{HasRow}
 use Rattle.snoop_machine.proofs.LineMaps.{moves_to_same}
 
-still : (p : Protocol) (s : CacheState) (q : Request) → concerns q s ≡ false → HasRow p s (other q) → Cell p s (other q) action.None s
-unfolding is_owner
-still p s q h there = (let row = there.1 in grind arith)
-
 -- a set of the requestor and of the cores that its request concerns
 pub record AreConcerned (lines : List Line) (core : ℕ) (q : Request) (set : List ℕ) : Type 0 where
   pub own : has set core ≡ true
@@ -25,7 +21,8 @@ module _ {lines : List Line} {core : ℕ} {q : Request} {set : List ℕ} (concer
       (out : has set k ≡ false) where
     -- the row of a core that the request does not concern
     pub Cell-passed : Cell p (held_at lines k).state (seen_by k core q) action.None (held_at lines k).state
-    Cell-passed = grind (arith, ne_eqb k core, concerned.own, still p (held_at lines k).state q, concerned.others k, rows k within)
+    unfolding is_owner
+    Cell-passed = grind (arith, ne_eqb k core, concerned.own, concerned.others k, rows k within)
 
     -- its line stays as it is
     pub TakesRow-passed : IsProper (held_at lines k) → TakesRow p (seen_by k core q) (held_at lines k) (held_at lines k)
@@ -34,3 +31,7 @@ module _ {lines : List Line} {core : ℕ} {q : Request} {set : List ℕ} (concer
 -- a core whose request waits is one that there is
 pub waits_within : (lines : List Line) (core : ℕ) (q : Request) → waiting_request (held_at lines core).state ≡ Some q → core < length lines
 waits_within lines core q waits = grind (arith, get_or_past lines core nothing_held)
+
+-- a core in I stays there at an Order
+pub Cell-leaves : (p : Protocol) (k core : ℕ) (q : Request) (act : CacheAction) (next : CacheState) → Cell p state.I (seen_by k core q) act next → next ≡ state.I
+Cell-leaves p k core q act next row = grind arith

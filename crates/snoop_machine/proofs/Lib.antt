@@ -6,4 +6,3 @@ pub mod Plans
 pub mod Runs
 pub mod LineMaps
 pub mod LineChanges
-pub mod Following

@@ -55,10 +55,6 @@ AreHolders-moved row core line old new within fits moved = record {
       (λ k ne. moved.other_readers k ne ∙ fits.readers k);
 }
 
--- maps with the same entries have the same lines
-pub line-same : (new old : Contents) → new.entries ≡ old.entries → (block : ℕ) → line_in new block ≡ line_in old block
-line-same new old same block = ap (λ (entries : List (ℕ × Line)). unwrap_or (lookup (nat_eq block) entries) nothing_held) same
-
 -- a core's map and its line of a block, where callers see both
 pub record IsMap (caches : List Contents) (holders : List Holders) (now : Held) (core block : ℕ) (map : Contents) : Type 0 where
   pub lines : AreLines caches holders

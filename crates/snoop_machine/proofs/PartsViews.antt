@@ -1,5 +1,5 @@
--- Queues, pictures and room as callers see them, and that lines, queues and open transactions fit together after each change.
-use Rattle.snoop_machine.proofs.Common.{◌≡◌, ◌≢◌, ℕ, ◌<◌, true, not, filter, drop, List, [], ◌∷◌, ◌++◌, length, map, Option, Some, None, refl, sym, ◌∙◌, ap, arith, inl, inr, ◌+◌, ◌==◌, is_some, nat_lt, option_map, option_to_list, position, slice_get, slice_index_or, slice_set, if◌then◌else◌, prefix_len, get_or-map, map-set_same, cases_eq, cases_lt, eq-eqb, ne_eqb, false≢true, same_Some, slice_get-map, append-nil, get_or_past, length-map, map-append, map-set, filter-append, Extent, waiting_request, Request, queue_of, after_issue, after_order, place_in, Traffic, Waiting, no_queue, waiting_of, head_of, Line, line_at, queues_of, requests_for, IsSound, length-set, get_or-set_same, get_or-set_other, Data, Protocol, Payload, Open, Starts, transaction_on, TakesRows, held_at, nothing_held, IsProper, row_of, with_line_at, WaitsAs, IsProper-order, each_place, set-get_or, common_steps, zero, suc, replicate, zero_words, Picture, held_by, with_line, picture_of, state_of, nothing_there, memory_line, Fields, standing, pictures_of, IsSized, IsWhole, Standing, ◌≤◌, slice_index, Held, KeepsMapsRoom, shown_line_room, shown_line_rooms, places, KeepsRoom, MemTables, Journal}
+-- Queues, pictures and room as callers see them, that lines, queues and open transactions fit together after each change, and how many lines each map has then.
+use Rattle.snoop_machine.proofs.Common.{◌≡◌, ◌≢◌, ℕ, ◌<◌, true, not, filter, drop, List, [], ◌∷◌, ◌++◌, length, map, Option, Some, None, refl, sym, ◌∙◌, ap, arith, inl, inr, ◌+◌, ◌==◌, is_some, nat_lt, option_map, option_to_list, position, slice_get, slice_index_or, slice_set, if◌then◌else◌, prefix_len, get_or-map, map-set_same, cases_eq, cases_lt, eq-eqb, ne_eqb, false≢true, same_Some, slice_get-map, append-nil, get_or_past, length-map, map-append, map-set, filter-append, Extent, waiting_request, Request, queue_of, after_issue, after_order, place_in, Traffic, Waiting, no_queue, waiting_of, head_of, Line, line_at, queues_of, requests_for, IsSound, length-set, get_or-set_same, get_or-set_other, Data, Protocol, Payload, Open, Starts, transaction_on, TakesRows, held_at, nothing_held, IsProper, row_of, with_line_at, WaitsAs, IsProper-order, each_place, set-get_or, common_steps, zero, suc, replicate, zero_words, Picture, held_by, with_line, picture_of, state_of, nothing_there, memory_line, Fields, standing, pictures_of, IsSized, IsWhole, Standing, ◌≤◌, slice_index, Held, KeepsMapsRoom, shown_line_room, shown_line_rooms, places, KeepsRoom, MemTables, Journal, LinesGo, WritesLine, gone, I, LosesLines, line_count}
 use Rattle.snoop_model.proofs.Queues.Orders.{own_waits, others_wait}
 use Rattle.snoop_rules.specs.declared.names.MemState.{MemState}
 use Rattle.snoop_rules.specs.declared.names.MemState.TheVariants.{IorS}
@@ -42,7 +42,7 @@ first_of : (rs : List (Request × ℕ)) (block : ℕ) → slice_get (blocks_of r
 first_of [] block h = cc
 first_of (x ∷ xs) block h = (x.0, ap (λ (b : ℕ). let r : Option (Request × ℕ) = Some (x.0, b) in r) (same_Some _ _ h))
 
-nothing_for : (rs : List (Request × ℕ)) (block : ℕ) → slice_get rs 0 ≡ None → requests_for block rs ≡ []
+pub nothing_for : (rs : List (Request × ℕ)) (block : ℕ) → slice_get rs 0 ≡ None → requests_for block rs ≡ []
 nothing_for [] block none = refl
 nothing_for (x ∷ xs) block none = cc
 
@@ -57,10 +57,6 @@ module _ {shape : Extent} {caches : List (List Line)} {bus : Traffic} (sound : I
   head_from_line request block first waits =
       let f = first_of (waiting_of bus core).requests block (rw (queue_of-queues_of bus.queues core) at first) in
       grind (arith, head_alone f.0 block f.1, f.1)
-
-  pub idle_from_head : head_of bus core ≡ None → (block : ℕ) (request : Request) → waiting_request (line_at caches core block).state ≡ Some request → ⊥
-  idle_from_head head block request waits =
-      grind (arith, nothing_for (waiting_of bus core).requests block head, sound.waits core block)
 
 -- what the queue that callers see shows first
 pub first_shown : (bus : Traffic) (core : ℕ) → slice_get (queue_of (queues_of bus.queues) core) 0 ≡ option_map (λ (r : Request × ℕ). r.1) (head_of bus core)
@@ -315,3 +311,38 @@ module _ {count : ℕ} {m : Fields} (whole : IsWhole count m) {now : Standing} (
         lines = λ core had has.
             grind (arith, shown_at m.bus.queues m.lines.line_rooms core, shown_at bus.queues lines.line_rooms core, rooms_at m.bus.queues core, rooms_at bus.queues core, line_rooms core);
       })
+
+-- one core's line is written
+module _ {core block : ℕ} {line : Line} {old new : Held} (wrote : WritesLine core block line old new) (in_blocks : block < length old.rows) where
+  pub row_after : row_of new.rows block ≡ slice_set (row_of old.rows block) core line
+  row_after = rw wrote.rows (get_or-set_same old.rows block (slice_set (row_of old.rows block) core line) [] in_blocks)
+
+  -- where the core had not moved yet since the first of these
+  module _ (first : Held) (so_far : LinesGo block first old) where
+    pub LinesGo-more : core < length (row_of old.rows block) → line_at old.rows core block ≡ line_at first.rows core block → LinesGo block first new
+    LinesGo-more in_row unmoved k =
+        let own = get_or-set_same (row_of old.rows block) core line nothing_held in_row in
+        let others = get_or-set_other (row_of old.rows block) core k line nothing_held in
+        grind (arith, row_after, own, others, so_far k, unmoved, wrote.lines, wrote.others k, cases_eq k core)
+
+    -- the room for lines is kept
+    pub KeepsMapsRoom-more : KeepsMapsRoom first old → KeepsMapsRoom first new
+    KeepsMapsRoom-more kept k = grind (arith, so_far k, kept k, wrote.room k, wrote.lines, wrote.others k, cases_eq k core)
+
+module _ {count : ℕ} {m : Fields} (whole : IsWhole count m) {old : Standing} (view : standing m ≡ old) (new : Standing) (block : ℕ) (next : Picture)
+    (held : Held) (within : block < old.situation.shape.blocks) (wrote : new.situation.pictures ≡ slice_set (standing m).situation.pictures block next) (lines : new.lines ≡ held.lines) where
+  -- the lines of one block have moved
+  pub follows-rows : next.caches ≡ row_of held.rows block → LinesGo block m.lines held → (k : ℕ) → LosesLines old new k
+  follows-rows row go k =
+      let here = get_or-set_same (standing m).situation.pictures block next nothing_there (has_picture whole view block within) in
+      let others = get_or-set_other (standing m).situation.pictures block in
+      rw (← view) (grind (arith, go k, lines, wrote, here, others, state_seen whole refl k block, row))
+
+  -- one line has moved
+  pub follows-set : {core : ℕ} {line : Line} → WritesLine core block line m.lines held → core < old.situation.shape.cores
+      → next.caches ≡ slice_set (row_of m.lines.rows block) core line
+      → (k : ℕ) → LosesLines old new k
+  follows-set {core} moved in_cores row =
+      let in_rows = rows_in whole view block within in
+      follows-rows (row ∙ sym (row_after moved in_rows))
+      (LinesGo-more moved in_rows m.lines (λ k. grind arith) (row_in whole view core block in_cores within) refl)

@@ -6,11 +6,8 @@ use Rattle.snoop_machine.proofs.lines.Lines.new.Goals.{In_ok-holders}
 
 -- maps without entries hold nothing anywhere
 module _ (caches : List Contents) (empty : (core : ℕ) → (slice_index_or caches core no_cache).entries ≡ []) where
-  line-empty : (core block : ℕ) → line_in (slice_index_or caches core no_cache) block ≡ nothing_held
-  line-empty core block = rw (empty core)
-
   row-empty : (block : ℕ) → lines_held caches block ≡ replicate (length caches) nothing_held
-  row-empty block = constant (λ (cache : Contents). line_in cache block) caches no_cache nothing_held (λ core. line-empty core block)
+  row-empty block = constant (λ (cache : Contents). line_in cache block) caches no_cache nothing_held (λ core. rw (empty core) refl)
 
   rows-empty : (blocks : ℕ) → held_by_block blocks caches ≡ replicate blocks (replicate (length caches) nothing_held)
   rows-empty blocks =
@@ -48,12 +45,10 @@ unfolding is_owner
 invariant_of-result g c =
     let d = (goal.at.invariant_of-result g c).In_ok-holders in
     let caches = c.loop.caches.items in
-    let many = counted g d in
-    let few = c.requires in
     let blocks = c.args.shape.blocks in
     record {
-      few = omega (arith, many, few);
-      proper = λ core block. rw (line-empty caches c.loop.invariant.0 core block) nothing_proper;
+      few = omega (arith, counted g d, c.requires);
+      proper = λ core block. rw (c.loop.invariant.0 core) nothing_proper;
       indexed = λ block lt.
           let within = rw (holders_are g d, length-replicate blocks c.empty.result) at lt in
           rw (holders_are g d, get_or-replicate blocks block c.empty.result no_holders within, row-empty caches c.loop.invariant.0 block) (record {

@@ -1,5 +1,5 @@
-use Rattle.snoop_machine.proofs.Common.{◌≡◌, ℕ, ◌<◌, List, length, sym, ◌∙◌, ap, slice_index_or, slice_set, map, keys_of, map-set_same, get_or_read, get_or-set_same, map-set, Contents, no_cache, blocks_of, Held, get_or-map}
-use Rattle.snoop_machine.proofs.LineMaps.{rows-same, line-same, in_maps}
+use Rattle.snoop_machine.proofs.Common.{◌≡◌, ℕ, ◌<◌, List, length, sym, ◌∙◌, ap, slice_index_or, slice_set, map, keys_of, map-set_same, get_or_read, get_or-set_same, map-set, Contents, no_cache, blocks_of, Held, get_or-map, line_in, Line, line_or_nothing, lookup, nat_eq}
+use Rattle.snoop_machine.proofs.LineMaps.{rows-same, in_maps}
 use Rattle.snoop_machine.proofs.LineChanges.{AreLines-alike, spares_kept}
 use Rattle.snoop_machine.proofs.lines.Lines.reserve.Goals as goal
 use Rattle.snoop_machine.proofs.lines.Lines.reserve.Goals.{After-reserve}
@@ -11,16 +11,19 @@ read g c = get_or_read c.self.inside.caches.items c.args.core c.index_mut-cache.
 same : (g : _) (c : After-reserve g) → c.reserve.new.self.entries ≡ (slice_index_or c.self.inside.caches.items c.args.core no_cache).entries
 same g c = c.reserve.ensures.same ∙ ap (λ (cache : Contents). cache.entries) (read g c)
 
+alike : (g : _) (c : After-reserve g) (b : ℕ) → line_in c.reserve.new.self b ≡ line_in (slice_index_or c.self.inside.caches.items c.args.core no_cache) b
+alike g c b = ap (λ (entries : List (ℕ × Line)). line_or_nothing (lookup (nat_eq b) entries)) (same g c)
+
 pub invariant_of-self : goal.invariant_of-self
 invariant_of-self g c =
     let d = (goal.at.invariant_of-self g c).After-reserve in
     AreLines-alike c.self.invariant c.args.core c.reserve.new.self (in_maps c.self.invariant c.self.view_is c.args.core c.requires.core)
-    (line-same c.reserve.new.self (slice_index_or c.self.inside.caches.items c.args.core no_cache) (same g d))
+    (alike g d)
 
 pub returns-clause-rows : goal.returns-clause-rows
 returns-clause-rows g c =
     let d = (goal.at.returns-clause-rows g c).After-reserve in
-    rw (← c.self.view_is) (rows-same (length c.self.inside.holders) c.self.inside.caches.items c.args.core c.reserve.new.self (line-same c.reserve.new.self (slice_index_or c.self.inside.caches.items c.args.core no_cache) (same g d)))
+    rw (← c.self.view_is) (rows-same (length c.self.inside.holders) c.self.inside.caches.items c.args.core c.reserve.new.self (alike g d))
 
 pub returns-clause-lines : goal.returns-clause-lines
 returns-clause-lines g c =

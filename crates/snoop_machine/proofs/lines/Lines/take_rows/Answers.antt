@@ -1,6 +1,6 @@
 use Rattle.snoop_machine.proofs.Common.{◌≡◌, ◌<◌, List, length, arith, sym, ap, ◌∙◌, slice_set, set-set, length-set, moves_to, Line, IsProper, row_of, line_at, IsProper-order, Taking, Taking-more, Taking-past}
-use Rattle.snoop_machine.proofs.Following.{LinesGo-more, KeepsMapsRoom-more, row_after}
-use Rattle.snoop_machine.proofs.ConcernedCores.{AreConcerned, concerned_within, TakesRow-passed}
+use Rattle.snoop_machine.proofs.PartsViews.{LinesGo-more, KeepsMapsRoom-more, row_after}
+use Rattle.snoop_machine.proofs.ConcernedCores.{AreConcerned, concerned_within, TakesRow-passed, Cell-leaves}
 use Rattle.snoop_machine.proofs.lines.Lines.take_rows.Goals as goal
 use Rattle.snoop_machine.proofs.lines.Lines.take_rows.Goals.{After-concerned-concerned, In-Some}
 
@@ -37,7 +37,7 @@ take_row-requires g c =
       row = rw (c.event_seen.ensures, first_line g d) (c.requires.rows c.in-Some.core (within_row g d));
       lands = λ action next cell. rw (first_line g d) (IsProper-order c.args.protocol _ c.in-Some.core c.args.requestor c.args.request action next
           (c.concerned-concerned.ensures.proper c.in-Some.core) (rw (c.event_seen.ensures, first_line g d) at cell));
-      absent = λ action next cell. (let row = rw c.event_seen.ensures at cell in grind arith);
+      absent = λ action next cell. Cell-leaves c.args.protocol c.in-Some.core c.args.requestor c.args.request action next (rw c.event_seen.ensures at cell);
     }
 
 pub loop-core-preserved : goal.loop-core-preserved
@@ -45,7 +45,6 @@ loop-core-preserved g c =
     let d = (goal.at.loop-core-preserved g c).In-Some in
     let first = c.args.self.now in
     let now = c.loop-core.self in
-    let new = c.take_row.new.self in
     let block = c.args.block in
     let old = row_of first.rows block in
     let before = c.loop-core.invariant in
@@ -56,9 +55,9 @@ loop-core-preserved g c =
     let found = rw c.event_seen.ensures at took.row in
     let after = row_after wrote in_rows in (
       Taking-more c.args.protocol c.args.requestor c.args.request old (row_of now.rows block)
-          (row_of new.rows block) c.in-Some.core took.action took.next within (so_far g d) found after,
+          (row_of c.take_row.new.self.rows block) c.in-Some.core took.action took.next within (so_far g d) found after,
       omega arith,
-      cc (wrote.rows, before.2, set-set first.rows block (row_of now.rows block) (row_of new.rows block), after),
+      cc (wrote.rows, before.2, set-set first.rows block (row_of now.rows block) (row_of c.take_row.new.self.rows block), after),
       wrote.many ∙ before.3,
       LinesGo-more wrote in_rows first before.4 (rw before.0.same_length within) (first_line g d),
       KeepsMapsRoom-more wrote in_rows first before.4 before.5,

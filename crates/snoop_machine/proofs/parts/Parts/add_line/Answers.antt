@@ -1,16 +1,12 @@
 use Rattle.snoop_machine.proofs.Common.{◌≡◌, [], ◌∙◌, ℕ, List, ap, length, arith, refl, slice_index_or, err_from_is_err_and, length-set, Waiting, waiting_of, KeepsMapsRoom, shown_line_rooms}
 use Rattle.snoop_machine.proofs.PartsViews.{held_in-set, keeps_room, shown-same, rooms_at, shown_at, sized_on, queues_of-room, IsSound-room}
 use Rattle.snoop_machine.proofs.parts.Parts.add_line.Goals as goal
-use Rattle.snoop_machine.proofs.parts.Parts.add_line.Goals.{After-put_ahead}
-
-rows : (g : _) (c : After-put_ahead g) → c.put_ahead.new.self.rows ≡ c.self.inside.lines.rows
-rows g c = c.put_ahead.ensures.rows ∙ c.reserve.ensures.rows
 
 pub invariant_of-self-2 : goal.invariant_of-self-2
 invariant_of-self-2 g c =
     let core = c.args.core in
     record {
-      sound = rw (rows g (goal.at.invariant_of-self-2 g c).After-put_ahead) (IsSound-room c.self.invariant.sound c.reserve-2.new.self core _
+      sound = rw (c.put_ahead.ensures.rows ∙ c.reserve.ensures.rows) (IsSound-room c.self.invariant.sound c.reserve-2.new.self core _
           (rw (← c.self.view_is) at c.requires.core) c.reserve-2.ensures.queue refl c.reserve-2.ensures.transactions);
       sized = sized_on _ _ c.self.invariant.sized refl
           (rw (c.put_ahead.ensures.lines, length-set, c.reserve.ensures.lines) refl) (refl, refl) (refl, refl, refl);
@@ -42,7 +38,7 @@ returns-in_err-reserve-2-clause-room g c =
 
 pub returns-clause-unchanged : goal.returns-clause-unchanged
 returns-clause-unchanged g c =
-    let rows = rows g (goal.at.returns-clause-unchanged g c).After-put_ahead in
+    let rows = c.put_ahead.ensures.rows ∙ c.reserve.ensures.rows in
     let shown = queues_of-room c.self.inside.bus.queues c.args.core (waiting_of c.reserve-2.new.self c.args.core).room in
     rw (rows, c.reserve-2.ensures.queue, shown, c.reserve-2.ensures.transactions) (ap (λ s. s.situation) c.self.view_is)
 
