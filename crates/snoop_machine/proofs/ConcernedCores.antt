@@ -1,5 +1,5 @@
 -- The cores that a request concerns; each other core's row changes nothing and sends nothing.
-use Rattle.snoop_machine.proofs.Common.{◌≡◌, ◌≢◌, ℕ, ◌<◌, List, length, true, false, Some, refl, sym, ap, ◌∙◌, arith, inl, inr, ne_eqb, cases_lt, get_or_past, Protocol, Cell, seen_by, other, waiting_request, CacheState, Request, PutM, has, TakesRow, Line, held_at, nothing_held, IsProper, concerns, is_owner}
+use Rattle.snoop_machine.proofs.Common.{◌≡◌, ◌≢◌, ℕ, ◌<◌, List, length, true, false, Some, sym, arith, ne_eqb, get_or_past, Protocol, Cell, seen_by, waiting_request, CacheState, Request, has, TakesRow, Line, held_at, nothing_held, IsProper, concerns, is_owner}
 use Rattle.snoop_rules.specs.declared.names.CacheState.TheVariants as state
 use Rattle.snoop_rules.specs.declared.names.CacheAction.{CacheAction}
 use Rattle.snoop_rules.specs.declared.names.CacheAction.TheVariants as action

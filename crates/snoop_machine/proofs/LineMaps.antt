@@ -1,12 +1,6 @@
 -- Proper lines, the lines of maps as rows, what one write does to them, and the lines that callers see.
-use Rattle.snoop_machine.proofs.Common.{◌≡◌, Option, None, Some, false, refl, sym, ◌∙◌, ap, is_some, option_map, Protocol, Cell, cell_of, CacheCell, CacheState, moves_to, Line, kept_on, nothing_held, IsProper, keeps, request_for, missed_request, Access, changed, words_after, arith, ℕ, zero, suc, ◌<◌, List, [], ◌∷◌, ◌++◌, length, replicate, inl, inr, slice_index_or, slice_set, map, nat_eq, unwrap_or, lookup, range_with_len, get_or-map, map-set_same, cases_lt, ne_eqb, map-set, length-map, length-set, get_or_past, get_or-replicate, length-replicate, has, held_at, Contents, no_cache, line_in, blocks_of, lines_held, AreHolders, HaveMoved, held_by_block, line_at, with_line_at, Holders, is_owner, ◌≢◌, true, ◌⊎◌, get_or, true_from_ne_false, get_or_read, is_some-lookup, I, Held, AreLines, held, MayMoveTo, is_among, gone, row_of, each_place, constant, common_steps, get_or-set_same, get_or-set_other}
-use Rattle.snoop_trace.specs.declared.words.Words.{Words}
-use Rattle.snoop_trace.specs.declared.protocol.Protocol.TheVariants.{Msi, Mesi}
-use Rattle.snoop_trace.specs.declared.step.Op.TheVariants as op
-use Rattle.snoop_rules.specs.declared.names.CacheAction.TheVariants as action
-use Rattle.snoop_rules.specs.declared.names.CacheEvent.TheVariants as event
+use Rattle.snoop_machine.proofs.Common.{◌≡◌, false, sym, ◌∙◌, ap, is_some, moves_to, Line, nothing_held, IsProper, keeps, arith, ℕ, ◌<◌, List, [], length, slice_index_or, slice_set, map, nat_eq, lookup, range_with_len, get_or-map, map-set_same, ne_eqb, map-set, length-map, length-set, get_or_past, has, held_at, Contents, no_cache, line_in, blocks_of, lines_held, AreHolders, HaveMoved, held_by_block, line_at, with_line_at, Holders, is_owner, ◌≢◌, true, get_or, true_from_ne_false, get_or_read, is_some-lookup, I, Held, AreLines, held, is_among, row_of, each_place}
 use Rattle.snoop_rules.specs.declared.names.CacheState.TheVariants as state
-use Rattle.snoop_machine.specs.declared.cache.LineChange.TheVariants.{Hit}
 use Rattle.std.proofs.lemmas.List.FromFn.{length-map-range_with_len, get_or-map-range_with_len, fill_by_all}
 
 -- a proper line in I holds nothing

@@ -1,14 +1,7 @@
 -- What a planned step adds and needs, and how many lines each core's map has after it, or after the room for it was made.
-use Rattle.snoop_machine.proofs.Common.{◌≡◌, ◌≢◌, ℕ, ◌<◌, List, [], ◌∷◌, ◌++◌, Option, Some, None, false, refl, sym, append-nil, ◌∙◌, ap, arith, ◌⊎◌, inl, inr, same_Some, option_map, option_to_list, HasWord, Protocol, Op, Step, cell_of, CacheCell, CacheState, Request, PutM, Came, Did, Item, Open, Performs, Takes, Fills, ArrivesFor, IsAbsent, Asks, RespondMove, FirstMove, came_of, next_did, Refuses, RefusedFor, Line, held_at, held_by, Situation, picture_of, IsHead, Access, Refused, NoCore, NoBlock, Stalled, NothingWaiting, BusTaken, NoTransaction, NoMemory, Reply, IsPlan, IsPlanFor, HasRoom, planned_step, room_for, room_for_ask, entry_of, entry_of_ask, room_to, IsFull, IsPrepared, Standing, Absent, Issue, Drop, Plan, Hit, ◌+◌, length, cases_eq, get_or-set_other, slice_index, queue_of, Picture, with_line, state_of, nothing_there, LosesLines, AddsLines, NeedsLine, MovesToI, HoldsOn, KeepsRoom, line_count, get_or-set_same}
-use Rattle.std.specs.Option.{option_map_or}
-use Rattle.snoop_history.specs.declared.items.Item.TheVariants as item
-use Rattle.snoop_trace.specs.declared.step.Op.TheVariants as op
+use Rattle.snoop_machine.proofs.Common.{◌≡◌, ℕ, ◌++◌, Option, append-nil, arith, ◌⊎◌, option_to_list, Step, Item, FirstMove, Refuses, Situation, Refused, Reply, IsPlan, IsPlanFor, HasRoom, planned_step, room_for, entry_of, IsFull, IsPrepared, Standing, Plan, ◌+◌, cases_eq, get_or-set_other, LosesLines, AddsLines, NeedsLine, MovesToI, HoldsOn, KeepsRoom, line_count, get_or-set_same}
 use Rattle.snoop_trace.specs.declared.step.Step.TheVariants as step
-use Rattle.snoop_rules.specs.declared.names.CacheAction.TheVariants as action
-use Rattle.snoop_rules.specs.Takers.{asked as event_asked}
-use Rattle.snoop_machine.specs.declared.ask.Asked.{Asked}
 use Rattle.snoop_machine.specs.declared.plan.Plan.TheVariants as plan
-use Rattle.snoop_machine.specs.Asked.{TakesAsk, RefusesAsk}
 use Rattle.snoop_model.proofs.Tables.EvictInI.{no_row}
 
 -- a planned step is refused for no cause

@@ -1,4 +1,4 @@
-use Rattle.snoop_machine.proofs.Common.{ℕ, List, [], ◌∷◌, ◌++◌, ◌∙◌, ap, Result, Ok, Err, IsOk, OnOk, nat_eq, lookup, keys_of, map-append, Line, Contents, blocks_of, arith}
+use Rattle.snoop_machine.proofs.Common.{ℕ, [], ◌∷◌, Result, IsOk, OnOk, nat_eq, map-append, Line, arith}
 use Rattle.indexmap.proofs.CallerLemmas.{insert_entry-new}
 use Rattle.snoop_machine.proofs.cache.Cache.put_ahead.Goals as goal
 

@@ -1,4 +1,4 @@
-use Rattle.snoop_machine.proofs.Common.{rules, ◌∙◌, ap, blocks_of, arith, common_steps}
+use Rattle.snoop_machine.proofs.Common.{rules, arith, common_steps}
 use Rattle.snoop_machine.proofs.cache.Cache.take_row.Goals as goal
 
 pub returns-then-eq-clause-still : goal.returns-then-eq-clause-still

@@ -1,6 +1,6 @@
-use Rattle.snoop_machine.proofs.Common.{◌∙◌, ap, arith, inl, inr, Line, changed, line_at}
+use Rattle.snoop_machine.proofs.Common.{◌∙◌, ap, arith, Line, changed, line_at}
 use Rattle.snoop_machine.proofs.LineChanges.{HasWritten, lines_after, writes, stands}
-use Rattle.snoop_machine.proofs.LineMaps.{IsMap, is_map, in_rows, held_placed, among_seen, settled}
+use Rattle.snoop_machine.proofs.LineMaps.{is_map, in_rows, held_placed, among_seen, settled}
 use Rattle.snoop_machine.proofs.lines.Lines.change.Goals as goal
 use Rattle.snoop_machine.proofs.lines.Lines.change.Goals.{After-follow}
 

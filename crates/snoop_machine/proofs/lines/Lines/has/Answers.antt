@@ -1,4 +1,4 @@
-use Rattle.snoop_machine.proofs.Common.{◌≡◌, is_some, sym, ◌∙◌, ap, slice_index_or, nat_eq, lookup, get_or_read, Contents, no_cache}
+use Rattle.snoop_machine.proofs.Common.{◌≡◌, is_some, sym, ◌∙◌, slice_index_or, nat_eq, lookup, get_or_read, no_cache}
 use Rattle.snoop_machine.proofs.LineMaps.{in_maps, among_seen, none_held}
 use Rattle.snoop_machine.proofs.lines.Lines.has.Goals as goal
 

@@ -1,4 +1,4 @@
-use Rattle.snoop_machine.proofs.Common.{◌≡◌, ℕ, ◌<◌, List, length, sym, ◌∙◌, ap, slice_index_or, slice_set, map, keys_of, map-set_same, get_or_read, get_or-set_same, map-set, Contents, no_cache, blocks_of, Held, get_or-map, line_in, Line, line_or_nothing, lookup, nat_eq}
+use Rattle.snoop_machine.proofs.Common.{◌≡◌, ℕ, List, length, ◌∙◌, ap, slice_index_or, slice_set, map, keys_of, map-set_same, get_or_read, get_or-set_same, map-set, Contents, no_cache, blocks_of, get_or-map, line_in, Line, line_or_nothing, lookup, nat_eq}
 use Rattle.snoop_machine.proofs.LineMaps.{rows-same, in_maps}
 use Rattle.snoop_machine.proofs.LineChanges.{AreLines-alike, spares_kept}
 use Rattle.snoop_machine.proofs.lines.Lines.reserve.Goals as goal

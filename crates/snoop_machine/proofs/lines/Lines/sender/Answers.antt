@@ -1,5 +1,4 @@
-use Rattle.snoop_machine.proofs.Common.{ℕ, ◌<◌, length, arith, sym, ap, ◌∙◌, Option, Some, None, Cell, seen_by, at_memory, Payload, free_picture, held_at, Sends, IsOnlySender, row_of, memory_line, Silent-none, Silent-more, Silent-past, Silent-all, Protocol, Picture, Request, ◌≤◌}
-use Rattle.snoop_rules.specs.MemoryCell.{MemoryCell}
+use Rattle.snoop_machine.proofs.Common.{ℕ, ◌<◌, length, arith, sym, ap, ◌∙◌, Option, Some, None, Payload, free_picture, Sends, IsOnlySender, row_of, memory_line, Silent-none, Silent-more, Silent-past, Silent-all, Protocol, Picture, Request, ◌≤◌}
 use Rattle.snoop_model.proofs.Tables.SentBy.{sent_by, sends_row}
 use Rattle.snoop_machine.proofs.ConcernedCores.{AreConcerned, concerned_within, waits_within, Cell-passed}
 use Rattle.snoop_machine.proofs.lines.Lines.sender.Goals as goal

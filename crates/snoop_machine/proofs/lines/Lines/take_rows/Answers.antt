@@ -1,4 +1,4 @@
-use Rattle.snoop_machine.proofs.Common.{◌≡◌, ◌<◌, List, length, arith, sym, ap, ◌∙◌, slice_set, set-set, length-set, moves_to, Line, IsProper, row_of, line_at, IsProper-order, Taking, Taking-more, Taking-past}
+use Rattle.snoop_machine.proofs.Common.{◌≡◌, ◌<◌, length, arith, ◌∙◌, set-set, length-set, row_of, line_at, IsProper-order, Taking, Taking-more, Taking-past}
 use Rattle.snoop_machine.proofs.PartsViews.{LinesGo-more, KeepsMapsRoom-more, row_after}
 use Rattle.snoop_machine.proofs.ConcernedCores.{AreConcerned, concerned_within, TakesRow-passed, Cell-leaves}
 use Rattle.snoop_machine.proofs.lines.Lines.take_rows.Goals as goal

@@ -1,4 +1,4 @@
-use Rattle.snoop_machine.proofs.Common.{MachineKeeps, stand, Answers, is_safe}
+use Rattle.snoop_machine.proofs.Common.{stand, Answers, is_safe}
 use Rattle.snoop_model.proofs.Invariant.Steps.{step_once}
 use Rattle.snoop_machine.proofs.Runs.{answers, step_keeps, step_stays, step_tells}
 use Rattle.snoop_machine.proofs.machine.Machine.step.Goals as goal

@@ -1,4 +1,4 @@
-use Rattle.snoop_machine.proofs.Common.{◌≡◌, [], ◌∙◌, ℕ, List, ap, length, arith, refl, slice_index_or, err_from_is_err_and, length-set, Waiting, waiting_of, KeepsMapsRoom, shown_line_rooms}
+use Rattle.snoop_machine.proofs.Common.{◌∙◌, ap, arith, refl, slice_index_or, err_from_is_err_and, length-set, waiting_of, KeepsMapsRoom}
 use Rattle.snoop_machine.proofs.PartsViews.{held_in-set, keeps_room, shown-same, rooms_at, shown_at, sized_on, queues_of-room, IsSound-room}
 use Rattle.snoop_machine.proofs.parts.Parts.add_line.Goals as goal
 

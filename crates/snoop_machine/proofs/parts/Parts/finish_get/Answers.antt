@@ -1,4 +1,4 @@
-use Rattle.snoop_machine.proofs.Common.{◌≡◌, ◌≢◌, false, Some, refl, sym, ◌∙◌, arith, slice_set, PutM, Fills, next_did, Line, filled_line, row_of, line_at, fields, Open, Protocol, Access, ℕ, IsProper, IsProper-fill, waiting_request, ap, fill-waits, I, Did}
+use Rattle.snoop_machine.proofs.Common.{◌≡◌, ◌≢◌, false, Some, refl, sym, ◌∙◌, arith, PutM, Fills, next_did, Line, filled_line, line_at, fields, Open, Protocol, Access, ℕ, IsProper, IsProper-fill, waiting_request, ap, fill-waits, I, Did}
 use Rattle.snoop_machine.proofs.Closing.{Closes, never_none, opened, header, in_cores, whole_after, room_after, responded, loses, arrives_get}
 use Rattle.snoop_machine.proofs.PartsViews.{LinesGo-more, row_after, IsSound-line, line_seen, rows_in, row_in, words_seen}
 use Rattle.snoop_machine.proofs.parts.Parts.finish_get.Goals as goal

@@ -1,4 +1,4 @@
-use Rattle.snoop_machine.proofs.Common.{None, [], refl, sym, ◌∙◌, set-get_or, row_of, fields, PutM, ◌≡◌, arith, List, Line, ℕ, slice_set}
+use Rattle.snoop_machine.proofs.Common.{None, [], refl, sym, ◌∙◌, set-get_or, fields, PutM, ◌≡◌, arith}
 use Rattle.snoop_machine.proofs.Closing.{Closes, never_none, header, whole_after, room_after, responded, loses}
 use Rattle.snoop_machine.proofs.parts.Parts.finish_put.Goals as goal
 use Rattle.snoop_machine.proofs.parts.Parts.finish_put.Goals.{In-Some}

@@ -1,4 +1,4 @@
-use Rattle.snoop_machine.proofs.Common.{◌≡◌, ℕ, refl, ◌∙◌, slice_set, set-get_or, held_by, with_line, nothing_held, Situation, picture_of, nothing_there, arith, Access, CacheState, Line, changed}
+use Rattle.snoop_machine.proofs.Common.{◌≡◌, refl, ◌∙◌, slice_set, set-get_or, held_by, with_line, nothing_held, picture_of, nothing_there, arith, changed}
 use Rattle.snoop_machine.proofs.parts.Parts.hit_line.Goals as goal
 use Rattle.snoop_machine.specs.declared.cache.LineChange.TheVariants.{Hit}
 

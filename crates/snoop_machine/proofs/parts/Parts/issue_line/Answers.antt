@@ -1,4 +1,4 @@
-use Rattle.snoop_machine.proofs.Common.{◌≡◌, ◌+◌, ◌-◌, ◌++◌, ◌∷◌, [], length, refl, arith, length-append, slice_set, Waiting, waiting_of, Line, with_line, changed, line_at, Fields, fields, standing, pictures_of, Wait}
+use Rattle.snoop_machine.proofs.Common.{◌-◌, ◌∷◌, [], refl, arith, length-append, waiting_of, with_line, changed, line_at, fields, Wait}
 use Rattle.snoop_machine.proofs.PartsViews.{follows-set, IsSound-issue, queues_of-issue, seen, line_seen, picture_in, line-written, sized_on, held_in-set, keeps_room}
 use Rattle.snoop_machine.proofs.parts.Parts.issue_line.Goals as goal
 

@@ -1,4 +1,4 @@
-use Rattle.snoop_machine.proofs.Common.{◌∙◌, arith, refl, inl, Line, with_line, changed, line_at, Fields, fields}
+use Rattle.snoop_machine.proofs.Common.{◌∙◌, arith, refl, inl, with_line, changed, line_at, fields}
 use Rattle.snoop_machine.proofs.PartsViews.{follows-set, IsSound-line, seen, line_seen, state_seen, words_seen, picture_in, line-written, sized_on, keeps_room}
 use Rattle.snoop_machine.proofs.parts.Parts.move_line.Goals as goal
 

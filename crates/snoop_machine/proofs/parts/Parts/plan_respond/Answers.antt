@@ -1,4 +1,4 @@
-use Rattle.snoop_machine.proofs.Common.{arith, ℕ, ◌≡◌, ◌≢◌, Some, refl, sym, ap, ◌∙◌, subst, Option, option_copied, option_map, Respond, arrival, arrival_at_memory, PutM, Came, Open, came_of, Line, held_by, picture_of, IsClosing, finds_rows, sender_within, Access, if_some, ◌<◌}
+use Rattle.snoop_machine.proofs.Common.{arith, ◌≡◌, Some, refl, sym, ap, ◌∙◌, option_copied, Respond, arrival, arrival_at_memory, Came, Line, picture_of, IsClosing, finds_rows, sender_within, Access, if_some, ◌<◌}
 use Rattle.snoop_machine.proofs.PartsViews.{protocol_seen, words_seen}
 use Rattle.snoop_machine.proofs.parts.Parts.plan_respond.Goals as goal
 use Rattle.snoop_machine.proofs.parts.Parts.plan_respond.Goals.{After-came-came}

@@ -1,4 +1,4 @@
-use Rattle.snoop_machine.proofs.Common.{ap, arith, refl, Waiting, waiting_of}
+use Rattle.snoop_machine.proofs.Common.{ap, arith, refl, waiting_of}
 use Rattle.snoop_machine.proofs.PartsViews.{held_in-set, keeps_room, sized_on, queues_of-room, IsSound-room}
 use Rattle.snoop_machine.proofs.parts.Parts.reserve_request.Goals as goal
 

@@ -1,4 +1,4 @@
-use Rattle.snoop_machine.proofs.Common.{◌≡◌, ℕ, List, [], ◌∷◌, length, replicate, Option, None, refl, ◌∙◌, ap, arith, inl, inr, slice_index_or, All, cases_lt, length-replicate, get_or-replicate, get_or_past, All-head, All-tail, Extent, Open, Traffic, Waiting, no_queue, waiting_of, transaction_on, Line, held_at, nothing_held, line_at, queues_of, IsSound, replicated, rules, Journal, zero_words, first_memory, constant, map, Request}
+use Rattle.snoop_machine.proofs.Common.{◌≡◌, ℕ, List, [], length, replicate, Option, None, refl, ◌∙◌, ap, arith, slice_index_or, All, length-replicate, get_or-replicate, get_or_past, Extent, Open, Traffic, Waiting, no_queue, waiting_of, nothing_held, line_at, queues_of, IsSound, replicated, zero_words, first_memory, constant, map, Request}
 use Rattle.snoop_machine.proofs.parts.Parts.reset.Goals as goal
 use Rattle.snoop_machine.proofs.PartsViews.{pictures_of-replicate}
 

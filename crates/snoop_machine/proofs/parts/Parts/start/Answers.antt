@@ -1,4 +1,4 @@
-use Rattle.snoop_machine.proofs.Common.{◌≡◌, ℕ, List, ◌<◌, ◌-◌, ◌++◌, ◌∷◌, [], length, drop, Option, Some, ◌∙◌, refl, sym, ap, arith, slice_set, length-set, length-append, length-drop, set-get_or, zero_words, Open, Waiting, waiting_of, head_of, Starts, MemLine, Picture, picture_of, row_of, MemTables, memory_line, Fields, fields, standing, pictures_of, Standing}
+use Rattle.snoop_machine.proofs.Common.{◌≡◌, ℕ, List, ◌<◌, ◌-◌, ◌++◌, ◌∷◌, [], Option, Some, ◌∙◌, refl, sym, ap, arith, length-set, length-append, length-drop, set-get_or, zero_words, Open, waiting_of, head_of, Starts, Picture, row_of, MemTables, memory_line, fields}
 use Rattle.snoop_history.specs.declared.items.Item.TheVariants as item
 use Rattle.snoop_machine.proofs.PartsViews.{follows-rows, seen, line_seen, picture-written, sized_on, held_in-set, keeps_room, head_from_line, head_alone, queues_of-order, IsSound-order}
 use Rattle.snoop_machine.proofs.parts.Parts.start.Goals as goal

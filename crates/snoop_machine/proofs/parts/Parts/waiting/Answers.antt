@@ -1,4 +1,4 @@
-use Rattle.snoop_machine.proofs.Common.{sym, ap, ◌∙◌, is_some, queue_of, waiting_of, Standing, arith}
+use Rattle.snoop_machine.proofs.Common.{waiting_of, arith}
 use Rattle.snoop_machine.proofs.PartsViews.{queue_of-queues_of, some_first}
 use Rattle.snoop_machine.proofs.parts.Parts.waiting.Goals as goal
 
