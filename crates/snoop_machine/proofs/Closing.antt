@@ -1,16 +1,9 @@
 -- A transaction closes: memory takes its message, and the lines are those that took it.
-use Rattle.std.proofs.Common.{◌≡◌, ◌<◌, ℕ, ◌-◌, List, ◌++◌, ◌∷◌, [], length, Option, Some, None, refl, sym, ◌∙◌, ap, arith}
-use Rattle.std.specs.Prelude.{option_map, slice_set}
-use Rattle.std.proofs.lemmas.Option.{same_Some}
-use Rattle.std.proofs.lemmas.List.{length-set, length-append}
-use Rattle.snoop_machine.proofs.Common.{Came, Did, Open, transaction_on, ArrivesFor, RespondMove, came_of, written, Line, MemLine, Picture, picture_of, LosesLines, Held, KeepsMapsRoom, LinesGo, row_of, memory_line, Fields, standing, IsSound, IsWhole, IsClosing, Standing, KeepsRoom}
+use Rattle.snoop_machine.proofs.Common.{◌≡◌, ◌<◌, ℕ, ◌-◌, List, ◌++◌, ◌∷◌, [], length, Option, Some, None, refl, sym, ◌∙◌, ap, arith, option_map, slice_set, same_Some, length-set, length-append, Came, Did, Open, transaction_on, ArrivesFor, RespondMove, came_of, written, Line, MemLine, Picture, picture_of, LosesLines, Held, KeepsMapsRoom, LinesGo, row_of, memory_line, Fields, standing, IsSound, IsWhole, IsClosing, Standing, KeepsRoom, Protocol, Item, Request, ◌≢◌, PutM, FillsRequestor}
 use Rattle.snoop_rules.specs.declared.names.MemCell.{MemCell}
 use Rattle.snoop_history.specs.declared.items.Item.TheVariants as item
 use Rattle.snoop_model.specs.declared.replies.Reply.TheVariants as reply
-use Rattle.snoop_machine.proofs.Following.{follows-rows}
-use Rattle.snoop_machine.proofs.Soundness.{IsSound-close}
-use Rattle.snoop_machine.proofs.Room.{keeps_room}
-use Rattle.snoop_machine.proofs.PictureViews.{seen, picture-written, sized_on}
+use Rattle.snoop_machine.proofs.PartsViews.{follows-rows, IsSound-close, keeps_room, seen, picture-written, sized_on}
 
 -- of the block of this response the transaction is open, and what memory does was found
 pub record Closes (m : Fields) (now : Standing) (came : Came) (memory : MemCell) (closing : Open) : Type 0 where
@@ -21,21 +14,22 @@ pub record Closes (m : Fields) (now : Standing) (came : Came) (memory : MemCell)
   pub found : IsClosing now.situation came memory
   pub is_open : transaction_on m.bus came.block ≡ Some closing
 
-module _ {count : ℕ} {m : Fields} (whole : IsWhole count m) {now : Standing} (view : standing m ≡ now) {came : Came} {memory : MemCell}
-    (found : IsClosing now.situation came memory) where
-  -- its transaction is open
-  pub never_none : transaction_on m.bus came.block ≡ None → ⊥
-  never_none none = let clash = rw (seen whole view came.block, none) at found.opened in cc
+-- its transaction is open
+pub never_none : {count : ℕ} {m : Fields} (whole : IsWhole count m) {now : Standing} (view : standing m ≡ now) {came : Came} {memory : MemCell}
+    → IsClosing now.situation came memory → transaction_on m.bus came.block ≡ None → ⊥
+never_none whole view {came} found none = let clash = rw (seen whole view came.block, none) at found.opened in cc
 
-  abbrev pub as_closes : {closing : Open} → came.block < now.situation.shape.blocks → transaction_on m.bus came.block ≡ Some closing → Closes m now came memory closing
-  as_closes within is_open = record { count = count; whole = whole; view = view; within = within; found = found; is_open = is_open }
+-- the data of another request than a PutM fills the requestor's line
+pub arrives_get : {closing : Open} {p : Protocol} {log : List Item} {old new : List Line} {did : Option Did} (q : Request) → q ≢ PutM
+    → FillsRequestor closing p log old new did → ArrivesFor q closing p log old new did
+arrives_get PutM get fills = absurd (get refl)
+arrives_get _ get fills = fills
 
 module _ {m : Fields} {now : Standing} {came : Came} {memory : MemCell} {closing : Open} (closes : Closes m now came memory closing) where
-  -- callers see it open
+  -- callers see it open, and the response is its
   pub opened : (picture_of now.situation came.block).transaction ≡ Some closing
   opened = ap (λ (p : Picture). p.transaction) (seen closes.whole closes.view came.block) ∙ closes.is_open
 
-  -- the response is its
   pub header : came_of closing ≡ came
   header = same_Some _ _ (sym (ap (option_map came_of) opened) ∙ closes.found.opened)
 
@@ -47,71 +41,63 @@ module _ {m : Fields} {now : Standing} {came : Came} {memory : MemCell} {closing
   abbrev pub settled : MemLine
   settled = record { state = memory.next; value = written memory.action closing.value (memory_line m.memory came.block).value }
 
-  -- the parts then, with these lines, where this was performed
-  abbrev pub closed : Held → Option Did → Fields
-  closed lines did = record m {
-    lines = lines;
-    memory = record { states = slice_set m.memory.states came.block settled.state; words = slice_set m.memory.words came.block settled.value };
-    bus = record m.bus { transactions = slice_set m.bus.transactions came.block None };
-    log = record m.log { items = m.log.items ++ item.Came came did ∷ []; room = m.log.room - 1 };
-  }
+  -- what was performed, and the lines now, of which the block's row is this
+  module _ (did : Option Did) (lines : Held) (row : List Line) (rows : lines.rows ≡ slice_set m.lines.rows came.block row) where
+    abbrev pub closed : Fields
+    closed = record m {
+      lines = lines;
+      memory = record { states = slice_set m.memory.states came.block settled.state; words = slice_set m.memory.words came.block settled.value };
+      bus = record m.bus { transactions = slice_set m.bus.transactions came.block None };
+      log = record m.log { items = m.log.items ++ item.Came came did ∷ []; room = m.log.room - 1 };
+    }
 
-  -- they are whole
-  pub whole_after : (lines : Held) (did : Option Did) → IsSound m.shape lines.rows m.bus → length lines.lines ≡ length m.lines.lines
-      → IsWhole closes.count (closed lines did)
-  whole_after lines did sound many = record {
-    sound = IsSound-close sound came.block (rw (← closes.view) at closes.within);
-    sized = sized_on m (closed lines did) closes.whole.sized refl many
-        (length-set m.memory.states came.block settled.state, length-set m.memory.words came.block settled.value) (refl, refl, refl);
-  }
+    -- the block's picture now
+    abbrev pub next : Picture
+    next = record { caches = row; memory = settled; transaction = None }
 
-  -- no room is lost
-  pub room_after : (lines : Held) (did : Option Did) → 0 < now.room → KeepsMapsRoom m.lines lines → KeepsRoom now (standing (closed lines did))
-  room_after lines did room line_rooms =
-      let had : 0 < m.log.room = rw (← closes.view) at room in
-      let long = length-append m.log.items (item.Came came did ∷ []) in
-      let after = closed lines did in
-      keeps_room closes.whole closes.view lines after.memory after.bus after.log (omega arith) (λ core. omega arith) line_rooms
+    pictures_after : (standing closed).situation.pictures ≡ slice_set (standing m).situation.pictures came.block next
+    pictures_after = picture-written closes.whole refl came.block next lines.rows _ _ _ rows refl refl refl
 
-  -- the block's picture is written
-  abbrev pub next : List Line → Picture
-  next row = record { caches = row; memory = settled; transaction = None }
+    pub whole_after : IsSound m.shape lines.rows m.bus → length lines.lines ≡ length m.lines.lines → IsWhole closes.count closed
+    whole_after sound many = record {
+      sound = IsSound-close sound came.block (rw (← closes.view) at closes.within);
+      sized = sized_on m closed closes.whole.sized refl many
+          (length-set m.memory.states came.block settled.state, length-set m.memory.words came.block settled.value) (refl, refl, refl);
+    }
 
-  pictures_after : (lines : Held) (row : List Line) (did : Option Did) → lines.rows ≡ slice_set m.lines.rows came.block row
-      → (standing (closed lines did)).situation.pictures ≡ slice_set (standing m).situation.pictures came.block (next row)
-  pictures_after lines row did rows = picture-written closes.whole refl came.block (next row) lines.rows _ _ _ rows refl refl refl
+    -- no room is lost
+    pub room_after : 0 < now.room → KeepsMapsRoom m.lines lines → KeepsRoom now (standing closed)
+    room_after room line_rooms =
+        let had : 0 < m.log.room = rw (← closes.view) at room in
+        let long = length-append m.log.items (item.Came came did ∷ []) in
+        keeps_room closes.whole closes.view lines closed.memory closed.bus closed.log (omega arith) (λ core. omega arith) line_rooms
 
-  -- it is the move of a Respond
-  pub responded : (lines : Held) (row : List Line) (did : Option Did) → lines.rows ≡ slice_set m.lines.rows came.block row
-      → ArrivesFor closing.request closing m.protocol m.log.items (row_of m.lines.rows came.block) row did
-      → RespondMove came.block now.situation came.block (reply.Came came.payload came.from did) (standing (closed lines did)).situation
-  responded lines row did rows arrives =
-      let here = seen closes.whole refl came.block in
-      let pictures = pictures_after lines row did rows in
-      rw (← closes.view) (record {
-        closing = closing;
-        did = did;
-        on_block = refl;
-        within = rw (← closes.view) at closes.within;
-        answered = ap (λ (x : Came). reply.Came x.payload x.from did) (sym header);
-        responds = record {
-          opened = rw (← closes.view) at opened;
-          next = next row;
-          requestor = rw here arrives;
-          memory = record {
-            act = memory.action;
-            settled = rw (ap (λ (x : Came). x.request) header, ap (λ (x : Came). x.payload) header) (rw (← closes.view) at closes.found.settles);
-            value = ap (λ (x : Picture). written memory.action closing.value x.memory.value) (sym here);
+    -- it is the move of a Respond
+    pub responded : ArrivesFor closing.request closing m.protocol m.log.items (row_of m.lines.rows came.block) row did
+        → RespondMove came.block now.situation came.block (reply.Came came.payload came.from did) (standing closed).situation
+    responded arrives =
+        let here = seen closes.whole refl came.block in
+        let pictures = pictures_after in
+        rw (← closes.view) (record {
+          closing = closing;
+          did = did;
+          on_block = refl;
+          within = rw (← closes.view) at closes.within;
+          answered = ap (λ (x : Came). reply.Came x.payload x.from did) (sym header);
+          responds = record {
+            opened = rw (← closes.view) at opened;
+            next = next;
+            requestor = rw here arrives;
+            memory = record {
+              act = memory.action;
+              settled = rw (ap (λ (x : Came). x.request) header, ap (λ (x : Came). x.payload) header) (rw (← closes.view) at closes.found.settles);
+              value = ap (λ (x : Picture). written memory.action closing.value x.memory.value) (sym here);
+            };
+            closed = refl;
+            after = cc (header, pictures);
           };
-          closed = refl;
-          after = cc (header, pictures);
-        };
-      })
+        })
 
-  -- of the lines as many go as cores move to I
-  pub loses : (lines : Held) (row : List Line) (did : Option Did) → lines.rows ≡ slice_set m.lines.rows came.block row → row ≡ row_of lines.rows came.block
-      → LinesGo came.block m.lines lines
-      → (k : ℕ) → LosesLines now (standing (closed lines did)) k
-  loses lines row did rows here go =
-      follows-rows closes.whole closes.view (standing (closed lines did)) came.block (next row) lines closes.within
-      (pictures_after lines row did rows) refl here go
+    -- of the lines as many go as cores move to I
+    pub loses : row ≡ row_of lines.rows came.block → LinesGo came.block m.lines lines → (k : ℕ) → LosesLines now (standing closed) k
+    loses = follows-rows closes.whole closes.view (standing closed) came.block next lines closes.within pictures_after refl

@@ -1,4 +1,17 @@
--- The names that lemmas of the machine use most, passed on from one place.
+-- The names that lemmas of the machine use most, passed on from one place, and two lemmas of lists.
+pub use Rattle.std.proofs.Common.{◌≡◌, ℕ, List, [], ◌∷◌, length, replicate, Option, None, refl, ◌∙◌, ap, arith, inl, inr, ◌<◌, ◌-◌, ◌++◌, Some, sym, ◌≢◌, true, false, ◌+◌, ◌⊎◌, is_some, get_or, ◌≤◌, zero, suc, append-nil, not, filter, drop, map, take, cond, rules, vec_capacity, subst}
+pub use Rattle.std.specs.Prelude.{slice_index_or, All, option_map, slice_set, slice_index, nat_eq, unwrap_or, option_to_list, ◌==◌, nat_lt, position, slice_get, if◌then◌else◌, Result, Ok, Err, is_ok, count_by, IfOk, IfErr, IfSome, IsOk, OnOk, IfNone, option_copied}
+pub use Rattle.std.proofs.Math.ListN.{get_or-map}
+pub use Rattle.std.proofs.Math.Seq.{map-set_same}
+pub use Rattle.std.proofs.lemmas.Bool.{cases_lt, ne_eqb, cases_eq, true_from_ne_false, eq-eqb, false≢true}
+pub use Rattle.std.proofs.lemmas.Grind.{common_steps}
+pub use Rattle.std.proofs.lemmas.List.{length-replicate, get_or-replicate, get_or_past, length-set, length-append, get_or-set_same, get_or-set_other, map-set, set-get_or, length-map, get_or_read, map-append, take_more, get_or_default, set-set, take_all, length-drop}
+pub use Rattle.std.proofs.lemmas.List.Elements.{All-head, All-tail, filter-append}
+pub use Rattle.std.proofs.lemmas.Map.Made.{is_some-lookup}
+pub use Rattle.std.proofs.lemmas.Option.{same_Some, slice_get-map}
+pub use Rattle.std.proofs.lemmas.Result.{err_from_is_err_and}
+pub use Rattle.std.specs.List.{range_with_len, prefix_len}
+pub use Rattle.std.specs.Map.{lookup, keys_of}
 pub use Rattle.snoop_trace.specs.Extent.{Extent}
 pub use Rattle.snoop_trace.specs.Words.{Data, HasWord, zero_words}
 pub use Rattle.snoop_trace.specs.declared.protocol.Protocol.{Protocol}
@@ -46,7 +59,29 @@ pub use Rattle.snoop_machine.specs.Plan.{HasRoom, HasRoomToAsk, IsClosing, IsPla
 pub use Rattle.snoop_machine.specs.Prepared.{IsFull, IsPrepared, places, room_to}
 pub use Rattle.snoop_machine.specs.Runs.{Answers, AnswersSafely, HasRun}
 pub use Rattle.snoop_machine.specs.Standing.{KeepsRoom, Standing, line_count}
-pub use Rattle.snoop_machine.specs.declared.ask.Asked.TheVariants.{Absent, Drop, Issue}
+pub use Rattle.snoop_machine.specs.declared.ask.Asked.TheVariants.{Absent, Drop, Issue, Hit}
 pub use Rattle.snoop_machine.specs.declared.cache.LineChange.TheVariants.{Wait}
 pub use Rattle.snoop_machine.specs.declared.holders.Holders.{Holders}
 pub use Rattle.snoop_machine.specs.declared.plan.Plan.{Plan}
+pub use Rattle.snoop_history.specs.Journal.{Journal}
+pub use Rattle.snoop_model.proofs.Invariant.Coherence.{finds_rows, orders_follow_sender_table, sender_within}
+pub use Rattle.snoop_model.proofs.Invariant.Safety.{is_safe, move_keeps_all, kept_is_flat, reset_keeps}
+pub use Rattle.snoop_model.proofs.Lines.EachRow.{Taking, Taking-more, Taking-past}
+pub use Rattle.snoop_model.proofs.Lines.TheSender.{Silent-none, Silent-more, Silent-past, Silent-all, SilentBelow}
+pub use Rattle.snoop_model.proofs.Lists.Facts.{replicated, if_some}
+pub use Rattle.snoop_model.proofs.Runs.Along.{run_more, seen_along, kept_along}
+pub use Rattle.snoop_model.proofs.Tables.Rows.{fill-waits, IsProper-fill, IsProper-order, issue-waits, drop-waits, IsProper-issue, IsProper-hit, IsProper-drop}
+unfoldable pub use Rattle.snoop_model.specs.Invariant.Fits.{is_owner}
+
+-- what holds at each place after one is written
+pub each_place : {X : Type 0} (P : ℕ → X → Type 0) (xs : List X) (i : ℕ) (x d : X) → i < length xs → P i x → ((k : ℕ) → k ≢ i → P k (slice_index_or xs k d))
+    → (k : ℕ) → P k (slice_index_or (slice_set xs i x) k d)
+each_place P xs i x d within here others k = elim (cases_eq k i) [
+  | inl e ↦ rw (e, get_or-set_same xs i x d within) here
+  | inr ne ↦ rw (get_or-set_other xs i k x d ne) (others k ne)
+]
+
+-- a function that gives the same at each place
+pub constant : {X Y : Type 0} (f : X → Y) (xs : List X) (d : X) (y : Y) → ((k : ℕ) → f (slice_index_or xs k d) ≡ y) → map f xs ≡ replicate (length xs) y
+constant f [] d y all = refl
+constant f (x ∷ xs) d y all = rw (all 0, constant f xs d y (λ k. all (suc k))) refl

@@ -1,23 +1,10 @@
 -- The cores that a request concerns; each other core's row changes nothing and sends nothing.
-use Rattle.std.proofs.Common.{◌≡◌, ◌≢◌, ℕ, ◌<◌, List, length, true, false, Some, refl, sym, ap, ◌∙◌, arith, inl, inr}
-use Rattle.std.proofs.lemmas.Bool.{ne_eqb, cases_lt}
-use Rattle.std.proofs.lemmas.List.{get_or_past}
-use Rattle.snoop_machine.proofs.Common.{Protocol, Cell, seen_by, other, waiting_request, CacheState, Request, PutM, has, TakesRow, Line, held_at, nothing_held, IsProper, concerns}
+use Rattle.snoop_machine.proofs.Common.{◌≡◌, ◌≢◌, ℕ, ◌<◌, List, length, true, false, Some, sym, arith, ne_eqb, get_or_past, Protocol, Cell, seen_by, waiting_request, CacheState, Request, has, TakesRow, Line, held_at, nothing_held, IsProper, concerns, is_owner}
 use Rattle.snoop_rules.specs.declared.names.CacheState.TheVariants as state
 use Rattle.snoop_rules.specs.declared.names.CacheAction.{CacheAction}
 use Rattle.snoop_rules.specs.declared.names.CacheAction.TheVariants as action
-use Rattle.snoop_model.specs.Invariant.Fits.{is_owner}
 use Rattle.snoop_model.specs.Moves.LookUps.{HasRow}
-use Rattle.snoop_machine.proofs.ProperLines.{moves_to_same}
-
-still : (p : Protocol) (s : CacheState) (q : Request) → concerns q s ≡ false → HasRow p s (other q) → Cell p s (other q) action.None s
-unfolding is_owner
-still p s q h there = (let row = there.1 in grind arith)
-
-none_concerned : (q : Request) → concerns q state.I ≡ false
-unfolding is_owner
-none_concerned PutM = refl
-none_concerned _ = refl
+use Rattle.snoop_machine.proofs.LineMaps.{moves_to_same}
 
 -- a set of the requestor and of the cores that its request concerns
 pub record AreConcerned (lines : List Line) (core : ℕ) (q : Request) (set : List ℕ) : Type 0 where
@@ -25,25 +12,17 @@ pub record AreConcerned (lines : List Line) (core : ℕ) (q : Request) (set : Li
   pub others : (k : ℕ) → k ≢ core → has set k ≡ concerns q (held_at lines k).state
 
 module _ {lines : List Line} {core : ℕ} {q : Request} {set : List ℕ} (concerned : AreConcerned lines core q set) where
-  not_own : (k : ℕ) → has set k ≡ false → k ≢ core
-  not_own k out e = let both = ap (has set) e ∙ concerned.own in cc
-
   -- they are cores that there are
   pub concerned_within : core < length lines → (k : ℕ) → has set k ≡ true → k < length lines
-  concerned_within within k in_set = elim (cases_lt k (length lines)) [
-    | inl less ↦ less
-    | inr past ↦
-        let none : has set k ≡ false = concerned.others k (λ e. absurd (omega arith)) ∙ rw (get_or_past lines k nothing_held past) (none_concerned q) in
-        cc
-  ]
+  unfolding is_owner
+  concerned_within within k in_set = grind (arith, get_or_past lines k nothing_held, concerned.others k)
 
   module _ (p : Protocol) (rows : (k : ℕ) → k < length lines → HasRow p (held_at lines k).state (seen_by k core q)) (k : ℕ) (within : k < length lines)
       (out : has set k ≡ false) where
     -- the row of a core that the request does not concern
     pub Cell-passed : Cell p (held_at lines k).state (seen_by k core q) action.None (held_at lines k).state
-    Cell-passed =
-        let e : seen_by k core q ≡ other q = rw (ne_eqb k core (not_own k out)) refl in
-        rw e (still p (held_at lines k).state q (sym (concerned.others k (not_own k out)) ∙ out) (rw e at (rows k within)))
+    unfolding is_owner
+    Cell-passed = grind (arith, ne_eqb k core, concerned.own, concerned.others k, rows k within)
 
     -- its line stays as it is
     pub TakesRow-passed : IsProper (held_at lines k) → TakesRow p (seen_by k core q) (held_at lines k) (held_at lines k)
@@ -51,10 +30,7 @@ module _ {lines : List Line} {core : ℕ} {q : Request} {set : List ℕ} (concer
 
 -- a core whose request waits is one that there is
 pub waits_within : (lines : List Line) (core : ℕ) (q : Request) → waiting_request (held_at lines core).state ≡ Some q → core < length lines
-waits_within lines core q waits = elim (cases_lt core (length lines)) [
-  | inl less ↦ less
-  | inr past ↦ (let none = rw (get_or_past lines core nothing_held past) at waits in cc)
-]
+waits_within lines core q waits = grind (arith, get_or_past lines core nothing_held)
 
 -- a core in I stays there at an Order
 pub Cell-leaves : (p : Protocol) (k core : ℕ) (q : Request) (act : CacheAction) (next : CacheState) → Cell p state.I (seen_by k core q) act next → next ≡ state.I

@@ -1,14 +1,33 @@
 -- One map was given another line of one block, and the holders have followed.
-use Rattle.std.proofs.Common.{◌≡◌, ◌≢◌, ℕ, ◌+◌, ◌<◌, false, Option, None, List, [], length, sym, ◌∙◌, ap, arith, inl, inr, ◌⊎◌}
-use Rattle.std.specs.Prelude.{slice_index_or, slice_set, nat_eq, map, is_some}
-use Rattle.std.specs.Map.{lookup}
-use Rattle.std.proofs.lemmas.List.{length-set, map-set, set-get_or, get_or-set_same, get_or-set_other}
-use Rattle.std.proofs.lemmas.Map.Made.{is_some-lookup}
-use Rattle.snoop_machine.proofs.Common.{CacheState, I, Line, IsProper, Contents, no_cache, line_or_nothing, line_in, blocks_of, KeepsMapRoom, HaveFollowed, Held, AreLines, KeepsMapsRoom, WritesLine, held, held_by_block, gone, line_at, with_line_at, Holders}
-use Rattle.snoop_machine.proofs.EachPlace.{each_place}
-use Rattle.snoop_machine.proofs.MapRows.{rows-set, blocks-at, spare-at, length-blocks_of}
-use Rattle.snoop_machine.proofs.LineMaps.{IsMap, blocks_seen, spare_seen, maps-long, gone-none, gone-one, is_I}
-use Rattle.snoop_machine.proofs.LineParts.{AreLines-followed}
+use Rattle.snoop_machine.proofs.Common.{◌≡◌, ℕ, ◌<◌, false, List, length, refl, sym, ◌∙◌, ap, inl, inr, arith, slice_index_or, slice_set, nat_eq, cases_eq, ne_eqb, length-set, set-get_or, CacheState, Line, IsProper, Contents, no_cache, line_in, lines_held, AreHolders, HaveFollowed, StandsAs, no_holders, Held, AreLines, Holders, ◌+◌, None, [], ◌⊎◌, map, lookup, map-set, get_or-set_same, get_or-set_other, is_some-lookup, line_or_nothing, blocks_of, KeepsMapRoom, KeepsMapsRoom, WritesLine, held, gone, line_at, each_place, get_or-map, length-map}
+use Rattle.snoop_machine.proofs.LineMaps.{IsMap, row-same, row-set, AreHolders-moved, rows-set, blocks_seen, spare_seen, maps-long}
+use Rattle.std.proofs.lemmas.Map.Entries.{length-keys_of}
+
+module _ {caches : List Contents} {holders : List Holders} (lines : AreLines caches holders) (core : ℕ) (new : Contents) (within : core < length caches) where
+  -- the new map has the lines that the old one had
+  pub AreLines-alike : ((b : ℕ) → line_in new b ≡ line_in (slice_index_or caches core no_cache) b) → AreLines (slice_set caches core new) holders
+  AreLines-alike same =
+      record {
+        few = rw (length-set caches core new) lines.few;
+        proper = each_place (λ k cache. (b : ℕ) → IsProper (line_in cache b)) caches core new no_cache within (λ b. rw (same b) (lines.proper core b))
+            (λ k ne. lines.proper k);
+        indexed = λ b lt. rw (row-same caches core b new (same b)) (lines.indexed b lt);
+      }
+
+module _ {caches : List Contents} {holders : List Holders} {now : Held} {core block : ℕ} {old : Contents} (its : IsMap caches holders now core block old) where
+  -- the holders of the block have the core as its line says
+  pub stands : (before : CacheState) → before ≡ (line_in old block).state → StandsAs core before (slice_index_or holders block no_holders)
+  stands before was =
+      let sets = its.lines.indexed block its.in_blocks in
+      grind (arith, get_or-map (λ (cache : Contents). line_in cache block) caches core no_cache, its.read, sets.owners core, sets.readers core)
+
+-- the holders follow a core that stays
+pub followed-still : (core block : ℕ) (state : CacheState) (holders : List Holders) → StandsAs core state (slice_index_or holders block no_holders) → HaveFollowed core block state holders holders
+followed-still core block state holders stands = record {
+  moved = slice_index_or holders block no_holders;
+  set = sym (set-get_or holders block no_holders);
+  follows = record { owner = stands.0; reader = stands.1; other_owners = λ k ne. refl; other_readers = λ k ne. refl };
+}
 
 -- one map that keeps its room for lines leaves that of all cores
 pub spares_kept : {caches : List Contents} {holders : List Holders} → AreLines caches holders → {now : Held} → held caches holders ≡ now
@@ -16,27 +35,12 @@ pub spares_kept : {caches : List Contents} {holders : List Holders} → AreLines
     → KeepsMapRoom (slice_index_or caches core no_cache) new → KeepsMapsRoom now (held (slice_set caches core new) after)
 spares_kept {caches} lines_are view core new after within kept k =
     let maps = slice_set caches core new in
-    let room = spare-at maps k in
-    let had_room = spare_seen lines_are view k in
-    let lines = ap (λ (blocks : List ℕ). length blocks) (blocks-at maps k) ∙ length-blocks_of (slice_index_or maps k no_cache) in
-    let had_lines = sym (length-blocks_of (slice_index_or caches k no_cache)) ∙ ap (λ (blocks : List ℕ). length blocks) (blocks_seen lines_are view k) in
     let each = each_place (λ k cache. KeepsMapRoom (slice_index_or caches k no_cache) cache) caches core new no_cache within kept (λ k ne. omega arith) k in
-    omega (arith, each, room, had_room, lines, had_lines)
-
--- what goes of a map with the line of a block that moves from one state to another: nothing, or that line
-abbrev pub GoesFrom : CacheState → CacheState → ℕ → Contents → Contents → Type 0
-GoesFrom before after block old new =
-    ((gone before after ≡ 0) × (blocks_of new ≡ blocks_of old))
-    ⊎ ((gone before after ≡ 1) × (lookup (nat_eq block) new.entries ≡ None) × (length new.entries + 1 ≡ length old.entries))
-
--- a line that leaves its state, or does not come to I
-pub goes_from : (before after : CacheState) (block : ℕ) (old new : Contents) → (before ≢ I) ⊎ (after ≢ I)
-    → (after ≡ I → lookup (nat_eq block) new.entries ≡ None)
-    → (after ≡ I → length new.entries + 1 ≡ length old.entries) → (after ≢ I → blocks_of new ≡ blocks_of old) → GoesFrom before after block old new
-goes_from before after block old new place taken fewer stays = elim (is_I after) [
-  | inl e ↦ inr (gone-one before after (elim place [ inl left ↦ left | inr ne ↦ absurd (ne e) ]) e, taken e, fewer e)
-  | inr ne ↦ inl (gone-none before after ne, stays ne)
-]
+    let rooms = get_or-map (λ (cache : Contents). cache.spare) maps k no_cache in
+    let lines = get_or-map blocks_of maps k no_cache in
+    let long = length-keys_of (slice_index_or maps k no_cache).entries in
+    let was_long = length-keys_of (slice_index_or caches k no_cache).entries in
+    grind (arith, each, rooms, lines, long, was_long, spare_seen lines_are view k, blocks_seen lines_are view k)
 
 -- the core's map `old` was given this line of the block, and is `new` now
 pub record HasWritten (caches : List Contents) (holders : List Holders) (now : Held) (core block : ℕ) (line : Line) (old new : Contents)
@@ -45,7 +49,8 @@ pub record HasWritten (caches : List Contents) (holders : List Holders) (now : H
   pub proper : IsProper line
   pub here : line_in new block ≡ line
   pub others : (b : ℕ) → nat_eq block b ≡ false → lookup (nat_eq b) new.entries ≡ lookup (nat_eq b) old.entries
-  pub goes : GoesFrom (line_at now.rows core block).state line.state block old new
+  pub goes : ((gone (line_at now.rows core block).state line.state ≡ 0) × (blocks_of new ≡ blocks_of old))
+      ⊎ ((gone (line_at now.rows core block).state line.state ≡ 1) × (lookup (nat_eq block) new.entries ≡ None) × (length new.entries + 1 ≡ length old.entries))
   pub followed : HaveFollowed core block line.state holders after
   pub room : KeepsMapRoom old new
 
@@ -56,12 +61,22 @@ module _ {caches : List Contents} {holders : List Holders} {now : Held} {core bl
 
   pub lines_after : AreLines (slice_set caches core new) after
   lines_after =
-      AreLines-followed wrote.map.lines core new wrote.map.in_cores block line after wrote.map.in_blocks wrote.proper wrote.here elsewhere wrote.followed
-
-  rows_wrote : held_by_block (length after) (slice_set caches core new) ≡ with_line_at now.rows core block line
-  rows_wrote =
-      rw (wrote.followed.set, length-set holders block wrote.followed.moved, ← wrote.map.view)
-      (rows-set (length holders) caches core block new line wrote.map.in_blocks wrote.here elsewhere)
+      let lines = wrote.map.lines in
+      let moved = wrote.followed.moved in
+      let others : (b : ℕ) → (b ≡ block → ⊥) → line_in new b ≡ line_in (slice_index_or caches core no_cache) b = λ b ne. elsewhere b (ne_eqb block b (λ e. ne (sym e))) in
+      rw wrote.followed.set (record {
+        few = rw (length-set caches core new) lines.few;
+        proper = each_place (λ k cache. (b : ℕ) → IsProper (line_in cache b)) caches core new no_cache wrote.map.in_cores (λ b. elim (cases_eq b block) [
+          | inl e ↦ rw (e, wrote.here) wrote.proper
+          | inr ne ↦ rw (others b ne) (lines.proper core b)
+        ]) (λ k ne. lines.proper k);
+        indexed = each_place (λ b its. b < length (slice_set holders block moved) → AreHolders its (lines_held (slice_set caches core new) b))
+            holders block moved no_holders wrote.map.in_blocks
+            (λ lt. rw (row-set caches core block new line wrote.here)
+            (AreHolders-moved (lines_held caches block) core line (slice_index_or holders block no_holders) moved
+            (rw (length-map caches (λ (cache : Contents). line_in cache block)) wrote.map.in_cores) (lines.indexed block wrote.map.in_blocks) wrote.followed.follows))
+            (λ b ne lt. rw (row-same caches core b new (others b ne)) (lines.indexed b (rw (length-set holders block moved) at lt)));
+      })
 
   -- the blocks that the maps have lines for now
   lines_set : map blocks_of (slice_set caches core new) ≡ slice_set now.lines core (blocks_of new)
@@ -78,22 +93,13 @@ module _ {caches : List Contents} {holders : List Holders} {now : Held} {core bl
   writes =
       let before = (line_at now.rows core block).state in
       record {
-        rows = rows_wrote;
-        stays = λ ne. elim wrote.goes [
-          | inl still ↦ rw (lines_set, still.1, ← blocks_were) (set-get_or now.lines core [])
-          | inr went ↦ (let one = went.0 in let none = gone-none before line.state ne in absurd (omega arith))
-        ];
-        taken = λ left e. elim wrote.goes [
-          | inl still ↦ (let none = still.0 in let one = gone-one before line.state left e in absurd (omega arith))
-          | inr went ↦ rw blocks_now (sym (is_some-lookup (nat_eq block) new.entries) ∙ ap (λ (o : Option Line). is_some o) went.1)
-        ];
-        elsewhere = λ b ne. rw (blocks_now, blocks_were) (sym (is_some-lookup (nat_eq b) new.entries)
-            ∙ (ap (λ (o : Option Line). is_some o) (wrote.others b ne) ∙ is_some-lookup (nat_eq b) old.entries));
+        rows = rw (wrote.followed.set, length-set holders block wrote.followed.moved, ← wrote.map.view)
+            (rows-set (length holders) caches core block new line wrote.map.in_blocks wrote.here elsewhere);
+        stays = λ ne. grind (arith, wrote.goes, lines_set, blocks_were, set-get_or now.lines core []);
+        taken = λ left e. grind (arith, wrote.goes, blocks_now, is_some-lookup (nat_eq block) new.entries);
+        elsewhere = λ b ne. grind (arith, blocks_now, blocks_were, is_some-lookup (nat_eq b) new.entries, is_some-lookup (nat_eq b) old.entries, wrote.others b ne);
         many = rw lines_set (length-set now.lines core (blocks_of new));
-        lines = rw (blocks_now, blocks_were) (elim wrote.goes [
-          | inl still ↦ (let none = still.0 in let same = ap (λ (blocks : List ℕ). length blocks) still.1 in omega arith)
-          | inr went ↦ (let one = went.0 in let fewer = went.2 in let count = length-blocks_of new in let had = length-blocks_of old in omega arith)
-        ]);
+        lines = grind (arith, wrote.goes, blocks_now, blocks_were, length-keys_of new.entries, length-keys_of old.entries);
         others = λ k ne. rw lines_set (get_or-set_other now.lines core k (blocks_of new) [] ne);
         room = spares_kept wrote.map.lines wrote.map.view core new after wrote.map.in_cores (rw wrote.map.read at wrote.room);
       }

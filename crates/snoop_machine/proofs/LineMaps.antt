@@ -1,13 +1,53 @@
--- The lines that callers see, in the maps.
-use Rattle.std.proofs.Common.{◌≡◌, ◌≢◌, ℕ, ◌<◌, true, false, List, [], length, is_some, refl, sym, ◌∙◌, ap, inl, inr, ◌⊎◌, get_or}
-use Rattle.std.specs.Prelude.{slice_index_or, map, nat_eq}
-use Rattle.std.specs.Map.{lookup}
-use Rattle.std.proofs.lemmas.Bool.{true_from_ne_false}
-use Rattle.std.proofs.lemmas.List.{length-map, get_or_read}
-use Rattle.std.proofs.lemmas.Map.Made.{is_some-lookup}
-use Rattle.snoop_machine.proofs.Common.{CacheState, I, Line, Contents, no_cache, line_in, blocks_of, lines_held, Held, AreLines, held, MayMoveTo, is_among, gone, row_of, line_at, Holders}
-use Rattle.snoop_machine.proofs.ProperLines.{is_none}
-use Rattle.snoop_machine.proofs.MapRows.{within-rows, line-rows, line-none, row-rows, blocks-at, spare-at}
+-- Proper lines, the lines of maps as rows, what one write does to them, and the lines that callers see.
+use Rattle.snoop_machine.proofs.Common.{◌≡◌, false, sym, ◌∙◌, ap, is_some, moves_to, Line, nothing_held, IsProper, keeps, arith, ℕ, ◌<◌, List, [], length, slice_index_or, slice_set, map, nat_eq, lookup, range_with_len, get_or-map, map-set_same, ne_eqb, map-set, length-map, length-set, get_or_past, has, held_at, Contents, no_cache, line_in, blocks_of, lines_held, AreHolders, HaveMoved, held_by_block, line_at, with_line_at, Holders, is_owner, ◌≢◌, true, get_or, true_from_ne_false, get_or_read, is_some-lookup, I, Held, AreLines, held, is_among, row_of, each_place}
+use Rattle.snoop_rules.specs.declared.names.CacheState.TheVariants as state
+use Rattle.std.proofs.lemmas.List.FromFn.{length-map-range_with_len, get_or-map-range_with_len, fill_by_all}
+
+-- a proper line in I holds nothing
+pub settled : (line : Line) → IsProper line → line.state ≡ state.I → line ≡ nothing_held
+settled line proper e = grind arith
+
+-- a proper line that moves to its own state is as it was
+pub moves_to_same : (line : Line) → IsProper line → moves_to line.state line ≡ line
+moves_to_same line proper = grind arith
+
+pub row-rows : (blocks : ℕ) (caches : List Contents) (block : ℕ) → block < blocks → slice_index_or (held_by_block blocks caches) block [] ≡ lines_held caches block
+row-rows blocks caches block h = get_or-map-range_with_len (lines_held caches) 0 blocks block block [] h (omega arith)
+
+-- a map whose line of the block is as it was leaves the row as it was
+pub row-same : (caches : List Contents) (core block : ℕ) (new : Contents) → line_in new block ≡ line_in (slice_index_or caches core no_cache) block
+    → lines_held (slice_set caches core new) block ≡ lines_held caches block
+row-same caches core block new same = map-set_same (λ (cache : Contents). line_in cache block) caches core new no_cache same
+
+pub rows-same : (blocks : ℕ) (caches : List Contents) (core : ℕ) (new : Contents) → ((b : ℕ) → line_in new b ≡ line_in (slice_index_or caches core no_cache) b)
+    → held_by_block blocks (slice_set caches core new) ≡ held_by_block blocks caches
+rows-same blocks caches core new same = λ i. map (λ b. row-same caches core b new (same b) i) (range_with_len 0 blocks)
+
+-- the row of a block after one line of it is written
+pub row-set : (caches : List Contents) (core block : ℕ) (new : Contents) (line : Line) → line_in new block ≡ line → lines_held (slice_set caches core new) block ≡ slice_set (lines_held caches block) core line
+row-set caches core block new line here = map-set (λ cache. line_in cache block) caches core new ∙ ap (λ (x : Line). slice_set (lines_held caches block) core x) here
+
+pub rows-set : (blocks : ℕ) (caches : List Contents) (core block : ℕ) (new : Contents) (line : Line) → block < blocks
+    → line_in new block ≡ line → ((b : ℕ) → nat_eq block b ≡ false → line_in new b ≡ line_in (slice_index_or caches core no_cache) b)
+    → held_by_block blocks (slice_set caches core new) ≡ with_line_at (held_by_block blocks caches) core block line
+rows-set blocks caches core block new line inside here others =
+    let rows = held_by_block blocks caches in
+    let row = slice_set (slice_index_or rows block []) core line in
+    let after = slice_set caches core new in
+    let long : length rows ≡ blocks = length-map-range_with_len (lines_held caches) 0 blocks in
+    sym (fill_by_all (lines_held after) (slice_set rows block row) blocks [] (length-set rows block row ∙ long)
+    (each_place (λ b its. b < blocks → its ≡ lines_held after b) rows block row [] (omega arith)
+    (λ lt. rw (row-rows blocks caches block lt) (sym (row-set caches core block new line here)))
+    (λ b ne lt. row-rows blocks caches b lt ∙ sym (row-same caches core b new (others b (ne_eqb block b (λ e. ne (sym e))))))))
+
+-- the holders of a block are those of its row, once one of its lines has moved
+pub AreHolders-moved : (row : List Line) (core : ℕ) (line : Line) (old new : Holders) → core < length row → AreHolders old row → HaveMoved core line.state old new → AreHolders new (slice_set row core line)
+AreHolders-moved row core line old new within fits moved = record {
+  owners = each_place (λ k its. has new.owners k ≡ is_owner its.state) row core line nothing_held within moved.owner
+      (λ k ne. moved.other_owners k ne ∙ fits.owners k);
+  readers = each_place (λ k its. has new.readers k ≡ keeps its.state) row core line nothing_held within moved.reader
+      (λ k ne. moved.other_readers k ne ∙ fits.readers k);
+}
 
 -- a core's map and its line of a block, where callers see both
 pub record IsMap (caches : List Contents) (holders : List Holders) (now : Held) (core block : ℕ) (map : Contents) : Type 0 where
@@ -27,21 +67,26 @@ module _ {caches : List Contents} {holders : List Holders} (lines : AreLines cac
   pub in_maps : (core : ℕ) → core < length now.lines → core < length caches
   in_maps core within = rw maps-long at within
 
-  -- a block and a core with a place in the rows
-  pub in_rows : (core block : ℕ) → block < length now.rows → core < length (row_of now.rows block) → (block < length holders) × (core < length caches)
-  in_rows core block in_blocks in_cores = within-rows (length holders) caches core block (rw (← view) at in_blocks) (rw (← view) at in_cores)
+  rows-long : length now.rows ≡ length holders
+  rows-long = sym (ap (λ (h : Held). length h.rows) view) ∙ length-map-range_with_len (lines_held caches) 0 (length holders)
 
   pub row_seen : (block : ℕ) → block < length holders → lines_held caches block ≡ row_of now.rows block
   row_seen block within = sym (row-rows (length holders) caches block within) ∙ ap (λ (h : Held). row_of h.rows block) view
 
   pub line_seen : (core block : ℕ) → block < length holders → line_in (slice_index_or caches core no_cache) block ≡ line_at now.rows core block
-  line_seen core block within = sym (line-rows (length holders) caches core block within) ∙ ap (λ (h : Held). line_at h.rows core block) view
+  line_seen core block within = sym (get_or-map (λ (cache : Contents). line_in cache block) caches core no_cache) ∙ ap (λ (r : List Line). held_at r core) (row_seen block within)
+
+  -- a block and a core with a place in the rows
+  pub in_rows : (core block : ℕ) → block < length now.rows → core < length (row_of now.rows block) → (block < length holders) × (core < length caches)
+  in_rows core block in_blocks in_cores =
+      let within = rw rows-long at in_blocks in
+      (within, rw (← (row_seen block within), length-map caches (λ (cache : Contents). line_in cache block)) at in_cores)
 
   pub blocks_seen : (core : ℕ) → blocks_of (slice_index_or caches core no_cache) ≡ slice_index_or now.lines core []
-  blocks_seen core = sym (blocks-at caches core) ∙ ap (λ (h : Held). slice_index_or h.lines core []) view
+  blocks_seen core = sym (get_or-map blocks_of caches core no_cache) ∙ ap (λ (h : Held). slice_index_or h.lines core []) view
 
   pub spare_seen : (core : ℕ) → (slice_index_or caches core no_cache).spare ≡ slice_index_or now.line_rooms core 0
-  spare_seen core = sym (spare-at caches core) ∙ ap (λ (h : Held). slice_index_or h.line_rooms core 0) view
+  spare_seen core = sym (get_or-map (λ (cache : Contents). cache.spare) caches core no_cache) ∙ ap (λ (h : Held). slice_index_or h.line_rooms core 0) view
 
   pub among_seen : (core block : ℕ) → is_some (lookup (nat_eq block) (slice_index_or caches core no_cache).entries) ≡ is_among (slice_index_or now.lines core []) block
   among_seen core block =
@@ -52,50 +97,14 @@ module _ {caches : List Contents} {holders : List Holders} (lines : AreLines cac
   is_map core block in_blocks in_cores map found =
       let within = in_rows core block in_blocks in_cores in
       let read = get_or_read caches core map within.1 found no_cache in
-      record {
-        lines = lines;
-        view = view;
-        in_blocks = within.0;
-        in_cores = within.1;
-        read = read;
-        was = ap (λ (cache : Contents). line_in cache block) read ∙ line_seen core block within.0;
-      }
+      grind (arith, lines, view, within, read, line_seen core block within.0)
 
   -- where the map has no line the core is in I
   pub none_held : (core block : ℕ) → is_some (lookup (nat_eq block) (slice_index_or caches core no_cache).entries) ≡ false → (line_at now.rows core block).state ≡ I
   none_held core block none =
-      ap (λ (x : Line). x.state) (sym (ap (λ (h : Held). line_at h.rows core block) view) ∙ line-none (length holders) caches core block
-      (rw (is_none (lookup (nat_eq block) (slice_index_or caches core no_cache).entries) none) refl))
+      let past = get_or_past now.rows block [] in
+      grind (arith, line_seen core block, past, rows-long, none)
 
   -- where the core holds the block the map has a line
   pub held_placed : (core block : ℕ) → (line_at now.rows core block).state ≢ I → is_some (lookup (nat_eq block) (slice_index_or caches core no_cache).entries) ≡ true
   held_placed core block held = true_from_ne_false _ (λ none. held (none_held core block none))
-
-  -- a line that may be written has a place
-  pub mover_placed : (core block : ℕ) (next : CacheState) → MayMoveTo now core block next → is_some (lookup (nat_eq block) (slice_index_or caches core no_cache).entries) ≡ true
-  mover_placed core block next (inl held) = held_placed core block held
-  mover_placed core block next (inr new) = among_seen core block ∙ new.0
-
-pub is_I : (s : CacheState) → (s ≡ I) ⊎ (s ≢ I)
-is_I I = inl refl
-is_I _ = inr (λ e. cc)
-
--- no line goes to a state that is not I
-pub gone-none : (old new : CacheState) → new ≢ I → gone old new ≡ 0
-gone-none old I ne = absurd (ne refl)
-gone-none old _ ne = refl
-
--- nor where the line stays
-pub gone-same : (s : CacheState) → gone s s ≡ 0
-gone-same s = elim (is_I s) [ inl e ↦ rw e refl | inr ne ↦ gone-none s s ne ]
-
--- one goes from another state to I
-pub gone-one : (old new : CacheState) → old ≢ I → new ≡ I → gone old new ≡ 1
-gone-one I new ne e = absurd (ne refl)
-gone-one _ new ne e = rw e refl
-
--- one goes, or none
-pub gone-cases : (old new : CacheState) → ((old ≢ I) × (new ≡ I) × (gone old new ≡ 1)) ⊎ (gone old new ≡ 0)
-gone-cases I I = inr refl
-gone-cases _ I = inl ((λ e. cc), refl, refl)
-gone-cases _ _ = inr refl

@@ -1,7 +1,5 @@
-use Rattle.std.proofs.Common.{◌∙◌}
-use Rattle.std.proofs.lemmas.List.{get_or_default}
-use Rattle.snoop_machine.proofs.Common.{no_holders}
-use Rattle.snoop_machine.proofs.LineParts.{followed-still}
+use Rattle.snoop_machine.proofs.Common.{◌∙◌, get_or_default, no_holders}
+use Rattle.snoop_machine.proofs.LineChanges.{followed-still}
 use Rattle.snoop_machine.proofs.holders.follow.Goals as goal
 
 pub returns-then-are_alike : goal.returns-then-are_alike

@@ -1,20 +1,11 @@
 -- Steps in order keep the machine coherent.
-use Rattle.std.proofs.Common.{◌≡◌, ◌∷◌, [], ◌≤◌, ◌+◌, ◌∙◌, List, take, subst, sym, arith}
-use Rattle.std.specs.Prelude.{is_ok, count_by}
-use Rattle.std.proofs.lemmas.List.{take_all}
-use Rattle.snoop_machine.proofs.Common.{Step, MachineKeeps, stand, Standing}
-use Rattle.snoop_model.proofs.Invariant.Safety.{is_safe}
-use Rattle.snoop_machine.proofs.StepKeeps.{answers, steps_stay}
-use Rattle.snoop_machine.proofs.RunSteps.{Going, has_run, goes_on}
-use Rattle.snoop_machine.proofs.machine.run_steps.Goals.{then-is_ok, else-is_ok, At-loop-step}
+use Rattle.snoop_machine.proofs.Common.{◌≡◌, ◌≤◌, ◌+◌, List, take, subst, arith, take_all, Step, stand, Standing, is_safe}
+use Rattle.snoop_machine.proofs.Runs.{answers, steps_stay, Going, has_run, goes_on}
 use Rattle.snoop_machine.proofs.machine.run_steps.Goals as goal
-
--- the parts keep what every machine keeps after the steps so far
-keeps : (c : At-loop-step) → MachineKeeps (stand c.loop-step.machine-inside.parts).situation
-keeps c = c.loop-step.invariant.0.keeps
+use Rattle.snoop_machine.proofs.machine.run_steps.Goals.{then-is_ok, else-is_ok}
 
 pub step-requires : goal.step-requires
-step-requires c = (keeps (goal.at.step-requires c).At-loop-step).inductive
+step-requires c = c.loop-step.invariant.0.keeps.inductive
 
 pub loop-step-preserved : goal.loop-step-preserved
 loop-step-preserved c =
@@ -25,19 +16,15 @@ loop-step-preserved c =
     let goes = answers middle new _ c.step.result c.step.ensures.taken c.step.ensures.refused c.step.ensures.full c.step.ensures.room c.step.ensures.lines in
     let more = goes_on old middle new c.args.steps.now c.loop-step.step-index _ c.loop-step.taken c.step.result c.loop-step-test.true c.loop-step.invariant.0 goes in
     elim c.if-is_ok.branch [
-      | then-is_ok w ↦
-          let one : count_by is_ok (c.step.result ∷ []) ≡ 1 = rw (sym c.is_ok.ensures.value ∙ w.if-is_ok.true) in
-          rw w.taken-is (more (c.loop-step.taken + 1) (omega arith), omega arith)
-      | else-is_ok w ↦
-          let none : count_by is_ok (c.step.result ∷ []) ≡ 0 = rw (sym c.is_ok.ensures.value ∙ w.if-is_ok.false) in
-          rw w.taken-is (more c.loop-step.taken (omega arith), omega arith)
+      | then-is_ok w ↦ rw w.taken-is (more (c.loop-step.taken + 1) (grind (arith, c.is_ok.ensures.value, w.if-is_ok.true)), omega arith)
+      | else-is_ok w ↦ rw w.taken-is (more c.loop-step.taken (grind (arith, c.is_ok.ensures.value, w.if-is_ok.false)), omega arith)
     ]
 
 pub invariant_of-machine : goal.invariant_of-machine
-invariant_of-machine c = keeps (goal.at.invariant_of-machine c).At-loop-step
+invariant_of-machine c = c.loop-step.invariant.0.keeps
 
 pub returns-clause-safe : goal.returns-clause-safe
-returns-clause-safe c = is_safe (stand c.loop-step.machine-inside.parts).situation (keeps (goal.at.returns-clause-safe c).At-loop-step)
+returns-clause-safe c = is_safe (stand c.loop-step.machine-inside.parts).situation c.loop-step.invariant.0.keeps
 
 pub returns-clause-run : goal.returns-clause-run
 returns-clause-run c =
@@ -48,7 +35,5 @@ returns-clause-run c =
 
 pub returns-clause-stays : goal.returns-clause-stays
 returns-clause-stays c =
-    let old : Standing = (stand c.machine.inside.parts) in
-    let new : Standing = (stand c.loop-step.machine-inside.parts) in
     let so_far = c.loop-step.invariant.0 in
-    rw c.machine.view_is at (steps_stay (take c.loop-step.step-index c.args.steps.now) so_far.outcomes old new so_far.run)
+    rw c.machine.view_is at (steps_stay (take c.loop-step.step-index c.args.steps.now) so_far.outcomes (stand c.machine.inside.parts) _ so_far.run)

@@ -1,7 +1,6 @@
 -- The steps so far have been taken.
-use Rattle.std.proofs.Common.{◌≤◌, take}
-use Rattle.snoop_machine.proofs.Common.{stand}
-use Rattle.snoop_machine.proofs.RunSteps.{Going}
+use Rattle.snoop_machine.proofs.Common.{◌≤◌, take, stand}
+use Rattle.snoop_machine.proofs.Runs.{Going}
 use Rattle.snoop_machine.proofs.machine.run_steps.Given as goal
 
 abbrev pub invariant-loop-step : goal.invariant-loop-step

@@ -1,16 +1,10 @@
-use Rattle.std.proofs.Common.{ℕ, List, [], ◌∷◌, ◌++◌, ◌∙◌, ap}
-use Rattle.std.specs.Prelude.{Result, Ok, Err, IsOk, OnOk, nat_eq}
-use Rattle.std.specs.Map.{lookup, keys_of}
-use Rattle.std.proofs.lemmas.List.{map-append}
-use Rattle.snoop_machine.proofs.Common.{Line, Contents, blocks_of}
-use Rattle.snoop_machine.proofs.ProperLines.{is_none}
+use Rattle.snoop_machine.proofs.Common.{ℕ, [], ◌∷◌, Result, IsOk, OnOk, nat_eq, map-append, Line, arith}
 use Rattle.indexmap.proofs.CallerLemmas.{insert_entry-new}
 use Rattle.snoop_machine.proofs.cache.Cache.put_ahead.Goals as goal
 
 -- what holds on success holds of a success
 on_ok : {A B : Type 0} {P : Type 0} (r : Result A B) → OnOk r P → IsOk r → P
-on_ok (Ok a) p h = p
-on_ok (Err b) p h = cc
+on_ok r p h = grind arith
 
 pub returns-clause-blocks : goal.returns-clause-blocks
 returns-clause-blocks g c =
@@ -18,7 +12,6 @@ returns-clause-blocks g c =
     let block = c.args.block in
     let room = rw (← c.self.view_is) at c.requires.room in
     let absent = rw (← c.self.view_is) at c.requires.absent in
-    ap (λ (es : List (ℕ × Line)). keys_of es) (on_ok c.insert.result c.insert.ensures.entries (c.insert.ensures.succeeds room))
-    ∙ (ap (λ (es : List (ℕ × Line)). keys_of es) (insert_entry-new nat_eq m block c.nothing.result (is_none (lookup (nat_eq block) m.entries) absent))
-    ∙ (map-append (λ (e : ℕ × Line). e.0) m.entries ((block, c.nothing.result) ∷ [])
-    ∙ ap (λ (cache : Contents). blocks_of cache ++ block ∷ []) c.self.view_is))
+    let entries = on_ok c.insert.result c.insert.ensures.entries (c.insert.ensures.succeeds room) in
+    let new = insert_entry-new nat_eq m block c.nothing.result (grind (arith, absent)) in
+    grind (arith, entries, new, map-append (λ (e : ℕ × Line). e.0) m.entries ((block, c.nothing.result) ∷ []), c.self.view_is)

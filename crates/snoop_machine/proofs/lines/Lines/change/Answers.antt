@@ -1,57 +1,41 @@
-use Rattle.std.proofs.Common.{◌∙◌, ap, arith, inl, inr}
-use Rattle.snoop_machine.proofs.Common.{Line, changed, line_at}
-use Rattle.snoop_machine.proofs.LineChanges.{HasWritten, goes_from, lines_after, writes}
-use Rattle.snoop_machine.proofs.LineMaps.{IsMap, is_map, in_rows, mover_placed}
-use Rattle.snoop_machine.proofs.LineParts.{core_few, stands}
-use Rattle.snoop_machine.proofs.ProperLines.{settled}
-use Rattle.snoop_machine.proofs.lines.Lines.change.Given.{Over}
+use Rattle.snoop_machine.proofs.Common.{◌∙◌, ap, arith, Line, changed, line_at}
+use Rattle.snoop_machine.proofs.LineChanges.{HasWritten, lines_after, writes, stands}
+use Rattle.snoop_machine.proofs.LineMaps.{is_map, in_rows, held_placed, among_seen, settled}
 use Rattle.snoop_machine.proofs.lines.Lines.change.Goals as goal
-use Rattle.snoop_machine.proofs.lines.Lines.change.Goals.{After-index_mut-cache, After-follow}
+use Rattle.snoop_machine.proofs.lines.Lines.change.Goals.{After-follow}
 
 pub index_mut-cache-requires : goal.index_mut-cache-requires
 index_mut-cache-requires g c = let within = in_rows c.self.invariant c.self.view_is c.args.core c.args.block c.requires.block c.requires.core in omega arith
 
--- the core's map
-map_of : (g : Over) (c : After-index_mut-cache g)
-    → IsMap c.self.inside.caches.items c.self.inside.holders c.args.self.now c.args.core c.args.block c.index_mut-cache.result.now
-map_of g c = is_map c.self.invariant c.self.view_is c.args.core c.args.block c.requires.block c.requires.core _ c.index_mut-cache.ensures.value
-
--- the line that it has now
-abbrev line : (g : Over) (c : After-index_mut-cache g) → Line
-line g c = changed c.args.next c.args.change (line_at c.args.self.now.rows c.args.core c.args.block)
-
 pub change-before-requires-clause-place : goal.change-before-requires-clause-place
 change-before-requires-clause-place g c =
-    rw (map_of g (goal.at.change-before-requires-clause-place g c).After-index_mut-cache).read
-    (mover_placed c.self.invariant c.self.view_is c.args.core c.args.block c.args.next c.requires.place)
+    let its = is_map c.self.invariant c.self.view_is c.args.core c.args.block c.requires.block c.requires.core _ c.index_mut-cache.ensures.value in
+    let held = held_placed c.self.invariant c.self.view_is c.args.core c.args.block in
+    rw its.read (grind (arith, held, among_seen c.self.invariant c.self.view_is c.args.core c.args.block, c.requires.place))
 
 pub change-before-requires-clause-settled : goal.change-before-requires-clause-settled
 change-before-requires-clause-settled g c =
-    let d = (goal.at.change-before-requires-clause-settled g c).After-index_mut-cache in
-    rw (map_of g d).was (settled (line g d) c.requires.proper)
+    let its = is_map c.self.invariant c.self.view_is c.args.core c.args.block c.requires.block c.requires.core _ c.index_mut-cache.ensures.value in
+    rw its.was (settled _ c.requires.proper)
 
 pub follow-requires : goal.follow-requires
 follow-requires g c =
-    let its = map_of g (goal.at.follow-requires g c).After-index_mut-cache in
-    record {
-      core = core_few its;
-      block = its.in_blocks;
-      stands = stands its c.change-before.result c.change-before.ensures.before;
-    }
+    let its = is_map c.self.invariant c.self.view_is c.args.core c.args.block c.requires.block c.requires.core _ c.index_mut-cache.ensures.value in
+    record { core = omega (arith, its.lines.few, its.in_cores); block = its.in_blocks; stands = stands its _ c.change-before.ensures.before }
 
 -- the map has the changed line, and the holders have followed
-wrote : (g : Over) (c : After-follow g)
-    → HasWritten c.self.inside.caches.items c.self.inside.holders c.args.self.now c.args.core c.args.block (line g (goal.at.After-follow g c).After-index_mut-cache) c.index_mut-cache.result.now c.change-before.new.self c.follow.new.holders
+wrote : (g : _) (c : After-follow g)
+    → HasWritten c.self.inside.caches.items c.self.inside.holders c.args.self.now c.args.core c.args.block (changed c.args.next c.args.change (line_at c.args.self.now.rows c.args.core c.args.block))
+    c.index_mut-cache.result.now c.change-before.new.self c.follow.new.holders
 wrote g c =
-    let its = map_of g (goal.at.After-follow g c).After-index_mut-cache in
+    let its = is_map c.self.invariant c.self.view_is c.args.core c.args.block c.requires.block c.requires.core _ c.index_mut-cache.ensures.value in
     let did = c.change-before.ensures in
     record {
       map = its;
       proper = c.requires.proper;
       here = did.here ∙ ap (λ (x : Line). changed c.args.next c.args.change x) its.was;
       others = did.others;
-      goes = goes_from _ _ c.args.block c.index_mut-cache.result.now c.change-before.new.self
-          (elim c.requires.place [ inl held ↦ inl held | inr new ↦ inr new.1 ]) did.taken did.fewer did.stays;
+      goes = grind (arith, did.taken, did.fewer, did.stays, c.requires.place);
       followed = c.follow.ensures;
       room = did.room;
     }

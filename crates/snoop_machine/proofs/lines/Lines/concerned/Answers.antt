@@ -1,26 +1,19 @@
-use Rattle.std.proofs.Common.{◌<◌, [], length, refl, ◌∙◌, arith}
-use Rattle.std.specs.Prelude.{slice_index_or}
-use Rattle.std.proofs.lemmas.List.{get_or_default}
-use Rattle.snoop_machine.proofs.Common.{AreHolders, no_holders}
+use Rattle.snoop_machine.proofs.Common.{[], refl, ◌∙◌, arith, slice_index_or, get_or_default, AreHolders, no_holders}
 use Rattle.snoop_machine.proofs.LineMaps.{in_rows, row_seen, line_seen}
-use Rattle.snoop_machine.proofs.lines.Lines.concerned.Given.{Over}
 use Rattle.snoop_machine.proofs.lines.Lines.concerned.Goals as goal
 use Rattle.snoop_machine.proofs.lines.Lines.concerned.Goals.{After-concerned}
 
 pub concerned-requires : goal.concerned-requires
 concerned-requires g c =
-    let h = (in_rows c.self.invariant c.self.view_is c.args.requestor c.args.block c.requires.block c.requires.requestor).1 in
-    let few = c.self.invariant.few in
-    omega (arith, h, few)
-
-in_block : (g : Over) (c : After-concerned g) → c.args.block < length c.self.inside.holders
-in_block g c = (in_rows c.self.invariant c.self.view_is c.args.requestor c.args.block c.requires.block c.requires.requestor).0
+    let within = (in_rows c.self.invariant c.self.view_is c.args.requestor c.args.block c.requires.block c.requires.requestor).1 in
+    omega (arith, within, c.self.invariant.few)
 
 -- the holders are those of the row
-fits : (g : Over) (c : After-concerned g) → AreHolders c.get_or-holders.result (slice_index_or c.args.self.now.rows c.args.block [])
+fits : (g : _) (c : After-concerned g) → AreHolders c.get_or-holders.result (slice_index_or c.args.self.now.rows c.args.block [])
 fits g c =
-    let read = c.get_or-holders.ensures ∙ get_or_default c.self.inside.holders c.args.block c.empty.result no_holders (in_block g c) in
-    rw (read, ← (row_seen c.self.invariant c.self.view_is c.args.block (in_block g c))) (c.self.invariant.indexed c.args.block (in_block g c))
+    let within = (in_rows c.self.invariant c.self.view_is c.args.requestor c.args.block c.requires.block c.requires.requestor).0 in
+    let read = c.get_or-holders.ensures ∙ get_or_default c.self.inside.holders c.args.block c.empty.result no_holders within in
+    rw (read, ← (row_seen c.self.invariant c.self.view_is c.args.block within)) (c.self.invariant.indexed c.args.block within)
 
 pub returns-clause-others : goal.returns-clause-others
 returns-clause-others g c k ne =
@@ -29,5 +22,5 @@ returns-clause-others g c k ne =
 
 pub returns-clause-proper : goal.returns-clause-proper
 returns-clause-proper g c k =
-    let d = (goal.at.returns-clause-proper g c).After-concerned in
-    rw (← (line_seen c.self.invariant c.self.view_is k c.args.block (in_block g d))) (c.self.invariant.proper k c.args.block)
+    let within = (in_rows c.self.invariant c.self.view_is c.args.requestor c.args.block c.requires.block c.requires.requestor).0 in
+    rw (← (line_seen c.self.invariant c.self.view_is k c.args.block within)) (c.self.invariant.proper k c.args.block)

@@ -1,45 +1,33 @@
-use Rattle.std.proofs.Common.{arith, inl}
-use Rattle.snoop_machine.proofs.Common.{filled_line}
-use Rattle.snoop_machine.proofs.LineChanges.{HasWritten, lines_after, writes}
-use Rattle.snoop_machine.proofs.LineMaps.{IsMap, is_map, in_rows, held_placed, gone-none}
-use Rattle.snoop_machine.proofs.LineParts.{core_few, stands}
-use Rattle.snoop_machine.proofs.lines.Lines.fill.Given.{Over}
+use Rattle.snoop_machine.proofs.Common.{arith, filled_line}
+use Rattle.snoop_machine.proofs.LineChanges.{HasWritten, lines_after, writes, stands}
+use Rattle.snoop_machine.proofs.LineMaps.{is_map, in_rows, held_placed}
 use Rattle.snoop_machine.proofs.lines.Lines.fill.Goals as goal
-use Rattle.snoop_machine.proofs.lines.Lines.fill.Goals.{After-index_mut-cache, After-follow}
+use Rattle.snoop_machine.proofs.lines.Lines.fill.Goals.{After-follow}
 
 pub index_mut-cache-requires : goal.index_mut-cache-requires
 index_mut-cache-requires g c = let within = in_rows c.self.invariant c.self.view_is c.args.core c.args.block c.requires.block c.requires.core in omega arith
 
--- the core's map
-map_of : (g : Over) (c : After-index_mut-cache g)
-    → IsMap c.self.inside.caches.items c.self.inside.holders c.args.self.now c.args.core c.args.block c.index_mut-cache.result.now
-map_of g c = is_map c.self.invariant c.self.view_is c.args.core c.args.block c.requires.block c.requires.core _ c.index_mut-cache.ensures.value
-
 pub fill-before-requires-clause-place : goal.fill-before-requires-clause-place
 fill-before-requires-clause-place g c =
-    rw (map_of g (goal.at.fill-before-requires-clause-place g c).After-index_mut-cache).read
-    (held_placed c.self.invariant c.self.view_is c.args.core c.args.block c.requires.held)
+    let its = is_map c.self.invariant c.self.view_is c.args.core c.args.block c.requires.block c.requires.core _ c.index_mut-cache.ensures.value in
+    rw its.read (held_placed c.self.invariant c.self.view_is c.args.core c.args.block c.requires.held)
 
 pub follow-requires : goal.follow-requires
 follow-requires g c =
-    let its = map_of g (goal.at.follow-requires g c).After-index_mut-cache in
-    record {
-      core = core_few its;
-      block = its.in_blocks;
-      stands = stands its c.fill-before.result c.fill-before.ensures.before;
-    }
+    let its = is_map c.self.invariant c.self.view_is c.args.core c.args.block c.requires.block c.requires.core _ c.index_mut-cache.ensures.value in
+    record { core = omega (arith, its.lines.few, its.in_cores); block = its.in_blocks; stands = stands its _ c.fill-before.ensures.before }
 
 -- the map has the filled line, and the holders have followed
-wrote : (g : Over) (c : After-follow g)
+wrote : (g : _) (c : After-follow g)
     → HasWritten c.self.inside.caches.items c.self.inside.holders c.args.self.now c.args.core c.args.block (filled_line c.args.next c.args.access c.args.words.now) c.index_mut-cache.result.now c.fill-before.new.self c.follow.new.holders
 wrote g c =
     let did = c.fill-before.ensures in
     record {
-      map = map_of g (goal.at.After-follow g c).After-index_mut-cache;
+      map = is_map c.self.invariant c.self.view_is c.args.core c.args.block c.requires.block c.requires.core _ c.index_mut-cache.ensures.value;
       proper = c.requires.proper;
       here = did.here;
       others = did.others;
-      goes = inl (gone-none _ c.args.next (λ e. (let kept = rw e at c.requires.proper.kept in cc)), did.blocks);
+      goes = grind (arith, c.requires.proper.kept, did.blocks);
       followed = c.follow.ensures;
       room = did.room;
     }

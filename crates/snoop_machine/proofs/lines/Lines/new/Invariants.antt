@@ -1,6 +1,4 @@
-use Rattle.std.proofs.Common.{◌≡◌, ◌≤◌, ℕ, [], length, vec_capacity}
-use Rattle.std.specs.Prelude.{slice_index_or}
-use Rattle.snoop_machine.proofs.Common.{no_cache}
+use Rattle.snoop_machine.proofs.Common.{◌≡◌, ◌≤◌, ℕ, [], length, vec_capacity, slice_index_or, no_cache}
 use Rattle.snoop_machine.proofs.lines.Lines.new.Given as goal
 
 abbrev pub invariant-loop : goal.invariant-loop

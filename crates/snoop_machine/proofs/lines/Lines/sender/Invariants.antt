@@ -1,6 +1,4 @@
-use Rattle.std.proofs.Common.{◌≤◌, ◌-◌, length}
-use Rattle.snoop_machine.proofs.Common.{free_picture, row_of, memory_line}
-use Rattle.snoop_model.proofs.Lines.TheSender.{SilentBelow}
+use Rattle.snoop_machine.proofs.Common.{◌≤◌, ◌-◌, length, free_picture, row_of, memory_line, SilentBelow}
 use Rattle.snoop_machine.proofs.lines.Lines.sender.Given as goal
 
 abbrev pub invariant-loop-core : goal.invariant-loop-core

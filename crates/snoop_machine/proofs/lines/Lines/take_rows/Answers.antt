@@ -1,71 +1,50 @@
-use Rattle.std.proofs.Common.{◌≡◌, ◌<◌, List, length, arith, sym, ap, ◌∙◌}
-use Rattle.std.specs.Prelude.{slice_set}
-use Rattle.std.proofs.lemmas.List.{set-set, length-set}
-use Rattle.snoop_machine.proofs.Common.{moves_to, Line, IsProper, row_of, line_at}
-use Rattle.snoop_model.proofs.Tables.Rows.{IsProper-order}
-use Rattle.snoop_machine.proofs.LinesGoing.{LinesGo-more, KeepsMapsRoom-more, row_after}
-use Rattle.snoop_model.proofs.Lines.EachRow.{Taking, Taking-more, Taking-past}
+use Rattle.snoop_machine.proofs.Common.{◌≡◌, ◌<◌, length, arith, ◌∙◌, set-set, length-set, row_of, line_at, IsProper-order, Taking, Taking-more, Taking-past}
+use Rattle.snoop_machine.proofs.PartsViews.{LinesGo-more, KeepsMapsRoom-more, row_after}
 use Rattle.snoop_machine.proofs.ConcernedCores.{AreConcerned, concerned_within, TakesRow-passed, Cell-leaves}
-use Rattle.snoop_machine.proofs.lines.Lines.take_rows.Given.{Over}
 use Rattle.snoop_machine.proofs.lines.Lines.take_rows.Goals as goal
 use Rattle.snoop_machine.proofs.lines.Lines.take_rows.Goals.{After-concerned-concerned, In-Some}
 
 -- the set has the cores that the request concerns
-concerned : (g : Over) (c : After-concerned-concerned g)
+concerned : (g : _) (c : After-concerned-concerned g)
     → AreConcerned (row_of c.args.self.now.rows c.args.block) c.args.requestor c.args.request c.concerned-concerned.result
 concerned g c = record { own = c.concerned-concerned.ensures.own; others = c.concerned-concerned.ensures.others }
 
-within_row : (g : Over) (c : In-Some g) → c.in-Some.core < length (row_of c.args.self.now.rows c.args.block)
+within_row : (g : _) (c : In-Some g) → c.in-Some.core < length (row_of c.args.self.now.rows c.args.block)
 within_row g c = concerned_within (concerned g (goal.at.In-Some g c).After-concerned-concerned) c.requires.requestor c.in-Some.core c.in-Some.ensures.some.2
 
 -- the cores up to the one that is looked at have taken their rows
-so_far : (g : Over) (c : In-Some g) → Taking c.args.protocol c.args.requestor c.args.request (row_of c.args.self.now.rows c.args.block) (row_of c.loop-core.self.rows c.args.block) c.in-Some.core
+so_far : (g : _) (c : In-Some g) → Taking c.args.protocol c.args.requestor c.args.request (row_of c.args.self.now.rows c.args.block) (row_of c.loop-core.self.rows c.args.block) c.in-Some.core
 so_far g c =
     let within = within_row g c in
-    Taking-past c.args.protocol c.args.requestor c.args.request (row_of c.args.self.now.rows c.args.block) (row_of c.loop-core.self.rows c.args.block) c.loop-core.from c.in-Some.core
+    Taking-past c.args.protocol c.args.requestor c.args.request _ _ c.loop-core.from c.in-Some.core
     (λ k above below. TakesRow-passed (concerned g (goal.at.In-Some g c).After-concerned-concerned) c.args.protocol c.requires.rows k (omega arith)
     (c.in-Some.ensures.some.3 k above below) (c.concerned-concerned.ensures.proper k))
     c.in-Some.ensures.some.0 c.loop-core.invariant.0
 
-in_blocks : (g : Over) (c : In-Some g) → c.args.block < length c.loop-core.self.rows
+in_blocks : (g : _) (c : In-Some g) → c.args.block < length c.loop-core.self.rows
 in_blocks g c = rw (c.loop-core.invariant.2, length-set c.args.self.now.rows c.args.block (row_of c.loop-core.self.rows c.args.block)) c.requires.block
 
-in_row : (g : Over) (c : In-Some g) → c.in-Some.core < length (row_of c.loop-core.self.rows c.args.block)
-in_row g c = rw c.loop-core.invariant.0.same_length (within_row g c)
-
 -- the line that is looked at is the one that stood there at first
-first_line : (g : Over) (c : In-Some g) → line_at c.loop-core.self.rows c.in-Some.core c.args.block ≡ line_at c.args.self.now.rows c.in-Some.core c.args.block
+first_line : (g : _) (c : In-Some g) → line_at c.loop-core.self.rows c.in-Some.core c.args.block ≡ line_at c.args.self.now.rows c.in-Some.core c.args.block
 first_line g c = (so_far g c).left c.in-Some.core (omega arith)
 
-proper_line : (g : Over) (c : In-Some g) → IsProper (line_at c.loop-core.self.rows c.in-Some.core c.args.block)
-proper_line g c = rw (first_line g c) (c.concerned-concerned.ensures.proper c.in-Some.core)
-
-pub take_row-requires-clause-block : goal.take_row-requires-clause-block
-take_row-requires-clause-block g c = in_blocks g (goal.at.take_row-requires-clause-block g c).In-Some
-
-pub take_row-requires-clause-core : goal.take_row-requires-clause-core
-take_row-requires-clause-core g c = in_row g (goal.at.take_row-requires-clause-core g c).In-Some
-
-pub take_row-requires-clause-row : goal.take_row-requires-clause-row
-take_row-requires-clause-row g c =
-    let d = (goal.at.take_row-requires-clause-row g c).In-Some in
-    rw (c.event_seen.ensures, first_line g d) (c.requires.rows c.in-Some.core (within_row g d))
-
-pub take_row-requires-clause-lands : goal.take_row-requires-clause-lands
-take_row-requires-clause-lands g c action next cell =
-    IsProper-order c.args.protocol (line_at c.loop-core.self.rows c.in-Some.core c.args.block) c.in-Some.core c.args.requestor c.args.request action next
-    (proper_line g (goal.at.take_row-requires-clause-lands g c).In-Some) (rw c.event_seen.ensures at cell)
-
-pub take_row-requires-clause-absent : goal.take_row-requires-clause-absent
-take_row-requires-clause-absent g c action next cell =
-    Cell-leaves c.args.protocol c.in-Some.core c.args.requestor c.args.request action next (rw c.event_seen.ensures at cell)
+pub take_row-requires : goal.take_row-requires
+take_row-requires g c =
+    let d = (goal.at.take_row-requires g c).In-Some in
+    record {
+      block = in_blocks g d;
+      core = rw c.loop-core.invariant.0.same_length (within_row g d);
+      row = rw (c.event_seen.ensures, first_line g d) (c.requires.rows c.in-Some.core (within_row g d));
+      lands = λ action next cell. rw (first_line g d) (IsProper-order c.args.protocol _ c.in-Some.core c.args.requestor c.args.request action next
+          (c.concerned-concerned.ensures.proper c.in-Some.core) (rw (c.event_seen.ensures, first_line g d) at cell));
+      absent = λ action next cell. Cell-leaves c.args.protocol c.in-Some.core c.args.requestor c.args.request action next (rw c.event_seen.ensures at cell);
+    }
 
 pub loop-core-preserved : goal.loop-core-preserved
 loop-core-preserved g c =
     let d = (goal.at.loop-core-preserved g c).In-Some in
     let first = c.args.self.now in
     let now = c.loop-core.self in
-    let new = c.take_row.new.self in
     let block = c.args.block in
     let old = row_of first.rows block in
     let before = c.loop-core.invariant in
@@ -76,13 +55,11 @@ loop-core-preserved g c =
     let found = rw c.event_seen.ensures at took.row in
     let after = row_after wrote in_rows in (
       Taking-more c.args.protocol c.args.requestor c.args.request old (row_of now.rows block)
-          (row_of new.rows block) c.in-Some.core took.action took.next within (so_far g d) found after,
+          (row_of c.take_row.new.self.rows block) c.in-Some.core took.action took.next within (so_far g d) found after,
       omega arith,
-      wrote.rows ∙ (ap (λ (rows : List (List Line)). slice_set rows block
-          (slice_set (row_of now.rows block) c.in-Some.core (moves_to took.next (line_at now.rows c.in-Some.core block)))) before.2
-          ∙ (set-set first.rows block (row_of now.rows block) _ ∙ ap (λ (r : List Line). slice_set first.rows block r) (sym after))),
+      cc (wrote.rows, before.2, set-set first.rows block (row_of now.rows block) (row_of c.take_row.new.self.rows block), after),
       wrote.many ∙ before.3,
-      LinesGo-more wrote in_rows first before.4 (in_row g d) (first_line g d),
+      LinesGo-more wrote in_rows first before.4 (rw before.0.same_length within) (first_line g d),
       KeepsMapsRoom-more wrote in_rows first before.4 before.5,
     )
 
@@ -90,16 +67,11 @@ pub returns-clause-taken : goal.returns-clause-taken
 returns-clause-taken g c =
     let before = c.loop-core.invariant.0 in
     let old = row_of c.args.self.now.rows c.args.block in
-    let taking : Taking c.args.protocol c.args.requestor c.args.request old (row_of c.loop-core.self.rows c.args.block) (length old) =
-    Taking-past c.args.protocol c.args.requestor c.args.request old (row_of c.loop-core.self.rows c.args.block) c.loop-core.from (length old)
+    let taking = Taking-past c.args.protocol c.args.requestor c.args.request old (row_of c.loop-core.self.rows c.args.block) c.loop-core.from (length old)
     (λ k above below. TakesRow-passed (concerned g (goal.at.returns-clause-taken g c).After-concerned-concerned) c.args.protocol c.requires.rows k below
     (c.in_default.ensures.none k above) (c.concerned-concerned.ensures.proper k))
     c.loop-core.invariant.1 before in
     record { same_length = before.same_length; rows = taking.taken }
 
 pub loop-core-smaller : goal.loop-core-smaller
-loop-core-smaller g c =
-    let d = (goal.at.loop-core-smaller g c).In-Some in
-    let within = within_row g d in
-    let up = c.in-Some.ensures.some.0 in
-    omega arith
+loop-core-smaller g c = omega (arith, within_row g (goal.at.loop-core-smaller g c).In-Some, c.in-Some.ensures.some.0)

@@ -1,7 +1,4 @@
-use Rattle.std.proofs.Common.{◌≡◌, ◌≤◌, ◌-◌, length}
-use Rattle.std.specs.Prelude.{slice_set}
-use Rattle.snoop_machine.proofs.Common.{LinesGo, KeepsMapsRoom, row_of}
-use Rattle.snoop_model.proofs.Lines.EachRow.{Taking}
+use Rattle.snoop_machine.proofs.Common.{◌≡◌, ◌≤◌, ◌-◌, length, slice_set, LinesGo, KeepsMapsRoom, row_of, Taking}
 use Rattle.snoop_machine.proofs.lines.Lines.take_rows.Given as goal
 
 abbrev pub invariant-loop-core : goal.invariant-loop-core

@@ -1,6 +1,4 @@
-use Rattle.std.proofs.Common.{◌∙◌, ap, sym}
-use Rattle.snoop_machine.proofs.Common.{stand, Standing}
-use Rattle.snoop_model.proofs.Invariant.Safety.{kept_is_flat}
+use Rattle.snoop_machine.proofs.Common.{◌∙◌, ap, sym, stand, Standing, kept_is_flat}
 use Rattle.snoop_machine.proofs.machine.Machine.kept.Goals as goal
 
 pub returns-clause-current : goal.returns-clause-current

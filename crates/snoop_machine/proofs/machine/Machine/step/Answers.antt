@@ -1,22 +1,18 @@
-use Rattle.snoop_machine.proofs.Common.{MachineKeeps, stand, Answers}
-use Rattle.snoop_model.proofs.Invariant.Safety.{is_safe}
+use Rattle.snoop_machine.proofs.Common.{stand, Answers, is_safe}
 use Rattle.snoop_model.proofs.Invariant.Steps.{step_once}
-use Rattle.snoop_machine.proofs.StepKeeps.{answers, step_keeps, step_stays, step_tells}
+use Rattle.snoop_machine.proofs.Runs.{answers, step_keeps, step_stays, step_tells}
 use Rattle.snoop_machine.proofs.machine.Machine.step.Goals as goal
 use Rattle.snoop_machine.proofs.machine.Machine.step.Goals.{After-step}
 
 went : (c : After-step) → Answers (stand c.self.inside.parts) c.args.step c.step.result (stand c.step.new.self)
 went c = answers _ _ c.args.step c.step.result c.step.ensures.taken c.step.ensures.refused c.step.ensures.full c.step.ensures.room c.step.ensures.lines
 
--- the parts keep what every machine keeps
-keeps : (c : After-step) → MachineKeeps (stand c.step.new.self).situation
-keeps c = step_keeps _ _ c.args.step c.step.result c.self.invariant (went c)
-
 pub invariant_of-self : goal.invariant_of-self
-invariant_of-self c = keeps (goal.at.invariant_of-self c).After-step
+invariant_of-self c = step_keeps _ _ c.args.step c.step.result c.self.invariant (went (goal.at.invariant_of-self c).After-step)
 
 pub returns-clause-safe : goal.returns-clause-safe
-returns-clause-safe c = is_safe (stand c.step.new.self).situation (keeps (goal.at.returns-clause-safe c).After-step)
+returns-clause-safe c =
+    is_safe (stand c.step.new.self).situation (step_keeps _ _ c.args.step c.step.result c.self.invariant (went (goal.at.returns-clause-safe c).After-step))
 
 pub returns-clause-once : goal.returns-clause-once
 returns-clause-once c =

@@ -1,25 +1,13 @@
-use Rattle.std.proofs.Common.{◌≡◌, [], ◌∙◌, ℕ, List, ap, length, arith, refl}
-use Rattle.std.specs.Prelude.{slice_index_or}
-use Rattle.std.proofs.lemmas.Result.{err_from_is_err_and}
-use Rattle.std.proofs.lemmas.List.{length-set}
-use Rattle.snoop_machine.proofs.Common.{Waiting, waiting_of, KeepsMapsRoom, shown_line_rooms}
-use Rattle.snoop_machine.proofs.Room.{held_in-set, keeps_room, shown-same, places-map, places-queue}
-use Rattle.snoop_machine.proofs.Queues.{queues_of-room}
-use Rattle.snoop_machine.proofs.Soundness.{IsSound-room}
-use Rattle.snoop_machine.proofs.parts.Parts.add_line.Given.{Over}
+use Rattle.snoop_machine.proofs.Common.{◌∙◌, ap, arith, refl, slice_index_or, err_from_is_err_and, length-set, waiting_of, KeepsMapsRoom}
+use Rattle.snoop_machine.proofs.PartsViews.{held_in-set, keeps_room, shown-same, rooms_at, shown_at, sized_on, queues_of-room, IsSound-room}
 use Rattle.snoop_machine.proofs.parts.Parts.add_line.Goals as goal
-use Rattle.snoop_machine.proofs.parts.Parts.add_line.Goals.{After-put_ahead}
-use Rattle.snoop_machine.proofs.PictureViews.{core_in, sized_on}
-
-rows : (g : Over) (c : After-put_ahead g) → c.put_ahead.new.self.rows ≡ c.self.inside.lines.rows
-rows g c = c.put_ahead.ensures.rows ∙ c.reserve.ensures.rows
 
 pub invariant_of-self-2 : goal.invariant_of-self-2
 invariant_of-self-2 g c =
     let core = c.args.core in
     record {
-      sound = rw (rows g (goal.at.invariant_of-self-2 g c).After-put_ahead) (IsSound-room c.self.invariant.sound c.reserve-2.new.self core _
-          (core_in c.self.invariant c.self.view_is core c.requires.core) c.reserve-2.ensures.queue refl c.reserve-2.ensures.transactions);
+      sound = rw (c.put_ahead.ensures.rows ∙ c.reserve.ensures.rows) (IsSound-room c.self.invariant.sound c.reserve-2.new.self core _
+          (rw (← c.self.view_is) at c.requires.core) c.reserve-2.ensures.queue refl c.reserve-2.ensures.transactions);
       sized = sized_on _ _ c.self.invariant.sized refl
           (rw (c.put_ahead.ensures.lines, length-set, c.reserve.ensures.lines) refl) (refl, refl) (refl, refl, refl);
     }
@@ -27,21 +15,21 @@ invariant_of-self-2 g c =
 pub returns-in_err-reserve-clause-full : goal.returns-in_err-reserve-clause-full
 returns-in_err-reserve-clause-full g c =
     let p = err_from_is_err_and c.from_residual.result c.from_residual.ensures.1 in
-    rw p.1 (places-map c.self.invariant c.self.view_is c.args.core c.in_err-reserve.ensures.full)
+    rw (p.1, ← c.self.view_is)
+    (grind (arith, shown_at c.self.inside.bus.queues c.self.inside.lines.line_rooms c.args.core, c.in_err-reserve.ensures.full))
 
 pub returns-in_err-reserve-2-clause-full : goal.returns-in_err-reserve-2-clause-full
 returns-in_err-reserve-2-clause-full g c =
     let p = err_from_is_err_and c.from_residual-in_err-reserve-2.result c.from_residual-in_err-reserve-2.ensures.1 in
-    rw p.1 (places-queue c.self.invariant c.self.view_is c.args.core c.in_err-reserve-2.ensures.full)
+    rw (p.1, ← c.self.view_is) (grind (arith, rooms_at c.self.inside.bus.queues c.args.core, c.in_err-reserve-2.ensures.full))
 
 pub returns-in_err-reserve-2-clause-refused : goal.returns-in_err-reserve-2-clause-refused
 returns-in_err-reserve-2-clause-refused g c =
-    let queues = c.self.inside.bus.queues in
-    let line_rooms = c.self.inside.lines.line_rooms in
     let p = err_from_is_err_and c.from_residual-in_err-reserve-2.result c.from_residual-in_err-reserve-2.ensures.1 in
-    let shown : shown_line_rooms queues c.reserve.new.self.line_rooms ≡ shown_line_rooms queues line_rooms =
-    rw c.reserve.ensures.line_rooms (shown-same queues line_rooms c.args.core _ c.in_err-reserve-2.ensures.full) in
-    rw (p.1, c.in_err-reserve-2.ensures.refused, c.reserve.ensures.rows, c.reserve.ensures.lines, shown) c.self.view_is
+    let did = c.reserve.ensures in
+    let shown = shown-same c.self.inside.bus.queues c.self.inside.lines.line_rooms c.args.core (slice_index_or c.reserve.new.self.line_rooms c.args.core 0)
+    c.in_err-reserve-2.ensures.full in
+    rw (p.1, c.in_err-reserve-2.ensures.refused, did.rows, did.lines, did.line_rooms, shown) c.self.view_is
 
 pub returns-in_err-reserve-2-clause-room : goal.returns-in_err-reserve-2-clause-room
 returns-in_err-reserve-2-clause-room g c =
@@ -50,20 +38,15 @@ returns-in_err-reserve-2-clause-room g c =
 
 pub returns-clause-unchanged : goal.returns-clause-unchanged
 returns-clause-unchanged g c =
-    let bus = c.self.inside.bus in
-    let room = (waiting_of c.reserve-2.new.self c.args.core).room in
-    rw (rows g (goal.at.returns-clause-unchanged g c).After-put_ahead, c.reserve-2.ensures.queue, queues_of-room bus.queues c.args.core room, c.reserve-2.ensures.transactions) (ap (λ s. s.situation) c.self.view_is)
+    let rows = c.put_ahead.ensures.rows ∙ c.reserve.ensures.rows in
+    let shown = queues_of-room c.self.inside.bus.queues c.args.core (waiting_of c.reserve-2.new.self c.args.core).room in
+    rw (rows, c.reserve-2.ensures.queue, shown, c.reserve-2.ensures.transactions) (ap (λ s. s.situation) c.self.view_is)
 
 pub returns-clause-room : goal.returns-clause-room
 returns-clause-room g c =
-    let bus = c.self.inside.bus in
     let core = c.args.core in
-    let queue : Waiting = record { requests = (waiting_of bus core).requests; room = (waiting_of c.reserve-2.new.self core).room } in
     let more = c.reserve-2.ensures.room in
     let line_rooms : KeepsMapsRoom c.self.inside.lines c.put_ahead.new.self = λ k.
-    (let grown = c.reserve.ensures.room k in
-    let used = c.put_ahead.ensures.room k in
-    let same = ap (λ (lines : List (List ℕ)). length (slice_index_or lines k [])) c.reserve.ensures.lines in
-    omega arith) in
+    grind (arith, c.reserve.ensures.room k, c.put_ahead.ensures.room k, c.reserve.ensures.lines) in
     keeps_room c.self.invariant c.self.view_is c.put_ahead.new.self c.self.inside.memory c.reserve-2.new.self c.self.inside.log (omega arith)
-    (held_in-set c.self.invariant c.self.view_is c.reserve-2.new.self core queue c.reserve-2.ensures.queue c.requires.core (omega arith)) line_rooms
+    (held_in-set c.self.invariant c.self.view_is c.reserve-2.new.self core _ c.reserve-2.ensures.queue c.requires.core (omega arith)) line_rooms

@@ -1,58 +1,59 @@
-use Rattle.std.proofs.Common.{◌≡◌, ◌≢◌, false, Some, refl, sym, ◌∙◌, arith}
-use Rattle.std.specs.Prelude.{slice_set}
-use Rattle.snoop_machine.proofs.Common.{PutM, Fills, next_did, Line, filled_line, row_of, line_at, fields}
-use Rattle.snoop_machine.proofs.Closing.{Closes, as_closes, never_none, opened, header, in_cores, whole_after, room_after, responded, loses}
-use Rattle.snoop_machine.proofs.LinesGoing.{LinesGo-none, LinesGo-more, row_after}
-use Rattle.snoop_machine.proofs.Soundness.{IsSound-line}
-use Rattle.snoop_machine.proofs.PictureViews.{line_seen, core_in, block_in, rows_in, row_in, words_seen}
-use Rattle.snoop_machine.proofs.Responses.{Arrives-get, IsProper-filled, waits-filled, held-filled}
-use Rattle.snoop_machine.proofs.parts.Parts.finish_get.Given.{Over}
+use Rattle.snoop_machine.proofs.Common.{◌≡◌, ◌≢◌, false, Some, refl, sym, ◌∙◌, arith, PutM, Fills, next_did, Line, filled_line, line_at, fields, Open, Protocol, Access, ℕ, IsProper, IsProper-fill, waiting_request, ap, fill-waits, I, Did}
+use Rattle.snoop_machine.proofs.Closing.{Closes, never_none, opened, header, in_cores, whole_after, room_after, responded, loses, arrives_get}
+use Rattle.snoop_machine.proofs.PartsViews.{LinesGo-more, row_after, IsSound-line, line_seen, rows_in, row_in, words_seen}
 use Rattle.snoop_machine.proofs.parts.Parts.finish_get.Goals as goal
 use Rattle.snoop_machine.proofs.parts.Parts.finish_get.Goals.{In-Some}
 
-abbrev closes : (g : Over) (c : In-Some g)
-    → Closes (fields c.self.inside.protocol c.self.inside.shape c.self.inside.lines c.self.inside.memory c.self.inside.bus c.self.inside.log) c.args.self.now c.args.came c.args.memory c.in-Some.closing
-closes g c = as_closes c.self.invariant c.self.view_is c.requires.closing c.requires.block (sym c.finish.ensures.closed ∙ c.in-Some.is)
+-- a line that was filled
+module _ {closing : Open} {p : Protocol} {old new : Line} {asking : Access} {value : ℕ} (its : Fills closing p old new asking value) where
+  proper-filled : IsProper new
+  proper-filled = rw its.held (IsProper-fill p old.state its.event its.row.action its.row.next asking.op its.after its.fill its.is_row)
 
--- the requestor's line now
-abbrev line : (g : Over) (c : In-Some g) → Line
-line g c = filled_line c.args.filled.next c.args.filled.access c.in-Some.closing.value
+  waits-filled : waiting_request new.state ≡ waiting_request old.state
+  waits-filled =
+      ap (λ (x : Line). waiting_request x.state) its.held ∙ fill-waits p old.state its.event its.row.action its.row.next asking.op its.fill its.is_row
+
+  -- it held an operation that waits, so it was not in I
+  held-filled : IsProper old → old.state ≢ I
+  held-filled proper e = let waits = proper.waiting in let waited = its.waited in cc
+
+abbrev closes : (g : _) (c : In-Some g)
+    → Closes (fields c.self.inside.protocol c.self.inside.shape c.self.inside.lines c.self.inside.memory c.self.inside.bus c.self.inside.log) c.args.self.now c.args.came c.args.memory c.in-Some.closing
+closes g c = record { count = _; whole = c.self.invariant; view = c.self.view_is; within = c.requires.block; found = c.requires.closing; is_open = sym c.finish.ensures.closed ∙ c.in-Some.is }
 
 -- the fill, on the line that the maps hold
-fills : (g : Over) (c : In-Some g)
-    → Fills c.in-Some.closing c.self.inside.protocol (line_at c.self.inside.lines.rows c.in-Some.closing.core c.args.came.block) (line g c) c.args.filled.access c.args.filled.value
+fills : (g : _) (c : In-Some g)
+    → Fills c.in-Some.closing c.self.inside.protocol (line_at c.self.inside.lines.rows c.in-Some.closing.core c.args.came.block)
+    (filled_line c.args.filled.next c.args.filled.access c.in-Some.closing.value) c.args.filled.access c.args.filled.value
 fills g c = rw (opened (closes g c), line_seen c.self.invariant c.self.view_is c.in-Some.closing.core c.args.came.block, ← c.self.view_is) at c.requires.filled
 
 pub unreachable-requires : goal.unreachable-requires
 unreachable-requires g c = never_none c.self.invariant c.self.view_is c.requires.closing (sym c.finish.ensures.closed ∙ c.in_default.is)
 
-pub fill-requires-clause-core : goal.fill-requires-clause-core
-fill-requires-clause-core g c =
-    row_in c.self.invariant c.self.view_is c.in-Some.closing.core c.args.came.block
-    (in_cores (closes g (goal.at.fill-requires-clause-core g c).In-Some)) c.requires.block
-
-pub fill-requires-clause-word : goal.fill-requires-clause-word
-fill-requires-clause-word g c =
+pub fill-requires : goal.fill-requires
+fill-requires g c =
+    let d = (goal.at.fill-requires g c).In-Some in
+    let core = c.in-Some.closing.core in
+    let block = c.args.came.block in
     let held = words_seen c.self.invariant c.self.view_is in
     let word = c.requires.word.0 in
-    omega arith
-
-pub fill-requires-clause-proper : goal.fill-requires-clause-proper
-fill-requires-clause-proper g c = IsProper-filled (fills g (goal.at.fill-requires-clause-proper g c).In-Some)
-
-pub fill-requires-clause-held : goal.fill-requires-clause-held
-fill-requires-clause-held g c =
-    held-filled (fills g (goal.at.fill-requires-clause-held g c).In-Some) (c.self.invariant.sound.proper c.in-Some.closing.core c.args.came.block)
+    record {
+      block = rows_in c.self.invariant c.self.view_is block c.requires.block;
+      core = row_in c.self.invariant c.self.view_is core block (in_cores (closes g d)) c.requires.block;
+      word = omega arith;
+      proper = proper-filled (fills g d);
+      held = held-filled (fills g d) (c.self.invariant.sound.proper core block);
+    }
 
 pub invariant_of-self : goal.invariant_of-self
 invariant_of-self g c =
     let d = (goal.at.invariant_of-self g c).In-Some in
     let core = c.in-Some.closing.core in
     let block = c.args.came.block in
-    rw (c.settle.ensures, c.finish.ensures.after, c.push.ensures) (whole_after (closes g d) c.fill.new.self (Some c.next_did-did.result)
-    (rw c.fill.ensures.rows (IsSound-line c.self.invariant.sound core block (line g d)
-    (core_in c.self.invariant c.self.view_is core (in_cores (closes g d))) (block_in c.self.invariant c.self.view_is block c.requires.block)
-    (IsProper-filled (fills g d)) (waits-filled (fills g d))))
+    rw (c.settle.ensures, c.finish.ensures.after, c.push.ensures) (whole_after (closes g d) (Some c.next_did-did.result) c.fill.new.self _ c.fill.ensures.rows
+    (rw c.fill.ensures.rows (IsSound-line c.self.invariant.sound core block _
+    (rw (← c.self.view_is) at (in_cores (closes g d))) (rw (← c.self.view_is) at c.requires.block)
+    (proper-filled (fills g d)) (waits-filled (fills g d))))
     c.fill.ensures.many)
 
 pub returns : goal.returns
@@ -60,19 +61,18 @@ returns g c =
     let d = (goal.at.returns g c).In-Some in
     let closing = c.in-Some.closing in
     let access = c.args.filled.access in
-    let filled = c.fill.new.self in
-    let did = c.next_did-did.result in
-    let row = row_of c.self.inside.lines.rows c.args.came.block in
+    let wrote = c.fill.ensures in
+    let did = Some c.next_did-did.result in
     let get : closing.request ≢ PutM = rw (← header (closes g d)) at c.requires.get in
-    let performed : did ≡ next_did c.self.inside.log.items closing.core closing.block access.word access.op c.args.filled.value false =
+    let performed : c.next_did-did.result ≡ next_did c.self.inside.log.items closing.core closing.block access.word access.op c.args.filled.value false =
     rw (← c.self.view_is, ← header (closes g d)) at c.next_did-did.ensures in
     let lines = c.self.inside.lines in
     let in_rows = rows_in c.self.invariant c.self.view_is c.args.came.block c.requires.block in
     let in_row = row_in c.self.invariant c.self.view_is closing.core c.args.came.block (in_cores (closes g d)) c.requires.block in
     rw (c.settle.ensures, c.finish.ensures.after, c.push.ensures) (record {
-      responded = responded (closes g d) filled (slice_set row closing.core (line g d)) (Some did) c.fill.ensures.rows
-          (rw performed (Arrives-get closing c.self.inside.protocol c.self.inside.log.items row (line g d) access c.args.filled.value get (fills g d)));
-      room = room_after (closes g d) filled (Some did) c.requires.room c.fill.ensures.room;
-      lines = loses (closes g d) filled (slice_set row closing.core (line g d)) (Some did) c.fill.ensures.rows (sym (row_after c.fill.ensures in_rows))
-          (LinesGo-more c.fill.ensures in_rows lines (LinesGo-none c.args.came.block lines) in_row refl);
+      responded = responded (closes g d) did c.fill.new.self _ wrote.rows (arrives_get closing.request get
+          (record { line = _; asking = access; value = c.args.filled.value; fills = fills g d; held = refl; logged = ap (λ (x : Did). Some x) performed }));
+      room = room_after (closes g d) did c.fill.new.self _ wrote.rows c.requires.room wrote.room;
+      lines = loses (closes g d) did c.fill.new.self _ wrote.rows (sym (row_after wrote in_rows))
+          (LinesGo-more wrote in_rows lines (λ k. grind arith) in_row refl);
     })

@@ -1,44 +1,28 @@
-use Rattle.std.proofs.Common.{◌≡◌, ℕ, refl, ◌∙◌}
-use Rattle.std.specs.Prelude.{slice_set}
-use Rattle.std.proofs.lemmas.List.{set-get_or}
-use Rattle.snoop_machine.proofs.Common.{held_by, with_line, nothing_held, Situation, picture_of, nothing_there}
-use Rattle.snoop_machine.proofs.ProperLines.{loaded_same}
+use Rattle.snoop_machine.proofs.Common.{◌≡◌, refl, ◌∙◌, slice_set, set-get_or, held_by, with_line, nothing_held, picture_of, nothing_there, arith, changed}
 use Rattle.snoop_machine.proofs.parts.Parts.hit_line.Goals as goal
-
--- a line that is written as it was
-line_kept : (s : Situation) (block core : ℕ) → slice_set s.pictures block (with_line (picture_of s block) core (held_by (picture_of s block) core)) ≡ s.pictures
-line_kept s block core = rw (set-get_or (picture_of s block).caches core nothing_held) (set-get_or s.pictures block nothing_there)
+use Rattle.snoop_machine.specs.declared.cache.LineChange.TheVariants.{Hit}
 
 -- a load leaves the line as it is
 pub returns-in-Load-clause-written : goal.returns-in-Load-clause-written
 returns-in-Load-clause-written g c =
     let s = c.args.self.now.situation in
-    rw (
-      loaded_same c.args.access c.args.next (held_by (picture_of s c.args.block) c.args.core) c.in-Load.is (c.requires.still c.in-Load.is),
-      line_kept s c.args.block c.args.core,
-      c.push.ensures,
-      c.next_did-did.ensures,
-      ← c.self.view_is,
-    ) refl
+    let line = held_by (picture_of s c.args.block) c.args.core in
+    let load = c.in-Load.is in
+    let still = c.requires.still load in
+    let same : changed c.args.next (Hit c.args.access) line ≡ line = grind arith in
+    let kept : slice_set s.pictures c.args.block (with_line (picture_of s c.args.block) c.args.core line) ≡ s.pictures =
+    rw (set-get_or (picture_of s c.args.block).caches c.args.core nothing_held) (set-get_or s.pictures c.args.block nothing_there) in
+    rw (same, kept, c.push.ensures, c.next_did-did.ensures, ← c.self.view_is) refl
 
 pub returns-in-Load-clause-lines : goal.returns-in-Load-clause-lines
-returns-in-Load-clause-lines g c k = rw (← c.self.view_is) (record { lowered = λ moved. absurd (moved.1.0 moved.1.1); same = λ still. refl })
+returns-in-Load-clause-lines g c k = rw (← c.self.view_is) (grind arith)
 
 -- a store moves it
 pub move_line-requires : goal.move_line-requires
-move_line-requires g c = record {
-  core = rw (← c.self.view_is) at c.requires.core;
-  block = rw (← c.self.view_is) at c.requires.block;
-  words = rw (← c.self.view_is) at c.requires.word.0;
-  same = rw (← c.self.view_is) at c.requires.same;
-  held = rw (← c.self.view_is) at c.requires.held;
-  proper = rw (← c.self.view_is) at c.requires.proper;
-}
+move_line-requires g c = grind (arith, c.self.view_is, c.requires)
 
 pub returns-clause-written : goal.returns-clause-written
 returns-clause-written g c = c.move_line.ensures.written ∙ rw (c.push.ensures, c.next_did-did.ensures, ← c.self.view_is) refl
 
 pub returns-clause-lines : goal.returns-clause-lines
-returns-clause-lines g c k =
-    let its = c.move_line.ensures.lines k in
-    rw (← c.self.view_is) (record { lowered = its.lowered; same = its.same })
+returns-clause-lines g c k = rw (← c.self.view_is) (grind (arith, c.move_line.ensures.lines k))

@@ -1,63 +1,34 @@
-use Rattle.std.proofs.Common.{◌≡◌, ◌+◌, ◌-◌, ◌++◌, ◌∷◌, [], length, refl, arith}
-use Rattle.std.proofs.lemmas.List.{length-append}
-use Rattle.std.specs.Prelude.{slice_set}
-use Rattle.snoop_machine.proofs.Common.{Waiting, waiting_of, Line, with_line, changed, line_at, Fields, fields, standing, pictures_of, Wait}
-use Rattle.snoop_machine.proofs.Following.{follows-set}
-use Rattle.snoop_machine.proofs.Soundness.{IsSound-issue}
-use Rattle.snoop_machine.proofs.PictureViews.{seen, line_seen, picture_in, line-written, core_in, block_in, sized_on}
-use Rattle.snoop_machine.proofs.Queues.{queues_of-issue}
-use Rattle.snoop_machine.proofs.Room.{held_in-set, keeps_room}
-use Rattle.snoop_machine.proofs.parts.Parts.issue_line.Given.{Over}
+use Rattle.snoop_machine.proofs.Common.{◌-◌, ◌∷◌, [], refl, arith, length-append, waiting_of, with_line, changed, line_at, fields, Wait}
+use Rattle.snoop_machine.proofs.PartsViews.{follows-set, IsSound-issue, queues_of-issue, seen, line_seen, picture_in, line-written, sized_on, held_in-set, keeps_room}
 use Rattle.snoop_machine.proofs.parts.Parts.issue_line.Goals as goal
-use Rattle.snoop_machine.proofs.parts.Parts.issue_line.Goals.{After-issue}
-
--- the parts before it
-abbrev parts : (g : Over) (c : After-issue g) → Fields
-parts g c = fields c.self.inside.protocol c.self.inside.shape c.self.inside.lines c.self.inside.memory c.self.inside.bus c.self.inside.log
-
--- the line that the core has now
-abbrev line : (g : Over) (c : After-issue g) → Line
-line g c = changed c.args.next (Wait c.args.waiting) (line_at c.self.inside.lines.rows c.args.core c.args.block)
-
--- its queue now
-abbrev queue : (g : Over) (c : After-issue g) → Waiting
-queue g c =
-    let before = waiting_of c.self.inside.bus c.args.core in
-    record { requests = before.requests ++ (c.args.request, c.args.block) ∷ []; room = before.room - 1 }
-
--- the picture that the block has now
-wrote : (g : Over) (c : After-issue g) → pictures_of c.change.new.self.rows c.self.inside.memory.states c.self.inside.memory.words c.issue.new.self.transactions
-    ≡ slice_set (standing (parts g c)).situation.pictures c.args.block (with_line (picture_in (parts g c) c.args.block) c.args.core (line g c))
-wrote g c =
-    rw c.issue.ensures.transactions (line-written c.self.invariant refl c.args.block c.change.new.self.rows c.args.core (line g c) c.change.ensures.rows)
 
 pub change-requires-clause-proper : goal.change-requires-clause-proper
 change-requires-clause-proper g c = rw (line_seen c.self.invariant c.self.view_is c.args.core c.args.block) at c.requires.proper
 
 pub invariant_of-self : goal.invariant_of-self
 invariant_of-self g c =
-    let d = (goal.at.invariant_of-self g c).After-issue in
     let here = line_seen c.self.invariant c.self.view_is c.args.core c.args.block in
     record {
-      sound = rw c.change.ensures.rows (IsSound-issue c.self.invariant.sound c.args.core c.args.block (line g d)
-          (core_in c.self.invariant c.self.view_is c.args.core c.requires.core) (block_in c.self.invariant c.self.view_is c.args.block c.requires.block)
-          (rw here at c.requires.proper) c.issue.new.self c.args.request (queue g d).room c.issue.ensures.queue c.issue.ensures.transactions
+      sound = rw c.change.ensures.rows (IsSound-issue c.self.invariant.sound c.args.core c.args.block _
+          (rw (← c.self.view_is) at c.requires.core) (rw (← c.self.view_is) at c.requires.block)
+          (rw here at c.requires.proper) c.issue.new.self c.args.request _ c.issue.ensures.queue c.issue.ensures.transactions
           (rw here at c.requires.idle) c.requires.waits);
       sized = sized_on _ _ c.self.invariant.sized refl c.change.ensures.many (refl, refl) (refl, refl, refl);
     }
 
 pub returns : goal.returns
 returns g c =
-    let d = (goal.at.returns g c).After-issue in
-    let m = parts g d in
+    let line = changed c.args.next (Wait c.args.waiting) (line_at c.self.inside.lines.rows c.args.core c.args.block) in
+    let m = fields c.self.inside.protocol c.self.inside.shape c.self.inside.lines c.self.inside.memory c.self.inside.bus c.self.inside.log in
     let core = c.args.core in
     let before = waiting_of m.bus core in
-    let long : length (queue g d).requests ≡ length before.requests + 1 = length-append before.requests ((c.args.request, c.args.block) ∷ []) in
-    let shown = queues_of-issue m.bus.queues core c.args.block (queue g d).room c.args.request in
+    let long = length-append before.requests ((c.args.request, c.args.block) ∷ []) in
+    let shown = queues_of-issue m.bus.queues core c.args.block (before.room - 1) c.args.request in
+    let wrote = line-written c.self.invariant refl c.args.block c.change.new.self.rows core line c.change.ensures.rows in
     record {
-      written = rw (← c.self.view_is, seen c.self.invariant refl c.args.block, wrote g d, c.issue.ensures.queue, shown);
+      written = rw (← c.self.view_is, seen c.self.invariant refl c.args.block, c.issue.ensures.transactions, wrote, c.issue.ensures.queue, shown);
       room = keeps_room c.self.invariant c.self.view_is c.change.new.self m.memory c.issue.new.self m.log (omega arith)
-          (held_in-set c.self.invariant c.self.view_is c.issue.new.self core (queue g d) c.issue.ensures.queue c.requires.core (omega arith)) c.change.ensures.room;
-      lines = follows-set c.self.invariant c.self.view_is _ c.args.block (with_line (picture_in m c.args.block) core (line g d)) c.change.new.self c.requires.block
-          (wrote g d) refl c.change.ensures c.requires.core refl;
+          (held_in-set c.self.invariant c.self.view_is c.issue.new.self core _ c.issue.ensures.queue c.requires.core (omega arith)) c.change.ensures.room;
+      lines = follows-set c.self.invariant c.self.view_is _ c.args.block (with_line (picture_in m c.args.block) core line) c.change.new.self c.requires.block
+          (rw c.issue.ensures.transactions wrote) refl c.change.ensures c.requires.core refl;
     }

@@ -1,4 +1,4 @@
-use Rattle.snoop_machine.proofs.PictureViews.{line_seen}
+use Rattle.snoop_machine.proofs.PartsViews.{line_seen}
 use Rattle.snoop_machine.proofs.parts.Parts.line.Goals as goal
 
 pub returns-clause-line : goal.returns-clause-line

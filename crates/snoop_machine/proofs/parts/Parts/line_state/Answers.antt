@@ -1,4 +1,4 @@
-use Rattle.snoop_machine.proofs.PictureViews.{state_seen}
+use Rattle.snoop_machine.proofs.PartsViews.{state_seen}
 use Rattle.snoop_machine.proofs.parts.Parts.line_state.Goals as goal
 
 pub returns : goal.returns

@@ -1,5 +1,5 @@
-use Rattle.std.proofs.Common.{◌∙◌}
-use Rattle.snoop_machine.proofs.PictureViews.{state_seen}
+use Rattle.snoop_machine.proofs.Common.{◌∙◌}
+use Rattle.snoop_machine.proofs.PartsViews.{state_seen}
 use Rattle.snoop_machine.proofs.parts.Parts.lines.Goals as goal
 
 pub returns-clause-held : goal.returns-clause-held

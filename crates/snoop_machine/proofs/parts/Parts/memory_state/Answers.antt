@@ -1,4 +1,4 @@
-use Rattle.snoop_machine.proofs.PictureViews.{seen}
+use Rattle.snoop_machine.proofs.PartsViews.{seen}
 use Rattle.snoop_machine.proofs.parts.Parts.memory_state.Goals as goal
 
 pub returns : goal.returns

@@ -1,20 +1,6 @@
-use Rattle.std.proofs.Common.{◌∙◌, arith, refl, inl}
-use Rattle.snoop_machine.proofs.Common.{Line, with_line, changed, line_at, Fields, fields}
-use Rattle.snoop_machine.proofs.Following.{follows-set}
-use Rattle.snoop_machine.proofs.Soundness.{IsSound-line}
-use Rattle.snoop_machine.proofs.PictureViews.{seen, line_seen, state_seen, words_seen, picture_in, line-written, core_in, block_in, sized_on}
-use Rattle.snoop_machine.proofs.Room.{keeps_room}
-use Rattle.snoop_machine.proofs.parts.Parts.move_line.Given.{Over}
+use Rattle.snoop_machine.proofs.Common.{◌∙◌, arith, refl, inl, with_line, changed, line_at, fields}
+use Rattle.snoop_machine.proofs.PartsViews.{follows-set, IsSound-line, seen, line_seen, state_seen, words_seen, picture_in, line-written, sized_on, keeps_room}
 use Rattle.snoop_machine.proofs.parts.Parts.move_line.Goals as goal
-use Rattle.snoop_machine.proofs.parts.Parts.move_line.Goals.{After-change}
-
--- the parts before it
-abbrev parts : (g : Over) (c : After-change g) → Fields
-parts g c = fields c.self.inside.protocol c.self.inside.shape c.self.inside.lines c.self.inside.memory c.self.inside.bus c.self.inside.log
-
--- the line that the core has now
-abbrev line : (g : Over) (c : After-change g) → Line
-line g c = changed c.args.next c.args.change (line_at c.self.inside.lines.rows c.args.core c.args.block)
 
 pub change-requires-clause-words : goal.change-requires-clause-words
 change-requires-clause-words g c = rw (← (words_seen c.self.invariant c.self.view_is)) c.requires.words
@@ -29,18 +15,18 @@ pub invariant_of-self : goal.invariant_of-self
 invariant_of-self g c =
     let here = line_seen c.self.invariant c.self.view_is c.args.core c.args.block in
     record {
-      sound = rw c.change.ensures.rows (IsSound-line c.self.invariant.sound c.args.core c.args.block (line g (goal.at.invariant_of-self g c).After-change)
-          (core_in c.self.invariant c.self.view_is c.args.core c.requires.core) (block_in c.self.invariant c.self.view_is c.args.block c.requires.block)
+      sound = rw c.change.ensures.rows (IsSound-line c.self.invariant.sound c.args.core c.args.block _
+          (rw (← c.self.view_is) at c.requires.core) (rw (← c.self.view_is) at c.requires.block)
           (rw here at c.requires.proper) (rw here at c.requires.same));
       sized = sized_on _ _ c.self.invariant.sized refl c.change.ensures.many (refl, refl) (refl, refl, refl);
     }
 
 pub returns : goal.returns
 returns g c =
-    let d = (goal.at.returns g c).After-change in
-    let m = parts g d in
-    let next = with_line (picture_in m c.args.block) c.args.core (line g d) in
-    let wrote = line-written c.self.invariant refl c.args.block c.change.new.self.rows c.args.core (line g d) c.change.ensures.rows in
+    let line = changed c.args.next c.args.change (line_at c.self.inside.lines.rows c.args.core c.args.block) in
+    let m = fields c.self.inside.protocol c.self.inside.shape c.self.inside.lines c.self.inside.memory c.self.inside.bus c.self.inside.log in
+    let next = with_line (picture_in m c.args.block) c.args.core line in
+    let wrote = line-written c.self.invariant refl c.args.block c.change.new.self.rows c.args.core line c.change.ensures.rows in
     record {
       written = rw (← c.self.view_is, seen c.self.invariant refl c.args.block, wrote);
       room = keeps_room c.self.invariant c.self.view_is c.change.new.self m.memory m.bus m.log (omega arith) (λ core. omega arith) c.change.ensures.room;

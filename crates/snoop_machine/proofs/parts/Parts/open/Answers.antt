@@ -1,5 +1,5 @@
-use Rattle.std.proofs.Common.{refl}
-use Rattle.snoop_machine.proofs.PictureViews.{seen}
+use Rattle.snoop_machine.proofs.Common.{refl}
+use Rattle.snoop_machine.proofs.PartsViews.{seen}
 use Rattle.snoop_machine.proofs.parts.Parts.open.Goals as goal
 
 pub returns-in_err-opened-clause-value : goal.returns-in_err-opened-clause-value

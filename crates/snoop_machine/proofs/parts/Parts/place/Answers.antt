@@ -1,7 +1,6 @@
-use Rattle.std.proofs.Common.{◌∙◌}
-use Rattle.snoop_machine.proofs.Queues.{place_shown}
+use Rattle.snoop_machine.proofs.Common.{◌∙◌}
+use Rattle.snoop_machine.proofs.PartsViews.{place_shown}
 use Rattle.snoop_machine.proofs.parts.Parts.place.Goals as goal
 
 pub returns : goal.returns
-returns g c =
-    rw (← c.self.view_is) (c.place.ensures ∙ place_shown c.self.inside.bus c.args.core c.args.block)
+returns g c = rw (← c.self.view_is) (c.place.ensures ∙ place_shown c.self.inside.bus c.args.core c.args.block)

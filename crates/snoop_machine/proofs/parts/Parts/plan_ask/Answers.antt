@@ -1,37 +1,27 @@
-use Rattle.std.proofs.Common.{Some, refl}
-use Rattle.std.proofs.lemmas.Result.{err_from_is_err_and}
-use Rattle.snoop_machine.proofs.Common.{Ask, held_by, picture_of}
+use Rattle.snoop_machine.proofs.Common.{Some, refl, err_from_is_err_and, Ask, finds_rows, arith}
 use Rattle.snoop_rules.specs.Takers.{asked as event_of}
 use Rattle.snoop_machine.specs.declared.plan.Plan.TheVariants as plan
-use Rattle.snoop_model.proofs.Invariant.Coherence.{finds_rows}
-use Rattle.snoop_machine.proofs.WordsHeld.{operation_held}
-use Rattle.snoop_machine.proofs.PictureViews.{protocol_seen, words_seen}
-use Rattle.snoop_machine.proofs.Plans.{refuses-ask, plan-allowed}
+use Rattle.snoop_machine.proofs.PartsViews.{protocol_seen, words_seen}
+use Rattle.snoop_machine.proofs.Plans.{plan-allowed}
 use Rattle.snoop_machine.proofs.parts.Parts.plan_ask.Goals as goal
 
 pub returns-in_err-asked-clause-denied : goal.returns-in_err-asked-clause-denied
 returns-in_err-asked-clause-denied g c =
-    let s = c.args.self.now.situation in
     let p = err_from_is_err_and c.from_residual.result c.from_residual.ensures.1 in
-    rw (p.1, p.2) (refuses-ask s c.args.core c.args.block c.args.word c.args.op c.in_err-asked.field-0.0 c.requires.core c.requires.block c.requires.word
-    (rw (c.line-found.ensures.line, protocol_seen c.self.invariant c.self.view_is) at c.in_err-asked.ensures.refused))
+    rw (p.1, p.2) (grind (arith, c.in_err-asked.ensures.refused, c.line-found.ensures.line, protocol_seen c.self.invariant c.self.view_is, c.requires))
 
 pub returns-clause-exactly : goal.returns-clause-exactly
 returns-clause-exactly g c =
-    let s = c.args.self.now.situation in
-    let asked = c.in_ok-asked.asked in
     let takes = rw (c.line-found.ensures.line, protocol_seen c.self.invariant c.self.view_is) at c.in_ok-asked.ensures.taken in
     let proper = rw c.line-found.ensures.line at c.line-found.ensures.proper in
-    λ cause refuses. absurd (plan-allowed s (plan.Ask c.args.core c.args.block c.args.word c.args.op asked) ((c.requires.core, c.requires.block), takes, proper, c.requires.word) cause refuses)
+    λ cause refuses. absurd (plan-allowed c.args.self.now.situation (plan.Ask c.args.core c.args.block c.args.word c.args.op c.in_ok-asked.asked)
+    ((c.requires.core, c.requires.block), takes, proper, c.requires.word) cause refuses)
 
 pub ask-requires-clause-possible : goal.ask-requires-clause-possible
 ask-requires-clause-possible g c =
-    let s = c.args.self.now.situation in
-    let line = held_by (picture_of s c.args.block) c.args.core in
-    let finds = finds_rows s c.requires.inductive (Ask c.args.core c.args.block c.args.word c.args.op) in
     rw (c.line-found.ensures.line, protocol_seen c.self.invariant c.self.view_is)
-    (λ busy. finds.cache c.args.core c.args.block (Some (event_of c.args.op)) (refl, refl, busy, refl))
+    (λ busy. (finds_rows c.args.self.now.situation c.requires.inductive (Ask c.args.core c.args.block c.args.word c.args.op)).cache c.args.core c.args.block
+    (Some (event_of c.args.op)) (refl, refl, busy, refl))
 
 pub ask-requires-clause-word : goal.ask-requires-clause-word
-ask-requires-clause-word g c =
-    operation_held c.args.self.now.situation _ c.args.word c.args.op (words_seen c.self.invariant c.self.view_is) c.requires.word
+ask-requires-clause-word g c = grind (arith, words_seen c.self.invariant c.self.view_is, c.requires.word)

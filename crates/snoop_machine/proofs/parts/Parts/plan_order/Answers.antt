@@ -1,27 +1,20 @@
-use Rattle.std.proofs.Common.{◌≡◌, Option, Some, None, refl, sym, ap, ◌∙◌, false}
-use Rattle.std.specs.Prelude.{ℕ, is_some, option_copied}
+use Rattle.snoop_machine.proofs.Common.{◌≡◌, Option, Some, None, refl, sym, ap, ◌∙◌, false, ℕ, is_some, option_copied, Order, seen_by, Open, Picture, free_picture, picture_of, row_of, memory_line, Fields, standing, IsWhole, IsPlan, Standing, orders_follow_sender_table, finds_rows, arith}
 use Rattle.std.specs.Borrow.{Bor}
-use Rattle.snoop_machine.proofs.Common.{Order, seen_by, Open, Picture, free_picture, picture_of, row_of, memory_line, Fields, standing, IsWhole, IsPlan, Standing}
-use Rattle.snoop_machine.proofs.ProperLines.{is_none}
-use Rattle.snoop_model.proofs.Invariant.Coherence.{orders_follow_sender_table, finds_rows}
 use Rattle.snoop_machine.specs.declared.plan.Plan.TheVariants as plan
-use Rattle.snoop_machine.proofs.Plans.{order-allowed}
-use Rattle.snoop_machine.proofs.parts.Parts.plan_order.Given.{Over}
+use Rattle.snoop_machine.proofs.Plans.{plan-allowed}
 use Rattle.snoop_machine.proofs.parts.Parts.plan_order.Goals as goal
 use Rattle.snoop_machine.proofs.parts.Parts.plan_order.Goals.{After-sender-from}
-use Rattle.snoop_machine.proofs.PictureViews.{seen, line_seen, protocol_seen}
+use Rattle.snoop_machine.proofs.PartsViews.{seen, line_seen, protocol_seen}
 
 -- a block that was found without an open transaction
 free_copied : (found : Option (Bor Open)) (transaction : Option Open) → option_copied found ≡ transaction → is_some found ≡ false → transaction ≡ None
-free_copied found transaction shown none = sym shown ∙ ap option_copied (is_none found none)
+free_copied found transaction shown none = grind arith
 
 -- has this picture
 free_seen : {count : ℕ} {m : Fields} (whole : IsWhole count m) {now : Standing} (view : standing m ≡ now) (block : ℕ)
     → (picture_of now.situation block).transaction ≡ None
     → free_picture (row_of m.lines.rows block) (memory_line m.memory block) ≡ picture_of now.situation block
-free_seen whole view block free =
-    let shown = seen whole view block in
-    rw (shown, sym (ap (λ (x : Picture). x.transaction) shown) ∙ free)
+free_seen whole view block free = grind (arith, seen whole view block)
 
 pub sender-from-requires-clause-waits : goal.sender-from-requires-clause-waits
 sender-from-requires-clause-waits g c = rw (line_seen c.self.invariant c.self.view_is c.args.core c.in-Some.block) at c.in-Some.ensures.some.waits
@@ -43,7 +36,7 @@ sender-from-requires-clause-line g c =
     (c.in-Some.ensures.some.waits, free))
 
 -- what was found of the core's oldest request
-plan_is : (g : Over) (c : After-sender-from g) → IsPlan c.args.self.now.situation (plan.Order c.args.core c.in-Some.request c.in-Some.block c.sender-from.result.from c.sender-from.result.payload c.sender-from.result.memory)
+plan_is : (g : _) (c : After-sender-from g) → IsPlan c.args.self.now.situation (plan.Order c.args.core c.in-Some.request c.in-Some.block c.sender-from.result.from c.sender-from.result.payload c.sender-from.result.memory)
 plan_is g c =
     let free = free_copied _ _ c.transaction.ensures.value (sym c.is_some.ensures ∙ c.if-is_some.false) in
     let protocol = protocol_seen c.self.invariant c.self.view_is in
@@ -65,5 +58,5 @@ returns-clause-found g c = (refl, plan_is g (goal.at.returns-clause-found g c).A
 
 pub returns-clause-exactly : goal.returns-clause-exactly
 returns-clause-exactly g c cause refuses =
-    let its = (plan_is g (goal.at.returns-clause-exactly g c).After-sender-from).1 in
-    absurd (order-allowed _ c.args.core c.in-Some.block c.in-Some.request c.requires.core its.head its.free cause refuses)
+    let found = plan.Order c.args.core c.in-Some.request c.in-Some.block c.sender-from.result.from c.sender-from.result.payload c.sender-from.result.memory in
+    absurd (plan-allowed c.args.self.now.situation found (plan_is g (goal.at.returns-clause-exactly g c).After-sender-from) cause refuses)

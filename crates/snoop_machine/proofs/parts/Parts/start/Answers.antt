@@ -1,19 +1,11 @@
-use Rattle.std.proofs.Common.{◌≡◌, ℕ, List, ◌<◌, ◌-◌, ◌++◌, ◌∷◌, [], length, drop, Option, Some, ◌∙◌, refl, sym, ap, arith}
-use Rattle.std.specs.Prelude.{slice_set}
-use Rattle.std.proofs.lemmas.List.{length-set, length-append, length-drop, set-get_or}
-use Rattle.snoop_machine.proofs.Common.{zero_words, Open, Waiting, waiting_of, head_of, Starts, MemLine, Picture, picture_of, row_of, MemTables, memory_line, Fields, fields, standing, pictures_of, Standing}
+use Rattle.snoop_machine.proofs.Common.{◌≡◌, ℕ, List, ◌<◌, ◌-◌, ◌++◌, ◌∷◌, [], Option, Some, ◌∙◌, refl, sym, ap, arith, length-set, length-append, length-drop, set-get_or, zero_words, Open, waiting_of, head_of, Starts, Picture, row_of, MemTables, memory_line, fields}
 use Rattle.snoop_history.specs.declared.items.Item.TheVariants as item
-use Rattle.snoop_machine.proofs.Following.{follows-rows}
-use Rattle.snoop_machine.proofs.PictureViews.{seen, line_seen, picture-written, core_in, block_in, sized_on}
-use Rattle.snoop_machine.proofs.Queues.{head_from_line, head_alone, queues_of-order}
-use Rattle.snoop_machine.proofs.Room.{held_in-set, keeps_room}
-use Rattle.snoop_machine.proofs.Soundness.{IsSound-order}
-use Rattle.snoop_machine.proofs.parts.Parts.start.Given.{Over}
+use Rattle.snoop_machine.proofs.PartsViews.{follows-rows, seen, line_seen, picture-written, sized_on, held_in-set, keeps_room, head_from_line, head_alone, queues_of-order, IsSound-order}
 use Rattle.snoop_machine.proofs.parts.Parts.start.Goals as goal
 use Rattle.snoop_machine.proofs.parts.Parts.start.Goals.{After-words_sent-words, After-start}
 
 -- the head of the core's queue
-head : (g : Over) (c : After-words_sent-words g) → head_of c.self.inside.bus c.args.core ≡ Some (c.args.request, c.args.block)
+head : (g : _) (c : After-words_sent-words g) → head_of c.self.inside.bus c.args.core ≡ Some (c.args.request, c.args.block)
 head g c =
     head_from_line c.self.invariant.sound c.args.core c.args.request c.args.block (rw (← c.self.view_is) at c.requires.head.first)
     (rw (line_seen c.self.invariant c.self.view_is c.args.core c.args.block) at c.requires.head.waits)
@@ -31,77 +23,55 @@ start-requires-clause-free g c =
 
 pub words_sent-words-requires-clause-sender : goal.words_sent-words-requires-clause-sender
 words_sent-words-requires-clause-sender g c =
-    let s = c.args.self.now.situation in
-    let wide : length (picture_of s c.args.block).caches ≡ s.shape.cores =
-    ap (λ (x : Picture). length x.caches) (seen c.self.invariant c.self.view_is c.args.block)
-    ∙ (c.self.invariant.sound.row c.args.block (block_in c.self.invariant c.self.view_is c.args.block c.requires.head.within)
-    ∙ ap (λ (x : Standing). x.situation.shape.cores) c.self.view_is) in
-    rw (← wide) (λ sender is. (rw is at c.requires.sender.sends).0)
-
--- the parts before it
-abbrev parts : (g : Over) (c : After-start g) → Fields
-parts g c = fields c.self.inside.protocol c.self.inside.shape c.self.inside.lines c.self.inside.memory c.self.inside.bus c.self.inside.log
+    let row = c.self.invariant.sound.row c.args.block (rw (← c.self.view_is) at c.requires.head.within) in
+    grind (arith, seen c.self.invariant c.self.view_is c.args.block, row, c.self.view_is, c.requires.sender.sends)
 
 -- the request leaves the core's queue, and its transaction opens
-starts : (g : Over) (c : After-start g)
+starts : (g : _) (c : After-start g)
     → Starts c.self.inside.bus c.start.new.self c.args.core c.args.request c.args.block c.args.payload c.words_sent-words.result c.args.from
 starts g c = rw (head g (goal.at.After-start g c).After-words_sent-words) at c.start.ensures
 
--- the queue that is left
-abbrev queue : (g : Over) (c : After-start g) → Waiting
-queue g c = record { requests = drop 1 (waiting_of c.self.inside.bus c.args.core).requests; room = (starts g c).room }
-
 -- the transaction that is open now
-abbrev opened : (g : Over) (c : After-start g) → Open
-opened g c = record {
-  core = c.args.core;
-  request = c.args.request;
-  block = c.args.block;
-  payload = c.args.payload;
-  value = c.words_sent-words.result;
-  from = c.args.from;
+abbrev opened : (g : _) (c : After-start g) → Open
+opened g c =
+    record { core = c.args.core; request = c.args.request; block = c.args.block; payload = c.args.payload; value = c.words_sent-words.result; from = c.args.from }
+
+-- the block's picture now
+abbrev next : (g : _) (c : After-start g) → Picture
+next g c = record {
+  caches = row_of c.take_rows.new.self.rows c.args.block;
+  memory = record { state = c.args.memory; value = (memory_line c.self.inside.memory c.args.block).value };
+  transaction = Some (opened g c);
 }
-
--- memory's line now, and the block's picture
-abbrev memory_now : (g : Over) (c : After-start g) → MemLine
-memory_now g c = record { state = c.args.memory; value = (memory_line c.self.inside.memory c.args.block).value }
-
-abbrev next : (g : Over) (c : After-start g) → Picture
-next g c = record { caches = row_of c.take_rows.new.self.rows c.args.block; memory = memory_now g c; transaction = Some (opened g c) }
-
-wrote : (g : Over) (c : After-start g)
-    → pictures_of c.take_rows.new.self.rows c.move_to.new.self.states c.move_to.new.self.words c.start.new.self.transactions
-    ≡ slice_set (standing (parts g c)).situation.pictures c.args.block (next g c)
-wrote g c =
-    picture-written c.self.invariant refl c.args.block (next g c) _ _ _ _ c.take_rows.ensures.others (ap (λ (m : MemTables). m.states) c.move_to.ensures)
-    (ap (λ (m : MemTables). m.words) c.move_to.ensures ∙ sym (set-get_or c.self.inside.memory.words c.args.block zero_words)) (starts g c).transactions
 
 pub invariant_of-self : goal.invariant_of-self
 invariant_of-self g c =
     let d = (goal.at.invariant_of-self g c).After-start in
     record {
-      sound = rw c.take_rows.ensures.others (IsSound-order c.self.invariant.sound (core_in c.self.invariant c.self.view_is c.args.core c.requires.core)
-          (block_in c.self.invariant c.self.view_is c.args.block c.requires.head.within)
+      sound = rw c.take_rows.ensures.others (IsSound-order c.self.invariant.sound (rw (← c.self.view_is) at c.requires.core)
+          (rw (← c.self.view_is) at c.requires.head.within)
           (head g (goal.at.invariant_of-self g c).After-words_sent-words) (starts g d) c.take_rows.ensures.taken);
-      sized = rw c.push.ensures (sized_on (parts g d) _ c.self.invariant.sized refl c.take_rows.ensures.many
+      sized = rw c.push.ensures (sized_on _ _ c.self.invariant.sized refl c.take_rows.ensures.many
           (rw c.move_to.ensures (length-set c.self.inside.memory.states c.args.block c.args.memory, refl)) (refl, refl, refl));
     }
 
 pub returns : goal.returns
 returns g c =
     let d = (goal.at.returns g c).After-start in
-    let m = parts g d in
+    let m = fields c.self.inside.protocol c.self.inside.shape c.self.inside.lines c.self.inside.memory c.self.inside.bus c.self.inside.log in
     let core = c.args.core in
     let block = c.args.block in
-    let before = waiting_of m.bus core in
     let here = seen c.self.invariant refl block in
     let its = head g (goal.at.returns g c).After-words_sent-words in
-    let left = queues_of-order m.bus.queues core block (queue g d).room c.args.request its
+    let words = ap (λ (m : MemTables). m.words) c.move_to.ensures ∙ sym (set-get_or m.memory.words block zero_words) in
+    let wrote = picture-written c.self.invariant refl block (next g d) _ _ _ _ c.take_rows.ensures.others (ap (λ (m : MemTables). m.states) c.move_to.ensures) words
+    (starts g d).transactions in
+    let left = queues_of-order m.bus.queues core block (starts g d).room c.args.request its
     (head_alone c.self.invariant.sound core c.args.request block its).1 in
-    let fewer = length-drop 1 before.requests in
+    let fewer = length-drop 1 (waiting_of m.bus core).requests in
     let more = (starts g d).more in
-    let items = m.log.items ++ item.Sent (record { core = core; request = c.args.request; block = block }) ∷ [] in
-    let long = length-append m.log.items (item.Sent (record { core = core; request = c.args.request; block = block }) ∷ []) in
+    let sent = item.Sent (record { core = core; request = c.args.request; block = block }) ∷ [] in
+    let long = length-append m.log.items sent in
     let room : 0 < m.log.room = rw (← c.self.view_is) at c.requires.room in
     record {
       ordered = rw (← c.self.view_is) (record {
@@ -114,10 +84,10 @@ returns g c =
         memory = rw (← c.self.view_is) at c.requires.memory;
         value = sym (ap (λ (x : Picture). x.memory.value) here);
         opened = ap (λ (x : List ℕ). let o : Option Open = Some (record (opened g d) { value = x }) in o) (rw (← c.self.view_is) at c.words_sent-words.ensures);
-        after = rw (wrote g d, (starts g d).queues, left, c.push.ensures);
+        after = rw (wrote, (starts g d).queues, left, c.push.ensures);
       });
       room = rw c.push.ensures (keeps_room c.self.invariant c.self.view_is c.take_rows.new.self c.move_to.new.self c.start.new.self
-          (record m.log { items = items; room = m.log.room - 1 }) (omega arith)
-          (held_in-set c.self.invariant c.self.view_is c.start.new.self core (queue g d) (starts g d).queues c.requires.core (omega arith)) c.take_rows.ensures.room);
-      lines = follows-rows c.self.invariant c.self.view_is _ block (next g d) c.take_rows.new.self c.requires.head.within (wrote g d) refl refl c.take_rows.ensures.lines;
+          (record m.log { items = m.log.items ++ sent; room = m.log.room - 1 }) (omega arith)
+          (held_in-set c.self.invariant c.self.view_is c.start.new.self core _ (starts g d).queues c.requires.core (omega arith)) c.take_rows.ensures.room);
+      lines = follows-rows c.self.invariant c.self.view_is _ block (next g d) c.take_rows.new.self c.requires.head.within wrote refl refl c.take_rows.ensures.lines;
     }

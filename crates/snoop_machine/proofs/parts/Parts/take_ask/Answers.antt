@@ -1,6 +1,4 @@
-use Rattle.snoop_model.proofs.Tables.Rows.{issue-waits, drop-waits, IsProper-issue, IsProper-hit, IsProper-drop}
-use Rattle.snoop_machine.proofs.ProperLines.{load_stays}
-use Rattle.std.proofs.Common.{refl, inr}
+use Rattle.snoop_machine.proofs.Common.{issue-waits, drop-waits, IsProper-issue, IsProper-hit, IsProper-drop, refl, inr, arith}
 use Rattle.snoop_rules.specs.declared.names.CacheAction.TheVariants as action
 use Rattle.snoop_machine.proofs.parts.Parts.take_ask.Goals as goal
 
@@ -12,23 +10,20 @@ hit_line-requires-clause-proper g c =
 pub hit_line-requires-clause-still : goal.hit_line-requires-clause-still
 hit_line-requires-clause-still g c =
     let t = rw c.in-Hit.is at c.requires.found in
-    λ is. load_stays _ _ _ (rw is at t.0)
+    λ is. (let row = rw is at t.0 in grind arith)
 
 pub issue_line-requires-clause-waits : goal.issue_line-requires-clause-waits
-issue_line-requires-clause-waits g c =
-    (issue-waits _ _ _ _ _ (rw c.in-Issue.is at c.requires.found)).1
+issue_line-requires-clause-waits g c = (issue-waits _ _ _ _ _ (rw c.in-Issue.is at c.requires.found)).1
 
 pub issue_line-requires-clause-proper : goal.issue_line-requires-clause-proper
 issue_line-requires-clause-proper g c =
     rw (← c.waiting_for.ensures) at (IsProper-issue _ _ c.args.word c.args.op _ _ c.requires.proper (rw c.in-Issue.is at c.requires.found))
 
 pub move_line-requires-clause-proper : goal.move_line-requires-clause-proper
-move_line-requires-clause-proper g c =
-    IsProper-drop _ _ _ _ c.requires.proper (rw c.in-Drop.is at c.requires.found)
+move_line-requires-clause-proper g c = IsProper-drop _ _ _ _ c.requires.proper (rw c.in-Drop.is at c.requires.found)
 
 pub move_line-requires-clause-same : goal.move_line-requires-clause-same
-move_line-requires-clause-same g c =
-    drop-waits _ _ _ _ (rw c.in-Drop.is at c.requires.found)
+move_line-requires-clause-same g c = drop-waits _ _ _ _ (rw c.in-Drop.is at c.requires.found)
 
 pub returns-in-Hit-clause-moved : goal.returns-in-Hit-clause-moved
 returns-in-Hit-clause-moved g c =

@@ -1,4 +1,4 @@
-use Rattle.snoop_machine.proofs.PictureViews.{seen}
+use Rattle.snoop_machine.proofs.PartsViews.{seen}
 use Rattle.snoop_machine.proofs.parts.Parts.transaction.Goals as goal
 
 pub returns-clause-value : goal.returns-clause-value
