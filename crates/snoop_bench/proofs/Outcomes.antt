@@ -5,7 +5,7 @@ use Rattle.std.proofs.lemmas.Bool.{lt-ltb, eq-eqb, ne_eqb}
 use Rattle.snoop_trace.specs.declared.step.Op.{Op}
 use Rattle.snoop_trace.specs.declared.step.Op.TheVariants as op
 use Rattle.snoop_trace.specs.declared.step.Step.{Step}
-use Rattle.snoop_trace.specs.declared.step.Step.TheVariants.{Ask, Respond}
+use Rattle.snoop_trace.specs.declared.step.Step.TheVariants.{Ask}
 use Rattle.snoop_rules.specs.declared.names.Request.{Request}
 use Rattle.snoop_rules.specs.Waits.{waiting_request}
 use Rattle.snoop_bus.specs.Traffic.{Open}
@@ -27,18 +27,15 @@ use Rattle.snoop_model.specs.Turns.TurnLaws.{TurnLaws}
 use Rattle.snoop_trace.specs.declared.step.Work.{Work}
 use Rattle.snoop_bench.specs.declared.work.Turn.{Turn}
 use Rattle.snoop_bench.specs.declared.work.Turn.TheVariants as turn
-use Rattle.snoop_bench.specs.Works.{access_of, work_at, IsOp, Does}
+use Rattle.snoop_bench.specs.Works.{access_of, IsOp, Does}
 use Rattle.snoop_bench.specs.Recording.{TakesAndPublishes}
 use Rattle.snoop_bench.specs.Locked.{Locked, IsClosed, EndsWith, record_of}
 use Rattle.snoop_bench.specs.Turns.{Case, Finishes, Asked, TurnsIn}
 use Rattle.snoop_bench.specs.Turns.Case.{over}
 use Rattle.snoop_bench.specs.Outcomes.{works_asked, turn_asked, turn_over}
-use Rattle.snoop_bench.specs.Keeps.{AreUnderWay}
-use Rattle.snoop_bench.specs.Faults.{IsInside}
 use Rattle.snoop_bench.proofs.Cases.{IsCase}
 use Rattle.snoop_bench.proofs.Cases.IsCase.{ordering, helping, ending}
-use Rattle.snoop_bench.proofs.Waiting.{Stepped}
-use Rattle.snoop_bench.proofs.Turning.{Facing, ended}
+use Rattle.snoop_bench.proofs.Turning.{Facing}
 
 is_op : (did : Did) (load : Bool) → did.load ≡ load → IsOp (if load then op.Load else op.Store did.value) did
 is_op did true e = e
@@ -65,58 +62,28 @@ finishes rule {s} {works} {core} {work} f last is =
     by_op (op.Store v) ended = let d = ended (λ e. cc) in (d.0, (d.1, refl))
     by_op op.Evict ended = refl
 
--- the operation that a hit performs
-module _ (past log : List Item) (core block word : ℕ) where
-  abbrev hit_did : Op → ℕ → Did
-  hit_did asking value = next_did past core block word asking value true
+-- a hit performs the core's last operation
+module _ (p q : Locked) (core block word : ℕ) where
+  hit_ends : (asking : Op) (value : ℕ)
+      → (let did = next_did p.situation.log core block word asking value true in
+      IsOp asking did → q.situation.log ≡ p.situation.log ++ item.Did did ∷ [] → EndsWith q.situation core (record { block = block; word = word; op = asking }) did)
+  hit_ends asking value does logged =
+      let did = next_did p.situation.log core block word asking value true in
+      record {
+        last = ap (λ (l : List Item). last_of l core) logged ∙ last_of-push p.situation.log (item.Did did) core ∙ rw (eq-eqb core core refl) refl;
+        does = (refl, refl, does);
+      }
 
-  told_load : (asking : Op) (value : ℕ) → Tells past (Ask core block word asking) (Ok (reply.Hit value)) log
-      → IsOp asking (hit_did asking value) × (log ≡ past ++ item.Did (hit_did asking value) ∷ [])
-  told_load op.Load value told = (refl, told)
-  told_load (op.Store v) value told = absurd told
-  told_load op.Evict value told = absurd told
-
-  told_store : (asking : Op) → Tells past (Ask core block word asking) (Ok reply.StoreHit) log
-      → (value : ℕ) × (IsOp asking (hit_did asking value) × (log ≡ past ++ item.Did (hit_did asking value) ∷ []))
-  told_store op.Load told = absurd told
-  told_store (op.Store v) told = (v, ((refl, refl), told))
-  told_store op.Evict told = absurd told
-
--- it is the core's last operation
-hit_ends : (s t : Situation) (core : ℕ) (work : Work) (value : ℕ)
-    → (let did = hit_did s.log t.log core work.block work.word work.op value in IsOp work.op did × (t.log ≡ s.log ++ item.Did did ∷ []) → EndsWith t core work did)
-hit_ends s t core work value h =
-    let did = hit_did s.log t.log core work.block work.word work.op value in
-    record {
-      last = ap (λ (l : List Item). last_of l core) h.1 ∙ last_of-push s.log (item.Did did) core ∙ rw (eq-eqb core core refl) refl;
-      does = (refl, refl, h.0);
-    }
-
--- what an Ask answers, and the works after it
-pub asked_so : TurnLaws → (core : ℕ) (work : Work) (answer : Reply) (given : Turn) (p q : Locked) → AreUnderWay p.works p.situation
-    → work_at p.works core ≡ None → IsInside core work p
-    → Stepped p.situation q.situation (Ask core work.block work.word work.op) answer
-    → Tells p.situation.log (Ask core work.block work.word work.op) (Ok answer) q.situation.log
-    → given ≡ turn_asked answer → q.works ≡ works_asked answer p.works core work → Asked answer core work given p q
-asked_so rule core work (reply.Issued request) given p q u idle inside m told e w = (e, w)
-asked_so rule core work reply.Gone given p q u idle inside m told e w = (e, w)
-asked_so rule core work reply.Absent given p q u idle inside m told e w = (e, w)
-asked_so rule core work (reply.Hit value) given p q u idle inside m told e w =
-    let does = told_load p.situation.log q.situation.log core work.block work.word work.op value told in
-    (e, (_, hit_ends p.situation q.situation core work value does, refl), w)
-asked_so rule core work reply.StoreHit given p q u idle inside m told e w =
-    let does = told_store p.situation.log q.situation.log core work.block work.word work.op told in
-    (e, (_, hit_ends p.situation q.situation core work does.0 does.1), w)
-asked_so rule core work (reply.Ordered request) given p q u idle inside m told e w = absurd (not_ordered work.op told)
-  where
-    not_ordered : (asking : Op) → Tells p.situation.log (Ask core work.block work.word asking) (Ok (reply.Ordered request)) q.situation.log → ⊥
-    not_ordered op.Load f = f
-    not_ordered _ f = f
-asked_so rule core work (reply.Came payload from did) given p q u idle inside m told e w = absurd (not_came work.op told)
-  where
-    not_came : (asking : Op) → Tells p.situation.log (Ask core work.block work.word asking) (Ok (reply.Came payload from did)) q.situation.log → ⊥
-    not_came op.Load f = f
-    not_came _ f = f
+  -- what an Ask answers, and the works after it
+  pub asked_so : (asking : Op) (answer : Reply) (given : Turn) → Tells p.situation.log (Ask core block word asking) (Ok answer) q.situation.log
+      → given ≡ turn_asked answer → q.works ≡ works_asked answer p.works core (record { block = block; word = word; op = asking })
+      → Asked answer core (record { block = block; word = word; op = asking }) given p q
+  asked_so op.Load (reply.Hit value) given told e w = (e, (_, hit_ends op.Load value refl told, refl), w)
+  asked_so (op.Store value) reply.StoreHit given told e w = (e, (_, hit_ends (op.Store value) value (refl, refl) told), w)
+  asked_so asking (reply.Issued request) given told e w = (e, w)
+  asked_so op.Evict reply.Gone given told e w = (e, w)
+  asked_so op.Evict reply.Absent given told e w = (e, w)
+  asked_so asking answer given told e w = absurd told
 
 module _ (core : ℕ) (work : Work) {answer : Reply} where
   -- the turn of a core whose request waits
@@ -129,14 +96,8 @@ module _ (core : ℕ) (work : Work) {answer : Reply} where
   pub finished_turn : {k : Case} {step : Step} (given : Turn) (p m q : Locked) → IsCase core work.block k false (Some step)
       → TakesAndPublishes step answer (record_of p) (record_of m) → m.works ≡ p.works → TurnsIn over core work given m q → TurnsIn k core work given p q
   finished_turn given p m q ending took same t =
-      let all : TakesAndPublishes (Respond work.block) answer (record_of p) (record_of q) = record {
-        item = took.item;
-        move = rw t.0.situation took.move;
-        logged = rw t.0.situation took.logged;
-        steps = t.0.steps ∙ took.steps;
-        published = t.0.published ∙ took.published;
-      } in
-      (answer, (all, (t.1.0, rw (← same) t.1.1)))
+      let same_record : record_of q ≡ record_of m = λ i. record { situation = t.0.situation i; steps = t.0.steps i; published = t.0.published i } in
+      (answer, (rw same_record took, (t.1.0, rw (← same) t.1.1)))
 
 -- a core that neither waits nor has its transaction open has no step left
 pub closed_turn : (s : Situation) (core block word : ℕ) (asking : Op) → IsClosed s core block → turn_of s core block word asking true ≡ None
