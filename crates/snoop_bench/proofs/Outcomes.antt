@@ -1,38 +1,13 @@
 -- What a turn answers is the outcome of the work.
 use Rattle.std.proofs.Common.{◌≡◌, ◌≢◌, ℕ, ◌++◌, Bool, true, false, List, [], ◌∷◌, Option, Some, None, nat_lt, refl, ap, ◌∙◌}
-use Rattle.std.specs.Prelude.{if◌then◌else◌, Ok}
-use Rattle.std.proofs.lemmas.Bool.{lt-ltb, eq-eqb, ne_eqb}
-use Rattle.snoop_trace.specs.declared.step.Op.{Op}
+use Rattle.snoop_bench.proofs.Common.{Access, access_of, Ask, Asked, Case, did_access, Does, EndsWith, eq-eqb, Finishes, IsClosed, IsLast, IsOp, Item, last_of, last_of-push, Locked, lt-ltb, ne_eqb, next_did, Ok, Op, Open, over, picture_of, record_of, Reply, Request, Situation, state_of, Step, step_under_way, TakesAndPublishes, turn_asked, turn_of, turn_over, TurnLaws, TurnsIn, waiting_request, Work, works_asked, if◌then◌else◌}
 use Rattle.snoop_trace.specs.declared.step.Op.TheVariants as op
-use Rattle.snoop_trace.specs.declared.step.Step.{Step}
-use Rattle.snoop_trace.specs.declared.step.Step.TheVariants.{Ask}
-use Rattle.snoop_rules.specs.declared.names.Request.{Request}
-use Rattle.snoop_rules.specs.Waits.{waiting_request}
-use Rattle.snoop_bus.specs.Traffic.{Open}
 use Rattle.snoop_history.specs.declared.items.Did.{Did}
-use Rattle.snoop_history.specs.declared.items.Item.{Item}
 use Rattle.snoop_history.specs.declared.items.Item.TheVariants as item
-use Rattle.snoop_history.specs.History.{last_of}
-use Rattle.snoop_history.proofs.Pushed.{last_of-push}
-use Rattle.snoop_model.specs.declared.access.Access.{Access}
-use Rattle.snoop_model.specs.declared.replies.Reply.{Reply}
 use Rattle.snoop_model.specs.declared.replies.Reply.TheVariants as reply
 use Rattle.snoop_model.specs.Moves.Replies.{Tells}
-use Rattle.snoop_model.specs.Pictures.Situation.{Situation, picture_of, state_of}
-use Rattle.snoop_model.specs.Moves.Move.{next_did}
-use Rattle.snoop_model.specs.Runs.Once.{did_access}
-use Rattle.snoop_model.specs.Runs.Owed.{IsLast}
-use Rattle.snoop_model.specs.Turns.Turn.{turn_of, step_under_way}
-use Rattle.snoop_model.specs.Turns.TurnLaws.{TurnLaws}
-use Rattle.snoop_trace.specs.declared.step.Work.{Work}
 use Rattle.snoop_bench.specs.declared.work.Turn.{Turn}
 use Rattle.snoop_bench.specs.declared.work.Turn.TheVariants as turn
-use Rattle.snoop_bench.specs.Works.{access_of, IsOp, Does}
-use Rattle.snoop_bench.specs.Recording.{TakesAndPublishes}
-use Rattle.snoop_bench.specs.Locked.{Locked, IsClosed, EndsWith, record_of}
-use Rattle.snoop_bench.specs.Turns.{Case, Finishes, Asked, TurnsIn}
-use Rattle.snoop_bench.specs.Turns.Case.{over}
-use Rattle.snoop_bench.specs.Outcomes.{works_asked, turn_asked, turn_over}
 use Rattle.snoop_bench.proofs.Cases.{IsCase}
 use Rattle.snoop_bench.proofs.Cases.IsCase.{ordering, helping, ending}
 use Rattle.snoop_bench.proofs.Turning.{Facing}
@@ -41,12 +16,10 @@ is_op : (did : Did) (load : Bool) → did.load ≡ load → IsOp (if load then o
 is_op did true e = e
 is_op did false e = (e, refl)
 
--- an operation that is the access of the work
-does : (did : Did) (work : Work) → did.block ≡ work.block → did_access did ≡ access_of work → Does did work
-does did work on same = (on, ap (λ (a : Access). a.word) same, rw (← ap (λ (a : Access). a.op) same) (is_op did did.load refl))
-
+-- the operation that is the access of the work does it
 pub ends_with : (s : Situation) (core : ℕ) (work : Work) → IsLast s core work.block (access_of work) → (did : Did) × EndsWith s core work did
-ends_with s core work last = (last.0, record { last = last.1; does = does last.0 work last.2 last.3 })
+ends_with s core work (did, last, on, same) =
+    (did, record { last = last; does = (on, ap (λ (a : Access). a.word) same, rw (← ap (λ (a : Access). a.op) same) (is_op did did.load refl)) })
 
 -- a work with no step left is answered by its operation, the last of the core's in the log
 pub finishes : TurnLaws → {s : Situation} {works : List (Option Work)} {core : ℕ} {work : Work} → Facing s works core work None
@@ -101,10 +74,10 @@ module _ (core : ℕ) (work : Work) {answer : Reply} where
 
 -- a core that neither waits nor has its transaction open has no step left
 pub closed_turn : (s : Situation) (core block word : ℕ) (asking : Op) → IsClosed s core block → turn_of s core block word asking true ≡ None
-closed_turn s core block word asking shut = by_case (waiting_request (state_of s core block)) (picture_of s block).transaction shut.waits shut.opened_by_other
+closed_turn s core block word asking shut = by_case (waiting_request (state_of s core block)) (picture_of s block).transaction refl refl
   where
-    by_case : (w : Option Request) (o : Option Open) → ((r : Request) → ¬ (w ≡ Some r)) → ((t : Open) → o ≡ Some t → t.core ≢ core)
+    by_case : (w : Option Request) (o : Option Open) → waiting_request (state_of s core block) ≡ w → (picture_of s block).transaction ≡ o
         → step_under_way w o core block ≡ None
-    by_case (Some r) o none other = absurd (none r refl)
-    by_case None None none other = refl
-    by_case None (Some t) none other = rw (ne_eqb t.core core (other t refl)) refl
+    by_case (Some r) o waits opened = absurd (shut.waits r waits)
+    by_case None None waits opened = refl
+    by_case None (Some t) waits opened = rw (ne_eqb t.core core (shut.opened_by_other t opened)) refl

@@ -1,10 +1,7 @@
 -- The works of cores after one of them changes.
 use Rattle.std.proofs.Common.{◌≡◌, ◌≢◌, ℕ, zero, suc, ◌<◌, List, [], ◌∷◌, length, Option, Some, None, refl, sym, ap, arith}
+use Rattle.snoop_bench.proofs.Common.{gets, option_map, slice_set, Work, work_at}
 use Rattle.std.proofs.lemmas.Grind.{common_steps}
-use Rattle.std.proofs.lemmas.Option.{gets}
-use Rattle.std.specs.Prelude.{slice_set, option_map}
-use Rattle.snoop_trace.specs.declared.step.Work.{Work}
-use Rattle.snoop_bench.specs.Works.{work_at}
 
 -- the block of a work, if there is one
 pub its_block : (o p : Option Work) → o ≡ p → option_map (λ work. work.block) o ≡ option_map (λ work. work.block) p

@@ -1,46 +1,23 @@
 -- Turns keep works under way.
 use Rattle.std.proofs.Common.{◌≡◌, ◌≢◌, ◌⊎◌, ⊎_elim, ℕ, zero, suc, ◌<◌, ◌==◌, inl, inr, Bool, true, true≢false, List, length, replicate, Option, Some, None, refl, sym, ap, ◌∙◌, arith, false}
-use Rattle.std.specs.Prelude.{slice_set, option_map, ◌&&◌, is_some}
-use Rattle.std.proofs.lemmas.Bool.{eq-eqb, eqb-true, and_parts, cases_Bool, cases_eq}
+use Rattle.snoop_bench.proofs.Common.{Access, access_of, and_parts, AreUnderWay, Ask, asked_access, Case, cases_Bool, cases_eq, eq-eqb, eqb-true, Extent, FirstMove, is_some, IsWellKept, kept_waiting, Locked, none-some, Op, option_map, picture_of, Reply, Request, reset, Respond, same_Some, Situation, slice_set, state_of, Step, turn_of, TurnLaws, waited_or_asked, waiting_request, Work, work_at, works_asked, works_under_way, ◌&&◌}
 use Rattle.std.proofs.lemmas.Bool.Decides.{nat_tests}
-use Rattle.std.proofs.lemmas.Option.{none-some, same_Some}
 use Rattle.std.proofs.lemmas.List.{length-set, length-replicate}
-use Rattle.snoop_trace.specs.Extent.{Extent}
 use Rattle.snoop_trace.specs.Words.{HasWord}
 use Rattle.snoop_trace.specs.declared.protocol.Protocol.{Protocol}
-use Rattle.snoop_trace.specs.declared.step.Op.{Op}
 use Rattle.snoop_trace.specs.declared.step.Op.TheVariants as op
-use Rattle.snoop_trace.specs.declared.step.Step.{Step}
-use Rattle.snoop_trace.specs.declared.step.Step.TheVariants.{Ask, Respond}
-use Rattle.snoop_trace.specs.declared.step.Work.{Work}
-use Rattle.snoop_rules.specs.declared.names.Request.{Request}
-use Rattle.snoop_model.specs.declared.access.Access.{Access}
 use Rattle.snoop_model.specs.declared.replies.Refused.{Refused}
-use Rattle.snoop_model.specs.declared.replies.Reply.{Reply}
 use Rattle.snoop_model.specs.declared.replies.Reply.TheVariants as reply
-use Rattle.snoop_model.specs.Pictures.Situation.{Situation, reset, picture_of, state_of}
-use Rattle.snoop_model.specs.Runs.Once.{asked_access}
 use Rattle.snoop_model.specs.Turns.Serving.{IsUnderWay}
-use Rattle.snoop_model.specs.Invariant.WellKept.{IsWellKept}
-use Rattle.snoop_model.specs.Turns.Turn.{turn_of}
-use Rattle.snoop_model.specs.Turns.TurnLaws.{TurnLaws}
 use Rattle.snoop_model.specs.Moves.Refuses.{Refuses}
 use Rattle.snoop_model.proofs.Invariant.Runs.{reset_line}
 use Rattle.snoop_model.proofs.Turns.ClosedWorks.{has_step}
-use Rattle.snoop_model.proofs.Once.Owed.{waited_or_asked}
-use Rattle.snoop_bench.specs.Works.{access_of, work_at, works_under_way}
-use Rattle.snoop_bench.specs.Outcomes.{works_asked}
-use Rattle.snoop_bench.specs.Locked.{Locked}
 use Rattle.snoop_bench.specs.Faults.{IsInside}
-use Rattle.snoop_bench.specs.Keeps.{AreUnderWay}
-use Rattle.snoop_bench.specs.Turns.{Case}
 use Rattle.snoop_bench.proofs.Cases.{IsCase}
 use Rattle.snoop_bench.proofs.Cases.IsCase.{ordering, ending}
 use Rattle.snoop_bench.proofs.Places.{its_block, changed, unchanged, put_out, has_place, apart}
 use Rattle.snoop_bench.proofs.Waiting.{Stepped, AsksNothing, owed_still}
-use Rattle.snoop_rules.specs.Waits.{waiting_request}
 use Rattle.snoop_model.specs.Pictures.Picture.{Picture, held_by}
-use Rattle.snoop_model.specs.Moves.Move.{FirstMove, kept_waiting}
 use Rattle.snoop_model.proofs.OneBlock.OfBlocks.{in_pictures, picture_here}
 use Rattle.snoop_model.proofs.Queues.Responds.{arrives_waits}
 
@@ -111,41 +88,35 @@ pub facing : {b now : Locked} → b ≡ now → (core : ℕ) (work : Work) {step
     → turn_of now.situation core work.block work.word work.op true ≡ step → Facing b.situation b.works core work step
 facing same core work under well inside its is = record { under = under; well = well; inside = rw same inside; its = rw same its; step_is = rw same is }
 
--- no cause refuses the step of the turn
-pub never : TurnLaws → {s : Situation} {works : List (Option Work)} {core : ℕ} {work : Work} {step : Step} → Facing s works core work (Some step)
-    → (cause : Refused) → ¬ Refuses s step cause
-never rule {s} {works} {core} {work} {step} f =
-    rule.never_refused s (works_under_way works) core work.block work.word work.op true step
-    f.under.serving f.well f.inside.0 f.inside.1 f.inside.2 (its_block _ _ f.its) f.step_is
+module _ (rule : TurnLaws) {s : Situation} {works : List (Option Work)} {core : ℕ} {work : Work} where
+  -- no cause refuses the step of the turn
+  pub never : {step : Step} → Facing s works core work (Some step) → (cause : Refused) → ¬ Refuses s step cause
+  never {step} f =
+      rule.never_refused s (works_under_way works) core work.block work.word work.op true step
+      f.under.serving f.well f.inside.0 f.inside.1 f.inside.2 (its_block _ _ f.its) f.step_is
 
--- where no step is left the core gives the work up
-pub over_keeps : TurnLaws → {s : Situation} {works : List (Option Work)} {core : ℕ} {work : Work} → Facing s works core work None
-    → AreUnderWay (slice_set works core None) s
-over_keeps rule {s} {works} {core} {work} f = record {
-  places = length-set works core None ∙ f.under.places;
-  serving = rule.ends s (works_under_way works) (works_under_way (slice_set works core None)) core work.block work.word work.op
-      f.under.serving f.well (its_block _ _ f.its) f.step_is (λ other h. its_block _ _ (unchanged works core other None h));
-  waiting = λ c block wanted waits. unchanged works core c None (other c block wanted waits) ∙ f.under.waiting c block wanted waits;
-  owed = λ c w theirs isnt.
-      let empty = changed works core None (has_place works core work f.its) in
-      let other = apart (work_at (slice_set works core None)) core c w empty theirs in
-      f.under.owed c w (sym (unchanged works core c None other) ∙ theirs) isnt;
-}
-  where
-    other : (c block : ℕ) (wanted : Access) → (held_by (picture_of s block) c).waiting ≡ Some wanted → c ≢ core
-    other c block wanted waits same =
-        let there : work_at works core ≡ Some (record { block = block; word = wanted.word; op = wanted.op }) =
-        ap (work_at works) (sym same) ∙ f.under.waiting c block wanted waits in
-        let its = f.its in
-        let mine : block ≡ work.block = cc in
-        has_step s c block work.word work.op wanted f.well waits (rw (same, mine) f.step_is)
+  -- where no step is left the core gives the work up
+  pub over_keeps : Facing s works core work None → AreUnderWay (slice_set works core None) s
+  over_keeps f = record {
+    places = length-set works core None ∙ f.under.places;
+    serving = rule.ends s (works_under_way works) (works_under_way (slice_set works core None)) core work.block work.word work.op
+        f.under.serving f.well (its_block _ _ f.its) f.step_is (λ other h. its_block _ _ (unchanged works core other None h));
+    waiting = λ c block wanted waits.
+        let there = f.under.waiting c block wanted waits in
+        let other : c ≢ core = λ same.
+        let mine : block ≡ work.block = cc (same, there, f.its) in
+        has_step s c block work.word work.op wanted f.well waits (rw (same, mine) f.step_is) in
+        unchanged works core c None other ∙ there;
+    owed = λ c w theirs isnt.
+        let empty = changed works core None (has_place works core work f.its) in
+        let other = apart (work_at (slice_set works core None)) core c w empty theirs in
+        f.under.owed c w (sym (unchanged works core c None other) ∙ theirs) isnt;
+  }
 
 -- after the response a core that does not wait has no step left for its work
 closed_after : (s t : Situation) (core block word : ℕ) (asking : Op) (answer : Reply) → IsWellKept s
     → waiting_request (state_of s core block) ≡ None → FirstMove s (Respond block) answer t → turn_of t core block word asking true ≡ None
-closed_after s t core block word asking answer kept none move =
-    let b = move.0 in
-    let m = move.1.1 in
+closed_after s t core block word asking answer kept none (b, (first, m)) =
     let r = m.responds in
     let there : picture_of t b ≡ r.next =
     ap (λ (x : Situation). picture_of x b) r.after

@@ -1,9 +1,5 @@
 use Rattle.std.proofs.Common.{false, refl, sym, subst}
-use Rattle.snoop_trace.specs.Output.{IsReadableStep}
-use Rattle.snoop_trace.specs.declared.step.Step.TheVariants.{Ask}
-use Rattle.snoop_model.proofs.Invariant.Safety.{well_kept_in}
-use Rattle.snoop_bench.specs.Works.{works_under_way}
-use Rattle.snoop_bench.specs.Locked.{Locked}
+use Rattle.snoop_bench.proofs.Common.{Ask, IsReadableStep, Locked, well_kept_in, works_under_way}
 use Rattle.snoop_bench.proofs.Places.{its_block}
 use Rattle.snoop_bench.proofs.Waiting.{stepped}
 use Rattle.snoop_bench.proofs.Turning.{asked_keeps}

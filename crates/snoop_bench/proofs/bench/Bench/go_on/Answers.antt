@@ -1,11 +1,5 @@
 use Rattle.std.proofs.Common.{◌≡◌, ◌∙◌, Some, true, ap, refl, sym}
-use Rattle.std.specs.Prelude.{is_some}
-use Rattle.snoop_rules.specs.Waits.{waiting_request}
-use Rattle.snoop_model.proofs.Invariant.Safety.{well_kept_in}
-use Rattle.snoop_model.specs.Pictures.Situation.{state_of}
-use Rattle.snoop_bench.specs.Keeps.{locked}
-use Rattle.snoop_bench.specs.Locked.{Locked}
-use Rattle.snoop_bench.specs.Turns.{case_of}
+use Rattle.snoop_bench.proofs.Common.{case_of, is_some, Locked, locked, state_of, waiting_request, well_kept_in}
 use Rattle.snoop_bench.proofs.Cases.{IsCase, at_case, turn_within}
 use Rattle.snoop_bench.proofs.Waiting.{stepped}
 use Rattle.snoop_bench.proofs.Turning.{Facing, facing, finished, never, serving_step}

@@ -1,13 +1,6 @@
 use Rattle.std.proofs.Common.{◌∙◌, rules, sym, ap, subst, ◌≡◌, ◌++◌, List}
-use Rattle.snoop_trace.specs.Output.{IsReadableStep}
-use Rattle.snoop_model.specs.Pictures.Situation.{Situation}
+use Rattle.snoop_bench.proofs.Common.{All-push, IsReadableStep, IsRecorded, Item, option_to_list, Recording, Reply, Situation, Step, TakesAndPublishes}
 use Rattle.snoop_versions.specs.Readings.{Publishing}
-use Rattle.snoop_bench.specs.Recording.{Recording, TakesAndPublishes, IsRecorded}
-use Rattle.std.specs.Prelude.{option_to_list}
-use Rattle.std.proofs.lemmas.List.Elements.{All-push}
-use Rattle.snoop_trace.specs.declared.step.Step.{Step}
-use Rattle.snoop_history.specs.declared.items.Item.{Item}
-use Rattle.snoop_model.specs.declared.replies.Reply.{Reply}
 use Rattle.snoop_model.proofs.Runs.AllTaken.{taken_goes_on}
 use Rattle.snoop_bench.proofs.recorder.Recorder.take.Goals as goal
 
