@@ -1,6 +1,5 @@
 use Rattle.std.proofs.Common.{◌≡◌, [], arith}
-use Rattle.std.proofs.lemmas.Grind.{common_steps}
-use Rattle.std.proofs.lemmas.List.Elements.{All-push}
+use Rattle.snoop_cores.proofs.Common.{All-push, common_steps}
 use Rattle.snoop_cores.proofs.deal.empty_lists.Goals as goal
 
 pub loop-preserved : goal.loop-preserved

@@ -1,14 +1,12 @@
 use Rattle.std.proofs.Common.{◌≡◌, ◌∙◌, ap, arith, sym, refl}
+use Rattle.snoop_cores.proofs.Common.{Extent, IsFree}
 use borrow.Author.Count.{below_more}
-use Rattle.snoop_trace.specs.Extent.{Extent}
-use Rattle.snoop_cores.specs.Joined.{IsFree}
-use Rattle.snoop_cores.proofs.Joining.{is_none}
 use Rattle.snoop_cores.proofs.gathering.busy_core.Goals as goal
 
 pub loop-core-preserved : goal.loop-core-preserved
 loop-core-preserved c =
     below_more (IsFree c.args.bench.now c.args.seats.now) c.loop-core.core c.loop-core.invariant
-    (sym c.work.ensures ∙ is_none c.work.result (sym c.is_some.ensures ∙ c.if-is_some.false), c.if-not-is_idle.ensures.sound refl)
+    (sym c.work.ensures ∙ grind (arith, c.is_some.ensures, c.if-is_some.false), c.if-not-is_idle.ensures.sound refl)
 
 pub returns-clause-none : goal.returns-clause-none
 returns-clause-none c =

@@ -1,7 +1,5 @@
 use Rattle.std.proofs.Common.{◌≡◌, ◌<◌, ℕ, length}
-use Rattle.std.specs.Prelude.{slice_index_or}
-use Rattle.snoop_history.specs.History.{next_number}
-use Rattle.snoop_cores.specs.Seats.{Seating}
+use Rattle.snoop_cores.proofs.Common.{next_number, Seating, slice_index_or}
 use Rattle.snoop_cores.proofs.gathering.counts_match.Given as goal
 
 abbrev pub invariant-loop-seat : goal.invariant-loop-seat

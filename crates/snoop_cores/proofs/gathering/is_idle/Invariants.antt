@@ -1,6 +1,5 @@
 use Rattle.std.proofs.Common.{◌≡◌, ◌<◌, ℕ, None}
-use Rattle.std.specs.Prelude.{slice_index_or}
-use Rattle.snoop_cores.specs.Seats.{Seating}
+use Rattle.snoop_cores.proofs.Common.{Seating, slice_index_or}
 use Rattle.snoop_cores.proofs.gathering.is_idle.Given as goal
 
 abbrev pub invariant-loop-seat : goal.invariant-loop-seat

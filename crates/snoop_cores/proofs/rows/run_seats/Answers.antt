@@ -1,7 +1,5 @@
 use Rattle.std.proofs.Common.{◌∙◌, None, arith, subst, sym}
-use Rattle.std.proofs.lemmas.List.{get_or_default}
-use Rattle.std.specs.Prelude.{slice_index_or}
-use Rattle.snoop_cores.specs.Rows.{IsNotLate, RanTo}
+use Rattle.snoop_cores.proofs.Common.{get_or_default, IsNotLate, RanTo, slice_index_or}
 use Rattle.snoop_cores.proofs.Dealing.{ran_to}
 use Rattle.snoop_cores.proofs.Joining.{no_seat}
 use Rattle.snoop_cores.proofs.rows.run_seats.Goals as goal
