@@ -1,9 +1,10 @@
 -- The names that the proofs of this crate use most, passed on from one place.
+pub use Rattle.std.proofs.Common.{[], ap, arith, Bor, false, get_or, length, List, None, refl, Some, subst, sym, take, true, true≢false, vec_capacity, ℕ, ◌++◌, ◌<◌, ◌∙◌, ◌∷◌, ◌≡◌, ◌≤◌}
 pub use Rattle.std.specs.Prelude.{All, filter_map, IsSome, slice_get, slice_index_or, slice_set, Vec}
 pub use Rattle.std.proofs.lemmas.Bool.{cases_eq, cases_lt, eq-eqb, lt-ltb, ne_eqb, true_from_ne_false}
 pub use Rattle.std.proofs.lemmas.Grind.{common_steps}
 pub use Rattle.std.proofs.lemmas.List.{get_or-map, get_or-set_other, get_or-set_same, get_or_default, length-map, length-set, length-take-le, length_push, map-append, same_from_push, take-append-drop, take-take, take_all, take_at, take_more}
-pub use Rattle.std.proofs.lemmas.List.Elements.{All-get_or, All-push, filter-append, filter_map-append}
+pub use Rattle.std.proofs.lemmas.List.Elements.{All-get_or, All-push, filter-append, filter_map-append, filter_more}
 pub use Rattle.std.proofs.lemmas.Option.{get_or_from_slice_get, gets, none-some, same_Some, slice_get-get_or, slice_get_cases, slice_get_past, slice_get_within}
 pub use Rattle.snoop_trace.specs.Extent.{Extent}
 pub use Rattle.snoop_trace.specs.Grammar.{block_at}

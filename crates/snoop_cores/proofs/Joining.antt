@@ -51,14 +51,15 @@ module _ (items : List Item) (core : ℕ) (answers : List Did) (i n : ℕ) (entr
           ∙ ap (λ (l : List Did). l ++ rest) (up_to_next (did ∷ []) own) ∙ append_assoc before (did ∷ []) rest
 
 -- the core has no more operations, and the answers have
-pub first_less : (items : List Item) (core n : ℕ) (answers : List Did) (d : Did) → AreFirst items core n answers → n < length answers → IsFirst (answers_of items core) answers n
-first_less items core n answers d first few = record {
-  same = rw first.0 (take-take n n answers (omega arith));
-  differs = λ same.
-      let none = slice_get_past (take n answers) n (omega (arith, length-take-le n answers first.1)) in
-      let some = slice_get-get_or answers n d few in
-      none-some (get_or answers n d) (sym none ∙ (rw first.0 at same) ∙ some);
-}
+pub first_less : (items : List Item) (core n : ℕ) (answers : List Did) → AreFirst items core n answers → n < length answers → IsFirst (answers_of items core) answers n
+first_less items core n [] first few = absurd (omega arith)
+first_less items core n (d ∷ answers) first few =
+    let all = d ∷ answers in
+    let none = slice_get_past (take n all) n (omega (arith, length-take-le n all first.1)) in
+    record {
+      same = rw first.0 (take-take n n all (omega arith));
+      differs = λ same. none-some (get_or all n d) (sym none ∙ (rw first.0 at same) ∙ slice_get-get_or all n d few);
+    }
 
 apart : (a b : ℕ) → (a < b → ⊥) → (b < a → ⊥) → a ≡ b
 apart a b p q = omega (arith, p, q)
@@ -71,9 +72,8 @@ no_seat = record { core = 0; shape = record { cores = 0; blocks = 0; block_bytes
 strange_one : (cores : ℕ) (seats : List Seating) (a b : ℕ) → IsFirstOutside cores seats a → IsFirstOutside cores seats b → a ≡ b
 strange_one cores seats a b x y =
     let same : x.place ≡ y.place =
-    apart x.place y.place (λ lt. omega (arith, x.there no_seat, y.first x.place no_seat lt))
-    (λ lt. omega (arith, y.there no_seat, x.first y.place no_seat lt)) in
-    sym (x.there no_seat) ∙ ap (λ (k : ℕ). (slice_index_or seats k no_seat).core) same ∙ y.there no_seat
+    apart x.place y.place (λ lt. omega (arith, x.there no_seat, y.first x.place no_seat lt)) (λ lt. omega (arith, y.there no_seat, x.first y.place no_seat lt)) in
+    sym (rw same at (x.there no_seat)) ∙ y.there no_seat
 
 pub odd_one : (cores : ℕ) (seats : List Seating) (a b : ℕ) → IsNotAllSeats cores seats a → IsNotAllSeats cores seats b → a ≡ b
 odd_one cores seats a b (inl x) (inl y) = apart a b (λ lt. x.1 (y.2 a lt)) (λ lt. y.1 (x.2 b lt))

@@ -32,19 +32,18 @@ more_leaves [] row s t u h b k settled =
 more_leaves (first ∷ rows) row s t u h b k settled = (b, settled)
 
 grows_more : (rows : List Row) (row : Row) (s t u : Seating) → Grows rows s t → Grows (row ∷ []) t u → Grows (rows ++ row ∷ []) s u
-grows_more rows row s t u h k = record {
-  began = more.0;
-  stays = record { core = k.stays.core ∙ h.stays.core; shape = k.stays.shape ∙ h.stays.shape; begins = starts_on u.seen t.seen s.seen k.stays.begins h.stays.begins };
-  added = (
-    h.added.0 ++ k.added.0,
-    rw (k.added.1, h.added.1) (append_assoc s.answers h.added.0 k.added.0),
-    answers-append s.shape rows (row ∷ []) h.added.0 k.added.0 h.added.2 (rw h.stays.shape at k.added.2),
-  );
-  leaves = more.1;
-}
-  where
-    more : MayDoFirst (rows ++ row ∷ []) s × Leaves (rows ++ row ∷ []) s u
-    more = more_leaves rows row s t u h.leaves h.began k.began k.leaves
+grows_more rows row s t u h k =
+    let more = more_leaves rows row s t u h.leaves h.began k.began k.leaves in
+    record {
+      began = more.0;
+      stays = record { core = k.stays.core ∙ h.stays.core; shape = k.stays.shape ∙ h.stays.shape; begins = starts_on u.seen t.seen s.seen k.stays.begins h.stays.begins };
+      added = (
+        h.added.0 ++ k.added.0,
+        rw (k.added.1, h.added.1) (append_assoc s.answers h.added.0 k.added.0),
+        answers-append s.shape rows (row ∷ []) h.added.0 k.added.0 h.added.2 (rw h.stays.shape at k.added.2),
+      );
+      leaves = more.1;
+    }
 
 -- it did the next row
 pub did_row : (rows : List Row) (i : ℕ) (d : Row) (s t u : Seating) → i < length rows → Grows (take i rows) s t → Grows (get_or rows i d ∷ []) t u → Grows (take (i + 1) rows) s u

@@ -1,5 +1,4 @@
-use Rattle.std.proofs.Common.{◌<◌, ℕ, length, take}
-use Rattle.snoop_cores.proofs.Common.{next_number, Seating, slice_index_or}
+use Rattle.snoop_cores.proofs.Common.{length, next_number, Seating, slice_index_or, take, ℕ, ◌<◌}
 use Rattle.snoop_cores.proofs.Joining.{AreFirst}
 use Rattle.snoop_cores.proofs.gathering.answers_match.Given as goal
 

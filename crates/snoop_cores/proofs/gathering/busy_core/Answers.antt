@@ -1,5 +1,4 @@
-use Rattle.std.proofs.Common.{◌≡◌, ◌∙◌, ap, arith, sym, refl}
-use Rattle.snoop_cores.proofs.Common.{Extent, IsFree}
+use Rattle.snoop_cores.proofs.Common.{ap, arith, Extent, IsFree, refl, sym, ◌∙◌, ◌≡◌}
 use borrow.Author.Count.{below_more}
 use Rattle.snoop_cores.proofs.gathering.busy_core.Goals as goal
 
@@ -10,6 +9,5 @@ loop-core-preserved c =
 
 pub returns-clause-none : goal.returns-clause-none
 returns-clause-none c =
-    let t = c.loop-core-test.false in
-    let end : c.cores-core-end.result ≡ c.args.bench.now.situation.shape.cores = c.cores-core-end.ensures.value ∙ ap (λ (s : Extent). s.cores) c.shape.ensures in
-    λ k lt. c.loop-core.invariant k (omega (arith, t, end, lt))
+    let past = rw (c.cores-core-end.ensures.value, c.shape.ensures) at c.loop-core-test.false in
+    λ k lt. c.loop-core.invariant k (omega (arith, past, lt))

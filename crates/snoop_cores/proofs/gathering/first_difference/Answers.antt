@@ -1,11 +1,7 @@
-use Rattle.std.proofs.Common.{◌∙◌, arith, refl, sym, true≢false, false}
-use Rattle.snoop_cores.proofs.Common.{Did, take_all}
+use Rattle.snoop_cores.proofs.Common.{arith, refl, sym, take_all, true≢false, ◌∙◌}
 use Rattle.snoop_cores.proofs.Joining.{first_less, next_differs, next_passes, next_stands}
 use Rattle.snoop_cores.proofs.gathering.first_difference.Goals.{in-Some-own_did+else-not-stands_at, in_default-own_did}
 use Rattle.snoop_cores.proofs.gathering.first_difference.Goals as goal
-
-abbrev no_did : Did
-no_did = record { core = 0; number = 0; block = 0; word = 0; load = false; value = 0; hit = false }
 
 pub returns-then-not-stands_at-clause-some : goal.returns-then-not-stands_at-clause-some
 returns-then-not-stands_at-clause-some c =
@@ -16,7 +12,7 @@ pub returns-then-next-answers-clause-some : goal.returns-then-next-answers-claus
 returns-then-next-answers-clause-some c =
     let items = c.args.log.now.items in
     let whole = take_all c.loop-place.place items (omega (arith, c.loop-place-test.false, c.len-place-end.ensures)) in
-    first_less items c.args.core c.loop-place.next c.args.answers.now no_did (rw whole at c.loop-place.invariant) c.if-next-answers.true
+    first_less items c.args.core c.loop-place.next c.args.answers.now (rw whole at c.loop-place.invariant) c.if-next-answers.true
 
 pub loop-place-preserved : goal.loop-place-preserved
 loop-place-preserved c =

@@ -1,5 +1,4 @@
-use Rattle.std.proofs.Common.{◌≡◌, ◌<◌, ℕ, true, false, length}
-use Rattle.snoop_cores.proofs.Common.{block_at, IsSome, Seating, slice_index_or}
+use Rattle.snoop_cores.proofs.Common.{block_at, false, IsSome, length, Seating, slice_index_or, true, ℕ, ◌<◌, ◌≡◌}
 use Rattle.snoop_cores.proofs.rows.is_served.Given as goal
 
 abbrev pub invariant-loop-seat : goal.invariant-loop-seat

@@ -1,5 +1,4 @@
-use Rattle.std.proofs.Common.{◌∙◌, Some, ap, sym}
-use Rattle.snoop_cores.proofs.Common.{block_at, Extent, slice_get-get_or}
+use Rattle.snoop_cores.proofs.Common.{ap, block_at, Extent, slice_get-get_or, Some, sym, ◌∙◌}
 use Rattle.std.specs.Option.{is_some}
 use Rattle.snoop_cores.proofs.Joining.{serves_one}
 use Rattle.snoop_cores.proofs.rows.is_served_at_its_place.Goals as goal

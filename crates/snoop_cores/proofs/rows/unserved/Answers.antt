@@ -1,5 +1,4 @@
-use Rattle.std.proofs.Common.{ℕ, refl, subst}
-use Rattle.snoop_cores.proofs.Common.{get_or_default, IsServed, Row, slice_index_or}
+use Rattle.snoop_cores.proofs.Common.{get_or_default, IsServed, refl, Row, slice_index_or, subst, ℕ}
 use borrow.Author.Count.{below_more}
 use Rattle.snoop_cores.proofs.Performed.{no_row}
 use Rattle.snoop_cores.proofs.rows.unserved.Goals as goal
