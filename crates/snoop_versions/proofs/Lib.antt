@@ -1,3 +1,4 @@
+mod Common
 pub mod Versions
 pub mod Published
 pub mod Shown

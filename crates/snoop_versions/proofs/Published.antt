@@ -1,10 +1,6 @@
 -- What holds of a writer after it has appended or published an item.
 use Rattle.std.proofs.Common.{◌≡◌, ℕ, ◌<◌, ◌≤◌, List, [], ◌∷◌, ◌++◌, length, fold, true≢false, refl, sym, ap, ◌∙◌, arith}
-use Rattle.std.specs.Prelude.{Result, Ok, Err, IsOk, MatchResult}
-use Rattle.snoop_history.specs.declared.items.Item.{Item}
-use Rattle.snoop_versions.specs.declared.version.Version.{Version}
-use Rattle.snoop_versions.specs.declared.rule.View.{View}
-use Rattle.snoop_versions.specs.Rule.{grown, Adds, IsPublishing}
+use Rattle.snoop_versions.proofs.Common.{Adds, Err, grown, IsOk, IsPublishing, Item, MatchResult, Ok, Result, Version, View}
 use Rattle.snoop_versions.proofs.Versions.{version_of-push}
 
 -- after an append to nothing at most one item is ready

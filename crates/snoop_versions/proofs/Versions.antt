@@ -1,6 +1,6 @@
 -- Publishing and entering keep the rule of the versions.
 use Rattle.std.proofs.Common.{◌≡◌, ◌≢◌, ℕ, List, [], ◌∷◌, ◌++◌, map, Some, None, inl, inr, true, false, refl, sym, ap, ◌∙◌, ⊎_elim, append-nil, append_assoc}
-use Rattle.std.specs.Prelude.{All}
+use Rattle.snoop_versions.proofs.Common.{absorbed_board, Adds, All, Fits, grown, IsWriting, Item, Kept, newcomer, newest_of, same_shape, Sees, Version, version_of, View}
 use Rattle.std.proofs.lemmas.Bool.{cases_Bool}
 use Rattle.std.proofs.lemmas.List.{map-append}
 use Rattle.std.proofs.lemmas.List.Elements.{All-nil}
@@ -8,14 +8,9 @@ use mathlib.Core.Option.{some}
 use lib.ListN.{get_elem?, set}
 use Rattle.left_right.specs.Register.{Admits, TurnsAt, Turns}
 use Rattle.atomic_table.proofs.Lists.{at_set, at_snoc}
-use Rattle.snoop_history.specs.declared.items.Item.{Item}
 use Rattle.snoop_history.specs.History.{Legal, last_or}
 use Rattle.snoop_history.specs.Within.{IsItemWithin}
-use Rattle.snoop_history.proofs.Boards.{absorbed_board, same_shape}
 use Rattle.snoop_history.proofs.Pushed.{last_or-append}
-use Rattle.snoop_versions.specs.declared.version.Version.{Version}
-use Rattle.snoop_versions.specs.declared.rule.View.{View}
-use Rattle.snoop_versions.specs.Rule.{newest_of, version_of, newcomer, Fits, Kept, Adds, Sees, IsWriting, grown}
 
 -- the last of a list that has grown by one
 pub last-push : {A : Type 0} (list : List A) (entry : A) → last_or None (map Some (list ++ entry ∷ [])) ≡ Some entry

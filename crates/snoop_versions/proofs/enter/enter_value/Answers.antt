@@ -1,8 +1,4 @@
-use Rattle.std.proofs.Common.{ap, ◌∙◌}
-use Rattle.snoop_history.proofs.Boards.{inside_all}
-use Rattle.snoop_versions.specs.declared.version.Version.{Version}
-use Rattle.snoop_versions.specs.Knows.{knows}
-use Rattle.snoop_versions.specs.Rule.{Sees}
+use Rattle.snoop_versions.proofs.Common.{ap, inside_all, knows, Sees, Version, ◌∙◌}
 use Rattle.snoop_versions.proofs.Versions.{sees}
 use Rattle.snoop_versions.proofs.Shown.{enters}
 use Rattle.snoop_versions.proofs.enter.enter_value.Goals as goal

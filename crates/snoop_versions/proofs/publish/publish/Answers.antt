@@ -1,5 +1,4 @@
-use Rattle.std.proofs.Common.{drop}
-use Rattle.snoop_versions.specs.Knows.{knows}
+use Rattle.snoop_versions.proofs.Common.{drop, knows}
 use Rattle.snoop_versions.proofs.Versions.{adds}
 use Rattle.snoop_versions.proofs.Published.{ok_side, one_ready, publishes_on}
 use Rattle.snoop_versions.proofs.publish.publish.Goals as goal
