@@ -1,4 +1,3 @@
 mod Common
 pub mod Versions
 pub mod Published
-pub mod Shown

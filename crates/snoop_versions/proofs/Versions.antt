@@ -1,9 +1,8 @@
 -- Publishing and entering keep the rule of the versions.
 use Rattle.std.proofs.Common.{◌≡◌, ◌≢◌, ℕ, List, [], ◌∷◌, ◌++◌, map, Some, None, inl, inr, true, false, refl, sym, ap, ◌∙◌, ⊎_elim, append-nil, append_assoc}
-use Rattle.snoop_versions.proofs.Common.{absorbed_board, Adds, All, Fits, grown, IsWriting, Item, Kept, newcomer, newest_of, same_shape, Sees, Version, version_of, View}
+use Rattle.snoop_versions.proofs.Common.{absorbed_board, Adds, All, Enters, Fits, grown, IsWriting, Item, Kept, newcomer, newest_of, same_shape, Sees, Version, version_of, View, viewing}
 use Rattle.std.proofs.lemmas.Bool.{cases_Bool}
 use Rattle.std.proofs.lemmas.List.{map-append}
-use Rattle.std.proofs.lemmas.List.Elements.{All-nil}
 use mathlib.Core.Option.{some}
 use lib.ListN.{get_elem?, set}
 use Rattle.left_right.specs.Register.{Admits, TurnsAt, Turns}
@@ -66,6 +65,10 @@ sees handle v x views k at =
       record { used = refl; version = k.version; legal = k.legal; within = k.within; begins = was.begins; shape = λ e. let s = was.shape e in (sym s.0, sym s.1, sym s.2) },
     )
 
+-- what a reader then knows
+pub enters : {v w : View} {x y : Version} → v.used ≡ true → Sees v x y w → Enters (viewing v) (viewing w)
+enters used s = record { legal = s.legal; begins = s.begins; shape = s.shape used }
+
 -- the writer's list is the published one, and nobody else writes
 written : (handle : ℕ) (v : View) (x : Version) (c b d : ℕ) {views : List View} (k : Kept x views) → x ≡ version_of c b d v.seen → IsWriting v → get_elem? views handle ≡ some v
     → (k.list ≡ v.seen) × ((other : ℕ) (u : View) → other ≢ handle → get_elem? views other ≡ some u → u.writes ≢ true)
@@ -105,8 +108,3 @@ adds handle v x next c b d entry shown is legal within grows views k at =
       },
       (refl, rw (grows, same)),
     )
-
--- the rule holds of the version of no items, which only its writer has
-pub opens : (x : Version) (c b d : ℕ) → x ≡ version_of c b d [] → Kept x (newcomer ∷ [])
-opens x c b d is =
-    admits x [] (record { cores = c; blocks = b; words = d; list = []; writer = 0; version = is; legal = λ k entry at. cc; within = All-nil (IsItemWithin c b d); each = λ handle v at. cc })
