@@ -1,6 +1,8 @@
 -- The names that the proofs of this crate use most, passed on from one place.
+pub use Rattle.std.proofs.Common.{All, ap, false, List, None, refl, rules, Some, subst, sym, true, ◌∙◌, ◌≡◌}
 pub use Rattle.std.specs.Prelude.{Contains, filter, is_some, Ok, option_map, option_to_list, replicate, slice_set, if◌then◌else◌, ◌&&◌, ◌==◌}
 pub use Rattle.std.proofs.lemmas.Bool.{and_parts, cases_Bool, cases_eq, eq-eqb, eqb-true, lt-ltb, ne_eqb}
+pub use Rattle.std.proofs.lemmas.Grind.{common_steps}
 pub use Rattle.std.proofs.lemmas.List.Elements.{All-nil, All-push}
 pub use Rattle.std.proofs.lemmas.Option.{gets, none-some, same_Some}
 pub use Rattle.snoop_trace.specs.Extent.{Extent}

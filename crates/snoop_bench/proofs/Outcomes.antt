@@ -1,6 +1,6 @@
 -- What a turn answers is the outcome of the work.
 use Rattle.std.proofs.Common.{◌≡◌, ◌≢◌, ℕ, ◌++◌, Bool, true, false, List, [], ◌∷◌, Option, Some, None, nat_lt, refl, ap, ◌∙◌}
-use Rattle.snoop_bench.proofs.Common.{Access, access_of, Ask, Asked, Case, did_access, Does, EndsWith, eq-eqb, Finishes, IsClosed, IsLast, IsOp, Item, last_of, last_of-push, Locked, lt-ltb, ne_eqb, next_did, Ok, Op, Open, over, picture_of, record_of, Reply, Request, Situation, state_of, Step, step_under_way, TakesAndPublishes, turn_asked, turn_of, turn_over, TurnLaws, TurnsIn, waiting_request, Work, works_asked, if◌then◌else◌}
+use Rattle.snoop_bench.proofs.Common.{Access, access_of, Ask, Asked, Case, EndsWith, eq-eqb, Finishes, IsClosed, IsLast, IsOp, Item, last_of, last_of-push, Locked, lt-ltb, ne_eqb, next_did, Ok, Op, Open, over, picture_of, record_of, Reply, Request, Situation, state_of, Step, step_under_way, TakesAndPublishes, turn_asked, turn_of, turn_over, TurnLaws, TurnsIn, waiting_request, Work, works_asked, if◌then◌else◌}
 use Rattle.snoop_trace.specs.declared.step.Op.TheVariants as op
 use Rattle.snoop_history.specs.declared.items.Did.{Did}
 use Rattle.snoop_history.specs.declared.items.Item.TheVariants as item

@@ -1,7 +1,6 @@
 -- The works of cores after one of them changes.
 use Rattle.std.proofs.Common.{◌≡◌, ◌≢◌, ℕ, zero, suc, ◌<◌, List, [], ◌∷◌, length, Option, Some, None, refl, sym, ap, arith}
-use Rattle.snoop_bench.proofs.Common.{gets, option_map, slice_set, Work, work_at}
-use Rattle.std.proofs.lemmas.Grind.{common_steps}
+use Rattle.snoop_bench.proofs.Common.{common_steps, gets, option_map, slice_set, Work, work_at}
 
 -- the block of a work, if there is one
 pub its_block : (o p : Option Work) → o ≡ p → option_map (λ work. work.block) o ≡ option_map (λ work. work.block) p

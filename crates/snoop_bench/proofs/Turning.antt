@@ -1,6 +1,6 @@
 -- Turns keep works under way.
-use Rattle.std.proofs.Common.{◌≡◌, ◌≢◌, ◌⊎◌, ⊎_elim, ℕ, zero, suc, ◌<◌, ◌==◌, inl, inr, Bool, true, true≢false, List, length, replicate, Option, Some, None, refl, sym, ap, ◌∙◌, arith, false}
-use Rattle.snoop_bench.proofs.Common.{Access, access_of, and_parts, AreUnderWay, Ask, asked_access, Case, cases_Bool, cases_eq, eq-eqb, eqb-true, Extent, FirstMove, is_some, IsWellKept, kept_waiting, Locked, none-some, Op, option_map, picture_of, Reply, Request, reset, Respond, same_Some, Situation, slice_set, state_of, Step, turn_of, TurnLaws, waited_or_asked, waiting_request, Work, work_at, works_asked, works_under_way, ◌&&◌}
+use Rattle.std.proofs.Common.{◌≡◌, ◌≢◌, ◌⊎◌, ⊎_elim, ℕ, ◌<◌, inl, inr, Bool, true, List, length, replicate, Option, Some, None, refl, sym, ap, ◌∙◌, arith, false}
+use Rattle.snoop_bench.proofs.Common.{common_steps, gets, Access, access_of, AreUnderWay, Ask, asked_access, Case, cases_eq, eq-eqb, Extent, FirstMove, is_some, IsWellKept, kept_waiting, Locked, none-some, Op, option_map, picture_of, Reply, Request, reset, Respond, same_Some, Situation, slice_set, state_of, Step, turn_of, TurnLaws, waited_or_asked, waiting_request, Work, work_at, works_asked, works_under_way}
 use Rattle.std.proofs.lemmas.Bool.Decides.{nat_tests}
 use Rattle.std.proofs.lemmas.List.{length-set, length-replicate}
 use Rattle.snoop_trace.specs.Words.{HasWord}
@@ -118,10 +118,8 @@ closed_after : (s t : Situation) (core block word : ℕ) (asking : Op) (answer :
     → waiting_request (state_of s core block) ≡ None → FirstMove s (Respond block) answer t → turn_of t core block word asking true ≡ None
 closed_after s t core block word asking answer kept none (b, (first, m)) =
     let r = m.responds in
-    let there : picture_of t b ≡ r.next =
-    ap (λ (x : Situation). picture_of x b) r.after
-    ∙ picture_here s b r.next s.queues s.log (in_pictures s b kept.shaped m.within) in
-    let free : (picture_of t b).transaction ≡ None = ap (λ (x : Picture). x.transaction) there ∙ r.closed in
+    let there : picture_of t b ≡ r.next = rw r.after (picture_here s b r.next s.queues s.log (in_pictures s b kept.shaped m.within)) in
+    let free : (picture_of t b).transaction ≡ None = rw there r.closed in
     let waits : waiting_request (state_of t core b) ≡ None =
     ap (λ (x : Picture). waiting_request (held_by x core).state) there
     ∙ arrives_waits m.closing s.protocol s.log (picture_of s b).caches r.next.caches m.did r.requestor core ∙ (rw m.on_block at none) in
@@ -140,33 +138,25 @@ finished rule {s} {t} {works} {core} {work} {k} {step} {answer} ending f waits m
 }
   where
     no_request : (w : Option Request) → false ≡ is_some w → w ≡ None
-    no_request None e = refl
-    no_request (Some r) e = absurd (true≢false (sym e))
+    no_request w e = grind arith
 
--- what a step asks of a core's cache is the operation of its work
+-- what waits of an operation that is asked is that of the work
 kept_is : (word : ℕ) (asking : Op) (wanted : Access) → kept_waiting word asking ≡ Some wanted → record { word = word; op = asking } ≡ wanted
 kept_is word op.Load wanted e = same_Some _ _ e
 kept_is word (op.Store v) wanted e = same_Some _ _ e
 kept_is word op.Evict wanted e = cc
 
-asked_work : (core c block : ℕ) (wanted : Access) (work : Work) → asked_access c block (Ask core work.block work.word work.op) ≡ Some wanted
-    → (core ≡ c) × (work ≡ record { block = block; word = wanted.word; op = wanted.op })
-asked_work core c block wanted work e = elim (cases_Bool (work.block == block && core == c)) [
-  | inl here ↦
-      let parts = and_parts (work.block == block) (core == c) here in
-      let b : work.block ≡ block = eqb-true work.block block parts.0 in
-      let same : record { word = work.word; op = work.op } ≡ wanted = kept_is work.word work.op wanted (rw here at e) in
-      (eqb-true core c parts.1, λ i. record { block = b i; word = (same i).word; op = (same i).op })
-  | inr elsewhere ↦ absurd (none-some wanted (rw elsewhere at e))
-]
+kept : (word : ℕ) (asking : Op) → asking ≢ op.Evict → kept_waiting word asking ≡ Some (record { word = word; op = asking })
+kept word op.Load isnt = refl
+kept word (op.Store v) isnt = refl
+kept word op.Evict isnt = absurd (isnt refl)
 
-pub asks_its : (core : ℕ) (work : Work) → work.op ≢ op.Evict → asked_access core work.block (Ask core work.block work.word work.op) ≡ Some (access_of work)
-asks_its core work isnt = rw (eq-eqb core core refl, eq-eqb work.block work.block refl) (kept work.op isnt)
-  where
-    kept : (asking : Op) → asking ≢ op.Evict → kept_waiting work.word asking ≡ Some (record { word = work.word; op = asking })
-    kept op.Load isnt = refl
-    kept (op.Store v) isnt = refl
-    kept op.Evict isnt = absurd (isnt refl)
+asked_work : (core c block : ℕ) (wanted : Access) (work : Work) → asked_access c block (Ask core work.block work.word work.op) ≡ Some wanted
+    → (core ≡ c) × (work.block ≡ block) × (record { word = work.word; op = work.op } ≡ wanted)
+asked_work core c block wanted work e = grind (arith, nat_tests, kept_is)
+
+asks_its : (core : ℕ) (work : Work) → work.op ≢ op.Evict → asked_access core work.block (Ask core work.block work.word work.op) ≡ Some (access_of work)
+asks_its core work isnt = rw (eq-eqb core core refl, eq-eqb work.block work.block refl) (kept work.word work.op isnt)
 
 -- a core with nothing under way asks
 module _ (rule : TurnLaws) (works : List (Option Work)) (core : ℕ) (work : Work) {s t : Situation} {answer : Reply}
@@ -185,8 +175,8 @@ module _ (rule : TurnLaws) (works : List (Option Work)) (core : ℕ) (work : Wor
     stay = λ c w busy. unchanged works core c (Some work) (apart (work_at works) core c w idle busy) ∙ busy;
     under = its_block _ _ its;
     asked = λ c block wanted e.
-        let same = asked_work core c block wanted work e in
-        rw (← same.0, ← same.1) its;
+        let (own, at, same) = asked_work core c block wanted work e in
+        rw (← own, ← at, ← same) its;
     new = λ c w theirs isnt. elim (cases_eq c core) [
       | inl same ↦
           let there : work_at begun core ≡ Some w = rw same at theirs in
@@ -222,6 +212,4 @@ reset_under_way rule protocol shape = record {
 }
   where
     nothing : (cores core : ℕ) → work_at (replicate cores None) core ≡ None
-    nothing zero core = refl
-    nothing (suc cores) zero = refl
-    nothing (suc cores) (suc core) = nothing cores core
+    nothing cores core = grind (arith, common_steps, gets)

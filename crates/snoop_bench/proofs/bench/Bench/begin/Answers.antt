@@ -1,5 +1,4 @@
-use Rattle.std.proofs.Common.{false, refl, sym, subst}
-use Rattle.snoop_bench.proofs.Common.{Ask, IsReadableStep, Locked, well_kept_in, works_under_way}
+use Rattle.snoop_bench.proofs.Common.{Ask, false, IsReadableStep, Locked, refl, subst, sym, well_kept_in, works_under_way}
 use Rattle.snoop_bench.proofs.Places.{its_block}
 use Rattle.snoop_bench.proofs.Waiting.{stepped}
 use Rattle.snoop_bench.proofs.Turning.{asked_keeps}

@@ -1,5 +1,4 @@
-use Rattle.std.proofs.Common.{◌≡◌, ◌∙◌, rules, None, ap}
-use Rattle.snoop_bench.proofs.Common.{Recording, replicate, reset}
+use Rattle.snoop_bench.proofs.Common.{ap, None, Recording, replicate, reset, rules, ◌∙◌, ◌≡◌}
 use Rattle.snoop_bench.proofs.Turning.{reset_under_way}
 use Rattle.snoop_bench.proofs.bench.Bench.new.Goals as goal
 
