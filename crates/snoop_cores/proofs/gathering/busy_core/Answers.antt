@@ -1,4 +1,4 @@
-use Rattle.snoop_cores.proofs.Common.{ap, arith, Extent, IsFree, refl, sym, ◌∙◌, ◌≡◌}
+use Rattle.snoop_cores.proofs.Common.{arith, IsFree, refl, sym, ◌∙◌}
 use borrow.Author.Count.{below_more}
 use Rattle.snoop_cores.proofs.gathering.busy_core.Goals as goal
 
