@@ -1,18 +1,6 @@
 -- The step of each case of a work under way.
 use Rattle.std.proofs.Common.{◌≡◌, ℕ, ◌<◌, ◌==◌, Bool, true, false, Option, Some, None}
-use Rattle.std.specs.Prelude.{is_some, if◌then◌else◌}
-use Rattle.snoop_trace.specs.Extent.{Extent}
-use Rattle.snoop_trace.specs.Output.{IsReadableStep}
-use Rattle.snoop_trace.specs.declared.step.Op.{Op}
-use Rattle.snoop_trace.specs.declared.step.Step.{Step}
-use Rattle.snoop_trace.specs.declared.step.Step.TheVariants.{Order, Respond}
-use Rattle.snoop_rules.specs.declared.names.Request.{Request}
-use Rattle.snoop_bus.specs.Traffic.{Open}
-use Rattle.snoop_rules.specs.Waits.{waiting_request}
-use Rattle.snoop_model.specs.Pictures.Situation.{Situation, picture_of, state_of}
-use Rattle.snoop_model.specs.Turns.Turn.{turn_of, step_under_way}
-use Rattle.snoop_bench.specs.Turns.{Case, case_of, case_under_way}
-use Rattle.snoop_bench.specs.Turns.Case.{orders, helps, ends, over}
+use Rattle.snoop_bench.proofs.Common.{Case, case_of, case_under_way, ends, Extent, helps, is_some, IsReadableStep, Op, Open, Order, orders, over, picture_of, Request, Respond, Situation, state_of, Step, step_under_way, turn_of, waiting_request, if◌then◌else◌}
 
 -- the case, whether a request waits in it, and the step that is taken
 pub data IsCase (core block : ℕ) : Case → Bool → Option Step → Type 0 where

@@ -1,3 +1,4 @@
+mod Common
 mod Cases
 pub mod Places
 pub mod Waiting

@@ -1,55 +1,25 @@
 -- What a turn answers is the outcome of the work.
 use Rattle.std.proofs.Common.{◌≡◌, ◌≢◌, ℕ, ◌++◌, Bool, true, false, List, [], ◌∷◌, Option, Some, None, nat_lt, refl, ap, ◌∙◌}
-use Rattle.std.specs.Prelude.{if◌then◌else◌, Ok}
-use Rattle.std.proofs.lemmas.Bool.{lt-ltb, eq-eqb, ne_eqb}
-use Rattle.snoop_trace.specs.declared.step.Op.{Op}
+use Rattle.snoop_bench.proofs.Common.{Access, access_of, Ask, Asked, Case, EndsWith, eq-eqb, Finishes, IsClosed, IsLast, IsOp, Item, last_of, last_of-push, Locked, lt-ltb, ne_eqb, next_did, Ok, Op, Open, over, picture_of, record_of, Reply, Request, Situation, state_of, Step, step_under_way, TakesAndPublishes, turn_asked, turn_of, turn_over, TurnLaws, TurnsIn, waiting_request, Work, works_asked, if◌then◌else◌}
 use Rattle.snoop_trace.specs.declared.step.Op.TheVariants as op
-use Rattle.snoop_trace.specs.declared.step.Step.{Step}
-use Rattle.snoop_trace.specs.declared.step.Step.TheVariants.{Ask, Respond}
-use Rattle.snoop_rules.specs.declared.names.Request.{Request}
-use Rattle.snoop_rules.specs.Waits.{waiting_request}
-use Rattle.snoop_bus.specs.Traffic.{Open}
 use Rattle.snoop_history.specs.declared.items.Did.{Did}
-use Rattle.snoop_history.specs.declared.items.Item.{Item}
 use Rattle.snoop_history.specs.declared.items.Item.TheVariants as item
-use Rattle.snoop_history.specs.History.{last_of}
-use Rattle.snoop_history.proofs.Pushed.{last_of-push}
-use Rattle.snoop_model.specs.declared.access.Access.{Access}
-use Rattle.snoop_model.specs.declared.replies.Reply.{Reply}
 use Rattle.snoop_model.specs.declared.replies.Reply.TheVariants as reply
 use Rattle.snoop_model.specs.Moves.Replies.{Tells}
-use Rattle.snoop_model.specs.Pictures.Situation.{Situation, picture_of, state_of}
-use Rattle.snoop_model.specs.Moves.Move.{next_did}
-use Rattle.snoop_model.specs.Runs.Once.{did_access}
-use Rattle.snoop_model.specs.Runs.Owed.{IsLast}
-use Rattle.snoop_model.specs.Turns.Turn.{turn_of, step_under_way}
-use Rattle.snoop_model.specs.Turns.TurnLaws.{TurnLaws}
-use Rattle.snoop_trace.specs.declared.step.Work.{Work}
 use Rattle.snoop_bench.specs.declared.work.Turn.{Turn}
 use Rattle.snoop_bench.specs.declared.work.Turn.TheVariants as turn
-use Rattle.snoop_bench.specs.Works.{access_of, work_at, IsOp, Does}
-use Rattle.snoop_bench.specs.Recording.{TakesAndPublishes}
-use Rattle.snoop_bench.specs.Locked.{Locked, IsClosed, EndsWith, record_of}
-use Rattle.snoop_bench.specs.Turns.{Case, Finishes, Asked, TurnsIn}
-use Rattle.snoop_bench.specs.Turns.Case.{over}
-use Rattle.snoop_bench.specs.Outcomes.{works_asked, turn_asked, turn_over}
-use Rattle.snoop_bench.specs.Keeps.{AreUnderWay}
-use Rattle.snoop_bench.specs.Faults.{IsInside}
 use Rattle.snoop_bench.proofs.Cases.{IsCase}
 use Rattle.snoop_bench.proofs.Cases.IsCase.{ordering, helping, ending}
-use Rattle.snoop_bench.proofs.Waiting.{Stepped}
-use Rattle.snoop_bench.proofs.Turning.{Facing, ended}
+use Rattle.snoop_bench.proofs.Turning.{Facing}
 
 is_op : (did : Did) (load : Bool) → did.load ≡ load → IsOp (if load then op.Load else op.Store did.value) did
 is_op did true e = e
 is_op did false e = (e, refl)
 
--- an operation that is the access of the work
-does : (did : Did) (work : Work) → did.block ≡ work.block → did_access did ≡ access_of work → Does did work
-does did work on same = (on, ap (λ (a : Access). a.word) same, rw (← ap (λ (a : Access). a.op) same) (is_op did did.load refl))
-
+-- the operation that is the access of the work does it
 pub ends_with : (s : Situation) (core : ℕ) (work : Work) → IsLast s core work.block (access_of work) → (did : Did) × EndsWith s core work did
-ends_with s core work last = (last.0, record { last = last.1; does = does last.0 work last.2 last.3 })
+ends_with s core work (did, last, on, same) =
+    (did, record { last = last; does = (on, ap (λ (a : Access). a.word) same, rw (← ap (λ (a : Access). a.op) same) (is_op did did.load refl)) })
 
 -- a work with no step left is answered by its operation, the last of the core's in the log
 pub finishes : TurnLaws → {s : Situation} {works : List (Option Work)} {core : ℕ} {work : Work} → Facing s works core work None
@@ -65,58 +35,28 @@ finishes rule {s} {works} {core} {work} f last is =
     by_op (op.Store v) ended = let d = ended (λ e. cc) in (d.0, (d.1, refl))
     by_op op.Evict ended = refl
 
--- the operation that a hit performs
-module _ (past log : List Item) (core block word : ℕ) where
-  abbrev hit_did : Op → ℕ → Did
-  hit_did asking value = next_did past core block word asking value true
+-- a hit performs the core's last operation
+module _ (p q : Locked) (core block word : ℕ) where
+  hit_ends : (asking : Op) (value : ℕ)
+      → (let did = next_did p.situation.log core block word asking value true in
+      IsOp asking did → q.situation.log ≡ p.situation.log ++ item.Did did ∷ [] → EndsWith q.situation core (record { block = block; word = word; op = asking }) did)
+  hit_ends asking value does logged =
+      let did = next_did p.situation.log core block word asking value true in
+      record {
+        last = ap (λ (l : List Item). last_of l core) logged ∙ last_of-push p.situation.log (item.Did did) core ∙ rw (eq-eqb core core refl) refl;
+        does = (refl, refl, does);
+      }
 
-  told_load : (asking : Op) (value : ℕ) → Tells past (Ask core block word asking) (Ok (reply.Hit value)) log
-      → IsOp asking (hit_did asking value) × (log ≡ past ++ item.Did (hit_did asking value) ∷ [])
-  told_load op.Load value told = (refl, told)
-  told_load (op.Store v) value told = absurd told
-  told_load op.Evict value told = absurd told
-
-  told_store : (asking : Op) → Tells past (Ask core block word asking) (Ok reply.StoreHit) log
-      → (value : ℕ) × (IsOp asking (hit_did asking value) × (log ≡ past ++ item.Did (hit_did asking value) ∷ []))
-  told_store op.Load told = absurd told
-  told_store (op.Store v) told = (v, ((refl, refl), told))
-  told_store op.Evict told = absurd told
-
--- it is the core's last operation
-hit_ends : (s t : Situation) (core : ℕ) (work : Work) (value : ℕ)
-    → (let did = hit_did s.log t.log core work.block work.word work.op value in IsOp work.op did × (t.log ≡ s.log ++ item.Did did ∷ []) → EndsWith t core work did)
-hit_ends s t core work value h =
-    let did = hit_did s.log t.log core work.block work.word work.op value in
-    record {
-      last = ap (λ (l : List Item). last_of l core) h.1 ∙ last_of-push s.log (item.Did did) core ∙ rw (eq-eqb core core refl) refl;
-      does = (refl, refl, h.0);
-    }
-
--- what an Ask answers, and the works after it
-pub asked_so : TurnLaws → (core : ℕ) (work : Work) (answer : Reply) (given : Turn) (p q : Locked) → AreUnderWay p.works p.situation
-    → work_at p.works core ≡ None → IsInside core work p
-    → Stepped p.situation q.situation (Ask core work.block work.word work.op) answer
-    → Tells p.situation.log (Ask core work.block work.word work.op) (Ok answer) q.situation.log
-    → given ≡ turn_asked answer → q.works ≡ works_asked answer p.works core work → Asked answer core work given p q
-asked_so rule core work (reply.Issued request) given p q u idle inside m told e w = (e, w)
-asked_so rule core work reply.Gone given p q u idle inside m told e w = (e, w)
-asked_so rule core work reply.Absent given p q u idle inside m told e w = (e, w)
-asked_so rule core work (reply.Hit value) given p q u idle inside m told e w =
-    let does = told_load p.situation.log q.situation.log core work.block work.word work.op value told in
-    (e, (_, hit_ends p.situation q.situation core work value does, refl), w)
-asked_so rule core work reply.StoreHit given p q u idle inside m told e w =
-    let does = told_store p.situation.log q.situation.log core work.block work.word work.op told in
-    (e, (_, hit_ends p.situation q.situation core work does.0 does.1), w)
-asked_so rule core work (reply.Ordered request) given p q u idle inside m told e w = absurd (not_ordered work.op told)
-  where
-    not_ordered : (asking : Op) → Tells p.situation.log (Ask core work.block work.word asking) (Ok (reply.Ordered request)) q.situation.log → ⊥
-    not_ordered op.Load f = f
-    not_ordered _ f = f
-asked_so rule core work (reply.Came payload from did) given p q u idle inside m told e w = absurd (not_came work.op told)
-  where
-    not_came : (asking : Op) → Tells p.situation.log (Ask core work.block work.word asking) (Ok (reply.Came payload from did)) q.situation.log → ⊥
-    not_came op.Load f = f
-    not_came _ f = f
+  -- what an Ask answers, and the works after it
+  pub asked_so : (asking : Op) (answer : Reply) (given : Turn) → Tells p.situation.log (Ask core block word asking) (Ok answer) q.situation.log
+      → given ≡ turn_asked answer → q.works ≡ works_asked answer p.works core (record { block = block; word = word; op = asking })
+      → Asked answer core (record { block = block; word = word; op = asking }) given p q
+  asked_so op.Load (reply.Hit value) given told e w = (e, (_, hit_ends op.Load value refl told, refl), w)
+  asked_so (op.Store value) reply.StoreHit given told e w = (e, (_, hit_ends (op.Store value) value (refl, refl) told), w)
+  asked_so asking (reply.Issued request) given told e w = (e, w)
+  asked_so op.Evict reply.Gone given told e w = (e, w)
+  asked_so op.Evict reply.Absent given told e w = (e, w)
+  asked_so asking answer given told e w = absurd told
 
 module _ (core : ℕ) (work : Work) {answer : Reply} where
   -- the turn of a core whose request waits
@@ -129,21 +69,15 @@ module _ (core : ℕ) (work : Work) {answer : Reply} where
   pub finished_turn : {k : Case} {step : Step} (given : Turn) (p m q : Locked) → IsCase core work.block k false (Some step)
       → TakesAndPublishes step answer (record_of p) (record_of m) → m.works ≡ p.works → TurnsIn over core work given m q → TurnsIn k core work given p q
   finished_turn given p m q ending took same t =
-      let all : TakesAndPublishes (Respond work.block) answer (record_of p) (record_of q) = record {
-        item = took.item;
-        move = rw t.0.situation took.move;
-        logged = rw t.0.situation took.logged;
-        steps = t.0.steps ∙ took.steps;
-        published = t.0.published ∙ took.published;
-      } in
-      (answer, (all, (t.1.0, rw (← same) t.1.1)))
+      let same_record : record_of q ≡ record_of m = λ i. record { situation = t.0.situation i; steps = t.0.steps i; published = t.0.published i } in
+      (answer, (rw same_record took, (t.1.0, rw (← same) t.1.1)))
 
 -- a core that neither waits nor has its transaction open has no step left
 pub closed_turn : (s : Situation) (core block word : ℕ) (asking : Op) → IsClosed s core block → turn_of s core block word asking true ≡ None
-closed_turn s core block word asking shut = by_case (waiting_request (state_of s core block)) (picture_of s block).transaction shut.waits shut.opened_by_other
+closed_turn s core block word asking shut = by_case (waiting_request (state_of s core block)) (picture_of s block).transaction refl refl
   where
-    by_case : (w : Option Request) (o : Option Open) → ((r : Request) → ¬ (w ≡ Some r)) → ((t : Open) → o ≡ Some t → t.core ≢ core)
+    by_case : (w : Option Request) (o : Option Open) → waiting_request (state_of s core block) ≡ w → (picture_of s block).transaction ≡ o
         → step_under_way w o core block ≡ None
-    by_case (Some r) o none other = absurd (none r refl)
-    by_case None None none other = refl
-    by_case None (Some t) none other = rw (ne_eqb t.core core (other t refl)) refl
+    by_case (Some r) o waits opened = absurd (shut.waits r waits)
+    by_case None None waits opened = refl
+    by_case None (Some t) waits opened = rw (ne_eqb t.core core (shut.opened_by_other t opened)) refl

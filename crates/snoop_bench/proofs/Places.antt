@@ -1,8 +1,6 @@
 -- The works of cores after one of them changes.
-use Rattle.std.proofs.Common.{◌≡◌, ◌≢◌, ℕ, zero, suc, ◌<◌, List, [], ◌∷◌, length, Option, Some, None, refl, sym, ap, ◌∙◌, arith}
-use Rattle.std.specs.Prelude.{slice_set, option_map}
-use Rattle.snoop_trace.specs.declared.step.Work.{Work}
-use Rattle.snoop_bench.specs.Works.{work_at}
+use Rattle.std.proofs.Common.{◌≡◌, ◌≢◌, ℕ, zero, suc, ◌<◌, List, [], ◌∷◌, length, Option, Some, None, refl, sym, ap, arith}
+use Rattle.snoop_bench.proofs.Common.{common_steps, gets, option_map, slice_set, Work, work_at}
 
 -- the block of a work, if there is one
 pub its_block : (o p : Option Work) → o ≡ p → option_map (λ work. work.block) o ≡ option_map (λ work. work.block) p
@@ -10,18 +8,12 @@ its_block o p same = ap (λ (x : Option Work). option_map (λ work. work.block) 
 
 -- the changed place holds the new work
 pub changed : (works : List (Option Work)) (core : ℕ) (work : Option Work) → core < length works → work_at (slice_set works core work) core ≡ work
-changed [] core work h = absurd (omega arith)
-changed (x ∷ works) zero work h = refl
-changed (x ∷ works) (suc core) work h = changed works core work (omega arith)
+changed works core work inside = grind (arith, common_steps, gets)
 
 -- the other places are as before
 pub unchanged : (works : List (Option Work)) (core other : ℕ) (work : Option Work) → other ≢ core
     → work_at (slice_set works core work) other ≡ work_at works other
-unchanged [] core other work h = refl
-unchanged (x ∷ works) zero zero work h = absurd (h refl)
-unchanged (x ∷ works) zero (suc other) work h = refl
-unchanged (x ∷ works) (suc core) zero work h = refl
-unchanged (x ∷ works) (suc core) (suc other) work h = unchanged works core other work (λ same. h (ap suc same))
+unchanged works core other work apart = grind (arith, common_steps, gets)
 
 -- the place of an idle core, once it held a work, is idle again without it
 pub put_out : (works : List (Option Work)) (core : ℕ) (work : Option Work) → work_at works core ≡ None → slice_set (slice_set works core work) core None ≡ works
@@ -31,10 +23,8 @@ put_out (x ∷ works) (suc core) work idle = ap (λ l. x ∷ l) (put_out works c
 
 -- a core with a work under way has a place
 pub has_place : (works : List (Option Work)) (core : ℕ) (work : Work) → work_at works core ≡ Some work → core < length works
-has_place [] core work its = cc
-has_place (x ∷ works) zero work its = omega arith
-has_place (x ∷ works) (suc core) work its = let h = has_place works core work its in omega (arith, h)
+has_place works core work its = grind (arith, gets)
 
 -- a core with something under way is another than one with nothing
 pub apart : {A : Type 0} (at : ℕ → Option A) (idle busy : ℕ) (x : A) → at idle ≡ None → at busy ≡ Some x → busy ≢ idle
-apart at idle busy x none some same = let clash : None ≡ Some x = sym none ∙ ap at (sym same) ∙ some in cc
+apart at idle busy x none some same = cc

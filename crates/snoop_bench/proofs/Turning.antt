@@ -1,86 +1,65 @@
 -- Turns keep works under way.
-use Rattle.std.proofs.Common.{◌≡◌, ◌≢◌, ◌⊎◌, ⊎_elim, ℕ, zero, suc, ◌<◌, ◌==◌, inl, inr, Bool, true, true≢false, cond, List, length, replicate, Option, Some, None, refl, sym, ap, ◌∙◌, arith, false}
-use Rattle.std.specs.Prelude.{slice_set, option_map, ◌&&◌, is_some}
-use Rattle.std.proofs.lemmas.Bool.{eq-eqb, eqb-true, ne_eqb, and_parts, cases_Bool, cases_eq}
-use Rattle.std.proofs.lemmas.Option.{none-some, same_Some}
+use Rattle.std.proofs.Common.{◌≡◌, ◌≢◌, ◌⊎◌, ⊎_elim, ℕ, ◌<◌, inl, inr, Bool, true, List, length, replicate, Option, Some, None, refl, sym, ap, ◌∙◌, arith, false}
+use Rattle.snoop_bench.proofs.Common.{common_steps, gets, Access, access_of, AreUnderWay, Ask, asked_access, Case, cases_eq, eq-eqb, Extent, FirstMove, is_some, IsWellKept, kept_waiting, Locked, none-some, Op, option_map, picture_of, Reply, Request, reset, Respond, same_Some, Situation, slice_set, state_of, Step, turn_of, TurnLaws, waited_or_asked, waiting_request, Work, work_at, works_asked, works_under_way}
+use Rattle.std.proofs.lemmas.Bool.Decides.{nat_tests}
 use Rattle.std.proofs.lemmas.List.{length-set, length-replicate}
-use Rattle.snoop_trace.specs.Extent.{Extent}
 use Rattle.snoop_trace.specs.Words.{HasWord}
 use Rattle.snoop_trace.specs.declared.protocol.Protocol.{Protocol}
-use Rattle.snoop_trace.specs.declared.step.Op.{Op}
 use Rattle.snoop_trace.specs.declared.step.Op.TheVariants as op
-use Rattle.snoop_trace.specs.declared.step.Step.{Step}
-use Rattle.snoop_trace.specs.declared.step.Step.TheVariants.{Ask, Respond}
-use Rattle.snoop_trace.specs.declared.step.Work.{Work}
-use Rattle.snoop_rules.specs.declared.names.Request.{Request}
-use Rattle.snoop_model.specs.declared.access.Access.{Access}
 use Rattle.snoop_model.specs.declared.replies.Refused.{Refused}
-use Rattle.snoop_model.specs.declared.replies.Reply.{Reply}
 use Rattle.snoop_model.specs.declared.replies.Reply.TheVariants as reply
-use Rattle.snoop_model.specs.Pictures.Lines.{Line}
-use Rattle.snoop_model.specs.Pictures.Situation.{Situation, reset, picture_of, state_of}
-use Rattle.snoop_model.specs.Runs.Once.{asked_access}
 use Rattle.snoop_model.specs.Turns.Serving.{IsUnderWay}
-use Rattle.snoop_model.specs.Invariant.WellKept.{IsWellKept}
-use Rattle.snoop_model.specs.Turns.Turn.{turn_of}
-use Rattle.snoop_model.specs.Turns.TurnLaws.{TurnLaws}
 use Rattle.snoop_model.specs.Moves.Refuses.{Refuses}
 use Rattle.snoop_model.proofs.Invariant.Runs.{reset_line}
 use Rattle.snoop_model.proofs.Turns.ClosedWorks.{has_step}
-use Rattle.snoop_model.proofs.Once.Owed.{waited_or_asked}
-use Rattle.snoop_bench.specs.Works.{access_of, work_at, works_under_way}
-use Rattle.snoop_bench.specs.Outcomes.{works_asked}
-use Rattle.snoop_bench.specs.Locked.{Locked}
 use Rattle.snoop_bench.specs.Faults.{IsInside}
-use Rattle.snoop_bench.specs.Keeps.{AreUnderWay}
-use Rattle.snoop_bench.specs.Turns.{Case}
 use Rattle.snoop_bench.proofs.Cases.{IsCase}
-use Rattle.snoop_bench.proofs.Cases.IsCase.{ordering, helping, ending}
+use Rattle.snoop_bench.proofs.Cases.IsCase.{ordering, ending}
 use Rattle.snoop_bench.proofs.Places.{its_block, changed, unchanged, put_out, has_place, apart}
 use Rattle.snoop_bench.proofs.Waiting.{Stepped, AsksNothing, owed_still}
-use Rattle.snoop_rules.specs.Waits.{waiting_request}
 use Rattle.snoop_model.specs.Pictures.Picture.{Picture, held_by}
-use Rattle.snoop_model.specs.Moves.Move.{FirstMove, kept_waiting}
 use Rattle.snoop_model.proofs.OneBlock.OfBlocks.{in_pictures, picture_here}
 use Rattle.snoop_model.proofs.Queues.Responds.{arrives_waits}
+
+-- the core and the block are within the shape, and so is the word that is loaded or stored
+abbrev pub IsWithin : Situation → ℕ → Work → Type 0
+IsWithin s core work = (core < s.shape.cores) × (work.block < s.shape.blocks) × HasWord s.shape work.word work.op
 
 -- the works after a step: those under way stay, and each new one is asked by the step
 record GoOn (works after : List (Option Work)) (step : Step) : Type 0 where
   pub places : length after ≡ length works
-  pub stay : (core : ℕ) → work_at works core ≢ None → work_at after core ≡ work_at works core
+  pub stay : (core : ℕ) (work : Work) → work_at works core ≡ Some work → work_at after core ≡ Some work
   pub under : IsUnderWay (works_under_way after) step
   pub asked : (core block : ℕ) (wanted : Access) → asked_access core block step ≡ Some wanted
       → work_at after core ≡ Some (record { block = block; word = wanted.word; op = wanted.op })
   pub new : (core : ℕ) (work : Work) → work_at after core ≡ Some work → work.op ≢ op.Evict
       → ((work_at works core ≡ Some work) × AsksNothing core step) ⊎ (asked_access core work.block step ≡ Some (access_of work))
 
-none_some : (o : Option Work) (work : Work) → o ≡ Some work → o ≢ None
-none_some o work e f = cc
+-- the block of a work that stays
+block_stays : (before after : Option Work) (block : ℕ) → ((work : Work) → before ≡ Some work → after ≡ Some work)
+    → option_map (λ work. work.block) before ≡ Some block → option_map (λ work. work.block) after ≡ Some block
+block_stays None after block stay e = cc
+block_stays (Some work) after block stay e = rw (stay work refl) e
 
 goes_on : TurnLaws → {s t : Situation} {step : Step} {answer : Reply} (m : Stepped s t step answer) (works after : List (Option Work)) → AreUnderWay works s
     → GoOn works after step → AreUnderWay after t
 goes_on rule {s} {t} {step} {answer} m works after u g = record {
-  places = g.places ∙ u.places ∙ ap (λ (e : Extent). e.cores) (sym m.shape);
+  places = rw m.shape (g.places ∙ u.places);
   serving = rule.serves_on s t (works_under_way works) (works_under_way after) step answer u.serving m.move
-      (λ core block e. stays core block (work_at works core) refl e ∙ e) g.under;
+      (λ core block. block_stays (work_at works core) (work_at after core) block (g.stay core)) g.under;
   waiting = λ core block wanted waits.
-      ⊎_elim (λ was. let its = u.waiting core block wanted was in g.stay core (none_some _ _ its) ∙ its) (g.asked core block wanted)
+      ⊎_elim (λ was. g.stay core _ (u.waiting core block wanted was)) (g.asked core block wanted)
       (waited_or_asked s t step answer m.move m.once core block wanted (inr waits));
   owed = λ core work its isnt.
       ⊎_elim (λ was. owed_still m core works work u was.0 was.1 (u.owed core work was.0 isnt))
       (λ asked. rule.owes s t step answer m.move m.once core work.block (access_of work) (inr asked)) (g.new core work its isnt);
 }
-  where
-    stays : (core block : ℕ) (o : Option Work) → work_at works core ≡ o → option_map (λ w. w.block) o ≡ Some block → works_under_way after core ≡ works_under_way works core
-    stays core block None e f = cc
-    stays core block (Some work) e f = its_block _ _ (g.stay core (none_some _ work e))
 
 -- the step of a work under way is no load or store that is asked
 unasked : (works : List (Option Work)) {core block : ℕ} {k : Case} {waits : Bool} {step : Step} → IsCase core block k waits (Some step)
     → ((c : ℕ) → AsksNothing c step) × IsUnderWay (works_under_way works) step
 unasked works ordering = (λ c block. refl, tt)
-unasked works helping = (λ c block. refl, tt)
-unasked works ending = (λ c block. refl, tt)
+unasked works _ = (λ c block. refl, tt)
 
 -- so it keeps the works
 pub serving_step : TurnLaws → {s t : Situation} {step : Step} {answer : Reply} {core block : ℕ} {k : Case} {waits : Bool} → Stepped s t step answer
@@ -89,7 +68,7 @@ serving_step rule m works u is =
     let none = unasked works is in
     goes_on rule m works works u (record {
       places = refl;
-      stay = λ core busy. refl;
+      stay = λ core work its. its;
       under = none.1;
       asked = λ core block wanted e. absurd (none-some wanted (sym (none.0 core block) ∙ e));
       new = λ core work its isnt. inl (its, none.0 core);
@@ -99,7 +78,7 @@ serving_step rule m works u is =
 pub record Facing (s : Situation) (works : List (Option Work)) (core : ℕ) (work : Work) (step : Option Step) : Type 0 where
   pub under : AreUnderWay works s
   pub well : IsWellKept s
-  pub inside : (core < s.shape.cores) × (work.block < s.shape.blocks) × HasWord s.shape work.word work.op
+  pub inside : IsWithin s core work
   pub its : work_at works core ≡ Some work
   pub step_is : turn_of s core work.block work.word work.op true ≡ step
 
@@ -109,46 +88,38 @@ pub facing : {b now : Locked} → b ≡ now → (core : ℕ) (work : Work) {step
     → turn_of now.situation core work.block work.word work.op true ≡ step → Facing b.situation b.works core work step
 facing same core work under well inside its is = record { under = under; well = well; inside = rw same inside; its = rw same its; step_is = rw same is }
 
--- no cause refuses the step of the turn
-pub never : TurnLaws → {s : Situation} {works : List (Option Work)} {core : ℕ} {work : Work} {step : Step} → Facing s works core work (Some step)
-    → (cause : Refused) → ¬ Refuses s step cause
-never rule {s} {works} {core} {work} {step} f =
-    rule.never_refused s (works_under_way works) core work.block work.word work.op true step
-    f.under.serving f.well f.inside.0 f.inside.1 f.inside.2 (its_block _ _ f.its) f.step_is
+module _ (rule : TurnLaws) {s : Situation} {works : List (Option Work)} {core : ℕ} {work : Work} where
+  -- no cause refuses the step of the turn
+  pub never : {step : Step} → Facing s works core work (Some step) → (cause : Refused) → ¬ Refuses s step cause
+  never {step} f =
+      rule.never_refused s (works_under_way works) core work.block work.word work.op true step
+      f.under.serving f.well f.inside.0 f.inside.1 f.inside.2 (its_block _ _ f.its) f.step_is
 
--- where no step is left the core gives the work up
-pub over_keeps : TurnLaws → {s : Situation} {works : List (Option Work)} {core : ℕ} {work : Work} → Facing s works core work None
-    → AreUnderWay (slice_set works core None) s
-over_keeps rule {s} {works} {core} {work} f = record {
-  places = length-set works core None ∙ f.under.places;
-  serving = rule.ends s (works_under_way works) (works_under_way (slice_set works core None)) core work.block work.word work.op
-      f.under.serving f.well (its_block _ _ f.its) f.step_is (λ other h. its_block _ _ (unchanged works core other None h));
-  waiting = λ c block wanted waits. unchanged works core c None (other c block wanted waits) ∙ f.under.waiting c block wanted waits;
-  owed = λ c w theirs isnt.
-      let empty = changed works core None (has_place works core work f.its) in
-      let other = apart (work_at (slice_set works core None)) core c w empty theirs in
-      f.under.owed c w (sym (unchanged works core c None other) ∙ theirs) isnt;
-}
-  where
-    other : (c block : ℕ) (wanted : Access) → (held_by (picture_of s block) c).waiting ≡ Some wanted → c ≢ core
-    other c block wanted waits same =
-        let there : work_at works core ≡ Some (record { block = block; word = wanted.word; op = wanted.op }) =
-        ap (work_at works) (sym same) ∙ f.under.waiting c block wanted waits in
-        let its = f.its in
-        let mine : block ≡ work.block = cc in
-        has_step s c block work.word work.op wanted f.well waits (rw (same, mine) f.step_is)
+  -- where no step is left the core gives the work up
+  pub over_keeps : Facing s works core work None → AreUnderWay (slice_set works core None) s
+  over_keeps f = record {
+    places = length-set works core None ∙ f.under.places;
+    serving = rule.ends s (works_under_way works) (works_under_way (slice_set works core None)) core work.block work.word work.op
+        f.under.serving f.well (its_block _ _ f.its) f.step_is (λ other h. its_block _ _ (unchanged works core other None h));
+    waiting = λ c block wanted waits.
+        let there = f.under.waiting c block wanted waits in
+        let other : c ≢ core = λ same.
+        let mine : block ≡ work.block = cc (same, there, f.its) in
+        has_step s c block work.word work.op wanted f.well waits (rw (same, mine) f.step_is) in
+        unchanged works core c None other ∙ there;
+    owed = λ c w theirs isnt.
+        let empty = changed works core None (has_place works core work f.its) in
+        let other = apart (work_at (slice_set works core None)) core c w empty theirs in
+        f.under.owed c w (sym (unchanged works core c None other) ∙ theirs) isnt;
+  }
 
 -- after the response a core that does not wait has no step left for its work
 closed_after : (s t : Situation) (core block word : ℕ) (asking : Op) (answer : Reply) → IsWellKept s
     → waiting_request (state_of s core block) ≡ None → FirstMove s (Respond block) answer t → turn_of t core block word asking true ≡ None
-closed_after s t core block word asking answer kept none move =
-    let b = move.0 in
-    let m = move.1.1 in
+closed_after s t core block word asking answer kept none (b, (first, m)) =
     let r = m.responds in
-    let there : picture_of t b ≡ r.next =
-    ap (λ (x : Situation). picture_of x b) r.after
-    ∙ picture_here s b r.next s.queues s.log (in_pictures s b kept.shaped m.within) in
-    let free : (picture_of t b).transaction ≡ None = ap (λ (x : Picture). x.transaction) there ∙ r.closed in
+    let there : picture_of t b ≡ r.next = rw r.after (picture_here s b r.next s.queues s.log (in_pictures s b kept.shaped m.within)) in
+    let free : (picture_of t b).transaction ≡ None = rw there r.closed in
     let waits : waiting_request (state_of t core b) ≡ None =
     ap (λ (x : Picture). waiting_request (held_by x core).state) there
     ∙ arrives_waits m.closing s.protocol s.log (picture_of s b).caches r.next.caches m.did r.requestor core ∙ (rw m.on_block at none) in
@@ -167,85 +138,68 @@ finished rule {s} {t} {works} {core} {work} {k} {step} {answer} ending f waits m
 }
   where
     no_request : (w : Option Request) → false ≡ is_some w → w ≡ None
-    no_request None e = refl
-    no_request (Some r) e = absurd (true≢false (sym e))
+    no_request w e = grind arith
 
--- an operation that is asked is that of the work
+-- what waits of an operation that is asked is that of the work
 kept_is : (word : ℕ) (asking : Op) (wanted : Access) → kept_waiting word asking ≡ Some wanted → record { word = word; op = asking } ≡ wanted
 kept_is word op.Load wanted e = same_Some _ _ e
 kept_is word (op.Store v) wanted e = same_Some _ _ e
 kept_is word op.Evict wanted e = cc
 
-asked_work : (core c block : ℕ) (wanted : Access) (work : Work) → asked_access c block (Ask core work.block work.word work.op) ≡ Some wanted
-    → (core ≡ c) × (work ≡ record { block = block; word = wanted.word; op = wanted.op })
-asked_work core c block wanted work e = elim (cases_Bool (work.block == block && core == c)) [
-  | inl here ↦
-      let parts = and_parts (work.block == block) (core == c) here in
-      let b : work.block ≡ block = eqb-true work.block block parts.0 in
-      let same : record { word = work.word; op = work.op } ≡ wanted = kept_is work.word work.op wanted (rw here at e) in
-      (eqb-true core c parts.1, λ i. record { block = b i; word = (same i).word; op = (same i).op })
-  | inr elsewhere ↦ absurd (none-some wanted (rw elsewhere at e))
-]
+kept : (word : ℕ) (asking : Op) → asking ≢ op.Evict → kept_waiting word asking ≡ Some (record { word = word; op = asking })
+kept word op.Load isnt = refl
+kept word (op.Store v) isnt = refl
+kept word op.Evict isnt = absurd (isnt refl)
 
-pub asks_its : (core : ℕ) (work : Work) → work.op ≢ op.Evict → asked_access core work.block (Ask core work.block work.word work.op) ≡ Some (access_of work)
-asks_its core work isnt = rw (eq-eqb core core refl, eq-eqb work.block work.block refl) (kept work.op isnt)
-  where
-    kept : (asking : Op) → asking ≢ op.Evict → kept_waiting work.word asking ≡ Some (record { word = work.word; op = asking })
-    kept op.Load isnt = refl
-    kept (op.Store v) isnt = refl
-    kept op.Evict isnt = absurd (isnt refl)
+asked_work : (core c block : ℕ) (wanted : Access) (work : Work) → asked_access c block (Ask core work.block work.word work.op) ≡ Some wanted
+    → (core ≡ c) × (work.block ≡ block) × (record { word = work.word; op = work.op } ≡ wanted)
+asked_work core c block wanted work e = grind (arith, nat_tests, kept_is)
+
+asks_its : (core : ℕ) (work : Work) → work.op ≢ op.Evict → asked_access core work.block (Ask core work.block work.word work.op) ≡ Some (access_of work)
+asks_its core work isnt = rw (eq-eqb core core refl, eq-eqb work.block work.block refl) (kept work.word work.op isnt)
 
 -- a core with nothing under way asks
 module _ (rule : TurnLaws) (works : List (Option Work)) (core : ℕ) (work : Work) {s t : Situation} {answer : Reply}
-    (u : AreUnderWay works s) (idle : work_at works core ≡ None)
-    (inside : (core < s.shape.cores) × (work.block < s.shape.blocks) × HasWord s.shape work.word work.op)
+    (u : AreUnderWay works s) (idle : work_at works core ≡ None) (inside : IsWithin s core work)
     (m : Stepped s t (Ask core work.block work.word work.op) answer) where
-  its : work_at (slice_set works core (Some work)) core ≡ Some work
+  abbrev begun : List (Option Work)
+  begun = slice_set works core (Some work)
+
+  its : work_at begun core ≡ Some work
   its = changed works core (Some work) (omega (arith, u.places, inside.0))
 
   -- one that issued a request has its work under way
-  issued_keeps : AreUnderWay (slice_set works core (Some work)) t
-  issued_keeps = goes_on rule m works (slice_set works core (Some work)) u (record {
+  issued_keeps : AreUnderWay begun t
+  issued_keeps = goes_on rule m works begun u (record {
     places = length-set works core (Some work);
-    stay = λ c busy. unchanged works core c (Some work) (λ same. busy (ap (work_at works) same ∙ idle));
+    stay = λ c w busy. unchanged works core c (Some work) (apart (work_at works) core c w idle busy) ∙ busy;
     under = its_block _ _ its;
     asked = λ c block wanted e.
-        let same = asked_work core c block wanted work e in
-        ap (work_at (slice_set works core (Some work))) (sym same.0) ∙ its ∙ ap Some same.1;
-    new = λ c w theirs isnt. by_core c w theirs isnt (cases_eq c core);
-  })
-    where
-      off : (x : Bool) → cond (x && false) (kept_waiting work.word work.op) None ≡ None
-      off true = refl
-      off false = refl
-
-      by_core : (c : ℕ) (w : Work) → work_at (slice_set works core (Some work)) c ≡ Some w → w.op ≢ op.Evict → (c ≡ core) ⊎ (c ≢ core)
-          → ((work_at works c ≡ Some w) × AsksNothing c (Ask core work.block work.word work.op))
-          ⊎ (asked_access c w.block (Ask core work.block work.word work.op) ≡ Some (access_of w))
-      by_core c w theirs isnt (inl same) =
-          let there : work_at (slice_set works core (Some work)) core ≡ Some w = ap (work_at (slice_set works core (Some work))) (sym same) ∙ theirs in
+        let (own, at, same) = asked_work core c block wanted work e in
+        rw (← own, ← at, ← same) its;
+    new = λ c w theirs isnt. elim (cases_eq c core) [
+      | inl same ↦
+          let there : work_at begun core ≡ Some w = rw same at theirs in
           let mine : work ≡ w = cc its in
           inr (rw (same, mine) (asks_its core w isnt))
-      by_core c w theirs isnt (inr other) =
-          inl (sym (unchanged works core c (Some work) other) ∙ theirs, λ block. rw (ne_eqb core c (λ same. other (sym same))) (off (work.block == block)))
+      | inr other ↦ inl (sym (unchanged works core c (Some work) other) ∙ theirs, λ block. grind (arith, nat_tests))
+    ];
+  })
 
-  -- one that issued none has no step left
-  pub ended : ((request : Request) → answer ≢ reply.Issued request) → turn_of t core work.block work.word work.op true ≡ None
-  ended none = rule.ends_at_once s t (works_under_way works) core work.block work.word work.op answer u.serving (its_block _ _ idle) m.kept m.move none
-
-  -- and so nothing under way
+  -- one that issued none has no step left, and so nothing under way
   ended_keeps : ((request : Request) → answer ≢ reply.Issued request) → AreUnderWay works t
   ended_keeps none =
+      let ended = rule.ends_at_once s t (works_under_way works) core work.block work.word work.op answer u.serving (its_block _ _ idle) m.kept m.move none in
       rw (put_out works core (Some work) idle) at
-      (over_keeps rule (record { under = issued_keeps; well = m.kept; inside = rw m.shape inside; its = its; step_is = ended none }))
+      (over_keeps rule (record { under = issued_keeps; well = m.kept; inside = rw m.shape inside; its = its; step_is = ended }))
 
--- the works after an Ask, whatever its reply
-pub asked_keeps : TurnLaws → (works : List (Option Work)) (core : ℕ) (work : Work) {s t : Situation} (answer : Reply) → AreUnderWay works s
-    → work_at works core ≡ None → (core < s.shape.cores) × (work.block < s.shape.blocks) × HasWord s.shape work.word work.op
-    → Stepped s t (Ask core work.block work.word work.op) answer
-    → AreUnderWay (works_asked answer works core work) t
-asked_keeps rule works core work (reply.Issued request) u idle inside m = issued_keeps rule works core work u idle inside m
-asked_keeps rule works core work answer u idle inside m = ended_keeps rule works core work u idle inside m (λ request e. cc)
+  -- the works after an Ask, whatever its reply
+  pub asked_keeps : AreUnderWay (works_asked answer works core work) t
+  asked_keeps = by_answer answer refl
+    where
+      by_answer : (given : Reply) → answer ≡ given → AreUnderWay (works_asked given works core work) t
+      by_answer (reply.Issued request) same = issued_keeps
+      by_answer given same = ended_keeps (λ request e. cc)
 
 -- at reset nothing is under way, and nothing waits
 pub reset_under_way : TurnLaws → (protocol : Protocol) (shape : Extent) → AreUnderWay (replicate shape.cores None) (reset protocol shape)
@@ -253,11 +207,9 @@ reset_under_way rule protocol shape = record {
   places = length-replicate shape.cores None;
   serving = (rule.starts_well protocol shape (works_under_way (replicate shape.cores None))).1;
   waiting = λ core block wanted waits.
-      absurd (none-some wanted (sym (ap (λ (l : Line). l.waiting) (reset_line protocol shape core block)) ∙ waits));
-  owed = λ core work its isnt. absurd (none_some _ work its (nothing shape.cores core));
+      absurd (none-some wanted (rw (reset_line protocol shape core block) at waits));
+  owed = λ core work its isnt. absurd (none-some work (sym (nothing shape.cores core) ∙ its));
 }
   where
     nothing : (cores core : ℕ) → work_at (replicate cores None) core ≡ None
-    nothing zero core = refl
-    nothing (suc cores) zero = refl
-    nothing (suc cores) (suc core) = nothing cores core
+    nothing cores core = grind (arith, common_steps, gets)

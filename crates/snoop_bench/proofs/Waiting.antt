@@ -1,23 +1,6 @@
 -- What a step does to the operations of works under way: one that waits is that of a work, and that of a work waits or is its core's last one.
 use Rattle.std.proofs.Common.{◌≡◌, ℕ, zero, inl, inr, List, [], ◌∷◌, map, Option, Some, None, Ok, refl, sym, ◌∙◌, arith, append-nil}
-use Rattle.std.specs.Prelude.{Contains, filter, ◌==◌}
-use Rattle.std.proofs.lemmas.Bool.{eq-eqb}
-use Rattle.std.proofs.lemmas.Option.{none-some}
-use Rattle.snoop_trace.specs.declared.step.Step.{Step}
-use Rattle.snoop_trace.specs.declared.step.Work.{Work}
-use Rattle.snoop_history.specs.History.{answers_of}
-use Rattle.snoop_history.proofs.Pushed.{of_core}
-use Rattle.snoop_model.specs.declared.replies.Reply.{Reply}
-use Rattle.snoop_model.specs.Pictures.Situation.{Situation}
-use Rattle.snoop_model.specs.Moves.Move.{FirstMove}
-use Rattle.snoop_model.specs.Runs.Once.{did_access, asked_access, OnceMore}
-use Rattle.snoop_model.specs.Runs.Owed.{IsOwed}
-use Rattle.snoop_model.specs.Invariant.WellKept.{IsWellKept}
-use Rattle.snoop_model.specs.Turns.TurnLaws.{TurnLaws}
-use Rattle.snoop_model.proofs.Once.Owed.{answers_after, one_or_none, owed_after, performed_by, waited_or_asked}
-use Rattle.snoop_bench.specs.Works.{access_of, work_at}
-use Rattle.snoop_bench.specs.Keeps.{AreUnderWay}
-use Rattle.snoop_bench.specs.Recording.{Recording, TakesAndPublishes}
+use Rattle.snoop_bench.proofs.Common.{access_of, answers_after, answers_of, AreUnderWay, asked_access, Contains, did_access, eq-eqb, filter, FirstMove, IsOwed, IsWellKept, none-some, of_core, OnceMore, one_or_none, owed_after, performed_by, Recording, Reply, Situation, Step, TakesAndPublishes, TurnLaws, waited_or_asked, Work, work_at, ◌==◌}
 
 -- a step of the machine, as its clauses report it
 pub record Stepped (s t : Situation) (step : Step) (answer : Reply) : Type 0 where

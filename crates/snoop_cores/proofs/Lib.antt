@@ -1,3 +1,4 @@
+mod Common
 mod Dealing
 mod Beginnings
 mod Shown

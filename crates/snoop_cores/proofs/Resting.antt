@@ -1,25 +1,16 @@
 -- A bench with nothing under way joins the seats.
-use Rattle.std.proofs.Common.{◌≡◌, ℕ, ◌<◌, ◌≤◌, ◌⊎◌, List, ◌++◌, length, Option, Some, None, refl, arith, inl, inr, append-nil}
-use Rattle.std.specs.Prelude.{slice_index_or, filter_map}
-use Rattle.std.specs.List.Sorted.{IsPermutation}
-use Rattle.std.proofs.lemmas.Bool.{cases_lt}
-use Rattle.std.proofs.lemmas.Option.{slice_get_past}
+use Rattle.std.proofs.Common.{◌≡◌, ℕ, ◌<◌, List, length, Option, Some, None, refl, arith, inl, inr, append-nil}
+use Rattle.snoop_cores.proofs.Common.{cases_lt, IsAnswered, IsFree, IsJoined, IsKept, Item, Locked, OneForEach, Seating, slice_get_past, slice_index_or, Work, work_at, works_under_way}
 use Rattle.snoop_trace.specs.declared.step.Step.{Step}
 use Rattle.snoop_bus.specs.Queues.{queue_of}
-use Rattle.snoop_history.specs.declared.items.Item.{Item}
 use Rattle.snoop_model.proofs.Invariant.Safety.{well_kept_in}
 use Rattle.snoop_model.specs.Pictures.Situation.{Situation}
 use Rattle.snoop_model.specs.Runs.Safe.{IsSafe}
 use Rattle.snoop_model.specs.Turns.Serving.{IsServing}
 use Rattle.snoop_model.specs.Turns.Quiet.{IsQuiet}
 use Rattle.snoop_model.specs.Turns.TurnLaws.{ComesToRest}
-use Rattle.snoop_model.specs.Runs.Once.{asked_access, accesses_in, waiting_at}
+use Rattle.snoop_model.specs.Runs.Once.{accesses_in}
 use Rattle.snoop_model.specs.Runs.TakenOnce.{TakenOnce}
-use Rattle.snoop_trace.specs.declared.step.Work.{Work}
-use Rattle.snoop_bench.specs.Works.{work_at, works_under_way}
-use Rattle.snoop_bench.specs.Locked.{Locked, IsKept}
-use Rattle.snoop_cores.specs.Seats.{Seating}
-use Rattle.snoop_cores.specs.Joined.{OneForEach, IsFree, IsAnswered, IsJoined}
 
 -- where no core of the shape has work under way, nothing is served
 serves_nothing : (works : List (Option Work)) (s : Situation) → length works ≡ s.shape.cores → ((core : ℕ) → core < s.shape.cores → work_at works core ≡ None)
@@ -29,19 +20,11 @@ serves_nothing works s size free serving = record {
   opened = λ block transaction is. never transaction.core block (serving.opened block transaction is);
 }
   where
-    none : (core : ℕ) → (core < s.shape.cores) ⊎ (s.shape.cores ≤ core) → work_at works core ≡ None
-    none core (inl lt) = free core lt
-    none core (inr le) = rw (slice_get_past works core (omega (arith, le, size))) refl
-
     never : (core block : ℕ) → works_under_way works core ≡ Some block → None ≡ Some block
-    never core block is = rw (none core (cases_lt core s.shape.cores)) at is
-
--- at rest no operation waits, so those asked are those performed
-asked_once : (s : Situation) (steps : List Step) → IsQuiet s
-    → ((core block : ℕ) → IsPermutation (filter_map (asked_access core block) steps) (accesses_in s.log core block ++ waiting_at s core block))
-    → (core block : ℕ) → IsPermutation (filter_map (asked_access core block) steps) (accesses_in s.log core block)
-asked_once s steps quiet once core block =
-    rw (quiet.performed core block, append-nil (accesses_in s.log core block)) at (once core block)
+    never core block is = elim (cases_lt core s.shape.cores) [
+      | inl lt ↦ rw (free core lt) at is
+      | inr le ↦ rw (slice_get_past works core (omega (arith, le, size))) at is
+    ]
 
 pub joins : (b : Locked) (seats : List Seating) (items : List Item) (steps : List Step) → IsKept b → IsSafe b.situation → ComesToRest
     → TakenOnce
@@ -60,7 +43,9 @@ joins b seats items steps kept safe rests once one_each free answered items_are 
   quiet = quiet;
   one_each = one_each;
   idle = λ k d lt. (free (slice_index_or seats k d).core (one_each.known k d lt)).1 k d lt refl;
-  once = asked_once b.situation b.steps quiet (once b.situation.protocol b.situation.shape b.steps b.situation kept.run);
+  -- no operation waits, so those asked are those performed
+  once = λ core block.
+      rw (quiet.performed core block, append-nil (accesses_in b.situation.log core block)) at (once b.situation.protocol b.situation.shape b.steps b.situation kept.run core block);
 })
   where
     quiet : IsQuiet b.situation

@@ -1,10 +1,8 @@
 -- What a call of a seat leaves: after it is over, and after each fault.
 -- Source: this project's profile.
-use Rattle.std.specs.Prelude.{◌≡◌, ◌≢◌, ◌⊎◌, ◌<◌, ℕ, ⊤, List, [], ◌∷◌, ◌++◌, map, Some, None}
+use Rattle.std.specs.Prelude.{◌≡◌, ◌≢◌, ◌⊎◌, ◌<◌, List, [], ◌∷◌, ◌++◌, map, Some, None}
 use Rattle.snoop_trace.specs.Words.{HasWord}
 use Rattle.snoop_trace.specs.Extent.{Extent}
-use Rattle.snoop_trace.specs.declared.step.Op.{Op}
-use Rattle.snoop_trace.specs.declared.step.Op.TheVariants as op
 use Rattle.snoop_history.specs.declared.items.Did.{Did}
 use Rattle.snoop_history.specs.History.{Legal, answers_of, last_or}
 use Rattle.snoop_trace.specs.declared.step.Work.{Work}

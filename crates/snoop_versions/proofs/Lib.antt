@@ -1,4 +1,3 @@
-pub mod Common
+mod Common
 pub mod Versions
 pub mod Published
-pub mod Shown

@@ -1,37 +1,38 @@
 -- Publishing and entering keep the rule of the versions.
-use Rattle.std.proofs.Common.{◌≡◌, ◌≢◌, ℕ, List, [], ◌∷◌, ◌++◌, map, Some, None, Bool, true, false, refl, sym, ap, ◌∙◌, ⊎_elim, append-nil, append_assoc}
-use Rattle.std.specs.Prelude.{All, option_to_list}
-use Rattle.snoop_versions.proofs.Common.{Adds, Fits, IsItemWithin, IsWriting, Item, Kept, Legal}
-use Rattle.snoop_versions.proofs.Common.{Sees, Version, View, absorbed_board, grown, last_or}
-use Rattle.snoop_versions.proofs.Common.{newcomer, newest_of, same_shape, version_of}
+use Rattle.std.proofs.Common.{◌≡◌, ◌≢◌, ℕ, List, [], ◌∷◌, ◌++◌, map, Some, None, inl, inr, true, false, refl, sym, ap, ◌∙◌, ⊎_elim, append-nil, append_assoc}
+use Rattle.snoop_versions.proofs.Common.{absorbed_board, Adds, All, Enters, Fits, grown, IsWriting, Item, Kept, newcomer, newest_of, same_shape, Sees, Version, version_of, View, viewing}
+use Rattle.std.proofs.lemmas.Bool.{cases_Bool}
 use Rattle.std.proofs.lemmas.List.{map-append}
 use mathlib.Core.Option.{some}
-use lib.ListN.{get_elem?}
+use lib.ListN.{get_elem?, set}
 use Rattle.left_right.specs.Register.{Admits, TurnsAt, Turns}
 use Rattle.atomic_table.proofs.Lists.{at_set, at_snoc}
+use Rattle.snoop_history.specs.History.{Legal, last_or}
+use Rattle.snoop_history.specs.Within.{IsItemWithin}
 use Rattle.snoop_history.proofs.Pushed.{last_or-append}
 
-pub newest_push : (list : List Item) (entry : Item) → newest_of (list ++ entry ∷ []) ≡ Some entry
-newest_push list entry = ap (last_or None) (map-append Some list (entry ∷ [])) ∙ last_or-append None (map Some list) (Some entry ∷ [])
+-- the last of a list that has grown by one
+pub last-push : {A : Type 0} (list : List A) (entry : A) → last_or None (map Some (list ++ entry ∷ [])) ≡ Some entry
+last-push list entry = rw map-append (last_or-append None (map Some list) (Some entry ∷ []))
 
 pub version_of-push : (cores blocks words : ℕ) (list : List Item) (entry : Item) → version_of cores blocks words (list ++ entry ∷ []) ≡ grown (version_of cores blocks words list) entry
 version_of-push cores blocks words list entry = λ i. record {
   board = sym (absorbed_board cores blocks words list entry) i;
-  newest = newest_push list entry i;
+  newest = last-push list entry i;
 }
-
-last_some : (a : Item) (list : List Item) → last_or (Some a) (map Some list) ≡ None → ⊥
-last_some a [] e = cc
-last_some a (x ∷ xs) e = last_some x xs e
 
 newest_none : (list : List Item) → newest_of list ≡ None → list ≡ []
 newest_none [] e = refl
-newest_none (x ∷ xs) e = absurd (last_some x xs e)
+newest_none (x ∷ []) e = cc
+newest_none (x ∷ y ∷ list) e = let none = newest_none (y ∷ list) e in cc
 
--- the same version is published, and other handles fit it
-same_version : {x : Version} {views : List View} (k : Kept x views) (others : List View)
-    → ((j : ℕ) (u : View) → get_elem? others j ≡ some u → Fits k.cores k.blocks k.words k.list k.writer j u) → Kept x others
-same_version k others each = record {
+newcomer_fits : (cores blocks words : ℕ) (list : List Item) (writer handle : ℕ) → Fits cores blocks words list writer handle newcomer
+newcomer_fits cores blocks words list writer handle = record { begins = (list, refl); shape = λ e. cc; writes = λ e. cc }
+
+-- the rule holds of more views, if each fits
+kept_on : {x : Version} {views after : List View} (k : Kept x views)
+    → ((handle : ℕ) (v : View) → get_elem? after handle ≡ some v → Fits k.cores k.blocks k.words k.list k.writer handle v) → Kept x after
+kept_on k each = record {
   cores = k.cores;
   blocks = k.blocks;
   words = k.words;
@@ -44,61 +45,66 @@ same_version k others each = record {
 }
 
 pub admits : Admits Kept newcomer
-admits x views k = same_version k _ (λ j u e.
-    ⊎_elim (λ was. k.each j u was) (λ (same : newcomer ≡ u). rw (← same) (record { begins = (k.list, refl); shape = λ e. cc; writes = λ e. cc })) (at_snoc views newcomer u j e))
+admits x views k = kept_on k (λ handle v there.
+    ⊎_elim (k.each handle v) (λ same. rw (← same) (newcomer_fits k.cores k.blocks k.words k.list k.writer handle)) (at_snoc views newcomer v handle there))
+
+-- what holds of each view after one is set
+each_set : (F : ℕ → View → Type 0) (views : List View) (handle : ℕ) (w : View) → F handle w
+    → ((other : ℕ) (u : View) → other ≢ handle → get_elem? views other ≡ some u → F other u)
+    → (j : ℕ) (u : View) → get_elem? (set views handle w) j ≡ some u → F j u
+each_set F views handle w here others j u there =
+    ⊎_elim (λ t. rw (t.0, ← t.1) here) (λ t. others j u t.0 t.1) (at_set views handle j w u there)
 
 pub sees : (handle : ℕ) (v : View) → Turns Kept handle v (λ x. x) Sees
 sees handle v x views k at =
-    let mine = k.each handle v at in
-    let w : View = record { used = true; writes = false; cores = k.cores; blocks = k.blocks; words = k.words; seen = k.list } in (
+    let w : View = record { used = true; writes = false; cores = k.cores; blocks = k.blocks; words = k.words; seen = k.list } in
+    let fits : Fits k.cores k.blocks k.words k.list k.writer handle w = record { begins = ([], sym (append-nil k.list)); shape = λ e. (refl, refl, refl); writes = λ e. cc } in
+    let was = k.each handle v at in (
       w,
-      same_version k _ (λ j u e. ⊎_elim
-          (λ (t : (j ≡ handle) × (w ≡ u)). rw (← t.1) (record { begins = ([], sym (append-nil k.list)); shape = λ e. (refl, refl, refl); writes = λ e. cc }))
-          (λ (t : (j ≢ handle) × (get_elem? views j ≡ some u)). k.each j u t.1)
-          (at_set views handle j w u e)),
-      record { used = refl; version = k.version; legal = k.legal; within = k.within; begins = mine.begins; shape = λ e. (sym (mine.shape e).0, sym (mine.shape e).1, sym (mine.shape e).2) },
+      kept_on k (each_set (Fits k.cores k.blocks k.words k.list k.writer) views handle w fits (λ other u apart. k.each other u)),
+      record { used = refl; version = k.version; legal = k.legal; within = k.within; begins = was.begins; shape = λ e. let s = was.shape e in (sym s.0, sym s.1, sym s.2) },
     )
 
--- the writer's list is the published one
-same_list : (v : View) (x : Version) (c b d c' b' d' writer handle : ℕ) (now : List Item) → IsWriting v → x ≡ version_of c b d v.seen → x ≡ version_of c' b' d' now → Fits c' b' d' now writer handle v → (t : Bool) → v.writes ≡ t → now ≡ v.seen
-same_list v x c b d c' b' d' writer handle now is shown kept fits true e = sym (fits.writes e).1
-same_list v x c b d c' b' d' writer handle now is shown kept fits false e =
-    let none : v.seen ≡ [] = is e in
-    let newest : newest_of now ≡ newest_of v.seen = sym (ap (λ (y : Version). y.newest) kept) ∙ ap (λ (y : Version). y.newest) shown in
-    newest_none now (newest ∙ ap newest_of none) ∙ sym none
+-- what a reader then knows
+pub enters : {v w : View} {x y : Version} → v.used ≡ true → Sees v x y w → Enters (viewing v) (viewing w)
+enters used s = record { legal = s.legal; begins = s.begins; shape = s.shape used }
 
--- nobody else writes
-no_other : (v u : View) (c' b' d' writer handle j : ℕ) (now : List Item) → IsWriting v → now ≡ v.seen → Fits c' b' d' now writer handle v → Fits c' b' d' now writer j u → j ≢ handle → u.writes ≡ true → (t : Bool) → v.writes ≡ t → ⊥
-no_other v u c' b' d' writer handle j now is same fits theirs apart w true e = apart ((theirs.writes w).0 ∙ sym (fits.writes e).0)
-no_other v u c' b' d' writer handle j now is same fits theirs apart w false e = (theirs.writes w).2 (ap newest_of (same ∙ is e))
+-- the writer's list is the published one, and nobody else writes
+written : (handle : ℕ) (v : View) (x : Version) (c b d : ℕ) {views : List View} (k : Kept x views) → x ≡ version_of c b d v.seen → IsWriting v → get_elem? views handle ≡ some v
+    → (k.list ≡ v.seen) × ((other : ℕ) (u : View) → other ≢ handle → get_elem? views other ≡ some u → u.writes ≢ true)
+written handle v x c b d k shown is at = elim (cases_Bool v.writes) [
+  | inl e ↦
+      let mine = (k.each handle v at).writes e in
+      (sym mine.1, λ other u apart there w. apart (((k.each other u there).writes w).0 ∙ sym mine.0))
+  | inr e ↦
+      let none = newest_none k.list (ap (λ (y : Version). y.newest) (sym k.version ∙ shown) ∙ ap newest_of (is e)) in
+      (none ∙ sym (is e), λ other u apart there w. ((k.each other u there).writes w).2 (ap newest_of none))
+]
 
 pub adds : (handle : ℕ) (v : View) (x next : Version) (c b d : ℕ) (entry : Item) → x ≡ version_of c b d v.seen → IsWriting v → Legal (v.seen ++ entry ∷ []) → All (IsItemWithin c b d) (v.seen ++ entry ∷ []) → next ≡ grown x entry → TurnsAt Kept handle v x next Adds
 adds handle v x next c b d entry shown is legal within grows views k at =
-    let mine = k.each handle v at in
-    let same : k.list ≡ v.seen = same_list v x c b d k.cores k.blocks k.words k.writer handle k.list is shown k.version mine v.writes refl in
+    let (same, no_other) = written handle v x c b d k shown is at in
     let shape = same_shape c b d k.cores k.blocks k.words v.seen k.list (ap (λ (y : Version). y.board) (sym shown ∙ k.version)) in
-    let w : View = record { used = true; writes = true; cores = k.cores; blocks = k.blocks; words = k.words; seen = v.seen ++ entry ∷ [] } in
-    let seen : v.seen ++ entry ∷ [] ≡ k.list ++ entry ∷ [] = ap (λ (l : List Item). l ++ entry ∷ []) (sym same) in (
+    let list = k.list ++ entry ∷ [] in
+    let w : View = record { used = true; writes = true; cores = k.cores; blocks = k.blocks; words = k.words; seen = list } in
+    let fits : Fits k.cores k.blocks k.words list handle handle w = record { begins = ([], sym (append-nil list)); shape = λ e. (refl, refl, refl); writes = λ e. (refl, refl, λ none. let last = last-push k.list entry in cc) } in (
       w,
       record {
         cores = k.cores;
         blocks = k.blocks;
         words = k.words;
-        list = k.list ++ entry ∷ [];
+        list = list;
         writer = handle;
         version = grows ∙ ap (λ (y : Version). grown y entry) k.version ∙ sym (version_of-push k.cores k.blocks k.words k.list entry);
-        legal = rw seen at legal;
-        within = rw (shape.0, shape.1, shape.2, seen) at within;
-        each = λ j u e. ⊎_elim
-            (λ (t : (j ≡ handle) × (w ≡ u)). rw (← t.1) (record { begins = ([], sym seen ∙ sym (append-nil (v.seen ++ entry ∷ []))); shape = λ e. (refl, refl, refl); writes = λ e. (t.0, seen, λ none. let is = newest_push k.list entry in cc) }))
-            (λ (t : (j ≢ handle) × (get_elem? views j ≡ some u)).
-            let o = k.each j u t.1 in
+        legal = rw (← same) at legal;
+        within = rw (shape.0, shape.1, shape.2, ← same) at within;
+        each = each_set (Fits k.cores k.blocks k.words list handle) views handle w fits (λ other u apart there.
+            let (rest, begins) = (k.each other u there).begins in
             record {
-              begins = (o.begins.0 ++ entry ∷ [], ap (λ (l : List Item). l ++ entry ∷ []) o.begins.1 ∙ append_assoc u.seen o.begins.0 (entry ∷ []));
-              shape = o.shape;
-              writes = λ e. absurd (no_other v u k.cores k.blocks k.words k.writer handle j k.list is same mine o t.0 e v.writes refl);
-            })
-            (at_set views handle j w u e);
+              begins = (rest ++ entry ∷ [], ap (λ (l : List Item). l ++ entry ∷ []) begins ∙ append_assoc u.seen rest (entry ∷ []));
+              shape = (k.each other u there).shape;
+              writes = λ e. absurd (no_other other u apart there e);
+            });
       },
-      (refl, ap (λ (y : Version). v.seen ++ option_to_list y.newest) (sym grows)),
+      (refl, rw (grows, same)),
     )

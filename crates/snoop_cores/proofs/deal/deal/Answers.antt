@@ -1,8 +1,4 @@
-use Rattle.std.proofs.Common.{◌<◌, ◌∙◌, length, get_or, refl, sym, subst, arith}
-use Rattle.std.proofs.lemmas.List.{get_or_default, take_all, length-set}
-use Rattle.std.proofs.lemmas.List.Elements.{All-get_or}
-use Rattle.snoop_trace.specs.declared.step.Row.{Row}
-use Rattle.snoop_cores.specs.Rows.{AreDealt}
+use Rattle.snoop_cores.proofs.Common.{All-get_or, AreDealt, arith, get_or, get_or_default, length, length-set, refl, Row, subst, sym, take_all, ◌<◌, ◌∙◌}
 use Rattle.snoop_cores.proofs.Performed.{no_row}
 use Rattle.snoop_cores.proofs.Dealing.{dealt_more}
 use Rattle.snoop_cores.proofs.deal.deal.Goals as goal

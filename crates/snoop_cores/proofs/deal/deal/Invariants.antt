@@ -1,5 +1,4 @@
-use Rattle.std.proofs.Common.{◌≡◌, length, take}
-use Rattle.snoop_cores.specs.Rows.{AreDealt}
+use Rattle.snoop_cores.proofs.Common.{AreDealt, length, take, ◌≡◌}
 use Rattle.snoop_cores.proofs.deal.deal.Given as goal
 
 abbrev pub invariant-loop-row : goal.invariant-loop-row

@@ -1,5 +1,4 @@
-use Rattle.std.proofs.Common.{◌≡◌, ◌≤◌, [], length, vec_capacity}
-use Rattle.std.specs.Prelude.{All}
+use Rattle.snoop_cores.proofs.Common.{[], All, length, vec_capacity, ◌≡◌, ◌≤◌}
 use Rattle.snoop_cores.proofs.deal.empty_lists.Given as goal
 
 abbrev pub invariant-loop : goal.invariant-loop

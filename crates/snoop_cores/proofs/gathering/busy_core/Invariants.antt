@@ -1,5 +1,4 @@
-use Rattle.std.proofs.Common.{◌<◌, ℕ}
-use Rattle.snoop_cores.specs.Joined.{IsFree}
+use Rattle.snoop_cores.proofs.Common.{IsFree, ℕ, ◌<◌}
 use Rattle.snoop_cores.proofs.gathering.busy_core.Given as goal
 
 abbrev pub invariant-loop-core : goal.invariant-loop-core

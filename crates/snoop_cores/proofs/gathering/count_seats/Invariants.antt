@@ -1,5 +1,4 @@
-use Rattle.std.proofs.Common.{◌≡◌, ◌≤◌, take}
-use Rattle.snoop_cores.specs.Joined.{seats_of}
+use Rattle.snoop_cores.proofs.Common.{seats_of, take, ◌≡◌, ◌≤◌}
 use Rattle.snoop_cores.proofs.gathering.count_seats.Given as goal
 
 abbrev pub invariant-loop-seat : goal.invariant-loop-seat

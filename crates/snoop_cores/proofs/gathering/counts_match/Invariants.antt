@@ -1,7 +1,4 @@
-use Rattle.std.proofs.Common.{◌≡◌, ◌<◌, ℕ, length}
-use Rattle.std.specs.Prelude.{slice_index_or}
-use Rattle.snoop_history.specs.History.{next_number}
-use Rattle.snoop_cores.specs.Seats.{Seating}
+use Rattle.snoop_cores.proofs.Common.{length, next_number, Seating, slice_index_or, ℕ, ◌<◌, ◌≡◌}
 use Rattle.snoop_cores.proofs.gathering.counts_match.Given as goal
 
 abbrev pub invariant-loop-seat : goal.invariant-loop-seat

@@ -1,5 +1,4 @@
-use Rattle.std.proofs.Common.{◌<◌, ℕ}
-use Rattle.snoop_cores.specs.Joined.{IsAnswered}
+use Rattle.snoop_cores.proofs.Common.{IsAnswered, ℕ, ◌<◌}
 use Rattle.snoop_cores.proofs.gathering.difference.Given as goal
 
 abbrev pub invariant-loop-core : goal.invariant-loop-core

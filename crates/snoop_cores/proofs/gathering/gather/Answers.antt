@@ -1,9 +1,6 @@
 use Rattle.std.proofs.Common.{◌∙◌, ℕ, List, ap, sym, subst, Result, Ok, Err, IfErr}
-use Rattle.snoop_trace.specs.Extent.{Extent}
+use Rattle.snoop_cores.proofs.Common.{Extent, IsHeld, IsKept, Locked, OneForEach, RefusesGather, RefusesJoin, Seating}
 use Rattle.snoop_trace.specs.declared.protocol.Protocol.{Protocol}
-use Rattle.snoop_bench.specs.Locked.{Locked, IsKept}
-use Rattle.snoop_cores.specs.Seats.{Seating}
-use Rattle.snoop_cores.specs.Joined.{IsHeld, RefusesJoin, RefusesGather, OneForEach}
 use Rattle.snoop_cores.specs.declared.gathering.Gathered.{Gathered}
 use Rattle.snoop_cores.specs.declared.fault.GatherFault.{GatherFault}
 use Rattle.snoop_cores.specs.declared.fault.GatherFault.TheVariants.{NotAllSeats}

@@ -1,6 +1,4 @@
-use Rattle.std.proofs.Common.{◌≡◌, ◌<◌, ℕ, None}
-use Rattle.std.specs.Prelude.{slice_index_or}
-use Rattle.snoop_cores.specs.Seats.{Seating}
+use Rattle.snoop_cores.proofs.Common.{None, Seating, slice_index_or, ℕ, ◌<◌, ◌≡◌}
 use Rattle.snoop_cores.proofs.gathering.is_idle.Given as goal
 
 abbrev pub invariant-loop-seat : goal.invariant-loop-seat

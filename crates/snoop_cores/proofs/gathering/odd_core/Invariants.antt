@@ -1,7 +1,4 @@
-use Rattle.std.proofs.Common.{◌≡◌, ◌<◌, ℕ}
-use Rattle.std.specs.Prelude.{slice_index_or}
-use Rattle.snoop_cores.specs.Seats.{Seating}
-use Rattle.snoop_cores.specs.Joined.{seats_of}
+use Rattle.snoop_cores.proofs.Common.{Seating, seats_of, slice_index_or, ℕ, ◌<◌, ◌≡◌}
 use Rattle.snoop_cores.proofs.gathering.odd_core.Given as goal
 
 abbrev pub invariant-loop-core : goal.invariant-loop-core

@@ -1,5 +1,4 @@
-use Rattle.std.proofs.Common.{sym, true≢false}
-use Rattle.snoop_history.specs.History.{answers_of}
+use Rattle.snoop_cores.proofs.Common.{answers_of, sym, true≢false}
 use Rattle.snoop_cores.proofs.Shown.{stranger_more}
 use Rattle.snoop_cores.proofs.own.find_own.Goals as goal
 

@@ -1,6 +1,4 @@
-use Rattle.snoop_history.specs.History.{answers_of}
-use Rattle.snoop_versions.specs.Readings.{StartsWith}
-use Rattle.snoop_cores.specs.Own.{GoesOn}
+use Rattle.snoop_cores.proofs.Common.{answers_of, GoesOn, StartsWith}
 use Rattle.snoop_cores.proofs.own.find_own.Given as goal
 
 abbrev pub invariant-loop : goal.invariant-loop

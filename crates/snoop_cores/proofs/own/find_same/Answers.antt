@@ -1,7 +1,5 @@
-use Rattle.std.proofs.Common.{subst}
+use Rattle.snoop_cores.proofs.Common.{answers_of, IsOp, subst}
 use Rattle.snoop_trace.specs.declared.step.Op.{Op}
-use Rattle.snoop_bench.specs.Works.{IsOp}
-use Rattle.snoop_history.specs.History.{answers_of}
 use Rattle.snoop_cores.proofs.Shown.{stranger_more}
 use Rattle.snoop_cores.proofs.own.find_same.Goals as goal
 

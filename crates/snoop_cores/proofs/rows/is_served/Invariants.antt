@@ -1,7 +1,4 @@
-use Rattle.std.proofs.Common.{◌≡◌, ◌<◌, ℕ, true, false, length}
-use Rattle.std.specs.Prelude.{slice_index_or, IsSome}
-use Rattle.snoop_trace.specs.Grammar.{block_at}
-use Rattle.snoop_cores.specs.Seats.{Seating}
+use Rattle.snoop_cores.proofs.Common.{block_at, false, IsSome, length, Seating, slice_index_or, true, ℕ, ◌<◌, ◌≡◌}
 use Rattle.snoop_cores.proofs.rows.is_served.Given as goal
 
 abbrev pub invariant-loop-seat : goal.invariant-loop-seat

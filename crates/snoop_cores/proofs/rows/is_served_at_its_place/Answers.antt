@@ -1,8 +1,5 @@
-use Rattle.std.proofs.Common.{◌∙◌, Some, ap, sym}
+use Rattle.snoop_cores.proofs.Common.{ap, block_at, Extent, slice_get-get_or, Some, sym, ◌∙◌}
 use Rattle.std.specs.Option.{is_some}
-use Rattle.std.proofs.lemmas.Option.{slice_get-get_or}
-use Rattle.snoop_trace.specs.Extent.{Extent}
-use Rattle.snoop_trace.specs.Grammar.{block_at}
 use Rattle.snoop_cores.proofs.Joining.{serves_one}
 use Rattle.snoop_cores.proofs.rows.is_served_at_its_place.Goals as goal
 

@@ -1,6 +1,4 @@
-use Rattle.std.proofs.Common.{◌≡◌, ℕ, ◌<◌, length, None}
-use Rattle.std.specs.Prelude.{slice_index_or}
-use Rattle.snoop_cores.specs.Seats.{Seating}
+use Rattle.snoop_cores.proofs.Common.{length, None, Seating, slice_index_or, ℕ, ◌<◌, ◌≡◌}
 use Rattle.snoop_cores.proofs.rows.run_seats.Given as goal
 
 abbrev pub invariant-loop-i : goal.invariant-loop-i

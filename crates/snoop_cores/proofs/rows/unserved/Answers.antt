@@ -1,9 +1,5 @@
-use Rattle.std.proofs.Common.{ℕ, refl, subst}
-use Rattle.std.specs.Prelude.{slice_index_or}
-use Rattle.std.proofs.lemmas.List.{get_or_default}
+use Rattle.snoop_cores.proofs.Common.{get_or_default, IsServed, refl, Row, slice_index_or, subst, ℕ}
 use borrow.Author.Count.{below_more}
-use Rattle.snoop_trace.specs.declared.step.Row.{Row}
-use Rattle.snoop_cores.specs.Rows.{IsServed}
 use Rattle.snoop_cores.proofs.Performed.{no_row}
 use Rattle.snoop_cores.proofs.rows.unserved.Goals as goal
 

@@ -1,7 +1,4 @@
-use Rattle.std.proofs.Common.{◌<◌, ℕ}
-use Rattle.std.specs.Prelude.{slice_index_or}
-use Rattle.snoop_trace.specs.declared.step.Row.{Row}
-use Rattle.snoop_cores.specs.Rows.{IsServed}
+use Rattle.snoop_cores.proofs.Common.{IsServed, Row, slice_index_or, ℕ, ◌<◌}
 use Rattle.snoop_cores.proofs.rows.unserved.Given as goal
 
 abbrev pub invariant-loop-row : goal.invariant-loop-row

@@ -1,7 +1,5 @@
-use Rattle.std.proofs.Common.{ap, ◌∙◌}
-use Rattle.snoop_versions.proofs.Common.{Sees, Version, inside_all, knows}
-use Rattle.snoop_versions.proofs.Versions.{sees}
-use Rattle.snoop_versions.proofs.Shown.{enters}
+use Rattle.snoop_versions.proofs.Common.{ap, inside_all, knows, Sees, Version, ◌∙◌}
+use Rattle.snoop_versions.proofs.Versions.{enters, sees}
 use Rattle.snoop_versions.proofs.enter.enter_own.Goals as goal
 
 pub enter_as-requires : goal.enter_as-requires
@@ -13,6 +11,4 @@ returns-in-Ok-clause-some c =
     let s : Sees (knows c.args.reader.place) c.in-Ok.reading.part.value c.in-Ok.reading.part.value w = c.in-Ok.ensures.1 in
     let shown = ap (λ (x : Version). x.board) (c.get.ensures ∙ s.version) in
     let whole = inside_all w.cores w.blocks w.words w.seen s.within in
-    let count = rw whole at (c.count.ensures.board _ _ _ w.seen shown) in
-    let last = rw whole at (c.last.ensures.board _ _ _ w.seen shown) in
-    rw c.leave.ensures.1 (enters _ w _ _ c.requires s, count, last)
+    rw c.leave.ensures.1 (enters c.requires s, rw whole at (c.count.ensures.board w.cores w.blocks w.words w.seen shown), rw whole at (c.last.ensures.board w.cores w.blocks w.words w.seen shown))

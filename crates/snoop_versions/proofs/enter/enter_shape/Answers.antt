@@ -1,4 +1,4 @@
-use Rattle.snoop_versions.specs.Knows.{knows}
+use Rattle.snoop_versions.proofs.Common.{knows}
 use Rattle.snoop_versions.proofs.Versions.{sees}
 use Rattle.snoop_versions.proofs.enter.enter_shape.Goals as goal
 

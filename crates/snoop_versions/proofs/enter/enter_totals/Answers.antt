@@ -1,7 +1,5 @@
-use Rattle.std.proofs.Common.{ap, ◌∙◌}
-use Rattle.snoop_versions.proofs.Common.{Sees, Version, knows}
-use Rattle.snoop_versions.proofs.Versions.{sees}
-use Rattle.snoop_versions.proofs.Shown.{enters}
+use Rattle.snoop_versions.proofs.Common.{ap, knows, Sees, Version, ◌∙◌}
+use Rattle.snoop_versions.proofs.Versions.{enters, sees}
 use Rattle.snoop_versions.proofs.enter.enter_totals.Goals as goal
 
 pub enter_as-requires : goal.enter_as-requires
@@ -12,4 +10,4 @@ returns-in-Ok-clause-some c =
     let w = knows c.in-Ok.reading.place in
     let s : Sees (knows c.args.reader.place) c.in-Ok.reading.part.value c.in-Ok.reading.part.value w = c.in-Ok.ensures.1 in
     let shown = ap (λ (x : Version). x.board) (c.get.ensures ∙ s.version) in
-    rw c.leave.ensures.1 (enters _ w _ _ c.requires s, c.totals-totals.ensures.board _ _ _ w.seen shown)
+    rw c.leave.ensures.1 (enters c.requires s, c.totals-totals.ensures.board w.cores w.blocks w.words w.seen shown)

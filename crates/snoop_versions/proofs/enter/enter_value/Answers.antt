@@ -1,7 +1,5 @@
-use Rattle.std.proofs.Common.{ap, ◌∙◌}
-use Rattle.snoop_versions.proofs.Common.{Sees, Version, inside_all, knows}
-use Rattle.snoop_versions.proofs.Versions.{sees}
-use Rattle.snoop_versions.proofs.Shown.{enters}
+use Rattle.snoop_versions.proofs.Common.{ap, inside_all, knows, Sees, Version, ◌∙◌}
+use Rattle.snoop_versions.proofs.Versions.{enters, sees}
 use Rattle.snoop_versions.proofs.enter.enter_value.Goals as goal
 
 pub enter_as-requires : goal.enter_as-requires
@@ -12,5 +10,4 @@ returns-in-Ok-clause-some c =
     let w = knows c.in-Ok.reading.place in
     let s : Sees (knows c.args.reader.place) c.in-Ok.reading.part.value c.in-Ok.reading.part.value w = c.in-Ok.ensures.1 in
     let shown = ap (λ (x : Version). x.board) (c.get.ensures ∙ s.version) in
-    let whole = inside_all w.cores w.blocks w.words w.seen s.within in
-    rw c.leave.ensures.1 (enters _ w _ _ c.requires s, rw whole at (c.value-value.ensures.board _ _ _ w.seen shown))
+    rw c.leave.ensures.1 (enters c.requires s, rw (inside_all w.cores w.blocks w.words w.seen s.within) at (c.value-value.ensures.board w.cores w.blocks w.words w.seen shown))

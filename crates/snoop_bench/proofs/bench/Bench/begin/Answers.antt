@@ -1,9 +1,4 @@
-use Rattle.std.proofs.Common.{false, refl, sym, subst}
-use Rattle.snoop_trace.specs.Output.{IsReadableStep}
-use Rattle.snoop_trace.specs.declared.step.Step.TheVariants.{Ask}
-use Rattle.snoop_model.proofs.Invariant.Safety.{well_kept_in}
-use Rattle.snoop_bench.specs.Works.{works_under_way}
-use Rattle.snoop_bench.specs.Locked.{Locked}
+use Rattle.snoop_bench.proofs.Common.{Ask, false, IsReadableStep, Locked, refl, subst, sym, well_kept_in, works_under_way}
 use Rattle.snoop_bench.proofs.Places.{its_block}
 use Rattle.snoop_bench.proofs.Waiting.{stepped}
 use Rattle.snoop_bench.proofs.Turning.{asked_keeps}
@@ -25,14 +20,12 @@ take-requires-clause-within g c =
 pub invariant_of-self-2 : goal.invariant_of-self-2
 invariant_of-self-2 g c =
     rw c.note.ensures
-    (asked_keeps c.turns_are_served.ensures c.self.inside.works.items c.args.core c.args.work c.in_ok-reply.reply c.self.invariant
+    (asked_keeps c.turns_are_served.ensures c.self.inside.works.items c.args.core c.args.work c.self.invariant
     (rw (← c.self.view_is) at c.requires.idle) (rw (← c.self.view_is) at c.requires.inside)
     (stepped c.turns_are_served.ensures (well_kept_in _ c.recorded.ensures.safe) c.in_ok-reply.ensures.takes c.in_ok-reply.ensures.once c.take.ensures.stays.1))
 
 pub returns-clause-ok : goal.returns-clause-ok
 returns-clause-ok g c =
-    let asked = asked_so c.turns_are_served.ensures c.args.core c.args.work c.in_ok-reply.reply c.asked.result _ _ c.self.invariant
-    (rw (← c.self.view_is) at c.requires.idle) (rw (← c.self.view_is) at c.requires.inside)
-    (stepped c.turns_are_served.ensures (well_kept_in _ c.recorded.ensures.safe) c.in_ok-reply.ensures.takes c.in_ok-reply.ensures.once c.take.ensures.stays.1)
-    c.in_ok-reply.ensures.told c.asked.ensures c.note.ensures in
+    let work = c.args.work in
+    let asked = asked_so _ _ c.args.core work.block work.word work.op c.in_ok-reply.reply c.asked.result c.in_ok-reply.ensures.told c.asked.ensures c.note.ensures in
     rw (← c.self.view_is) (c.in_ok-reply.reply, (c.in_ok-reply.ensures.takes, asked))

@@ -1,5 +1,4 @@
-use Rattle.std.proofs.Common.{None, refl}
-use Rattle.snoop_model.proofs.Invariant.Safety.{well_kept_in}
+use Rattle.snoop_bench.proofs.Common.{None, refl, well_kept_in}
 use Rattle.snoop_bench.proofs.Turning.{Facing, facing, over_keeps}
 use Rattle.snoop_bench.proofs.Outcomes.{finishes}
 use Rattle.snoop_bench.proofs.bench.Bench.close.Goals.{After-recorded}

@@ -1,11 +1,4 @@
-use Rattle.std.proofs.Common.{◌≡◌, ◌∙◌, Some, true, ap, refl, sym}
-use Rattle.std.specs.Prelude.{is_some}
-use Rattle.snoop_rules.specs.Waits.{waiting_request}
-use Rattle.snoop_model.proofs.Invariant.Safety.{well_kept_in}
-use Rattle.snoop_model.specs.Pictures.Situation.{state_of}
-use Rattle.snoop_bench.specs.Keeps.{locked}
-use Rattle.snoop_bench.specs.Locked.{Locked}
-use Rattle.snoop_bench.specs.Turns.{case_of}
+use Rattle.snoop_bench.proofs.Common.{ap, case_of, is_some, Locked, refl, Some, state_of, sym, true, waiting_request, well_kept_in, ◌∙◌, ◌≡◌}
 use Rattle.snoop_bench.proofs.Cases.{IsCase, at_case, turn_within}
 use Rattle.snoop_bench.proofs.Waiting.{stepped}
 use Rattle.snoop_bench.proofs.Turning.{Facing, facing, finished, never, serving_step}
@@ -44,9 +37,8 @@ invariant_of-self-then-waits g c =
 pub returns-then-waits-clause-ok : goal.returns-then-waits-clause-ok
 returns-then-waits-clause-ok g c =
     let d = (goal.at.returns-then-waits-clause-ok g c).After-recorded in
-    let taken : Locked = record { situation = c.take.new.self.situation; steps = c.take.new.self.steps; works = c.self.inside.works.items; published = c.take.new.self.published } in
     rw (← c.self.view_is, (faces g d).its)
-    (served_turn c.args.core c.args.work (locked c.self.inside) taken (rw c.if-waits.true at (case g d)) c.in_ok-take.ensures.takes refl)
+    (served_turn c.args.core c.args.work _ _ (rw c.if-waits.true at (case g d)) c.in_ok-take.ensures.takes refl)
 
 pub invariant_of-self-2 : goal.invariant_of-self-2
 invariant_of-self-2 g c =
@@ -63,6 +55,5 @@ close-requires-2-clause-closed g c =
 pub returns-clause-ok : goal.returns-clause-ok
 returns-clause-ok g c =
     let d = (goal.at.returns-clause-ok g c).After-recorded in
-    let taken : Locked = record { situation = c.take.new.self.situation; steps = c.take.new.self.steps; works = c.self.inside.works.items; published = c.take.new.self.published } in
     rw (← c.self.view_is, (faces g d).its)
-    (finished_turn c.args.core c.args.work c.close-2.result (locked c.self.inside) taken c.close-2.new.self (rw c.if-waits.false at (case g d)) c.in_ok-take.ensures.takes refl c.close-2.ensures)
+    (finished_turn c.args.core c.args.work c.close-2.result _ (record { situation = c.take.new.self.situation; steps = c.take.new.self.steps; works = c.self.inside.works.items; published = c.take.new.self.published }) _ (rw c.if-waits.false at (case g d)) c.in_ok-take.ensures.takes refl c.close-2.ensures)

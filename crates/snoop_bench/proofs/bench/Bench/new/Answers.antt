@@ -1,7 +1,4 @@
-use Rattle.std.proofs.Common.{◌≡◌, ◌∙◌, rules, None, ap}
-use Rattle.std.specs.Prelude.{replicate}
-use Rattle.snoop_model.specs.Pictures.Situation.{reset}
-use Rattle.snoop_bench.specs.Recording.{Recording}
+use Rattle.snoop_bench.proofs.Common.{ap, None, Recording, replicate, reset, rules, ◌∙◌, ◌≡◌}
 use Rattle.snoop_bench.proofs.Turning.{reset_under_way}
 use Rattle.snoop_bench.proofs.bench.Bench.new.Goals as goal
 

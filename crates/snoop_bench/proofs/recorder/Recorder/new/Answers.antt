@@ -1,7 +1,4 @@
-use Rattle.std.proofs.Common.{rules, List, sym, subst, All}
-use Rattle.std.proofs.lemmas.List.Elements.{All-nil}
-use Rattle.snoop_trace.specs.Output.{IsReadableStep}
-use Rattle.snoop_trace.specs.declared.step.Step.{Step}
+use Rattle.snoop_bench.proofs.Common.{All, All-nil, IsReadableStep, List, rules, Step, subst, sym}
 use Rattle.snoop_bench.proofs.recorder.Recorder.new.Goals as goal
 
 pub invariant_of-result : goal.invariant_of-result

@@ -1,6 +1,4 @@
-use Rattle.std.proofs.Common.{List, ◌++◌, ap, sym}
-use Rattle.snoop_history.specs.declared.items.Did.{Did}
-use Rattle.snoop_history.specs.History.{answers_of}
+use Rattle.snoop_cores.proofs.Common.{answers_of, ap, Did, List, sym, ◌++◌}
 use Rattle.snoop_cores.proofs.seat.Seat.new.Goals as goal
 
 pub invariant_of-result : goal.invariant_of-result

@@ -1,5 +1,4 @@
-use Rattle.std.proofs.Common.{subst, sym}
-use Rattle.snoop_cores.specs.Rows.{Ran, shown}
+use Rattle.snoop_cores.proofs.Common.{Ran, shown, subst, sym}
 use Rattle.snoop_cores.specs.contracts.seat.Seat.{the_view}
 use Rattle.snoop_cores.proofs.Performed.{ran_noted}
 use Rattle.snoop_cores.proofs.seat.Seat.run.Goals as goal

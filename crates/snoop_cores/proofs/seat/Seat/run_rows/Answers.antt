@@ -1,7 +1,4 @@
-use Rattle.std.proofs.Common.{◌<◌, ◌∷◌, [], length, sym, subst, arith, Bor}
-use Rattle.std.proofs.lemmas.List.{get_or-map, length-map}
-use Rattle.snoop_trace.specs.declared.step.Row.{Row}
-use Rattle.snoop_cores.specs.Rows.{Grows, shown}
+use Rattle.snoop_cores.proofs.Common.{[], arith, Bor, get_or-map, Grows, length, length-map, Row, shown, subst, sym, ◌<◌, ◌∷◌}
 use Rattle.snoop_cores.proofs.Performed.{no_row, did_row}
 use Rattle.snoop_cores.proofs.seat.Seat.run_rows.Goals as goal
 

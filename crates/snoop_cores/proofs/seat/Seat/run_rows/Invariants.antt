@@ -1,5 +1,4 @@
-use Rattle.std.proofs.Common.{take}
-use Rattle.snoop_cores.specs.Rows.{Grows, shown}
+use Rattle.snoop_cores.proofs.Common.{Grows, shown, take}
 use Rattle.snoop_cores.proofs.seat.Seat.run_rows.Given as goal
 
 abbrev pub invariant-loop-number : goal.invariant-loop-number

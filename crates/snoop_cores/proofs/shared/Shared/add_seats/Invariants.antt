@@ -1,6 +1,4 @@
-use Rattle.std.proofs.Common.{◌≡◌, ◌<◌, ℕ, length}
-use Rattle.std.specs.Prelude.{slice_index_or}
-use Rattle.snoop_cores.specs.Seats.{Seating, IsNew}
+use Rattle.snoop_cores.proofs.Common.{IsNew, length, Seating, slice_index_or, ℕ, ◌<◌, ◌≡◌}
 use Rattle.snoop_cores.proofs.shared.Shared.add_seats.Given as goal
 
 abbrev pub invariant-loop-core : goal.invariant-loop-core

@@ -1,4 +1,4 @@
-use Rattle.snoop_cores.specs.Seats.{AreWatches}
+use Rattle.snoop_cores.proofs.Common.{AreWatches}
 use Rattle.snoop_cores.proofs.shared.Shared.add_watches.Given as goal
 
 abbrev pub invariant-loop : goal.invariant-loop

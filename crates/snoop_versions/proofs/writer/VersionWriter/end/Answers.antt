@@ -1,5 +1,4 @@
-use Rattle.std.proofs.Common.{ap, sym, ◌∙◌}
-use Rattle.snoop_versions.specs.declared.version.Version.{Version}
+use Rattle.snoop_versions.proofs.Common.{ap, sym, Version, ◌∙◌}
 use Rattle.snoop_versions.proofs.writer.VersionWriter.end.Goals as goal
 
 -- the board of what was taken, which is that of the published list

@@ -1,5 +1,4 @@
-use Rattle.std.proofs.Common.{ap, ◌∙◌}
-use Rattle.snoop_versions.specs.Readings.{Publishing}
+use Rattle.snoop_versions.proofs.Common.{ap, Publishing, ◌∙◌}
 use Rattle.snoop_versions.proofs.Published.{ready_grows}
 use Rattle.snoop_versions.proofs.writer.VersionWriter.prepare.Goals as goal
 
