@@ -6,11 +6,8 @@ use Rattle.snoop_history.specs.declared.items.Did.{Did}
 use Rattle.snoop_history.specs.declared.items.Item.TheVariants as item
 use Rattle.snoop_model.specs.declared.replies.Reply.TheVariants as reply
 use Rattle.snoop_model.specs.Moves.Replies.{Tells}
-use Rattle.snoop_bench.specs.declared.work.Turn.{Turn}
+use Rattle.snoop_bench.{specs.declared.work.Turn.Turn, proofs.{Cases.{IsCase, IsCase.{ordering, helping, ending}}, Turning.Facing}}
 use Rattle.snoop_bench.specs.declared.work.Turn.TheVariants as turn
-use Rattle.snoop_bench.proofs.Cases.{IsCase}
-use Rattle.snoop_bench.proofs.Cases.IsCase.{ordering, helping, ending}
-use Rattle.snoop_bench.proofs.Turning.{Facing}
 
 is_op : (did : Did) (load : Bool) → did.load ≡ load → IsOp (if load then op.Load else op.Store did.value) did
 is_op did true e = e

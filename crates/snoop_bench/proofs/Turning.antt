@@ -1,24 +1,14 @@
 -- Turns keep works under way.
 use Rattle.std.proofs.Common.{◌≡◌, ◌≢◌, ◌⊎◌, ⊎_elim, ℕ, ◌<◌, inl, inr, Bool, true, List, length, replicate, Option, Some, None, refl, sym, ap, ◌∙◌, arith, false}
-use Rattle.snoop_bench.proofs.Common.{common_steps, gets, Access, access_of, AreUnderWay, Ask, asked_access, Case, cases_eq, eq-eqb, Extent, FirstMove, is_some, IsWellKept, kept_waiting, Locked, none-some, Op, option_map, picture_of, Reply, Request, reset, Respond, same_Some, Situation, slice_set, state_of, Step, turn_of, TurnLaws, waited_or_asked, waiting_request, Work, work_at, works_asked, works_under_way}
-use Rattle.std.proofs.lemmas.Bool.Decides.{nat_tests}
-use Rattle.std.proofs.lemmas.List.{length-set, length-replicate}
-use Rattle.snoop_trace.specs.Words.{HasWord}
-use Rattle.snoop_trace.specs.declared.protocol.Protocol.{Protocol}
+use Rattle.snoop_bench.proofs.Common.{common_steps, gets, Access, access_of, AreUnderWay, Ask, asked_access, Case, cases_eq, eq-eqb, Extent, FirstMove, is_some, IsWellKept, as_access, Locked, none-some, Op, option_map, picture_of, Reply, Request, reset, Respond, same_Some, Situation, slice_set, state_of, Step, turn_of, TurnLaws, waited_or_asked, waiting_request, Work, work_at, works_asked, works_under_way}
+use Rattle.std.proofs.lemmas.{Bool.Decides.nat_tests, List.{length-set, length-replicate}}
+use Rattle.snoop_trace.specs.{Words.HasWord, declared.protocol.Protocol.Protocol}
 use Rattle.snoop_trace.specs.declared.step.Op.TheVariants as op
-use Rattle.snoop_model.specs.declared.replies.Refused.{Refused}
+use Rattle.snoop_model.{specs.{declared.replies.Refused.Refused, Turns.Serving.IsUnderWay, Moves.Refuses.Refuses}, proofs.Invariant.Runs.reset_line}
 use Rattle.snoop_model.specs.declared.replies.Reply.TheVariants as reply
-use Rattle.snoop_model.specs.Turns.Serving.{IsUnderWay}
-use Rattle.snoop_model.specs.Moves.Refuses.{Refuses}
-use Rattle.snoop_model.proofs.Invariant.Runs.{reset_line}
-use Rattle.snoop_model.proofs.Turns.ClosedWorks.{has_step}
-use Rattle.snoop_bench.specs.Faults.{IsInside}
-use Rattle.snoop_bench.proofs.Cases.{IsCase}
-use Rattle.snoop_bench.proofs.Cases.IsCase.{ordering, ending}
+use Rattle.snoop_model.{proofs.{Turns.ClosedWorks.has_step, OneBlock.OfBlocks.{in_pictures, picture_here}}, specs.Pictures.Picture.{Picture, held_by}}
+use Rattle.snoop_bench.{specs.Faults.IsInside, proofs.{Cases.{IsCase, IsCase.{ordering, ending}}, Waiting.{Stepped, AsksNothing, owed_still}}}
 use Rattle.snoop_bench.proofs.Places.{its_block, changed, unchanged, put_out, has_place, apart}
-use Rattle.snoop_bench.proofs.Waiting.{Stepped, AsksNothing, owed_still}
-use Rattle.snoop_model.specs.Pictures.Picture.{Picture, held_by}
-use Rattle.snoop_model.proofs.OneBlock.OfBlocks.{in_pictures, picture_here}
 use Rattle.snoop_model.proofs.Queues.Responds.{arrives_waits}
 
 -- the core and the block are within the shape, and so is the word that is loaded or stored
@@ -141,12 +131,12 @@ finished rule {s} {t} {works} {core} {work} {k} {step} {answer} ending f waits m
     no_request w e = grind arith
 
 -- what waits of an operation that is asked is that of the work
-kept_is : (word : ℕ) (asking : Op) (wanted : Access) → kept_waiting word asking ≡ Some wanted → record { word = word; op = asking } ≡ wanted
+kept_is : (word : ℕ) (asking : Op) (wanted : Access) → as_access word asking ≡ Some wanted → record { word = word; op = asking } ≡ wanted
 kept_is word op.Load wanted e = same_Some _ _ e
 kept_is word (op.Store v) wanted e = same_Some _ _ e
 kept_is word op.Evict wanted e = cc
 
-kept : (word : ℕ) (asking : Op) → asking ≢ op.Evict → kept_waiting word asking ≡ Some (record { word = word; op = asking })
+kept : (word : ℕ) (asking : Op) → asking ≢ op.Evict → as_access word asking ≡ Some (record { word = word; op = asking })
 kept word op.Load isnt = refl
 kept word (op.Store v) isnt = refl
 kept word op.Evict isnt = absurd (isnt refl)

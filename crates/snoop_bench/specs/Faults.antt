@@ -1,12 +1,8 @@
 -- Why a turn is refused.
 -- Source: this project's profile.
 use Rattle.std.specs.Prelude.{◌⊎◌, ◌≡◌, ◌≢◌, ℕ, ◌<◌, ◌≤◌, Some}
-use Rattle.snoop_trace.specs.Words.{HasWord}
-use Rattle.snoop_trace.specs.declared.step.Work.{Work}
-use Rattle.snoop_bench.specs.declared.work.AdvanceFault.{AdvanceFault}
-use Rattle.snoop_bench.specs.declared.work.AdvanceFault.TheVariants.{NoCore, NoBlock, Other, NoMemory}
-use Rattle.snoop_bench.specs.Works.{work_at}
-use Rattle.snoop_bench.specs.Locked.{Locked}
+use Rattle.snoop_trace.specs.{Words.HasWord, declared.step.Work.Work}
+use Rattle.snoop_bench.specs.{declared.work.AdvanceFault.{AdvanceFault, TheVariants.{NoCore, NoBlock, Other, NoMemory}}, Works.work_at, Locked.Locked}
 
 -- the core and the block are within the shape, and so is the word that is loaded or stored
 abbrev pub IsInside : ℕ → Work → Locked → Type 0

@@ -2,15 +2,10 @@
 -- Source: this project's profile.
 use Rattle.std.specs.Prelude.{◌≡◌, ◌≢◌, ℕ, List, length, Option, Some}
 use Rattle.snoop_trace.specs.declared.step.Op.TheVariants as op
-use Rattle.snoop_model.specs.declared.access.Access.{Access}
-use Rattle.snoop_model.specs.Pictures.Situation.{Situation, picture_of}
-use Rattle.snoop_model.specs.Pictures.Picture.{held_by}
-use Rattle.snoop_model.specs.Turns.Serving.{IsServing}
+use Rattle.snoop_model.specs.{declared.access.Access.Access, Pictures.{Situation.{Situation, picture_of}, Picture.held_by}, Turns.Serving.IsServing}
 use Rattle.snoop_model.specs.Runs.Owed.{IsOwed}
 use Rattle.snoop_trace.specs.declared.step.Work.{Work}
-use Rattle.snoop_bench.specs.declared.bench.Bench.TheInside.{Inside}
-use Rattle.snoop_bench.specs.Works.{access_of, work_at, works_under_way}
-use Rattle.snoop_bench.specs.Locked.{Locked}
+use Rattle.snoop_bench.specs.{declared.bench.Bench.TheInside.Inside, Works.{access_of, work_at, works_under_way}, Locked.Locked}
 
 -- a bench as callers see it
 abbrev pub locked : Inside → Locked

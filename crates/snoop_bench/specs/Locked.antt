@@ -1,22 +1,13 @@
 -- What lies under the lock, and what always holds of it.
 -- Source: this project's profile.
 use Rattle.std.specs.Prelude.{◌≡◌, ◌≢◌, ℕ, List, [], length, replicate, All, Option, Some, None}
-use Rattle.snoop_trace.specs.Extent.{Extent}
-use Rattle.snoop_trace.specs.Output.{IsReadableStep}
+use Rattle.snoop_trace.specs.{Extent.Extent, Output.IsReadableStep, declared.{step.{Step.Step, Work.Work}, protocol.Protocol.Protocol}}
 use Rattle.snoop_trace.specs.declared.step.Op.TheVariants as op
-use Rattle.snoop_trace.specs.declared.step.Step.{Step}
-use Rattle.snoop_trace.specs.declared.protocol.Protocol.{Protocol}
 use Rattle.snoop_rules.specs.declared.names.Request.{Request}
 use Rattle.snoop_bus.specs.Traffic.{Open}
-use Rattle.snoop_history.specs.declared.items.Did.{Did}
-use Rattle.snoop_history.specs.declared.items.Item.{Item}
-use Rattle.snoop_history.specs.History.{last_of}
-use Rattle.snoop_model.specs.Pictures.Situation.{Situation, reset, picture_of, Waits}
-use Rattle.snoop_model.specs.Runs.Run.{AllTaken}
-use Rattle.snoop_model.specs.Turns.Serving.{IsServing}
-use Rattle.snoop_trace.specs.declared.step.Work.{Work}
-use Rattle.snoop_bench.specs.Recording.{Recording}
-use Rattle.snoop_bench.specs.Works.{work_at, works_under_way, Does}
+use Rattle.snoop_history.specs.{declared.items.{Did.Did, Item.Item}, History.last_of}
+use Rattle.snoop_model.specs.{Pictures.Situation.{Situation, reset, picture_of, Waits}, Runs.Run.AllTaken, Turns.Serving.IsServing}
+use Rattle.snoop_bench.specs.{Recording.Recording, Works.{work_at, works_under_way, Does}}
 
 -- the machine's situation, the steps that it has taken, each core's work under way, and the list that is published
 pub record Locked : Type 0 where

@@ -1,12 +1,11 @@
 -- What becomes of a work: after its Ask, and when it is over.
 -- Source: this project's profile.
 use Rattle.std.specs.Prelude.{ℕ, List, Option, Some, None, slice_set}
-use Rattle.snoop_trace.specs.declared.step.Op.{Op}
+use Rattle.snoop_trace.specs.declared.step.{Op.Op, Work.Work}
 use Rattle.snoop_trace.specs.declared.step.Op.TheVariants as op
 use Rattle.snoop_history.specs.declared.items.Did.{Did}
 use Rattle.snoop_model.specs.declared.replies.Reply.{Reply}
 use Rattle.snoop_model.specs.declared.replies.Reply.TheVariants as reply
-use Rattle.snoop_trace.specs.declared.step.Work.{Work}
 use Rattle.snoop_bench.specs.declared.work.Evicted.TheVariants as evicted
 use Rattle.snoop_bench.specs.declared.work.Turn.{Turn}
 use Rattle.snoop_bench.specs.declared.work.Turn.TheVariants as turn

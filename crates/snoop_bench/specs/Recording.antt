@@ -1,13 +1,9 @@
 -- A machine whose steps are recorded, and whose items are published as they come.
 -- Source: this project's profile.
 use Rattle.std.specs.Prelude.{◌≡◌, List, [], ◌∷◌, ◌++◌, All, Option, option_to_list}
-use Rattle.snoop_trace.specs.Output.{IsReadableStep}
-use Rattle.snoop_trace.specs.declared.step.Step.{Step}
+use Rattle.snoop_trace.specs.{Output.IsReadableStep, declared.step.Step.Step}
 use Rattle.snoop_history.specs.declared.items.Item.{Item}
-use Rattle.snoop_model.specs.declared.replies.Reply.{Reply}
-use Rattle.snoop_model.specs.Pictures.Situation.{Situation}
-use Rattle.snoop_model.specs.Moves.Move.{FirstMove}
-use Rattle.snoop_model.specs.Runs.Run.{AllTaken}
+use Rattle.snoop_model.specs.{declared.replies.Reply.Reply, Pictures.Situation.Situation, Moves.Move.FirstMove, Runs.Run.AllTaken}
 use Rattle.snoop_bench.specs.declared.recorder.Recorder.TheInside.{Inside}
 
 -- the machine's situation, the steps that it has taken, and the list that is published

@@ -1,23 +1,16 @@
 -- The turn of a core with a work: at most one step, by the first of five cases.
 -- Source: this project's profile.
 use Rattle.std.specs.Prelude.{◌≡◌, ℕ, ◌==◌, Bool, true, false, Option, Some, None, is_some, slice_set, if◌then◌else◌}
-use Rattle.snoop_trace.specs.declared.step.Op.{Op}
+use Rattle.snoop_trace.specs.declared.step.{Op.Op, Step.TheVariants.{Ask, Order, Respond}, Work.Work}
 use Rattle.snoop_trace.specs.declared.step.Op.TheVariants as op
-use Rattle.snoop_trace.specs.declared.step.Step.TheVariants.{Ask, Order, Respond}
-use Rattle.snoop_rules.specs.declared.names.Request.{Request}
-use Rattle.snoop_rules.specs.Waits.{waiting_request}
+use Rattle.snoop_rules.specs.{declared.names.Request.Request, Waits.waiting_request}
 use Rattle.snoop_bus.specs.Traffic.{Open}
 use Rattle.snoop_history.specs.declared.items.Did.{Did}
-use Rattle.snoop_model.specs.declared.replies.Reply.{Reply}
+use Rattle.snoop_model.specs.{declared.replies.Reply.Reply, Pictures.Situation.{Situation, picture_of, state_of}}
 use Rattle.snoop_model.specs.declared.replies.Reply.TheVariants as reply
-use Rattle.snoop_model.specs.Pictures.Situation.{Situation, picture_of, state_of}
-use Rattle.snoop_trace.specs.declared.step.Work.{Work}
 use Rattle.snoop_bench.specs.declared.work.Evicted.TheVariants as evicted
-use Rattle.snoop_bench.specs.declared.work.Turn.{Turn}
+use Rattle.snoop_bench.specs.{declared.work.Turn.Turn, Works.work_at, Recording.TakesAndPublishes, Locked.{Locked, record_of, EndsWith}}
 use Rattle.snoop_bench.specs.declared.work.Turn.TheVariants as turn
-use Rattle.snoop_bench.specs.Works.{work_at}
-use Rattle.snoop_bench.specs.Recording.{TakesAndPublishes}
-use Rattle.snoop_bench.specs.Locked.{Locked, record_of, EndsWith}
 
 -- the cases of a turn
 pub data Case : Type 0 where

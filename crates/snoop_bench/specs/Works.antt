@@ -1,11 +1,10 @@
 -- A core's work under way, and the operation that does it.
 -- Source: this project's profile.
 use Rattle.std.specs.Prelude.{◌≡◌, ℕ, ◌<◌, ◌^◌, List, Option, true, false, slice_get, option_map, option_and_then, ⊤}
-use Rattle.snoop_trace.specs.declared.step.Op.{Op}
+use Rattle.snoop_trace.specs.declared.step.{Op.Op, Work.Work}
 use Rattle.snoop_trace.specs.declared.step.Op.TheVariants as op
 use Rattle.snoop_history.specs.declared.items.Did.{Did}
 use Rattle.snoop_model.specs.declared.access.Access.{Access}
-use Rattle.snoop_trace.specs.declared.step.Work.{Work}
 
 -- the core's work under way, if any
 abbrev pub work_at : List (Option Work) → ℕ → Option Work

@@ -1,8 +1,7 @@
 -- Rows, dealt to the lists of their cores.
 use Rattle.std.proofs.Common.{◌≡◌, ℕ, ◌+◌, ◌<◌, List, [], ◌∷◌, ◌++◌, length, take, Some, get_or, refl, sym, ap, ◌∙◌, arith, append-nil, inl, inr}
 use Rattle.snoop_cores.proofs.Common.{AreDealt, cases_eq, common_steps, eq-eqb, filter_more, gets, map-append, ne_eqb, RanDealt, RanTo, Row, rows_of_core, Seating, slice_get, slice_get-get_or, slice_get_cases, slice_set, Vec}
-use Rattle.std.specs.Borrow.{Bor}
-use Rattle.std.specs.declared.alloc.Global.{Global}
+use Rattle.std.specs.{Borrow.Bor, declared.alloc.Global.Global}
 
 abbrev pub Own : Type 0
 Own = Vec (Bor Row) Global

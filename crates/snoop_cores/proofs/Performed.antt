@@ -3,11 +3,8 @@ use Rattle.std.proofs.Common.{ℕ, ◌+◌, ◌<◌, List, [], ◌∷◌, ◌++�
 use Rattle.snoop_cores.proofs.Common.{AnswersRows, block_at, Did, DoesRow, Extent, Fails, FailsOn, filter-append, Grows, is_answered, IsSettled, Leaves, MayDo, MayDoFirst, Ran, Row, Seating, take_more, Work, work_on}
 use Rattle.std.specs.List.{AllZip}
 use Rattle.snoop_trace.specs.declared.step.Op.TheVariants.{Load}
-use Rattle.snoop_cores.specs.declared.stop.Stop.{Stop}
-use Rattle.snoop_cores.proofs.Beginnings.{starts_on}
-use Rattle.snoop_cores.specs.declared.fault.SeatFault.{SeatFault}
+use Rattle.snoop_cores.{specs.declared.{stop.Stop.{Stop, TheVariants.{Late, Fault}}, fault.SeatFault.SeatFault}, proofs.Beginnings.starts_on}
 use Rattle.snoop_cores.specs.declared.fault.SeatFault.TheVariants.{NoBlock, NoMemory, Busy, Stranger}
-use Rattle.snoop_cores.specs.declared.stop.Stop.TheVariants.{Late, Fault}
 
 -- a row that stands where none does
 abbrev pub no_row : Row

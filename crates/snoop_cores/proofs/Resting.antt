@@ -3,14 +3,8 @@ use Rattle.std.proofs.Common.{◌≡◌, ℕ, ◌<◌, List, length, Option, Som
 use Rattle.snoop_cores.proofs.Common.{cases_lt, IsAnswered, IsFree, IsJoined, IsKept, Item, Locked, OneForEach, Seating, slice_get_past, slice_index_or, Work, work_at, works_under_way}
 use Rattle.snoop_trace.specs.declared.step.Step.{Step}
 use Rattle.snoop_bus.specs.Queues.{queue_of}
-use Rattle.snoop_model.proofs.Invariant.Safety.{well_kept_in}
-use Rattle.snoop_model.specs.Pictures.Situation.{Situation}
-use Rattle.snoop_model.specs.Runs.Safe.{IsSafe}
-use Rattle.snoop_model.specs.Turns.Serving.{IsServing}
-use Rattle.snoop_model.specs.Turns.Quiet.{IsQuiet}
-use Rattle.snoop_model.specs.Turns.TurnLaws.{ComesToRest}
-use Rattle.snoop_model.specs.Runs.Once.{accesses_in}
-use Rattle.snoop_model.specs.Runs.TakenOnce.{TakenOnce}
+use Rattle.snoop_model.{proofs.Invariant.Safety.well_kept_in, specs.{Pictures.Situation.Situation, Runs.Safe.IsSafe, Turns.{Serving.IsServing, Quiet.IsQuiet}}}
+use Rattle.snoop_model.specs.{Turns.TurnLaws.ComesToRest, Runs.{Once.accesses_in, TakenOnce.TakenOnce}}
 
 -- where no core of the shape has work under way, nothing is served
 serves_nothing : (works : List (Option Work)) (s : Situation) → length works ≡ s.shape.cores → ((core : ℕ) → core < s.shape.cores → work_at works core ≡ None)

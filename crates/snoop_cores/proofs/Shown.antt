@@ -4,9 +4,7 @@ use Rattle.snoop_cores.proofs.Common.{answers_of, Did, Does, Enters, IsStranger,
 use Rattle.std.proofs.lemmas.List.Prefix.{front_fits}
 use Rattle.snoop_history.specs.Totals.{capped}
 use Rattle.snoop_versions.proofs.Versions.{last-push}
-use Rattle.snoop_cores.specs.declared.own.Own.{Own}
-use Rattle.snoop_cores.specs.declared.own.Own.TheVariants.{Unseen, Same, More, Strange}
-use Rattle.snoop_cores.proofs.Beginnings.{begins_on, begins_whole}
+use Rattle.snoop_cores.{specs.declared.own.Own.{Own, TheVariants.{Unseen, Same, More, Strange}}, proofs.Beginnings.{begins_on, begins_whole}}
 
 one_more : (all dids : List Did) (did : Did) → StartsWith all dids → length all ≡ length dids + 1 → last_or None (map Some all) ≡ Some did → all ≡ dids ++ did ∷ []
 one_more all dids did ([], is) long last = absurd (omega (arith, ap length is, length-append dids []))

@@ -1,16 +1,11 @@
 -- What a call of a seat leaves: after it is over, and after each fault.
 -- Source: this project's profile.
 use Rattle.std.specs.Prelude.{◌≡◌, ◌≢◌, ◌⊎◌, ◌<◌, List, [], ◌∷◌, ◌++◌, map, Some, None}
-use Rattle.snoop_trace.specs.Words.{HasWord}
-use Rattle.snoop_trace.specs.Extent.{Extent}
-use Rattle.snoop_history.specs.declared.items.Did.{Did}
-use Rattle.snoop_history.specs.History.{Legal, answers_of, last_or}
-use Rattle.snoop_trace.specs.declared.step.Work.{Work}
+use Rattle.snoop_trace.specs.{Words.HasWord, Extent.Extent, declared.step.Work.Work}
+use Rattle.snoop_history.specs.{declared.items.Did.Did, History.{Legal, answers_of, last_or}}
 use Rattle.snoop_bench.specs.Works.{Does}
 use Rattle.snoop_versions.specs.Readings.{StartsWith}
-use Rattle.snoop_cores.specs.declared.fault.SeatFault.{SeatFault}
-use Rattle.snoop_cores.specs.declared.fault.SeatFault.TheVariants.{NoBlock, NoMemory, Busy, Stranger}
-use Rattle.snoop_cores.specs.Seats.{Seating}
+use Rattle.snoop_cores.specs.{declared.fault.SeatFault.{SeatFault, TheVariants.{NoBlock, NoMemory, Busy, Stranger}}, Seats.Seating}
 
 -- the shape has the work's block and its word
 abbrev pub IsHere : Extent → Work → Type 0

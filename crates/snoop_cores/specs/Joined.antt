@@ -2,22 +2,11 @@
 -- Source: this project's profile.
 use Rattle.std.specs.Prelude.{◌≡◌, ◌≢◌, ◌⊎◌, ℕ, ◌<◌, ◌≤◌, ◌==◌, List, length, take, filter, filter_map, All, None, slice_get, slice_index_or}
 use Rattle.std.specs.List.Sorted.{IsPermutation}
-use Rattle.snoop_trace.specs.Extent.{Extent}
-use Rattle.snoop_trace.specs.Output.{IsReadableStep}
-use Rattle.snoop_trace.specs.declared.step.Step.{Step}
-use Rattle.snoop_trace.specs.declared.protocol.Protocol.{Protocol}
-use Rattle.snoop_history.specs.declared.items.Did.{Did}
-use Rattle.snoop_history.specs.declared.items.Item.{Item}
-use Rattle.snoop_history.specs.History.{Legal, answers_of}
-use Rattle.snoop_model.specs.Pictures.Situation.{Situation}
-use Rattle.snoop_model.specs.Runs.Run.{AllTaken}
-use Rattle.snoop_model.specs.Turns.Quiet.{IsQuiet}
-use Rattle.snoop_model.specs.Runs.Once.{asked_access, accesses_in}
-use Rattle.snoop_bench.specs.Locked.{Locked, IsKept}
-use Rattle.snoop_bench.specs.Works.{work_at}
-use Rattle.snoop_cores.specs.Seats.{Seating}
-use Rattle.snoop_cores.specs.declared.fault.GatherFault.{GatherFault}
-use Rattle.snoop_cores.specs.declared.fault.GatherFault.TheVariants.{Mismatch, Pending, NoMemory, NotAllSeats}
+use Rattle.snoop_trace.specs.{Extent.Extent, Output.IsReadableStep, declared.{step.Step.Step, protocol.Protocol.Protocol}}
+use Rattle.snoop_history.specs.{declared.items.{Did.Did, Item.Item}, History.{Legal, answers_of}}
+use Rattle.snoop_model.specs.{Pictures.Situation.Situation, Runs.{Run.AllTaken, Once.{asked_access, accesses_in}}, Turns.Quiet.IsQuiet}
+use Rattle.snoop_bench.specs.{Locked.{Locked, IsKept}, Works.work_at}
+use Rattle.snoop_cores.specs.{Seats.Seating, declared.fault.GatherFault.{GatherFault, TheVariants.{Mismatch, Pending, NoMemory, NotAllSeats}}}
 
 -- how many seats the core has
 abbrev pub seats_of : List Seating → ℕ → ℕ

@@ -3,14 +3,11 @@
 use Rattle.std.specs.Prelude.{◌≡◌, ◌≢◌, ℕ, ◌+◌, ◌-◌, ◌^◌, ◌<◌, List, [], ◌∷◌, ◌++◌, length, Option, Some, ⊤}
 use Rattle.snoop_trace.specs.declared.step.Op.{Op}
 use Rattle.snoop_trace.specs.declared.step.Op.TheVariants as op
-use Rattle.snoop_history.specs.declared.items.Did.{Did}
-use Rattle.snoop_history.specs.declared.items.Item.{Item}
-use Rattle.snoop_history.specs.History.{Legal, answers_of, last_of}
+use Rattle.snoop_history.specs.{declared.items.{Did.Did, Item.Item}, History.{Legal, answers_of, last_of}}
 use Rattle.snoop_bench.specs.declared.work.Turn.{Turn}
 use Rattle.snoop_bench.specs.declared.work.Turn.TheVariants as turn
 use Rattle.snoop_versions.specs.Readings.{Viewing, StartsWith}
-use Rattle.snoop_cores.specs.declared.own.Own.{Own}
-use Rattle.snoop_cores.specs.declared.own.Own.TheVariants.{Unseen, Same, More, Strange}
+use Rattle.snoop_cores.specs.declared.own.Own.{Own, TheVariants.{Unseen, Same, More, Strange}}
 
 -- the largest count that a `u64` holds: it says only that there are so many or more
 abbrev pub most : ℕ

@@ -1,25 +1,13 @@
 -- What a seat has done of its rows.
 -- Source: this project's profile.
 use Rattle.std.specs.Prelude.{◌≡◌, ℕ, ◌<◌, ◌==◌, List, [], ◌∷◌, ◌++◌, length, take, filter, map, Option, Some, None, Bool, true, false, All, IsSome, ⊤, slice_get, slice_index_or, Vec}
-use Rattle.std.specs.Borrow.{Bor}
-use Rattle.std.specs.declared.alloc.Global.{Global}
-use Rattle.std.specs.List.{AllZip}
-use Rattle.snoop_trace.specs.Extent.{Extent}
-use Rattle.snoop_trace.specs.Grammar.{block_at, word_asked}
-use Rattle.snoop_trace.specs.declared.step.Op.{Op}
+use Rattle.std.specs.{Borrow.Bor, declared.alloc.Global.Global, List.AllZip}
+use Rattle.snoop_trace.specs.{Extent.Extent, Grammar.{block_at, word_asked}, declared.step.{Op.Op, Row.Row, Work.Work}}
 use Rattle.snoop_trace.specs.declared.step.Op.TheVariants as op
-use Rattle.snoop_trace.specs.declared.step.Row.{Row}
 use Rattle.snoop_history.specs.declared.items.Did.{Did}
-use Rattle.snoop_trace.specs.declared.step.Work.{Work}
 use Rattle.snoop_bench.specs.Works.{Does}
-use Rattle.snoop_cores.specs.declared.fault.SeatFault.{SeatFault}
-use Rattle.snoop_cores.specs.declared.fault.SeatFault.TheVariants.{NoBlock}
-use Rattle.snoop_cores.specs.declared.fault.RunFault.{RunFault}
-use Rattle.snoop_cores.specs.declared.fault.RunFault.TheVariants.{NoSeat, NoMemory}
-use Rattle.snoop_cores.specs.declared.stop.Stop.{Stop}
-use Rattle.snoop_cores.specs.declared.stop.Stop.TheVariants.{Late, Fault}
-use Rattle.snoop_cores.specs.Seats.{Seating}
-use Rattle.snoop_cores.specs.Calls.{Stays, MayBegin, IsSettled, Fails}
+use Rattle.snoop_cores.specs.declared.{fault.{SeatFault.{SeatFault, TheVariants.NoBlock}, RunFault.{RunFault, TheVariants.{NoSeat, NoMemory}}}, stop.Stop.Stop}
+use Rattle.snoop_cores.specs.{declared.stop.Stop.TheVariants.{Late, Fault}, Seats.Seating, Calls.{Stays, MayBegin, IsSettled, Fails}}
 
 -- the operation adds an answer: a load or a store
 abbrev pub is_answered : Op → Bool

@@ -1,12 +1,8 @@
 -- What a seat and a watch show, and which are new.
 -- Source: this project's profile.
 use Rattle.std.specs.Prelude.{◌≡◌, ℕ, ◌<◌, List, [], length, All, Option, None, slice_index_or}
-use Rattle.snoop_trace.specs.Extent.{Extent}
-use Rattle.snoop_trace.specs.declared.protocol.Protocol.{Protocol}
-use Rattle.snoop_history.specs.declared.items.Did.{Did}
-use Rattle.snoop_history.specs.declared.items.Item.{Item}
-use Rattle.snoop_history.specs.History.{Legal}
-use Rattle.snoop_trace.specs.declared.step.Work.{Work}
+use Rattle.snoop_trace.specs.{Extent.Extent, declared.{protocol.Protocol.Protocol, step.Work.Work}}
+use Rattle.snoop_history.specs.{declared.items.{Did.Did, Item.Item}, History.Legal}
 use Rattle.snoop_versions.specs.Readings.{StartsWith}
 use Rattle.snoop_cores.specs.declared.stop.Stop.{Stop}
 

@@ -1,10 +1,6 @@
 -- An item that a log takes, and whose load is current, may come next.
-use Rattle.std.proofs.Common.{◌≡◌, List, [], ◌∷◌, ◌++◌, Option, Some, None, refl}
-use Rattle.std.specs.Prelude.{MatchOption, IsTrue, ⊤}
-use Rattle.std.specs.Option.{ForSome}
-use Rattle.snoop_history.specs.declared.items.Did.{Did}
-use Rattle.snoop_history.specs.declared.items.Item.{Item}
-use Rattle.snoop_history.specs.History.{Legal, IsNext, IsNumbered, operation_of, next_number, flat}
+use Rattle.std.{proofs.Common.{◌≡◌, List, [], ◌∷◌, ◌++◌, Option, Some, None, refl}, specs.{Prelude.{MatchOption, IsTrue, ⊤}, Option.ForSome}}
+use Rattle.snoop_history.specs.{declared.items.{Did.Did, Item.Item}, History.{Legal, IsNext, IsNumbered, operation_of, next_number, flat}}
 use Rattle.snoop_history.proofs.Legal.{legal-grows}
 
 may_be_next : (past : List Item) (op : Option Did) → ForSome op (λ did. did.number ≡ next_number past did.core) → ForSome op (λ did. IsTrue did.load → did.value ≡ flat past did.block did.word) → MatchOption op ⊤ (IsNext past)

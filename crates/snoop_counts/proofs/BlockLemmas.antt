@@ -1,19 +1,10 @@
 -- Tables: the text of some counters; which blocks the table by block has.
 use Rattle.std.proofs.Common.{◌≡◌, ℕ, zero, suc, ◌+◌, ◌<◌, ◌≤◌, Bool, true, cond, List, [], ◌∷◌, ◌++◌, All, map, refl, sym, ap, arith}
-use Rattle.std.specs.Prelude.{fold, Option, Some, None, if◌then◌else◌}
+use Rattle.std.{specs.Prelude.{fold, Option, Some, None, if◌then◌else◌}, proofs.lemmas.List.Sorted.{All-permutation, IsPermutation-insert}}
 use Rattle.std.proofs.lemmas.List.Elements.{All-filter, All-map, All-take, filter-append, filter_passes}
-use Rattle.std.proofs.lemmas.List.Sorted.{All-permutation, IsPermutation-insert}
-use Rattle.snoop_engine.proofs.Common.{All-cons, All-head, All-nil, All-tail, map-append, range_with_len}
-use Rattle.snoop_engine.proofs.RangeLemmas.{more_from_zero}
-use Rattle.snoop_counts.specs.ByBlock.{blocks_named, blocks_shown, placed, ranked, with_requests}
-use Rattle.snoop_counts.specs.Counted.{is_named}
-use Rattle.snoop_counts.specs.CoreTable.{count_fields}
-use Rattle.snoop_counts.specs.Tally.{counter_in}
-use Rattle.snoop_counts.specs.declared.count.Count.{Count}
-use Rattle.snoop_counts.specs.declared.count.Happening.{Happening}
-use Rattle.snoop_counts.specs.declared.tally.Counters.{Counters}
-use Rattle.snoop_counts.specs.declared.count.Subjects.TheVariants.{Blocks}
-use Rattle.snoop_counts.specs.declared.ranking.Ranked.{Ranked}
+use Rattle.snoop_engine.proofs.{Common.{All-cons, All-head, All-nil, All-tail, map-append, range_with_len}, RangeLemmas.more_from_zero}
+use Rattle.snoop_counts.specs.{ByBlock.{blocks_named, blocks_shown, placed, ranked, with_requests}, Counted.is_named, CoreTable.count_fields, Tally.counter_in}
+use Rattle.snoop_counts.specs.declared.{count.{Count.Count, Happening.Happening, Subjects.TheVariants.Blocks}, tally.Counters.Counters, ranking.Ranked.Ranked}
 
 -- the text of some counters
 pub fields_are : (row : Counters) (value : Count → ℕ) → ((c : Count) → counter_in row c ≡ value c) → (counts : List Count)

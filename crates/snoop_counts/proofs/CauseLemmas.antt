@@ -1,17 +1,10 @@
 -- The last steps in which something happened, and one step more.
 use Rattle.std.proofs.Common.{◌≡◌, ℕ, ◌+◌, ◌-◌, Bool, true, false, List, [], ◌∷◌, ◌++◌, length, length-append, refl, sym, ◌∙◌, arith}
-use Rattle.std.specs.Prelude.{◌||◌, cond, not, reverse, Option, if◌then◌else◌}
-use Rattle.std.specs.List.{list_any, position_or_len}
-use Rattle.std.proofs.lemmas.List.{reverse-append}
+use Rattle.std.{specs.{Prelude.{◌||◌, cond, not, reverse, Option, if◌then◌else◌}, List.{list_any, position_or_len}}, proofs.lemmas.List.reverse-append}
 use Rattle.std.proofs.lemmas.List.Folds.{list_any-append}
-use Rattle.snoop_engine.proofs.Common.{Did, Situation}
-use Rattle.snoop_engine.specs.Frames.{Frame, FramesFrom}
-use Rattle.snoop_engine.specs.Taken.{lines_of_step}
-use Rattle.snoop_engine.specs.declared.taken.Taken.{Taken}
-use Rattle.snoop_counts.specs.Causes.{gives_up, is_stored_to, last_step, loses, operation_in, takes_such_row}
-use Rattle.snoop_counts.specs.Counted.{is_giving_up, is_loss}
-use Rattle.snoop_counts.specs.LastSteps.{KnowsLastSteps, HasLastSteps, Marks, MarksLines, MarksStore, number_at}
-use Rattle.snoop_counts.specs.declared.copies.Copies.{Copies}
+use Rattle.snoop_engine.{proofs.Common.{Did, Situation}, specs.{Frames.{Frame, FramesFrom}, Taken.lines_of_step, declared.taken.Taken.Taken}}
+use Rattle.snoop_counts.specs.{Causes.{gives_up, is_stored_to, last_step, loses, operation_in, takes_such_row}, Counted.{is_giving_up, is_loss}}
+use Rattle.snoop_counts.specs.{LastSteps.{KnowsLastSteps, HasLastSteps, Marks, MarksLines, MarksStore, number_at}, declared.copies.Copies.Copies}
 use Rattle.snoop_counts.specs.declared.last_steps.LastSteps.{LastSteps}
 
 one_step : (b : Bool) (n p : ℕ) → n + 1 - cond (not b) (1 + p) 0 ≡ (if b then 1 + n else n - p)

@@ -1,25 +1,15 @@
 -- What can be counted of steps that come after others; sums of counts over causes, and over parts of a run.
 use Rattle.std.proofs.Common.{◌≡◌, ℕ, suc, ◌+◌, Bool, get_or, true, false, cond, List, [], ◌∷◌, ◌++◌, All, length, length-append, map, refl, arith, append_assoc, append-nil}
-use Rattle.std.specs.Prelude.{◌||◌, ◌&&◌, Option, Some, None, Result, option_to_list, if◌then◌else◌}
-use Rattle.std.proofs.lemmas.List.Elements.{All-map, filter-append}
-use Rattle.snoop_engine.proofs.Common.{All-append, All-head, All-nil, All-tail, Did, Item, Refused, Reply, Step, option_map_or}
-use Rattle.snoop_engine.specs.Frames.{Frame}
-use Rattle.snoop_engine.specs.Taken.{lines_of_step}
-use Rattle.snoop_engine.specs.declared.taken.Taken.{Taken}
-use Rattle.snoop_engine.specs.declared.taken.Taken.TheVariants.{Core}
-use Rattle.snoop_counts.specs.Causes.{cause_of, item_of, operation_in}
-use Rattle.snoop_counts.specs.Counted.{counts_cause, is_counted, is_miss, times_counted}
-use Rattle.snoop_counts.specs.Happenings.{happenings, seen_after, seen_in}
-use Rattle.snoop_counts.specs.Laws.{CausesAreAll, PartsAddUp}
-use Rattle.snoop_counts.specs.declared.count.Cause.{Cause}
+use Rattle.std.{specs.Prelude.{◌||◌, ◌&&◌, Option, Some, None, Result, option_to_list, if◌then◌else◌}, proofs.lemmas.List.Elements.{All-map, filter-append}}
+use Rattle.snoop_engine.{proofs.Common.{All-append, All-head, All-nil, All-tail, Did, Item, Refused, Reply, Step, option_map_or}, specs.Frames.Frame}
+use Rattle.snoop_engine.specs.{Taken.lines_of_step, declared.taken.Taken.{Taken, TheVariants.Core}}
+use Rattle.snoop_counts.specs.{Causes.{cause_of, item_of, operation_in}, Counted.{counts_cause, is_counted, is_miss, times_counted}, declared.count.Cause.Cause}
+use Rattle.snoop_counts.specs.{Happenings.{happenings, seen_after, seen_in}, Laws.{CausesAreAll, PartsAddUp}, declared.count.{Count.Count, Happening.Happening}}
 use Rattle.snoop_counts.specs.declared.count.Cause.TheVariants as cause
-use Rattle.snoop_counts.specs.declared.count.Count.{Count}
 use Rattle.snoop_counts.specs.declared.count.Count.TheVariants as count
-use Rattle.snoop_counts.specs.declared.count.Happening.{Happening}
 use Rattle.snoop_counts.specs.declared.count.Happening.TheVariants as happening
-use Rattle.snoop_counts.specs.declared.count.Subjects.{Subjects}
+use Rattle.snoop_counts.{specs.declared.count.Subjects.Subjects, proofs.CountedLemmas.not_refused}
 use Rattle.snoop_counts.specs.declared.count.Subjects.TheVariants as subjects
-use Rattle.snoop_counts.proofs.CountedLemmas.{not_refused}
 
 -- what can be counted of steps that are cut in two
 pub seen_cut : (earlier first rest : List Frame) → seen_after earlier (first ++ rest) ≡ seen_after earlier first ++ seen_after (earlier ++ first) rest

@@ -1,17 +1,11 @@
 -- A list that falls, with those that tie in the order of another, is the other one ranked.
 use Rattle.std.proofs.Common.{◌≡◌, ℕ, suc, ◌+◌, ◌<◌, ◌≤◌, Bool, true, false, cond, List, [], ◌∷◌, ◌++◌, All, filter, length, get_or, take, drop, append-nil, refl, sym, ap, subst, ◌∙◌, append_assoc, inl, inr, arith}
-use Rattle.std.specs.Prelude.{◌==◌, fold, nat_lt, not, position, unwrap_or}
-use Rattle.std.specs.List.{position_or_len}
-use Rattle.std.specs.Cmp.{IsStrictWeakOrder}
-use Rattle.std.specs.List.Sorted.{IsSortedBy, IsStableBy, ties}
-use Rattle.std.proofs.lemmas.Bool.{cases_lt, eq-eqb, eqb-true, le-ltb, lt-ltb, ltb-false, ne_eqb}
-use Rattle.std.proofs.lemmas.Bool.Decides.{nat_tests}
+use Rattle.std.specs.{Prelude.{◌==◌, fold, nat_lt, not, position, unwrap_or}, List.position_or_len, Cmp.IsStrictWeakOrder}
+use Rattle.std.{specs.List.Sorted.{IsSortedBy, IsStableBy, ties}, proofs.lemmas.Bool.{cases_lt, eq-eqb, eqb-true, le-ltb, lt-ltb, ltb-false, ne_eqb}}
+use Rattle.std.proofs.lemmas.{Bool.Decides.nat_tests, List.Sums.prefix_len-le-length}
 use Rattle.std.proofs.lemmas.List.Elements.{All-cons, All-filter, All-head, All-nil, All-tail, All-weaker, filter-append, filter_agree}
-use Rattle.std.proofs.lemmas.List.Sums.{prefix_len-le-length}
 use Rattle.std.proofs.lemmas.List.Sorted.{IsStrictWeakOrder-by_number, IsStrictWeakOrder-flip, sorted_far}
-use Rattle.snoop_counts.specs.ByBlock.{placed, ranked}
-use Rattle.snoop_counts.specs.declared.ranking.Ranked.{Ranked}
-use Rattle.snoop_counts.proofs.BlockLemmas.{all_placed}
+use Rattle.snoop_counts.{specs.{ByBlock.{placed, ranked}, declared.ranking.Ranked.Ranked}, proofs.BlockLemmas.all_placed}
 
 -- the first goes before the second: it has more requests
 abbrev pub goes_before : Ranked → Ranked → Bool

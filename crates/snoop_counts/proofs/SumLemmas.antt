@@ -1,49 +1,26 @@
 -- Sums of counts over cores, over blocks, and over the words of a block: those of the report, and of what cores do to others.
 use Rattle.std.proofs.Common.{◌≡◌, ℕ, zero, suc, ◌+◌, ◌<◌, Bool, true, false, cond, List, [], ◌∷◌, ◌++◌, All, filter, length, length-append, get_or, map, refl, sym, ap, append_assoc, append-nil, ◌∙◌, inl, inr, arith, ◌*◌, ◌^◌, ◌≤◌}
-use Rattle.std.specs.Prelude.{◌&&◌, ◌==◌, IsSomeAnd, Option, Some, None, Result, Ok, Err, nat_lt, option_to_list, slice_get, is_some, not}
-use Rattle.std.specs.List.{flat_map, sum_by}
-use Rattle.std.specs.Option.{ForSome}
-use Rattle.std.proofs.lemmas.Bool.{and_left, and_from, and_right, eq-eqb, false≢true, lt-ltb, ne_eqb}
-use Rattle.std.proofs.lemmas.List.Elements.{filter-append, filter_agree}
-use Rattle.std.proofs.lemmas.List.Folds.{fold-map, fold_stays}
-use Rattle.std.proofs.lemmas.List.Sums.{length-filter, sum_by_from}
-use Rattle.std.proofs.Math.Bool.{or-false}
+use Rattle.std.specs.{Prelude.{◌&&◌, ◌==◌, IsSomeAnd, Option, Some, None, Result, Ok, Err, nat_lt, option_to_list, slice_get, is_some, not}, Option.ForSome}
+use Rattle.std.{specs.List.{flat_map, sum_by}, proofs.{lemmas.Bool.{and_left, and_from, and_right, eq-eqb, false≢true, lt-ltb, ne_eqb}, Math.Bool.or-false}}
+use Rattle.std.proofs.lemmas.List.{Elements.{filter-append, filter_agree}, Folds.{fold-map, fold_stays}, Sums.{length-filter, sum_by_from}}
 use Rattle.std.proofs.lemmas.Nat.{mul-add-lt, mul-le, same_from_place}
-use Rattle.snoop_model.proofs.Common.{CacheAction, Payload, Takes, came_of, nothing_there}
+use Rattle.snoop_model.{proofs.Common.{CacheAction, Payload, Takes, came_of, nothing_there}, specs.Pictures.Situation.IsShaped}
 use Rattle.snoop_engine.proofs.Common.{All-append, All-cons, All-head, All-nil, All-tail, ArrivesFor, Ask, CacheEvent, CacheState, ConsultsCache, Did, Extent, GoesFirst, I, Item, Line, Op, Open, Order, Picture, Protocol, PutM, Refused, Reply, Request, Respond, Situation, Step, arrival, asked, cases_eq, cases_lt, get_or_past, held_by, nat_tests, nothing_held, picture_of, range_with_len, reset, same_Some, state_of, waiting_request}
 use Rattle.snoop_trace.specs.Extent.{IsWithinLimits}
 use Rattle.snoop_trace.specs.declared.step.Op.TheVariants as op
 use Rattle.snoop_rules.specs.declared.names.CacheAction.TheVariants as action
-use Rattle.snoop_rules.specs.declared.names.CacheEvent.TheVariants.{OtherGetM}
-use Rattle.snoop_rules.specs.declared.names.CacheState.TheVariants.{S, SmAd}
-use Rattle.snoop_rules.specs.declared.names.Payload.TheVariants.{Data}
-use Rattle.snoop_history.specs.Totals.{how_many, totals_of, is_put_m, performed}
-use Rattle.snoop_history.specs.Within.{IsItemWithin, block_of}
+use Rattle.snoop_rules.specs.declared.names.{CacheEvent.TheVariants.OtherGetM, CacheState.TheVariants.{S, SmAd}, Payload.TheVariants.Data}
+use Rattle.snoop_history.specs.{Totals.{how_many, totals_of, is_put_m, performed}, Within.{IsItemWithin, block_of}}
 use Rattle.snoop_history.specs.declared.items.Item.TheVariants as item
-use Rattle.snoop_model.specs.Pictures.Situation.{IsShaped}
-use Rattle.snoop_model.proofs.Invariant.Runs.{reset_invariant}
-use Rattle.snoop_model.proofs.Queues.Moves.{keeps_well, starts_well}
-use Rattle.snoop_model.proofs.Runs.GoOn.{IsSteady, steady_on}
-use Rattle.snoop_engine.specs.Frames.{Frame, FramesFrom}
-use Rattle.snoop_engine.specs.Taken.{lines_of_step}
-use Rattle.snoop_engine.specs.declared.taken.Taken.{Taken}
-use Rattle.snoop_engine.specs.TrueLines.{FitsStep}
-use Rattle.snoop_engine.specs.declared.taken.Taken.TheVariants.{Core}
-use Rattle.snoop_engine.proofs.FrameLemmas.{frames_keep}
-use Rattle.snoop_engine.proofs.RangeLemmas.{filter_range}
-use Rattle.snoop_engine.proofs.TrueLines.{lines_fit}
-use Rattle.snoop_counts.specs.Causes.{cause_of, item_of, operation_in}
+use Rattle.snoop_model.proofs.{Invariant.Runs.reset_invariant, Queues.Moves.{keeps_well, starts_well}, Runs.GoOn.{IsSteady, steady_on}}
+use Rattle.snoop_engine.specs.{Frames.{Frame, FramesFrom}, Taken.lines_of_step, declared.taken.Taken.{Taken, TheVariants.Core}, TrueLines.FitsStep}
+use Rattle.snoop_engine.proofs.{FrameLemmas.frames_keep, RangeLemmas.filter_range, TrueLines.lines_fit}
+use Rattle.snoop_counts.specs.{Causes.{cause_of, item_of, operation_in}, Happenings.{happenings, seen_after}, declared.count.{Cause.Cause, Count.Count}}
 use Rattle.snoop_counts.specs.Counted.{core_counted, counts, counts_item, is_counted, is_it, own_core, subject_of, times_counted, has_row, is_invalidation, named_place, own_word, place_of_word, requestor_of, response_sender}
-use Rattle.snoop_counts.specs.Happenings.{happenings, seen_after}
-use Rattle.snoop_counts.specs.Laws.{SumsAreTotals, WordsAddUp, sum_of, sum_of_words, sums_of}
-use Rattle.snoop_counts.specs.declared.count.Cause.{Cause}
-use Rattle.snoop_counts.specs.declared.count.Count.{Count}
+use Rattle.snoop_counts.specs.{Laws.{SumsAreTotals, WordsAddUp, sum_of, sum_of_words, sums_of}, declared.count.{Happening.Happening, Subjects.Subjects}}
 use Rattle.snoop_counts.specs.declared.count.Count.TheVariants as count
-use Rattle.snoop_counts.specs.declared.count.Happening.{Happening}
 use Rattle.snoop_counts.specs.declared.count.Happening.TheVariants as happening
-use Rattle.snoop_counts.specs.declared.count.Subjects.{Subjects}
-use Rattle.snoop_counts.specs.declared.count.Subjects.TheVariants.{Blocks, Cores, Words}
-use Rattle.snoop_counts.proofs.CountedLemmas.{IsOfItems, no_line, no_cause, not_refused}
+use Rattle.snoop_counts.{specs.declared.count.Subjects.TheVariants.{Blocks, Cores, Words}, proofs.CountedLemmas.{IsOfItems, no_line, no_cause, not_refused}}
 use Rattle.snoop_counts.proofs.LawLemmas.{kept_if, once, all_seen}
 
 -- what the steps add to the history

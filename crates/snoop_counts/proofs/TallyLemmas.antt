@@ -1,29 +1,18 @@
 -- Rows of counters, and how they go up.
 use Rattle.std.proofs.Common.{◌≡◌, ℕ, ◌+◌, ◌<◌, Bool, true, false, cond, List, [], ◌∷◌, ◌++◌, filter, length, get_or, get_or-set_other, map, take, refl, sym, ap, append_assoc, subst, ◌∙◌, inl, inr, arith}
-use Rattle.std.specs.Prelude.{◌&&◌, ◌==◌, Option, Some, None, Ok, Err, fold, option_map, slice_get, if◌then◌else◌}
-use Rattle.std.proofs.Math.Bool.{and-true}
-use Rattle.std.proofs.lemmas.Bool.{and_left, and_right, cases_Bool}
-use Rattle.std.proofs.lemmas.Grind.{get_or-set_at}
-use Rattle.std.proofs.lemmas.List.{length-set}
-use Rattle.std.proofs.lemmas.List.Folds.{fold_stays}
-use Rattle.std.proofs.lemmas.List.Sums.{length-filter, sum_by_push}
-use Rattle.std.proofs.lemmas.Option.{gets, slice_get-map, slice_get_within}
+use Rattle.std.{specs.Prelude.{◌&&◌, ◌==◌, Option, Some, None, Ok, Err, fold, option_map, slice_get, if◌then◌else◌}, proofs.Math.Bool.and-true}
+use Rattle.std.proofs.lemmas.{Bool.{and_left, and_right, cases_Bool}, Grind.get_or-set_at, List.{length-set, Folds.fold_stays}}
+use Rattle.std.proofs.lemmas.{List.Sums.{length-filter, sum_by_push}, Option.{gets, slice_get-map, slice_get_within}}
 use Rattle.snoop_engine.proofs.Common.{nat_tests, option_map_or, same_Some, take_more}
-use Rattle.snoop_history.specs.Journal.{counted}
-use Rattle.snoop_history.specs.Totals.{capped}
+use Rattle.snoop_history.specs.{Journal.counted, Totals.capped}
 use Rattle.snoop_history.specs.declared.items.Item.TheVariants as item
-use Rattle.snoop_counts.specs.Counted.{counts, is_counted, is_it, subject_of, times_counted}
+use Rattle.snoop_counts.specs.{Counted.{counts, is_counted, is_it, subject_of, times_counted}, declared.count.{Count.Count, Happening.Happening}}
 use Rattle.snoop_blocks.specs.Places.{changed_at}
 use Rattle.snoop_counts.specs.Tally.{HasCounted, counter_in, number, own_raised, raised_all, raised_by, raised_if, raised_row, row_at, tried}
-use Rattle.snoop_counts.specs.declared.count.Count.{Count}
 use Rattle.snoop_counts.specs.declared.count.Count.TheVariants as count
-use Rattle.snoop_counts.specs.declared.count.Happening.{Happening}
 use Rattle.snoop_counts.specs.declared.count.Happening.TheVariants as happening
-use Rattle.snoop_counts.specs.declared.count.Subjects.{Subjects}
+use Rattle.snoop_counts.{specs.declared.{count.Subjects.Subjects, tally.{Counters.Counters, Tally.Tally}}, proofs.CountedLemmas.{no_cause, no_row}}
 use Rattle.snoop_counts.specs.declared.count.Subjects.TheVariants as subjects
-use Rattle.snoop_counts.specs.declared.tally.Counters.{Counters}
-use Rattle.snoop_counts.specs.declared.tally.Tally.{Tally}
-use Rattle.snoop_counts.proofs.CountedLemmas.{no_cause, no_row}
 
 -- all counts, by their places
 abbrev all_counts : List Count

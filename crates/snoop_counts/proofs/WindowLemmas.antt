@@ -1,14 +1,10 @@
 -- The last so many steps, and one step more.
 use Rattle.std.proofs.Common.{◌≡◌, ℕ, suc, ◌+◌, ◌-◌, ◌%◌, ◌<◌, ◌≤◌, ◌⊎◌, Bool, List, [], ◌∷◌, ◌++◌, drop, length, length-append, refl, take, sym, ap, ◌∙◌, inl, inr, arith}
-use Rattle.std.specs.Prelude.{if◌then◌else◌}
-use Rattle.std.proofs.Math.Nat.{mod-eq_of_lt, mod-le, mod-lt, mod_self, suc-mod}
-use Rattle.std.proofs.lemmas.Bool.{cases_eq, eq-eqb, ne_eqb}
+use Rattle.std.{specs.Prelude.{if◌then◌else◌}, proofs.{Math.Nat.{mod-eq_of_lt, mod-le, mod-lt, mod_self, suc-mod}, lemmas.Bool.{cases_eq, eq-eqb, ne_eqb}}}
 use Rattle.std.proofs.lemmas.List.{drop-append-le, drop_all, take-append-drop, take-append-le}
 use Rattle.snoop_model.specs.Pictures.Situation.{Situation}
 use Rattle.snoop_engine.specs.Frames.{Frame}
-use Rattle.snoop_counts.specs.BySteps.{seen_last, steps_fields, steps_left, steps_line, steps_shown}
-use Rattle.snoop_counts.specs.Happenings.{seen_in}
-use Rattle.snoop_counts.proofs.LawLemmas.{seen_on}
+use Rattle.snoop_counts.{specs.{BySteps.{seen_last, steps_fields, steps_left, steps_line, steps_shown}, Happenings.seen_in}, proofs.LawLemmas.seen_on}
 
 -- one step more
 pub seen_last_more : (size : ℕ) (frames : List Frame) (frame : Frame) → size ≤ length frames → seen_last (size + 1) (frames ++ frame ∷ []) ≡ seen_last size frames ++ seen_in frames frame

@@ -1,11 +1,8 @@
 -- What the table by block has counted.
 -- Source: this project's profile.
 use Rattle.std.specs.Prelude.{ℕ, List}
-use Rattle.snoop_counts.specs.Sharers.{HasMarked}
-use Rattle.snoop_counts.specs.Tally.{HasCounted}
-use Rattle.snoop_counts.specs.declared.block_tally.BlockTally.{BlockTally}
+use Rattle.snoop_counts.specs.{Sharers.HasMarked, Tally.HasCounted, declared.{block_tally.BlockTally.BlockTally, count.Happening.Happening}}
 use Rattle.snoop_counts.specs.declared.count.Count.TheVariants as count
-use Rattle.snoop_counts.specs.declared.count.Happening.{Happening}
 use Rattle.snoop_counts.specs.declared.count.Subjects.TheVariants.{Blocks}
 
 -- the counters, and the cores that a line names, that loaded and that stored, of so many blocks, after this has happened

@@ -1,22 +1,14 @@
 -- The counts of each block, as a text of fields.
 -- Source: the fields and their form are this project's profile.
 use Rattle.std.specs.Prelude.{ℕ, ◌+◌, List, [], ◌∷◌, ◌++◌, codes, filter, fold, insert, length, map, nat_lt, position, take, unwrap_or, Option, Some, None}
-use Rattle.std.specs.Fmt.{decimal}
-use Rattle.std.specs.List.{flat_map, range_with_len}
-use Rattle.snoop_trace.specs.Extent.{Extent}
-use Rattle.snoop_trace.specs.Output.{address_of}
+use Rattle.std.specs.{Fmt.decimal, List.{flat_map, range_with_len}}
+use Rattle.snoop_trace.specs.{Extent.Extent, Output.address_of}
 use Rattle.snoop_history.specs.Totals.{capped}
 use Rattle.snoop_model.specs.Pictures.Situation.{Situation}
 use Rattle.snoop_engine.specs.Frames.{Frame}
-use Rattle.snoop_counts.specs.CoreTable.{count_fields}
-use Rattle.snoop_counts.specs.Counted.{counted_of, is_named}
-use Rattle.snoop_counts.specs.Happenings.{happenings}
-use Rattle.snoop_counts.specs.Sharers.{sharers}
-use Rattle.snoop_counts.specs.declared.ranking.Ranked.{Ranked}
-use Rattle.snoop_counts.specs.declared.count.Count.{Count}
+use Rattle.snoop_counts.specs.{CoreTable.count_fields, Counted.{counted_of, is_named}, Happenings.happenings, Sharers.sharers, declared.ranking.Ranked.Ranked}
+use Rattle.snoop_counts.specs.declared.count.{Count.Count, Happening.Happening, Subjects.TheVariants.Blocks}
 use Rattle.snoop_counts.specs.declared.count.Count.TheVariants as count
-use Rattle.snoop_counts.specs.declared.count.Happening.{Happening}
-use Rattle.snoop_counts.specs.declared.count.Subjects.TheVariants.{Blocks}
 
 -- the names of the fields
 abbrev pub block_header : List ℕ

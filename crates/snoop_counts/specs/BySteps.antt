@@ -1,17 +1,10 @@
 -- The counts of the whole machine for each so many steps, as a text of fields.
 -- Source: the fields and their form are this project's profile.
-use Rattle.std.specs.Prelude.{ℕ, ◌+◌, ◌-◌, ◌%◌, ◌==◌, List, [], ◌∷◌, ◌++◌, codes, drop, length, take, if◌then◌else◌}
-use Rattle.std.specs.Fmt.{decimal}
+use Rattle.std.specs.{Prelude.{ℕ, ◌+◌, ◌-◌, ◌%◌, ◌==◌, List, [], ◌∷◌, ◌++◌, codes, drop, length, take, if◌then◌else◌}, Fmt.decimal}
 use Rattle.snoop_model.specs.Pictures.Situation.{Situation}
-use Rattle.snoop_engine.specs.Frames.{Frame}
-use Rattle.snoop_engine.specs.Views.{view_text}
-use Rattle.snoop_counts.specs.CoreTable.{core_counts, count_fields}
-use Rattle.snoop_counts.specs.Counted.{counted_of}
-use Rattle.snoop_counts.specs.Happenings.{seen_after}
-use Rattle.snoop_counts.specs.declared.count.Count.{Count}
-use Rattle.snoop_counts.specs.declared.count.Count.TheVariants.{NoTransaction}
-use Rattle.snoop_counts.specs.declared.count.Happening.{Happening}
-use Rattle.snoop_counts.specs.declared.count.Subjects.TheVariants.{Machine}
+use Rattle.snoop_engine.specs.{Frames.Frame, Views.view_text}
+use Rattle.snoop_counts.specs.{CoreTable.{core_counts, count_fields}, Counted.counted_of, Happenings.seen_after, declared.count.Count.Count}
+use Rattle.snoop_counts.specs.declared.count.{Count.TheVariants.NoTransaction, Happening.Happening, Subjects.TheVariants.Machine}
 
 -- the names of the fields
 abbrev pub steps_header : List ℕ

@@ -1,20 +1,12 @@
 -- The counts of each word of the blocks that cores share, as a text of fields.
 -- Source: the fields and their form are this project's profile.
-use Rattle.std.specs.Prelude.{ℕ, Bool, List, [], ◌∷◌, ◌++◌, codes, nat_lt, if◌then◌else◌}
-use Rattle.std.specs.Fmt.{decimal}
-use Rattle.std.specs.List.{flat_map, range_with_len}
-use Rattle.snoop_trace.specs.Extent.{Extent}
-use Rattle.snoop_trace.specs.Output.{word_address}
+use Rattle.std.specs.{Prelude.{ℕ, Bool, List, [], ◌∷◌, ◌++◌, codes, nat_lt, if◌then◌else◌}, Fmt.decimal, List.{flat_map, range_with_len}}
+use Rattle.snoop_trace.specs.{Extent.Extent, Output.word_address}
 use Rattle.snoop_model.specs.Pictures.Situation.{Situation}
 use Rattle.snoop_engine.specs.Frames.{Frame}
-use Rattle.snoop_counts.specs.CoreTable.{count_fields}
-use Rattle.snoop_counts.specs.Counted.{counted_of, place_of_word}
-use Rattle.snoop_counts.specs.Happenings.{happenings}
-use Rattle.snoop_counts.specs.Sharers.{sharers}
-use Rattle.snoop_counts.specs.declared.count.Count.{Count}
+use Rattle.snoop_counts.specs.{CoreTable.count_fields, Counted.{counted_of, place_of_word}, Happenings.happenings, Sharers.sharers, declared.count.Count.Count}
 use Rattle.snoop_counts.specs.declared.count.Count.TheVariants as count
-use Rattle.snoop_counts.specs.declared.count.Happening.{Happening}
-use Rattle.snoop_counts.specs.declared.count.Subjects.TheVariants.{Blocks, Words}
+use Rattle.snoop_counts.specs.declared.count.{Happening.Happening, Subjects.TheVariants.{Blocks, Words}}
 
 -- the names of the fields
 abbrev pub word_header : List ℕ

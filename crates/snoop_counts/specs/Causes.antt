@@ -1,19 +1,11 @@
 -- Why a core had no copy at a miss.
 -- Source: this project's profile.
-use Rattle.std.specs.Prelude.{ℕ, ◌-◌, ◌&&◌, Bool, List, length, false, nat_lt, reverse, slice_get, Option, Some, None, if◌then◌else◌}
+use Rattle.std.specs.{Prelude.{ℕ, ◌-◌, ◌&&◌, Bool, List, length, false, nat_lt, reverse, slice_get, Option, Some, None, if◌then◌else◌}, Option.option_map_or}
 use Rattle.std.specs.List.{list_any, position_or_len}
-use Rattle.std.specs.Option.{option_map_or}
-use Rattle.snoop_rules.specs.declared.names.CacheEvent.{CacheEvent}
-use Rattle.snoop_rules.specs.declared.names.CacheState.{CacheState}
-use Rattle.snoop_history.specs.declared.items.Did.{Did}
-use Rattle.snoop_history.specs.declared.items.Item.{Item}
-use Rattle.snoop_history.specs.History.{is_store_to, operation_of}
-use Rattle.snoop_engine.specs.Frames.{Frame}
-use Rattle.snoop_engine.specs.Taken.{lines_of_step}
-use Rattle.snoop_engine.specs.declared.taken.Taken.{Taken}
-use Rattle.snoop_engine.specs.declared.taken.Taken.TheVariants.{Core, Memory, Nobody}
-use Rattle.snoop_counts.specs.Counted.{block_named, core_named, has_row, is_giving_up, is_it, is_loss, is_miss}
-use Rattle.snoop_counts.specs.declared.count.Cause.{Cause}
+use Rattle.snoop_rules.specs.declared.names.{CacheEvent.CacheEvent, CacheState.CacheState}
+use Rattle.snoop_history.specs.{declared.items.{Did.Did, Item.Item}, History.{is_store_to, operation_of}}
+use Rattle.snoop_engine.specs.{Frames.Frame, Taken.lines_of_step, declared.taken.Taken.{Taken, TheVariants.{Core, Memory, Nobody}}}
+use Rattle.snoop_counts.specs.{Counted.{block_named, core_named, has_row, is_giving_up, is_it, is_loss, is_miss}, declared.count.Cause.Cause}
 use Rattle.snoop_counts.specs.declared.count.Cause.TheVariants.{Cold, GivenUp, TrueSharing, FalseSharing}
 
 -- the number of the last of these steps that passes the test, from 1; 0 where none does

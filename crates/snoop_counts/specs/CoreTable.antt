@@ -1,16 +1,11 @@
 -- The counts of each core, as a text of fields.
 -- Source: the fields and their form are this project's profile.
-use Rattle.std.specs.Prelude.{ℕ, List, [], ◌∷◌, ◌++◌, codes, if◌then◌else◌}
-use Rattle.std.specs.Fmt.{decimal}
-use Rattle.std.specs.List.{flat_map, range_with_len}
+use Rattle.std.specs.{Prelude.{ℕ, List, [], ◌∷◌, ◌++◌, codes, if◌then◌else◌}, Fmt.decimal, List.{flat_map, range_with_len}}
 use Rattle.snoop_trace.specs.Extent.{Extent}
 use Rattle.snoop_model.specs.Pictures.Situation.{Situation}
 use Rattle.snoop_engine.specs.Frames.{Frame}
-use Rattle.snoop_counts.specs.Counted.{counted_of, is_named}
-use Rattle.snoop_counts.specs.Happenings.{happenings}
-use Rattle.snoop_counts.specs.declared.count.Count.{Count}
+use Rattle.snoop_counts.specs.{Counted.{counted_of, is_named}, Happenings.happenings, declared.count.{Count.Count, Happening.Happening}}
 use Rattle.snoop_counts.specs.declared.count.Count.TheVariants as count
-use Rattle.snoop_counts.specs.declared.count.Happening.{Happening}
 use Rattle.snoop_counts.specs.declared.count.Subjects.TheVariants.{Cores}
 
 -- the fields of these counts, a comma before each

@@ -3,28 +3,18 @@
 use Rattle.std.specs.Prelude.{ℕ, ◌+◌, ◌*◌, ◌^◌, ◌==◌, ◌&&◌, ◌||◌, Bool, true, false, not, is_some, is_none, List, filter, length, nat_lt, Option, Some, None, Result, Ok, Err, if◌then◌else◌}
 use Rattle.std.specs.Option.{option_map_or}
 use Rattle.snoop_trace.specs.declared.step.Step.TheVariants.{Order}
-use Rattle.snoop_rules.specs.declared.names.CacheEvent.{CacheEvent}
-use Rattle.snoop_rules.specs.declared.names.CacheEvent.TheVariants.{Evict, OwnGetM, OtherGetS, OtherGetM, Data, DataE}
-use Rattle.snoop_rules.specs.declared.names.CacheState.{CacheState}
+use Rattle.snoop_rules.specs.declared.names.{CacheEvent.{CacheEvent, TheVariants.{Evict, OwnGetM, OtherGetS, OtherGetM, Data, DataE}}, CacheState.CacheState}
 use Rattle.snoop_rules.specs.declared.names.CacheState.TheVariants.{IsD, ImD, S, SmAd, E, M, EiA, MiA}
-use Rattle.snoop_history.specs.declared.items.Came.{Came}
-use Rattle.snoop_history.specs.declared.items.Item.{Item}
+use Rattle.snoop_history.specs.{declared.items.{Came.Came, Item.Item}, History.operation_of, Within.{block_of, core_of}}
 use Rattle.snoop_history.specs.declared.items.Item.TheVariants as item
-use Rattle.snoop_history.specs.History.{operation_of}
 use Rattle.snoop_history.specs.Totals.{capped, is_data, is_get_m, is_get_s, is_no_data, is_no_data_e, is_put_m, ordered, performed, responded}
-use Rattle.snoop_history.specs.Within.{block_of, core_of}
-use Rattle.snoop_model.specs.declared.replies.Reply.{Reply}
-use Rattle.snoop_model.specs.declared.replies.Refused.{Refused}
+use Rattle.snoop_model.specs.declared.replies.{Reply.Reply, Refused.Refused}
 use Rattle.snoop_model.specs.declared.replies.Refused.TheVariants as refused
-use Rattle.snoop_engine.specs.declared.taken.Taken.{Taken}
-use Rattle.snoop_engine.specs.declared.taken.Taken.TheVariants.{Core, Memory, Nobody}
-use Rattle.snoop_counts.specs.declared.count.Cause.{Cause}
+use Rattle.snoop_engine.specs.declared.taken.Taken.{Taken, TheVariants.{Core, Memory, Nobody}}
+use Rattle.snoop_counts.specs.declared.count.{Cause.Cause, Count.Count, Happening.Happening, Subjects.Subjects}
 use Rattle.snoop_counts.specs.declared.count.Cause.TheVariants as cause
-use Rattle.snoop_counts.specs.declared.count.Count.{Count}
 use Rattle.snoop_counts.specs.declared.count.Count.TheVariants as count
-use Rattle.snoop_counts.specs.declared.count.Happening.{Happening}
 use Rattle.snoop_counts.specs.declared.count.Happening.TheVariants as happening
-use Rattle.snoop_counts.specs.declared.count.Subjects.{Subjects}
 use Rattle.snoop_counts.specs.declared.count.Subjects.TheVariants as subjects
 
 -- a miss: an operation is performed with data that came because the core had no copy

@@ -1,10 +1,8 @@
 -- What can be counted of a run.
 -- Source: this project's profile.
 use Rattle.std.specs.Prelude.{List, [], ◌∷◌, ◌++◌, map, option_to_list}
-use Rattle.snoop_engine.specs.Frames.{Frame}
-use Rattle.snoop_engine.specs.Taken.{lines_of_step}
-use Rattle.snoop_counts.specs.Causes.{cause_of, item_of, operation_in}
-use Rattle.snoop_counts.specs.declared.count.Happening.{Happening}
+use Rattle.snoop_engine.specs.{Frames.Frame, Taken.lines_of_step}
+use Rattle.snoop_counts.specs.{Causes.{cause_of, item_of, operation_in}, declared.count.Happening.Happening}
 use Rattle.snoop_counts.specs.declared.count.Happening.TheVariants as happening
 
 -- what can be counted of a step: its lines, with what was answered to it and the causes of misses, and what it adds to the history

@@ -1,17 +1,10 @@
 -- The last steps in which something happened to a core or a word of a block.
 -- Source: this project's profile.
-use Rattle.std.specs.Prelude.{◌≡◌, ℕ, Bool, false, List, Option, slice_get, slice_index, if◌then◌else◌}
-use Rattle.std.specs.List.{list_any}
-use Rattle.std.specs.Option.{option_map_or}
-use Rattle.snoop_history.specs.declared.items.Did.{Did}
-use Rattle.snoop_history.specs.History.{is_store_to}
-use Rattle.snoop_engine.specs.Frames.{Frame}
-use Rattle.snoop_engine.specs.declared.taken.Taken.{Taken}
-use Rattle.snoop_counts.specs.Causes.{gives_up, is_stored_to, last_step, loses, takes_such_row}
-use Rattle.snoop_counts.specs.Counted.{is_giving_up, is_loss}
-use Rattle.snoop_counts.specs.declared.copies.Copies.{Copies}
-use Rattle.snoop_counts.specs.declared.last_steps.LastSteps.{LastSteps}
-use Rattle.snoop_counts.specs.declared.last_steps.Row.{Row}
+use Rattle.std.specs.{Prelude.{◌≡◌, ℕ, Bool, false, List, Option, slice_get, slice_index, if◌then◌else◌}, List.list_any, Option.option_map_or}
+use Rattle.snoop_history.specs.{declared.items.Did.Did, History.is_store_to}
+use Rattle.snoop_engine.specs.{Frames.Frame, declared.taken.Taken.Taken}
+use Rattle.snoop_counts.specs.{Causes.{gives_up, is_stored_to, last_step, loses, takes_such_row}, Counted.{is_giving_up, is_loss}, declared.last_steps.Row.Row}
+use Rattle.snoop_counts.specs.declared.{copies.Copies.Copies, last_steps.LastSteps.LastSteps}
 
 -- the number that stands in the row of a block, for a core or a word; 0 past its end
 abbrev pub number_at : List Row → ℕ → ℕ → ℕ

@@ -1,19 +1,12 @@
 -- What holds of all tables of counts.
 -- Source: this project's profile.
-use Rattle.std.specs.Prelude.{◌≡◌, ℕ, ◌+◌, List, ◌++◌}
-use Rattle.std.specs.List.{range_with_len, sum_by}
+use Rattle.std.specs.{Prelude.{◌≡◌, ℕ, ◌+◌, List, ◌++◌}, List.{range_with_len, sum_by}}
 use Rattle.snoop_trace.specs.Extent.{Extent}
-use Rattle.snoop_history.specs.Totals.{totals_of}
-use Rattle.snoop_history.specs.declared.items.Item.{Item}
-use Rattle.snoop_history.specs.declared.items.Totals.{Totals}
+use Rattle.snoop_history.specs.{Totals.totals_of, declared.items.{Item.Item, Totals.Totals}}
 use Rattle.snoop_engine.specs.Frames.{Frame}
-use Rattle.snoop_counts.specs.Counted.{place_of_word, times_counted}
-use Rattle.snoop_counts.specs.Happenings.{happenings, seen_after}
-use Rattle.snoop_counts.specs.declared.count.Count.{Count}
+use Rattle.snoop_counts.specs.{Counted.{place_of_word, times_counted}, Happenings.{happenings, seen_after}, declared.count.{Count.Count, Happening.Happening}}
 use Rattle.snoop_counts.specs.declared.count.Count.TheVariants as count
-use Rattle.snoop_counts.specs.declared.count.Happening.{Happening}
-use Rattle.snoop_counts.specs.declared.count.Subjects.{Subjects}
-use Rattle.snoop_counts.specs.declared.count.Subjects.TheVariants.{Blocks, Cores, Words}
+use Rattle.snoop_counts.specs.declared.count.Subjects.{Subjects, TheVariants.{Blocks, Cores, Words}}
 
 -- the sum of a count over so many subjects
 abbrev pub sum_of : Subjects → ℕ → List Happening → Count → ℕ

@@ -1,13 +1,8 @@
 -- For which cores something of each block, or each word, was counted.
 -- Source: this project's profile.
-use Rattle.std.specs.Prelude.{◌≡◌, ◌<◌, ℕ, ◌&&◌, Bool, List, filter, length}
-use Rattle.std.specs.List.{list_any, range_with_len}
+use Rattle.std.specs.{Prelude.{◌≡◌, ◌<◌, ℕ, ◌&&◌, Bool, List, filter, length}, List.{list_any, range_with_len}}
 use Rattle.snoop_blocks.specs.CoreSet.{has, set_of}
-use Rattle.snoop_counts.specs.Counted.{is_counted}
-use Rattle.snoop_counts.specs.declared.count.Count.{Count}
-use Rattle.snoop_counts.specs.declared.count.Happening.{Happening}
-use Rattle.snoop_counts.specs.declared.count.Subjects.{Subjects}
-use Rattle.snoop_counts.specs.declared.count.Subjects.TheVariants.{Cores}
+use Rattle.snoop_counts.specs.{Counted.is_counted, declared.count.{Count.Count, Happening.Happening, Subjects.{Subjects, TheVariants.Cores}}}
 use Rattle.snoop_counts.specs.declared.sharers.Sharers.{Sharers}
 
 -- it is counted for the core and for the subject

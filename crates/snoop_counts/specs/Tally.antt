@@ -1,19 +1,14 @@
 -- Counters, a row of them for each core, block or word, or one for the machine, and what they have counted.
 -- Source: this project's profile.
 use Rattle.std.specs.Prelude.{◌≡◌, ◌<◌, ℕ, ◌+◌, true, false, List, [], ◌∷◌, ◌++◌, length, Option, Some, None, Ok, Err, replicate, set, slice_index, slice_index_or, if◌then◌else◌}
-use Rattle.std.specs.List.{fold}
-use Rattle.std.specs.Option.{option_map_or}
+use Rattle.std.specs.{List.fold, Option.option_map_or}
 use Rattle.snoop_blocks.specs.Places.{changed_at}
 use Rattle.snoop_history.specs.Totals.{capped}
 use Rattle.snoop_history.specs.declared.items.Item.TheVariants as item
-use Rattle.snoop_counts.specs.Counted.{counted_of, counts, is_named, subject_of}
-use Rattle.snoop_counts.specs.declared.count.Count.{Count}
+use Rattle.snoop_counts.specs.{Counted.{counted_of, counts, is_named, subject_of}, declared.count.{Count.Count, Happening.Happening, Subjects.Subjects}}
 use Rattle.snoop_counts.specs.declared.count.Count.TheVariants as count
-use Rattle.snoop_counts.specs.declared.count.Happening.{Happening}
 use Rattle.snoop_counts.specs.declared.count.Happening.TheVariants as happening
-use Rattle.snoop_counts.specs.declared.count.Subjects.{Subjects}
-use Rattle.snoop_counts.specs.declared.tally.Counters.{Counters}
-use Rattle.snoop_counts.specs.declared.tally.Tally.{Tally}
+use Rattle.snoop_counts.specs.declared.tally.{Counters.Counters, Tally.Tally}
 
 -- the place of a count among the counters of a row
 abbrev pub number : Count → ℕ

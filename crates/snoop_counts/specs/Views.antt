@@ -1,25 +1,12 @@
 -- What the views of counts have counted of a run.
 -- Source: this project's profile.
-use Rattle.std.specs.Prelude.{◌≡◌, ℕ, List, ◌%◌, Option, IsSomeAnd, length}
-use Rattle.std.specs.Int.NonZero.{non_zero_u64_get}
-use Rattle.snoop_trace.specs.Extent.{Extent}
-use Rattle.snoop_trace.specs.declared.protocol.Protocol.{Protocol}
+use Rattle.std.specs.{Prelude.{◌≡◌, ℕ, List, ◌%◌, Option, IsSomeAnd, length}, Int.NonZero.non_zero_u64_get}
+use Rattle.snoop_trace.specs.{Extent.Extent, declared.protocol.Protocol.Protocol}
 use Rattle.snoop_model.specs.Pictures.Situation.{Situation, reset}
 use Rattle.snoop_engine.specs.Frames.{Frame, FramesFrom}
-use Rattle.snoop_counts.specs.BlockTally.{CountsBlocks}
-use Rattle.snoop_counts.specs.BySteps.{seen_last}
-use Rattle.snoop_counts.specs.Happenings.{happenings}
-use Rattle.snoop_counts.specs.LastSteps.{KnowsLastSteps}
-use Rattle.snoop_counts.specs.Tally.{HasCounted}
-use Rattle.snoop_counts.specs.WordTally.{CountsWords}
-use Rattle.snoop_counts.specs.declared.by_block.ByBlock.{ByBlock}
-use Rattle.snoop_counts.specs.declared.by_core.ByCore.{ByCore}
-use Rattle.snoop_counts.specs.declared.by_steps.BySteps.{BySteps}
-use Rattle.snoop_counts.specs.declared.by_word.ByWord.{ByWord}
-use Rattle.snoop_counts.specs.declared.count.Subjects.{Subjects}
-use Rattle.snoop_counts.specs.declared.count.Subjects.TheVariants.{Cores, Machine}
-use Rattle.snoop_counts.specs.declared.tally.Tally.{Tally}
-use Rattle.snoop_counts.specs.declared.watch.Watch.{Watch}
+use Rattle.snoop_counts.specs.{BlockTally.CountsBlocks, BySteps.seen_last, Happenings.happenings, LastSteps.KnowsLastSteps, Tally.HasCounted}
+use Rattle.snoop_counts.specs.{WordTally.CountsWords, declared.{by_block.ByBlock.ByBlock, by_core.ByCore.ByCore, by_steps.BySteps.BySteps, tally.Tally.Tally}}
+use Rattle.snoop_counts.specs.declared.{by_word.ByWord.ByWord, count.Subjects.{Subjects, TheVariants.{Cores, Machine}}, watch.Watch.Watch}
 
 -- the watch has followed these frames of a run, and seen the history so far
 pub record HasWatched (protocol : Protocol) (shape : Extent) (frames : List Frame) (watch : Watch) : Type 0 where

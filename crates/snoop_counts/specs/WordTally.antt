@@ -2,11 +2,8 @@
 -- Source: this project's profile.
 use Rattle.std.specs.Prelude.{◌*◌, List}
 use Rattle.snoop_trace.specs.Extent.{Extent}
-use Rattle.snoop_counts.specs.Sharers.{HasMarked}
-use Rattle.snoop_counts.specs.Tally.{HasCounted}
+use Rattle.snoop_counts.specs.{Sharers.HasMarked, Tally.HasCounted, declared.count.{Happening.Happening, Subjects.TheVariants.{Blocks, Words}}}
 use Rattle.snoop_counts.specs.declared.count.Count.TheVariants as count
-use Rattle.snoop_counts.specs.declared.count.Happening.{Happening}
-use Rattle.snoop_counts.specs.declared.count.Subjects.TheVariants.{Blocks, Words}
 use Rattle.snoop_counts.specs.declared.word_tally.WordTally.{WordTally}
 
 -- the counters of each word, and the cores that performed an operation on each block and word, a load of each word and a store in it

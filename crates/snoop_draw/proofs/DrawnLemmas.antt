@@ -1,8 +1,6 @@
 -- Another definition of the text that is shown of the run of some steps.
 use Rattle.std.proofs.Common.{◌≡◌, ℕ, List, Option}
-use Rattle.snoop_engine.proofs.Common.{Extent, Protocol, Situation, Step}
-use Rattle.snoop_engine.specs.Frames.{AreFrames, Frame}
-use Rattle.snoop_engine.specs.SimulatedView.{BeginsToShow, ShowsRun}
+use Rattle.snoop_engine.{proofs.Common.{Extent, Protocol, Situation, Step}, specs.{Frames.{AreFrames, Frame}, SimulatedView.{BeginsToShow, ShowsRun}}}
 
 -- two texts that are the same of the frames of some steps
 module _ (protocol : Protocol) (shape : Extent) (steps : List Step) (one other : List Frame → Situation → List ℕ)

@@ -1,8 +1,6 @@
 -- Ranges, one number more.
-use Rattle.std.proofs.Common.{◌≡◌, ℕ, ◌+◌, Bool, if◌then◌else◌, List, [], ◌∷◌, ◌++◌, filter, flat_map, sym}
-use Rattle.std.proofs.lemmas.List.Elements.{filter-append}
-use Rattle.snoop_engine.proofs.Common.{flat_map_more, range_with_len}
-use Rattle.snoop_engine.proofs.RangeLemmas.{more_from_zero}
+use Rattle.std.proofs.{Common.{◌≡◌, ℕ, ◌+◌, Bool, if◌then◌else◌, List, [], ◌∷◌, ◌++◌, filter, flat_map, sym}, lemmas.List.Elements.filter-append}
+use Rattle.snoop_engine.proofs.{Common.{flat_map_more, range_with_len}, RangeLemmas.more_from_zero}
 
 -- one number more of a range
 pub filter_more : (p : ℕ → Bool) (n : ℕ) → filter p (range_with_len 0 (n + 1)) ≡ filter p (range_with_len 0 n) ++ (if p n then n ∷ [] else [])

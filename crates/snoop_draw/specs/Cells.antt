@@ -1,14 +1,8 @@
 -- The cells of a line.
 -- Source: this project's profile.
 use Rattle.std.specs.Prelude.{ℕ, ◌-◌, List, [], ◌∷◌, ◌++◌, codes, length}
-use Rattle.snoop_draw.specs.declared.cells.Cell.{Cell}
-use Rattle.snoop_draw.specs.declared.cells.Link.{Link}
-use Rattle.snoop_draw.specs.declared.cells.Link.TheVariants.{Nothing, FromMemory, ToMemory}
-use Rattle.snoop_draw.specs.declared.marks.Charset.{Charset}
-use Rattle.snoop_draw.specs.declared.marks.Charset.TheVariants.{Ascii}
-use Rattle.snoop_draw.specs.declared.marks.Mark.{Mark}
-use Rattle.snoop_draw.specs.declared.marks.Mark.TheVariants.{Blank, Gets, Tip, Wire}
-use Rattle.snoop_draw.specs.Marks.{mark_text, marks_text}
+use Rattle.snoop_draw.specs.declared.{cells.{Cell.Cell, Link.{Link, TheVariants.{Nothing, FromMemory, ToMemory}}}, marks.Charset.{Charset, TheVariants.Ascii}}
+use Rattle.snoop_draw.specs.{declared.marks.Mark.{Mark, TheVariants.{Blank, Gets, Tip, Wire}}, Marks.{mark_text, marks_text}}
 
 -- words to the left of a field, a blank on either side of them, and the wire in what is left of it; where there are none, the wire alone
 abbrev pub field_text : Charset → Mark → ℕ → List ℕ → List ℕ

@@ -1,30 +1,12 @@
 -- The drawing of a run.
 -- Source: this project's profile.
-use Rattle.std.specs.Prelude.{ℕ, ◌+◌, ◌==◌, List, [], ◌++◌, codes, Option, Result, if◌then◌else◌}
-use Rattle.std.specs.Fmt.{decimal}
-use Rattle.std.specs.List.{flat_map}
-use Rattle.snoop_trace.specs.Extent.{Extent}
-use Rattle.snoop_trace.specs.declared.protocol.Protocol.{Protocol}
-use Rattle.snoop_trace.specs.declared.step.Step.{Step}
-use Rattle.snoop_model.specs.Pictures.Situation.{Situation, reset}
-use Rattle.snoop_model.specs.declared.replies.Reply.{Reply}
-use Rattle.snoop_model.specs.declared.replies.Refused.{Refused}
-use Rattle.snoop_engine.specs.Chosen.{Chosen, is_shown}
-use Rattle.snoop_engine.specs.Frames.{Frame, steps_of}
-use Rattle.snoop_engine.specs.Line.{line_text}
-use Rattle.snoop_engine.specs.Numbered.{numbered_from}
-use Rattle.snoop_engine.specs.Taken.{lines_of_step}
-use Rattle.snoop_engine.specs.Views.{block_of_step}
-use Rattle.snoop_engine.specs.declared.taken.Taken.{Taken}
-use Rattle.snoop_draw.specs.declared.cells.Style.{Style}
-use Rattle.snoop_draw.specs.declared.event.Event.TheVariants.{Before}
-use Rattle.snoop_draw.specs.declared.marks.Charset.{Charset}
-use Rattle.snoop_draw.specs.Cells.{right_text}
-use Rattle.snoop_draw.specs.Events.{event_in}
-use Rattle.snoop_draw.specs.Headings.{heading_text, legend_text}
-use Rattle.snoop_draw.specs.Panels.{Panel, panels_for}
-use Rattle.snoop_draw.specs.Rows.{panel_text}
-use Rattle.snoop_draw.specs.Widths.{widths_for}
+use Rattle.std.specs.{Prelude.{ℕ, ◌+◌, ◌==◌, List, [], ◌++◌, codes, Option, Result, if◌then◌else◌}, Fmt.decimal, List.flat_map}
+use Rattle.snoop_trace.specs.{Extent.Extent, declared.{protocol.Protocol.Protocol, step.Step.Step}}
+use Rattle.snoop_model.specs.{Pictures.Situation.{Situation, reset}, declared.replies.{Reply.Reply, Refused.Refused}}
+use Rattle.snoop_engine.specs.{Chosen.{Chosen, is_shown}, Frames.{Frame, steps_of}, Line.line_text, Numbered.numbered_from, Taken.lines_of_step}
+use Rattle.snoop_engine.specs.{Views.block_of_step, declared.taken.Taken.Taken}
+use Rattle.snoop_draw.specs.{declared.{cells.Style.Style, event.Event.TheVariants.Before, marks.Charset.Charset}, Cells.right_text, Events.event_in}
+use Rattle.snoop_draw.specs.{Headings.{heading_text, legend_text}, Panels.{Panel, panels_for}, Rows.panel_text, Widths.widths_for}
 
 -- how a drawing looks, its panels, and which steps are drawn
 pub record Sheet : Type 0 where

@@ -1,24 +1,15 @@
 -- What happens in a panel at a step.
 -- Source: this project's profile.
 use Rattle.std.specs.Prelude.{ℕ, ◌==◌, ◌&&◌, Bool, true, false, List, ◌∷◌, Option, Some, None, Result, Ok, Err, nat_lt, if◌then◌else◌}
-use Rattle.snoop_trace.specs.declared.step.Step.{Step}
-use Rattle.snoop_trace.specs.declared.step.Step.TheVariants.{Ask, Order, Respond}
-use Rattle.snoop_trace.specs.declared.protocol.Protocol.{Protocol}
-use Rattle.snoop_rules.specs.Cell.{cell_of}
-use Rattle.snoop_rules.specs.declared.names.CacheAction.{CacheAction}
-use Rattle.snoop_rules.specs.declared.names.CacheAction.TheVariants.{Hit}
-use Rattle.snoop_rules.specs.declared.names.CacheCell.{CacheCell}
+use Rattle.snoop_trace.specs.declared.{step.Step.{Step, TheVariants.{Ask, Order, Respond}}, protocol.Protocol.Protocol}
+use Rattle.snoop_rules.specs.{Cell.cell_of, declared.names.{CacheAction.{CacheAction, TheVariants.Hit}, CacheCell.CacheCell, CacheState.CacheState}}
 use Rattle.snoop_rules.specs.declared.names.CacheEvent.TheVariants.{Load, Store}
-use Rattle.snoop_rules.specs.declared.names.CacheState.{CacheState}
 use Rattle.snoop_rules.specs.declared.names.CacheState.TheVariants as state
-use Rattle.snoop_model.specs.declared.replies.Reply.{Reply}
+use Rattle.snoop_model.specs.declared.replies.{Reply.Reply, Refused.Refused}
 use Rattle.snoop_model.specs.declared.replies.Reply.TheVariants.{Issued as WasIssued}
-use Rattle.snoop_model.specs.declared.replies.Refused.{Refused}
 use Rattle.snoop_engine.specs.declared.taken.Taken.{Taken}
 use Rattle.snoop_engine.specs.declared.taken.Taken.TheVariants as line
-use Rattle.snoop_draw.specs.declared.event.Event.{Event}
-use Rattle.snoop_draw.specs.declared.event.Event.TheVariants.{Before, Nothing, Asked, Ordered, Barred, Came, Missing}
-use Rattle.snoop_draw.specs.declared.marks.Mark.{Mark}
+use Rattle.snoop_draw.specs.declared.{event.Event.{Event, TheVariants.{Before, Nothing, Asked, Ordered, Barred, Came, Missing}}, marks.Mark.Mark}
 use Rattle.snoop_draw.specs.declared.marks.Mark.TheVariants as sign
 
 -- the mark of an Ask, by what is answered

@@ -1,22 +1,11 @@
 -- What stands above and below the lines of a drawing.
 -- Source: this project's profile.
-use Rattle.std.specs.Prelude.{ℕ, ◌+◌, ◌-◌, List, ◌++◌, codes, length}
-use Rattle.std.specs.Fmt.{decimal}
-use Rattle.std.specs.List.{flat_map}
-use Rattle.snoop_trace.specs.Extent.{Extent}
-use Rattle.snoop_trace.specs.Output.{address_of}
-use Rattle.snoop_trace.specs.declared.protocol.Protocol.{Protocol}
+use Rattle.std.specs.{Prelude.{ℕ, ◌+◌, ◌-◌, List, ◌++◌, codes, length}, Fmt.decimal, List.flat_map}
+use Rattle.snoop_trace.specs.{Extent.Extent, Output.address_of, declared.protocol.Protocol.Protocol}
 use Rattle.snoop_engine.specs.Words.{capitals}
-use Rattle.snoop_draw.specs.declared.cells.Cell.{Cell}
-use Rattle.snoop_draw.specs.declared.cells.Link.TheVariants.{Nothing}
-use Rattle.snoop_draw.specs.declared.cells.Style.{Style}
-use Rattle.snoop_draw.specs.declared.marks.Charset.{Charset}
-use Rattle.snoop_draw.specs.declared.marks.Charset.TheVariants.{Ascii}
-use Rattle.snoop_draw.specs.declared.marks.Mark.{Mark}
+use Rattle.snoop_draw.specs.declared.{cells.{Cell.Cell, Link.TheVariants.Nothing, Style.Style}, marks.{Charset.{Charset, TheVariants.Ascii}, Mark.Mark}}
 use Rattle.snoop_draw.specs.declared.marks.Mark.TheVariants as sign
-use Rattle.snoop_draw.specs.Cells.{cell_text, field_text, left_text, link_text, right_text}
-use Rattle.snoop_draw.specs.Marks.{mark_text, marks_text}
-use Rattle.snoop_draw.specs.Panels.{Panel}
+use Rattle.snoop_draw.specs.{Cells.{cell_text, field_text, left_text, link_text, right_text}, Marks.{mark_text, marks_text}, Panels.Panel}
 
 -- nothing stands around the words
 abbrev pub bare : Cell

@@ -1,16 +1,11 @@
 -- What holds of every drawing.
 -- Source: "A Primer on Memory Consistency and Cache Coherence", 2nd edition: the single-writer-multiple-reader invariant.
 use Rattle.std.specs.Prelude.{◌≡◌, ◌≢◌, ⊤, ℕ, false, List, [], ◌∷◌}
-use Rattle.snoop_trace.specs.Extent.{Extent}
-use Rattle.snoop_trace.specs.declared.protocol.Protocol.{Protocol}
-use Rattle.snoop_trace.specs.declared.step.Step.{Step}
+use Rattle.snoop_trace.specs.{Extent.Extent, declared.{protocol.Protocol.Protocol, step.Step.Step}}
 use Rattle.snoop_rules.specs.declared.names.CacheState.TheVariants.{I}
 use Rattle.snoop_model.specs.Pictures.Situation.{Situation, state_of}
 use Rattle.snoop_engine.specs.Frames.{AreFrames, Frame}
-use Rattle.snoop_draw.specs.declared.marks.Mark.TheVariants.{Blank, MayWrite}
-use Rattle.snoop_draw.specs.Events.{may}
-use Rattle.snoop_draw.specs.Panels.{asks_somewhere}
-use Rattle.snoop_draw.specs.Rows.{held_in}
+use Rattle.snoop_draw.specs.{declared.marks.Mark.TheVariants.{Blank, MayWrite}, Events.may, Panels.asks_somewhere, Rows.held_in}
 
 -- beside a core that is marked as one that may write, no other has a mark
 abbrev pub HasOneEdge : Situation → Type 0

@@ -1,10 +1,7 @@
 -- The characters of a drawing.
 -- Source: this project's profile.
-use Rattle.std.specs.Prelude.{ℕ, List, [], ◌∷◌, codes}
-use Rattle.std.specs.List.{flat_map, range_with_len}
-use Rattle.snoop_draw.specs.declared.marks.Charset.{Charset}
-use Rattle.snoop_draw.specs.declared.marks.Charset.TheVariants.{Unicode, Ascii}
-use Rattle.snoop_draw.specs.declared.marks.Mark.{Mark}
+use Rattle.std.specs.{Prelude.{ℕ, List, [], ◌∷◌, codes}, List.{flat_map, range_with_len}}
+use Rattle.snoop_draw.specs.declared.marks.{Charset.{Charset, TheVariants.{Unicode, Ascii}}, Mark.Mark}
 use Rattle.snoop_draw.specs.declared.marks.Mark.TheVariants as sign
 
 -- a mark in Unicode, as the bytes of UTF-8

@@ -2,9 +2,7 @@
 -- Source: this project's profile.
 use Rattle.std.specs.Prelude.{◌≡◌, ◌<◌, ℕ, ◌+◌, ◌*◌, ◌==◌, ◌&&◌, Bool, false, List, [], ◌∷◌, Option, Some, None, filter, length, slice_index_or, nat_lt, if◌then◌else◌}
 use Rattle.std.specs.List.{flat_map, list_any, range_with_len}
-use Rattle.snoop_trace.specs.Extent.{Extent}
-use Rattle.snoop_trace.specs.declared.step.Step.{Step}
-use Rattle.snoop_trace.specs.declared.step.Step.TheVariants.{Ask}
+use Rattle.snoop_trace.specs.{Extent.Extent, declared.step.Step.{Step, TheVariants.Ask}}
 
 -- what is drawn of a block: a column for each of these cores, the bus, and memory
 pub record Panel : Type 0 where

@@ -1,26 +1,14 @@
 -- What a line shows of one panel.
 -- Source: this project's profile.
-use Rattle.std.specs.Prelude.{ℕ, ◌+◌, ◌||◌, Bool, List, [], ◌++◌, codes, Option, Some, None, is_none, unwrap_or, if◌then◌else◌}
-use Rattle.std.specs.List.{flat_map, list_any}
-use Rattle.snoop_rules.specs.declared.names.CacheState.{CacheState}
-use Rattle.snoop_rules.specs.declared.names.CacheState.TheVariants.{I}
+use Rattle.std.specs.{Prelude.{ℕ, ◌+◌, ◌||◌, Bool, List, [], ◌++◌, codes, Option, Some, None, is_none, unwrap_or, if◌then◌else◌}, List.{flat_map, list_any}}
+use Rattle.snoop_rules.specs.declared.names.CacheState.{CacheState, TheVariants.I}
 use Rattle.snoop_bus.specs.Traffic.{Open}
 use Rattle.snoop_model.specs.Pictures.Situation.{Situation, picture_of}
-use Rattle.snoop_engine.specs.Taken.{state_at}
-use Rattle.snoop_engine.specs.declared.taken.Taken.{Taken}
-use Rattle.snoop_draw.specs.declared.cells.Cell.{Cell}
-use Rattle.snoop_draw.specs.declared.cells.Link.{Link}
+use Rattle.snoop_engine.specs.{Taken.state_at, declared.taken.Taken.Taken, Words.{core_words, memory_words}}
+use Rattle.snoop_draw.specs.declared.{cells.{Cell.Cell, Link.Link, Style.Style}, event.Event.{Event, TheVariants.{Ordered, Came}}, marks.Mark.TheVariants.Blank}
 use Rattle.snoop_draw.specs.declared.cells.Link.TheVariants as link
-use Rattle.snoop_draw.specs.declared.cells.Style.{Style}
-use Rattle.snoop_draw.specs.declared.event.Event.{Event}
-use Rattle.snoop_draw.specs.declared.event.Event.TheVariants.{Ordered, Came}
-use Rattle.snoop_draw.specs.declared.marks.Mark.TheVariants.{Blank}
-use Rattle.snoop_draw.specs.Cells.{cell_text, field_text, link_text}
-use Rattle.snoop_draw.specs.Events.{may, names_core, names_memory, rail, shows_all, shows_bus, tip, wire_at}
-use Rattle.snoop_draw.specs.Marks.{mark_text}
-use Rattle.snoop_draw.specs.Panels.{Panel}
-use Rattle.snoop_engine.specs.Words.{core_words, memory_words}
-use Rattle.snoop_draw.specs.Words.{bus_words}
+use Rattle.snoop_draw.specs.{Cells.{cell_text, field_text, link_text}, Events.{may, names_core, names_memory, rail, shows_all, shows_bus, tip, wire_at}}
+use Rattle.snoop_draw.specs.{Marks.mark_text, Panels.Panel, Words.bus_words}
 
 -- the state in which the core holds the block
 abbrev pub held_in : Situation → ℕ → ℕ → CacheState

@@ -1,22 +1,12 @@
 -- What the command `draw` leaves, by what it answers.
 -- Source: this project's profile.
 use Rattle.std.specs.Prelude.{◌≡◌, ℕ, List, Option, Result, Ok, Err, length, ◌⊎◌}
-use Rattle.snoop_trace.specs.Extent.{Extent}
-use Rattle.snoop_trace.specs.declared.protocol.Protocol.{Protocol}
-use Rattle.snoop_trace.specs.declared.step.Step.{Step}
+use Rattle.snoop_trace.specs.{Extent.Extent, declared.{protocol.Protocol.Protocol, step.Step.Step}}
 use Rattle.snoop_model.specs.Pictures.Situation.{Situation}
-use Rattle.snoop_engine.specs.Frames.{Frame}
-use Rattle.snoop_engine.specs.Inputs.{GivesSteps, IsRefusedText}
-use Rattle.snoop_engine.specs.SimulatedView.{BeginsToShow, ShowsRun}
-use Rattle.snoop_engine.specs.declared.fault.SimFault.TheVariants.{Text, NoMemory, Write}
-use Rattle.snoop_engine.specs.declared.input.Input.{Input}
-use Rattle.snoop_draw.specs.declared.fault.DrawFault.{DrawFault}
-use Rattle.snoop_draw.specs.declared.fault.DrawFault.TheVariants.{Simulation, TooLarge}
-use Rattle.snoop_draw.specs.declared.marks.Charset.{Charset}
-use Rattle.snoop_engine.specs.Chosen.{Chosen}
-use Rattle.snoop_draw.specs.Drawings.{drawing_text}
-use Rattle.snoop_draw.specs.Panels.{panels_for}
-use Rattle.snoop_draw.specs.Size.{IsSmall}
+use Rattle.snoop_engine.specs.{Frames.Frame, Inputs.{GivesSteps, IsRefusedText}, SimulatedView.{BeginsToShow, ShowsRun}, declared.input.Input.Input}
+use Rattle.snoop_engine.specs.{declared.fault.SimFault.TheVariants.{Text, NoMemory, Write}, Chosen.Chosen}
+use Rattle.snoop_draw.specs.{declared.{fault.DrawFault.{DrawFault, TheVariants.{Simulation, TooLarge}}, marks.Charset.Charset}, Drawings.drawing_text}
+use Rattle.snoop_draw.specs.{Panels.panels_for, Size.IsSmall}
 
 -- a drawing of these steps is small enough
 abbrev pub IsDrawable : Extent → Chosen → List Step → Type 0

@@ -1,11 +1,9 @@
 -- How wide the columns of a drawing are.
 -- Source: this project's profile.
 use Rattle.std.specs.Prelude.{ℕ, ◌+◌, ◌-◌, ◌*◌, List, None, length, max, nat_lt, if◌then◌else◌}
-use Rattle.snoop_trace.specs.Extent.{Extent}
-use Rattle.snoop_trace.specs.declared.step.Step.{Step}
+use Rattle.snoop_trace.specs.{Extent.Extent, declared.step.Step.Step}
 use Rattle.snoop_engine.specs.Widths.{digits, most_stored}
-use Rattle.snoop_draw.specs.declared.widths.Widths.{Widths}
-use Rattle.snoop_draw.specs.Panels.{panels_for}
+use Rattle.snoop_draw.specs.{declared.widths.Widths.Widths, Panels.panels_for}
 
 -- the values of a block's words, each with as many digits as the largest that is stored, and a blank between two
 abbrev pub values_width : Extent → List Step → ℕ

@@ -1,7 +1,6 @@
 -- What the bus says of a block.
 -- Source: this project's profile.
-use Rattle.std.specs.Prelude.{ℕ, List, []}
-use Rattle.std.specs.Option.{option_map_or}
+use Rattle.std.specs.{Prelude.{ℕ, List, []}, Option.option_map_or}
 use Rattle.snoop_model.specs.Pictures.Situation.{Situation, picture_of}
 use Rattle.snoop_engine.specs.Words.{message_words}
 

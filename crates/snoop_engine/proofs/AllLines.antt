@@ -1,9 +1,5 @@
 -- No row of a step that is taken is left out of its lines.
-use Rattle.snoop_engine.proofs.Common.{Evict, ◌≡◌, ℕ, ◌<◌, ◌≤◌, ◌+◌, true, zero, suc, List, [], ◌∷◌, Some, refl, sym, subst, ◌∙◌, inl, inr, lt-ltb, arith, Contains, Ok, flat_map, ap, range_with_len, cases_eq, cases_lt}
-use Rattle.snoop_engine.proofs.Common.{get_or_past, Contains-append_left, Contains-append_right, Contains-push, same_Some, Op, Step, Ask, Order, Respond, CacheEvent, CacheState, I, MemEvent, Request, PutM, arrival}
-use Rattle.snoop_engine.proofs.Common.{asked, at_memory, takes_payload, Open, Reply, Line, nothing_held, Situation, picture_of, state_of, ConsultsCache, ConsultsMemory}
-use Rattle.snoop_engine.proofs.Common.{IsWithin, TakesFirst, GoesFirst, Invariant, event_asked, of_ask, of_core, of_holder, of_memory, of_requestor, of_waiting_memory, taken_by, unless_i, DoesNothing}
-use Rattle.snoop_engine.proofs.Common.{Taken, Core, Memory}
+use Rattle.snoop_engine.proofs.Common.{Evict, ◌≡◌, ℕ, ◌<◌, ◌≤◌, ◌+◌, true, zero, suc, List, [], ◌∷◌, Some, refl, sym, subst, ◌∙◌, inl, inr, lt-ltb, arith, Contains, Ok, flat_map, ap, range_with_len, cases_eq, cases_lt, get_or_past, Contains-append_left, Contains-append_right, Contains-push, same_Some, Op, Step, Ask, Order, Respond, CacheEvent, CacheState, I, MemEvent, Request, PutM, arrival, asked, at_memory, takes_payload, Open, Reply, Line, nothing_held, Situation, picture_of, state_of, ConsultsCache, ConsultsMemory, IsWithin, TakesFirst, GoesFirst, Invariant, event_asked, of_ask, of_core, of_holder, of_memory, of_requestor, of_waiting_memory, taken_by, unless_i, DoesNothing, Taken, Core, Memory}
 
 has_one : (line : Taken) → Contains (line ∷ []) line
 has_one line = Contains-push [] line

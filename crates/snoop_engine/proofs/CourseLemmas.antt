@@ -1,11 +1,7 @@
 -- Courses, step by step, and the rows that they serve.
-use Rattle.snoop_engine.proofs.Common.{◌≡◌, ◌==◌, ℕ, ◌+◌, ◌*◌, ◌<◌, true, cond, Option, Some, None, List, [], ◌∷◌, ◌++◌, length, length-append, map, refl, sym, ◌∙◌, ap, arith, append_assoc, append-nil, inl, inr, Result, Ok, IsOk}
-use Rattle.snoop_engine.proofs.Common.{IfNone, option_to_list, length-map, map-append, All-cons, All-nil, Extent, Row, Step, Ask, Work, Protocol, Reply, Refused, Picture, Situation, reset, FirstMove, GoesFirst, TheRun, IsQuiet}
-use Rattle.snoop_engine.proofs.Common.{steps_paid, turn_rule, cons_option, cases_Bool, untouched, has_transaction, steps_owed, CanEnd, LeadsToEndWith, Leading, LeadsOn, EndsInOrder, FindsInOrder, FollowsInOrder, InOrder}
-use Rattle.snoop_engine.proofs.Common.{LeadsToRest, remaining_in_order, StepsServe, StepsServeSerially, IsAtTheEnd, IsAtTheStart, Finds, Advances, Progress, ServesSerially, all_asks, ask_for, is_ask, Serves, ask_of, asks_of}
-use Rattle.snoop_engine.proofs.Common.{work_of, works_of}
+use Rattle.snoop_engine.proofs.Common.{◌≡◌, ◌==◌, ℕ, ◌+◌, ◌*◌, ◌<◌, true, cond, Option, Some, None, List, [], ◌∷◌, ◌++◌, length, length-append, map, refl, sym, ◌∙◌, ap, arith, append_assoc, append-nil, inl, inr, Result, Ok, IsOk, IfNone, option_to_list, length-map, map-append, All-cons, All-nil, Extent, Row, Step, Ask, Work, Protocol, Reply, Refused, Picture, Situation, reset, FirstMove, GoesFirst, TheRun, IsQuiet, steps_paid, turn_rule, cons_option, cases_Bool, untouched, has_transaction, steps_owed, CanEnd, LeadsToEndWith, Leading, LeadsOn, EndsInOrder, FindsInOrder, FollowsInOrder, InOrder, LeadsToRest, remaining_in_order, StepsServe, StepsServeSerially, IsAtTheEnd, IsAtTheStart, Finds, Advances, Progress, ServesSerially, all_asks, ask_for, is_ask, Serves, ask_of, asks_of, work_of, works_of}
 use Rattle.std.proofs.lemmas.List.Folds.{sum_by-replicate}
-use Rattle.snoop_engine.proofs.{Fewer.leaves_fewer, TakenLemmas.run_more, TakenLemmas.same_shape}
+use Rattle.snoop_engine.proofs.{Fewer.leaves_fewer, TakenLemmas.{run_more, same_shape}}
 
 -- what leads on from here leads on from the first place too, after these steps
 abbrev pub LeadsFrom : Leading → Leading → List Step → List (Result Reply Refused) → Type 0

@@ -1,8 +1,5 @@
 -- What a turn of a driver gives, and a round of turns.
-use Rattle.snoop_engine.proofs.Common.{nat_tests, ◌≡◌, ◌≢◌, ℕ, ◌<◌, true, false, Option, Some, None, refl, sym, ◌∙◌, ap, inl, inr, cond, eqb, arith, get_or, Contains, IfSome, IfNone, slice_set, List, ◌∷◌, length, cases_eq, get_or_default}
-use Rattle.snoop_engine.proofs.Common.{All-head, All-nil, All-tail, Step, Ask, Reply, FirstMove, Situation, Work, turn_of, IsUnderWay, turn_rule, eq-eqb, ne_eqb, length-set, get_or-set_same, get_or-set_other, Todo, todo_of}
-use Rattle.snoop_engine.proofs.Common.{nothing_to_do, lanes_under_way, block_of_work, IsOver, IsEnabled, IsFit, IsIdle, IsTodoWithin, IsWorkWithin, TakesUp, [], ◌++◌, take, drop, slice_get, All-append, Contains-append_cases}
-use Rattle.snoop_engine.proofs.Common.{Contains-append_left, Contains-append_right, IsQuiet, take-append-drop, All-take, All-drop, IsServing}
+use Rattle.snoop_engine.proofs.Common.{nat_tests, ◌≡◌, ◌≢◌, ℕ, ◌<◌, true, false, Option, Some, None, refl, sym, ◌∙◌, ap, inl, inr, cond, eqb, arith, get_or, Contains, IfSome, IfNone, slice_set, List, ◌∷◌, length, cases_eq, get_or_default, All-head, All-nil, All-tail, Step, Ask, Reply, FirstMove, Situation, Work, turn_of, IsUnderWay, turn_rule, eq-eqb, ne_eqb, length-set, get_or-set_same, get_or-set_other, Todo, todo_of, nothing_to_do, lanes_under_way, block_of_work, IsOver, IsEnabled, IsFit, IsIdle, IsTodoWithin, IsWorkWithin, TakesUp, [], ◌++◌, take, drop, slice_get, All-append, Contains-append_cases, Contains-append_left, Contains-append_right, IsQuiet, take-append-drop, All-take, All-drop, IsServing}
 use Rattle.snoop_engine.proofs.TakenLemmas.{same_shape}
 
 module _ {s : Situation} {lanes : List Todo} {turns : List ℕ} (fit : IsFit s lanes turns) {core : ℕ} (has_core : core < s.shape.cores) where

@@ -1,6 +1,5 @@
 -- Each step of a driver leaves fewer to come.
-use Rattle.snoop_engine.proofs.Common.{cases_lt, get_or_past, get_or-set_same, get_or-set_other, inl, inr, nothing_to_do, slice_set, sum_by-set, ◌≡◌, ◌≢◌, ℕ, suc, ◌+◌, ◌*◌, ◌<◌, List, [], ◌∷◌, length, ap, refl, sym, arith, sum_by-cons, Step, Ask, Reply, FirstMove, steps_paid, turn_rule, eq-eqb, ne_eqb, Todo, todo_of, left_in}
-use Rattle.snoop_engine.proofs.Common.{Progress, TakesUp, remaining}
+use Rattle.snoop_engine.proofs.Common.{cases_lt, get_or_past, get_or-set_same, get_or-set_other, inl, inr, nothing_to_do, slice_set, sum_by-set, ◌≡◌, ◌≢◌, ℕ, suc, ◌+◌, ◌*◌, ◌<◌, List, [], ◌∷◌, length, ap, refl, sym, arith, sum_by-cons, Step, Ask, Reply, FirstMove, steps_paid, turn_rule, eq-eqb, ne_eqb, Todo, todo_of, left_in, Progress, TakesUp, remaining}
 
 left_cons : (lane : Todo) (lanes : List Todo) → left_in (lane ∷ lanes) ≡ length lane.left + left_in lanes
 left_cons lane lanes = omega (arith, sum_by-cons (λ (t : Todo). length t.left) lane lanes)

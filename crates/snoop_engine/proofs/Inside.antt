@@ -1,7 +1,5 @@
 -- What a getter answers that answers inside a shape alone, and what a core's line says nothing of: values in a state that may not be read, a place where no request waits.
-use Rattle.snoop_engine.proofs.Common.{◌≡◌, ℕ, ◌<◌, Bool, Option, Some, None, true, false, cond, refl, sym, ap, ◌∙◌, arith, ◌&&◌, IfSome, IsSome, is_some, nat_lt, option_map, if◌then◌else◌, nat_tests, same_Some, CacheState, Open}
-use Rattle.snoop_engine.proofs.Common.{Situation, state_of, state_at, List, [], ◌∷◌, length, ◌==◌, count_by, flat_map, range_with_len, sum_by-cons, word_at, waiting_request, queue_of, held_by, picture_of, keeps}
-use Rattle.snoop_engine.proofs.Common.{position_or_len, le-ltb, kept_at, kept_text, place_text, value_text}
+use Rattle.snoop_engine.proofs.Common.{◌≡◌, ℕ, ◌<◌, Bool, Option, Some, None, true, false, cond, refl, sym, ap, ◌∙◌, arith, ◌&&◌, IfSome, IsSome, is_some, nat_lt, option_map, if◌then◌else◌, nat_tests, same_Some, CacheState, Open, Situation, state_of, state_at, List, [], ◌∷◌, length, ◌==◌, count_by, flat_map, range_with_len, sum_by-cons, word_at, waiting_request, queue_of, held_by, picture_of, keeps, position_or_len, le-ltb, kept_at, kept_text, place_text, value_text}
 use Rattle.snoop_model.specs.Pictures.InQueue.{IsInQueue}
 
 pub inside_one : {A : Type 0} (r v : Option A) (n b : ℕ) → (b < n → r ≡ v) → IfSome r (λ _. b < n) → r ≡ (if nat_lt b n then v else None)

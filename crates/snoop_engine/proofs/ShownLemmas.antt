@@ -1,12 +1,9 @@
 -- The frames that a view was shown: what was written of them, or stands in the chunk.
-use Rattle.snoop_engine.proofs.Common.{map-append, ◌≡◌, ℕ, ◌+◌, List, [], ◌∷◌, ◌++◌, length, length-append, Option, refl, sym, ap, ◌∙◌, append_assoc, append-nil, arith, Result, Ok, Err, IsErrAnd, subst, Appends, Extent, AppendsFront, Gathers}
-use Rattle.snoop_engine.proofs.Common.{Spills, Step, Protocol, WriteFault, gathers_cut, gathers_done, gathers_more, gathers_spilled, gathers_stop, appends_none_of, Reply, Refused, Situation, reset, GoesFirst, RunsGoOn, TheRun}
-use Rattle.snoop_engine.proofs.Common.{appends_none, CanEnd, LeadsToEndWith, Leading, LeadsOn, fault_of_write, AreFrames, Frame, FramesFrom, GivesSteps, lines_of_step, IsNextSeen, block_of_step, frame_seen, shown, view_text}
-use Rattle.snoop_engine.proofs.Common.{SimFault, Seen}
+use Rattle.snoop_engine.proofs.Common.{map-append, ◌≡◌, ℕ, ◌+◌, List, [], ◌∷◌, ◌++◌, length, length-append, Option, refl, sym, ap, ◌∙◌, append_assoc, append-nil, arith, Result, Ok, Err, IsErrAnd, subst, Appends, Extent, AppendsFront, Gathers, Spills, Step, Protocol, WriteFault, gathers_cut, gathers_done, gathers_more, gathers_spilled, gathers_stop, appends_none_of, Reply, Refused, Situation, reset, GoesFirst, RunsGoOn, TheRun, appends_none, CanEnd, LeadsToEndWith, Leading, LeadsOn, fault_of_write, AreFrames, Frame, FramesFrom, GivesSteps, lines_of_step, IsNextSeen, block_of_step, frame_seen, shown, view_text, SimFault, Seen}
 use Rattle.snoop_trace.specs.declared.fault.WriteFault.TheVariants as write
-use Rattle.snoop_engine.specs.{SimulatedView.BeginsToShow, SimulatedView.ShowsRun, SimulatedView.SimulatesView, declared.input.Input.Input, declared.fault.SimFault.TheVariants.Text}
-use Rattle.snoop_engine.proofs.{TrueLines.lines_fit, CourseLemmas.Along, CourseLemmas.along_more, CourseLemmas.along_none, CourseLemmas.ends_here, CourseLemmas.ends_on, FrameLemmas.are_the_run, FrameLemmas.framed}
-use Rattle.snoop_engine.proofs.{FrameLemmas.frames_keep, FrameLemmas.frames_on}
+use Rattle.snoop_engine.specs.{SimulatedView.{BeginsToShow, ShowsRun, SimulatesView}, declared.{input.Input.Input, fault.SimFault.TheVariants.Text}}
+use Rattle.snoop_engine.proofs.{TrueLines.lines_fit, CourseLemmas.{Along, along_more, along_none, ends_here, ends_on}}
+use Rattle.snoop_engine.proofs.FrameLemmas.{are_the_run, framed, frames_keep, frames_on}
 
 -- what is shown of more frames comes after what is shown of the first
 pub shown_on : (shows : List Frame → Frame → List ℕ) (before first rest : List Frame) → shown shows before (first ++ rest) ≡ shown shows before first ++ shown shows (before ++ first) rest

@@ -1,13 +1,12 @@
 -- The lines of a course's steps, written or in the chunk, and then the report.
-use Rattle.snoop_engine.proofs.Common.{◌≡◌, ℕ, List, [], ◌∷◌, ◌++◌, Option, refl, sym, ap, ◌∙◌, append_assoc, ◌⊎◌, inl, inr, Result, Ok, Err, IsErrAnd, Appends, Extent, AppendsFront, Gathers, Spills, WriteFault, Protocol, Row}
-use Rattle.snoop_engine.proofs.Common.{Step, gathers_cut, gathers_done, gathers_more, gathers_spilled, gathers_stop, appends_none_of, Item, Reply, Refused, Situation, reset, FirstRunFrom, GoesFirst, RunsGoOn, TheRun, gathers_none}
-use Rattle.snoop_engine.proofs.Common.{appends_more, front_after, CanEnd, LeadsToEndWith, Leading, LeadsOn, fault_of_write, EndsInOrder, InOrder, IsAtTheEnd, IsAtTheStart, Progress, SimFault}
+use Rattle.snoop_engine.proofs.Common.{◌≡◌, ℕ, List, [], ◌∷◌, ◌++◌, Option, refl, sym, ap, ◌∙◌, append_assoc, ◌⊎◌, inl, inr, Result, Ok, Err, IsErrAnd, Appends, Extent, AppendsFront, Gathers, Spills, WriteFault, Protocol, Row, Step, gathers_cut, gathers_done, gathers_more, gathers_spilled, gathers_stop, appends_none_of, Item, Reply, Refused, Situation, reset, FirstRunFrom, GoesFirst, RunsGoOn, TheRun, gathers_none, appends_more, front_after, CanEnd, LeadsToEndWith, Leading, LeadsOn, fault_of_write, EndsInOrder, InOrder, IsAtTheEnd, IsAtTheStart, Progress, SimFault}
 use Rattle.std.proofs.lemmas.List.{append-nil}
 use Rattle.snoop_trace.specs.declared.fault.WriteFault.TheVariants as write
 use Rattle.snoop_history.specs.Report.{report_of}
-use Rattle.snoop_engine.specs.{Line.line_text, Line.line_texts, Simulated.Begins, SimulatedRun.BeginsRun, SimulatedRun.ReportsRun, SimulatedSerial.BeginsSerial, SimulatedSerial.ReportsSerial, Written.run_text}
+use Rattle.snoop_engine.specs.{Line.{line_text, line_texts}, Simulated.Begins, SimulatedRun.{BeginsRun, ReportsRun}, Written.run_text}
+use Rattle.snoop_engine.{specs.SimulatedSerial.{BeginsSerial, ReportsSerial}, proofs.TakenLemmas.run_alike}
 use Rattle.snoop_engine.specs.declared.fault.SimFault.TheVariants as fault
-use Rattle.snoop_engine.proofs.{CourseLemmas.Along, CourseLemmas.along_more, CourseLemmas.along_none, CourseLemmas.driver_served, CourseLemmas.ends_here, CourseLemmas.ends_on, CourseLemmas.in_order_served, TakenLemmas.run_alike}
+use Rattle.snoop_engine.proofs.CourseLemmas.{Along, along_more, along_none, driver_served, ends_here, ends_on, in_order_served}
 
 -- the lines of a run that goes on
 line_texts_on : (shape : Extent) (first rest : List Step) (outcomes more : List (Result Reply Refused)) (old new : Situation)

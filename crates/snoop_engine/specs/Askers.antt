@@ -1,10 +1,8 @@
 -- What is known before a step is taken: the cores that may hold something of a block, and the request that an Order takes.
 -- Source: this project's profile.
 use Rattle.std.specs.Prelude.{◌≡◌, ℕ, false, List, length, Option, Some, None, slice_get}
-use Rattle.snoop_trace.specs.declared.step.Step.{Step}
-use Rattle.snoop_trace.specs.declared.step.Step.TheVariants.{Ask, Order, Respond}
-use Rattle.snoop_rules.specs.declared.names.CacheState.TheVariants.{I}
-use Rattle.snoop_rules.specs.declared.names.Request.{Request}
+use Rattle.snoop_trace.specs.declared.step.Step.{Step, TheVariants.{Ask, Order, Respond}}
+use Rattle.snoop_rules.specs.declared.names.{CacheState.TheVariants.I, Request.Request}
 use Rattle.snoop_bus.specs.Queues.{queue_of}
 use Rattle.snoop_blocks.specs.CoreSet.{has, set_of}
 use Rattle.snoop_model.specs.Pictures.Situation.{IsHead, Situation, state_of}

@@ -2,9 +2,7 @@
 -- Source: this project's profile.
 use Rattle.std.specs.Prelude.{◌≡◌, ◌<◌, ◌≤◌, ℕ, Option, IfSome, Result, Ok, Err}
 use Rattle.snoop_trace.specs.Extent.{Extent}
-use Rattle.snoop_engine.specs.Chosen.{Chosen}
-use Rattle.snoop_engine.specs.declared.choice.ChoiceFault.{ChoiceFault}
-use Rattle.snoop_engine.specs.declared.choice.ChoiceFault.TheVariants.{BadBlock, BadRange}
+use Rattle.snoop_engine.specs.{Chosen.Chosen, declared.choice.ChoiceFault.{ChoiceFault, TheVariants.{BadBlock, BadRange}}}
 
 -- the block, if one is named, is one of the shape
 abbrev pub IsBlock : Extent → Option ℕ → Type 0

@@ -1,28 +1,15 @@
 -- How often each row of the tables is taken in a run, as a text of fields.
 -- Source: the fields and their form are this project's profile.
-use Rattle.std.specs.Prelude.{ℕ, ◌==◌, ◌&&◌, Bool, true, false, List, [], ◌++◌, codes, filter, length, Some, None, if◌then◌else◌}
-use Rattle.std.specs.Fmt.{decimal}
-use Rattle.std.specs.List.{flat_map}
+use Rattle.std.specs.{Prelude.{ℕ, ◌==◌, ◌&&◌, Bool, true, false, List, [], ◌++◌, codes, filter, length, Some, None, if◌then◌else◌}, Fmt.decimal, List.flat_map}
 use Rattle.std.specs.Option.{option_map_or}
 use Rattle.snoop_trace.specs.declared.protocol.Protocol.{Protocol}
-use Rattle.snoop_rules.specs.declared.names.CacheCell.{CacheCell}
-use Rattle.snoop_rules.specs.declared.names.CacheEvent.{CacheEvent}
-use Rattle.snoop_rules.specs.declared.names.CacheEvent.TheVariants.{OtherGetS, OtherGetM, OtherPutM}
-use Rattle.snoop_rules.specs.declared.names.CacheState.{CacheState}
-use Rattle.snoop_rules.specs.declared.names.CacheState.TheVariants.{I}
-use Rattle.snoop_rules.specs.declared.names.MemCell.{MemCell}
-use Rattle.snoop_rules.specs.declared.names.MemEvent.{MemEvent}
-use Rattle.snoop_rules.specs.declared.names.MemState.{MemState}
-use Rattle.snoop_rules.specs.Cell.{cell_of}
-use Rattle.snoop_rules.specs.MemoryCell.{memory_cell_of}
-use Rattle.snoop_rules.specs.Names.{action_text, event_name, memory_action_text, memory_event_name, memory_state_name, state_name}
+use Rattle.snoop_rules.specs.declared.names.{CacheCell.CacheCell, CacheEvent.{CacheEvent, TheVariants.{OtherGetS, OtherGetM, OtherPutM}}, CacheState.CacheState}
+use Rattle.snoop_rules.specs.{declared.names.{CacheState.TheVariants.I, MemCell.MemCell, MemEvent.MemEvent, MemState.MemState}, Cell.cell_of}
+use Rattle.snoop_rules.specs.{MemoryCell.memory_cell_of, Names.{action_text, event_name, memory_action_text, memory_event_name, memory_state_name, state_name}}
 use Rattle.snoop_rules.specs.TableOrder.{cache_events, cache_states, memory_events, memory_states}
 use Rattle.snoop_history.specs.Totals.{capped}
-use Rattle.snoop_engine.specs.Frames.{Frame}
-use Rattle.snoop_engine.specs.Numbers.{event_number, memory_event_number, memory_state_number, state_number}
-use Rattle.snoop_engine.specs.Taken.{lines_of_step}
-use Rattle.snoop_engine.specs.declared.taken.Taken.{Taken}
-use Rattle.snoop_engine.specs.declared.taken.Taken.TheVariants.{Core, Memory, Nobody}
+use Rattle.snoop_engine.specs.{Frames.Frame, Numbers.{event_number, memory_event_number, memory_state_number, state_number}, Taken.lines_of_step}
+use Rattle.snoop_engine.specs.declared.taken.Taken.{Taken, TheVariants.{Core, Memory, Nobody}}
 
 -- in this line a core takes the row of the state and the event
 abbrev pub takes_row : CacheState → CacheEvent → Taken → Bool

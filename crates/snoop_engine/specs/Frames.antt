@@ -1,13 +1,8 @@
 -- The frames of a run: each step, what was answered, and the machine before and after it.
 -- Source: this project's profile.
 use Rattle.std.specs.Prelude.{◌≡◌, List, [], ◌∷◌, map, Result}
-use Rattle.snoop_trace.specs.Extent.{Extent}
-use Rattle.snoop_trace.specs.declared.step.Step.{Step}
-use Rattle.snoop_trace.specs.declared.protocol.Protocol.{Protocol}
-use Rattle.snoop_model.specs.declared.replies.Reply.{Reply}
-use Rattle.snoop_model.specs.declared.replies.Refused.{Refused}
-use Rattle.snoop_model.specs.Pictures.Situation.{Situation, reset}
-use Rattle.snoop_model.specs.Runs.Run.{GoesFirst, TheRun}
+use Rattle.snoop_trace.specs.{Extent.Extent, declared.{step.Step.Step, protocol.Protocol.Protocol}}
+use Rattle.snoop_model.specs.{declared.replies.{Reply.Reply, Refused.Refused}, Pictures.Situation.{Situation, reset}, Runs.Run.{GoesFirst, TheRun}}
 
 -- a step, what was answered, and the machine before and after it
 pub record Frame : Type 0 where

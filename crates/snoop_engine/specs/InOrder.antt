@@ -1,20 +1,10 @@
 -- A driver that serves rows one after another.
 -- Source: this project's profile.
 use Rattle.std.specs.Prelude.{◌≡◌, ℕ, ◌+◌, ◌*◌, ◌/◌, ◌≤◌, true, List, [], ◌∷◌, ◌++◌, length, map, All, IsOk, IfSome, Option, Some, None, Result}
-use Rattle.snoop_trace.specs.Extent.{Extent, IsWithinLimits}
-use Rattle.snoop_trace.specs.Grammar.{IsRowWithin}
-use Rattle.snoop_trace.specs.declared.step.Row.{Row}
-use Rattle.snoop_trace.specs.declared.step.Step.{Step}
-use Rattle.snoop_model.specs.declared.replies.Reply.{Reply}
-use Rattle.snoop_model.specs.declared.replies.Refused.{Refused}
-use Rattle.snoop_model.specs.Pictures.Situation.{Situation}
-use Rattle.snoop_model.specs.Moves.Move.{FirstMove}
-use Rattle.snoop_model.specs.Runs.Run.{FirstRunFrom}
-use Rattle.snoop_model.specs.Turns.Quiet.{IsQuiet}
-use Rattle.snoop_model.specs.Turns.Serving.{IsUnderWay, steps_owed}
-use Rattle.snoop_engine.specs.UnderWay.{ServesOnly, nothing, only}
-use Rattle.snoop_engine.specs.Round.{IsEnabled}
-use Rattle.snoop_engine.specs.Serial.{all_asks, ask_for, is_ask}
+use Rattle.snoop_trace.specs.{Extent.{Extent, IsWithinLimits}, Grammar.IsRowWithin, declared.step.{Row.Row, Step.Step}}
+use Rattle.snoop_model.specs.{declared.replies.{Reply.Reply, Refused.Refused}, Pictures.Situation.Situation, Moves.Move.FirstMove, Runs.Run.FirstRunFrom}
+use Rattle.snoop_model.specs.Turns.{Quiet.IsQuiet, Serving.{IsUnderWay, steps_owed}}
+use Rattle.snoop_engine.specs.{UnderWay.{ServesOnly, nothing, only}, Round.IsEnabled, Serial.{all_asks, ask_for, is_ask}}
 
 -- the value of the driver: the machine's situation, the rows that have not been asked, and the row under way, which may be over
 pub record InOrder : Type 0 where

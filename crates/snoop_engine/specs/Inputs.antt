@@ -1,20 +1,9 @@
 -- The steps that come of a text: its own, or those of a run that serves its rows.
 -- Source: this project's profile.
 use Rattle.std.specs.Prelude.{ℕ, List, Option, Result, Ok, Err}
-use Rattle.snoop_trace.specs.Extent.{Extent}
-use Rattle.snoop_trace.specs.declared.fault.TextFault.{TextFault}
-use Rattle.snoop_trace.specs.declared.protocol.Protocol.{Protocol}
-use Rattle.snoop_trace.specs.declared.step.Row.{Row}
-use Rattle.snoop_trace.specs.declared.step.Step.{Step}
-use Rattle.snoop_model.specs.declared.replies.Reply.{Reply}
-use Rattle.snoop_model.specs.declared.replies.Refused.{Refused}
-use Rattle.snoop_model.specs.Pictures.Situation.{Situation}
-use Rattle.snoop_model.specs.Runs.Run.{TheRun}
-use Rattle.snoop_engine.specs.Serial.{ServesSerially}
-use Rattle.snoop_engine.specs.Served.{Serves}
-use Rattle.snoop_engine.specs.Simulated.{Reads}
-use Rattle.snoop_engine.specs.SimulatedRun.{ReadsRows}
-use Rattle.snoop_engine.specs.declared.input.Input.{Input}
+use Rattle.snoop_trace.specs.{Extent.Extent, declared.{fault.TextFault.TextFault, protocol.Protocol.Protocol, step.{Row.Row, Step.Step}}}
+use Rattle.snoop_model.specs.{declared.replies.{Reply.Reply, Refused.Refused}, Pictures.Situation.Situation, Runs.Run.TheRun}
+use Rattle.snoop_engine.specs.{Serial.ServesSerially, Served.Serves, Simulated.Reads, SimulatedRun.ReadsRows, declared.input.Input.Input}
 use Rattle.snoop_engine.specs.declared.input.Input.TheVariants.{Steps, Rows, SerialRows}
 
 -- the run of the steps serves the rows

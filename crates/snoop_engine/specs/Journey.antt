@@ -1,18 +1,10 @@
 -- How far a driver has come with its rows.
 -- Source: this project's profile.
 use Rattle.std.specs.Prelude.{◌≡◌, ℕ, ◌≤◌, List, length, All, IsOk, Result}
-use Rattle.snoop_trace.specs.Extent.{Extent}
-use Rattle.snoop_trace.specs.declared.protocol.Protocol.{Protocol}
-use Rattle.snoop_trace.specs.declared.step.Row.{Row}
-use Rattle.snoop_trace.specs.declared.step.Step.{Step}
-use Rattle.snoop_model.specs.declared.replies.Reply.{Reply}
-use Rattle.snoop_model.specs.declared.replies.Refused.{Refused}
-use Rattle.snoop_model.specs.Pictures.Situation.{Situation, reset}
-use Rattle.snoop_model.specs.Turns.Quiet.{IsQuiet}
+use Rattle.snoop_trace.specs.{Extent.Extent, declared.{protocol.Protocol.Protocol, step.{Row.Row, Step.Step}}}
+use Rattle.snoop_model.specs.{declared.replies.{Reply.Reply, Refused.Refused}, Pictures.Situation.{Situation, reset}, Turns.Quiet.IsQuiet}
 use Rattle.snoop_model.specs.Runs.Run.{FirstRunFrom}
-use Rattle.snoop_engine.specs.Todo.{left_in, todo_of, works_of}
-use Rattle.snoop_engine.specs.Round.{Progress, remaining}
-use Rattle.snoop_engine.specs.Served.{asks_of}
+use Rattle.snoop_engine.specs.{Todo.{left_in, todo_of, works_of}, Round.{Progress, remaining}, Served.asks_of}
 
 -- the machine is at reset, and each core has its rows left
 pub record IsAtTheStart (protocol : Protocol) (shape : Extent) (rows : List Row) (start : Progress) : Type 0 where

@@ -1,12 +1,8 @@
 -- The line of a step: its text and the machine's reply or refusal.
 -- Source: this project's profile.
 use Rattle.std.specs.Prelude.{ℕ, List, [], ◌∷◌, ◌++◌, codes, Result, Ok, Err}
-use Rattle.snoop_trace.specs.Extent.{Extent}
-use Rattle.snoop_trace.specs.Output.{step_text}
-use Rattle.snoop_trace.specs.declared.step.Step.{Step}
-use Rattle.snoop_model.specs.declared.replies.Reply.{Reply}
-use Rattle.snoop_model.specs.declared.replies.Refused.{Refused}
-use Rattle.snoop_model.specs.Texts.{reply_text, refusal_text}
+use Rattle.snoop_trace.specs.{Extent.Extent, Output.step_text, declared.step.Step.Step}
+use Rattle.snoop_model.specs.{declared.replies.{Reply.Reply, Refused.Refused}, Texts.{reply_text, refusal_text}}
 
 -- what the machine answered
 abbrev pub outcome_text : Result Reply Refused → List ℕ

@@ -1,13 +1,10 @@
 -- The steps that packed steps stand for.
 -- Source: this project's profile.
 use Rattle.std.specs.Prelude.{ℕ, ◌+◌, ◌==◌, List, [], ◌∷◌, drop, slice_index_or, if◌then◌else◌}
-use Rattle.snoop_trace.specs.Extent.{Extent}
+use Rattle.snoop_trace.specs.{Extent.Extent, declared.step.Step.{Step, TheVariants.{Ask, Order, Respond}}}
 use Rattle.snoop_trace.specs.declared.step.Op.TheVariants as op
-use Rattle.snoop_trace.specs.declared.step.Step.{Step}
-use Rattle.snoop_trace.specs.declared.step.Step.TheVariants.{Ask, Order, Respond}
-use Rattle.snoop_engine.specs.declared.packed.Kind.{Kind}
+use Rattle.snoop_engine.specs.declared.packed.{Kind.Kind, Head.Head}
 use Rattle.snoop_engine.specs.declared.packed.Kind.TheVariants as kind
-use Rattle.snoop_engine.specs.declared.packed.Head.{Head}
 
 -- a shape as large as there is
 abbrev pub largest : Extent

@@ -1,18 +1,10 @@
 -- What a turn takes up, and what holds of a driver between turns.
 -- Source: this project's profile.
 use Rattle.std.specs.Prelude.{◌≡◌, ◌≢◌, ℕ, ◌+◌, ◌*◌, ◌<◌, List, [], ◌++◌, length, All, Contains, Option, None, IfSome, ◌⊎◌, option_to_list}
-use Rattle.snoop_trace.specs.Words.{HasWord}
-use Rattle.snoop_trace.specs.declared.step.Step.{Step}
-use Rattle.snoop_model.specs.declared.replies.Reply.{Reply}
-use Rattle.snoop_model.specs.declared.replies.Refused.{Refused}
-use Rattle.snoop_model.specs.Pictures.Situation.{Situation}
-use Rattle.snoop_model.specs.Moves.Move.{FirstMove}
-use Rattle.snoop_model.specs.Moves.Refuses.{Refuses}
-use Rattle.snoop_model.specs.Turns.Serving.{IsServing, IsUnderWay, steps_owed}
-use Rattle.snoop_model.specs.Invariant.WellKept.{IsWellKept}
-use Rattle.snoop_trace.specs.declared.step.Work.{Work}
-use Rattle.snoop_engine.specs.Todo.{Todo, todo_of, left_in, lanes_under_way}
-use Rattle.snoop_engine.specs.Served.{ask_of}
+use Rattle.snoop_trace.specs.{Words.HasWord, declared.step.{Step.Step, Work.Work}}
+use Rattle.snoop_model.specs.{declared.replies.{Reply.Reply, Refused.Refused}, Pictures.Situation.Situation, Moves.{Move.FirstMove, Refuses.Refuses}}
+use Rattle.snoop_model.specs.{Turns.Serving.{IsServing, IsUnderWay, steps_owed}, Invariant.WellKept.IsWellKept}
+use Rattle.snoop_engine.specs.{Todo.{Todo, todo_of, left_in, lanes_under_way}, Served.ask_of}
 
 -- the value of a driver: the machine's situation, what each core has to do, and the cores that may have a step, in the order of their turns
 pub record Progress : Type 0 where

@@ -1,15 +1,8 @@
 -- When the rows of a text have been served by a run.
 -- Source: this project's profile.
 use Rattle.std.specs.Prelude.{◌≡◌, ℕ, ◌*◌, ◌≤◌, ◌==◌, List, length, filter_map, All, IsOk, Option, Some, None, Result, if◌then◌else◌}
-use Rattle.snoop_trace.specs.Extent.{Extent}
-use Rattle.snoop_trace.specs.declared.step.Row.{Row}
-use Rattle.snoop_trace.specs.declared.step.Step.{Step}
-use Rattle.snoop_trace.specs.declared.step.Step.TheVariants.{Ask, Order, Respond}
-use Rattle.snoop_model.specs.declared.replies.Reply.{Reply}
-use Rattle.snoop_model.specs.declared.replies.Refused.{Refused}
-use Rattle.snoop_model.specs.Pictures.Situation.{Situation}
-use Rattle.snoop_model.specs.Turns.Quiet.{IsQuiet}
-use Rattle.snoop_trace.specs.declared.step.Work.{Work}
+use Rattle.snoop_trace.specs.{Extent.Extent, declared.step.{Row.Row, Step.{Step, TheVariants.{Ask, Order, Respond}}, Work.Work}}
+use Rattle.snoop_model.specs.{declared.replies.{Reply.Reply, Refused.Refused}, Pictures.Situation.Situation, Turns.Quiet.IsQuiet}
 use Rattle.snoop_engine.specs.Todo.{works_of}
 
 -- the work that a step asks of the core, if it is that core's Ask

@@ -1,21 +1,11 @@
 -- What a simulation leaves, by what it answers.
 -- Source: this project's profile.
-use Rattle.std.specs.Prelude.{ℕ, List, ◌++◌, Option, Result, Ok, Err, IfSome}
-use Rattle.std.specs.Io.KnownBytes.{Appends}
-use Rattle.snoop_trace.specs.Extent.{Extent}
-use Rattle.snoop_trace.specs.Output.{AppendsFront}
-use Rattle.snoop_trace.specs.Text.{Gives, steps_of}
-use Rattle.snoop_trace.specs.declared.fault.TextFault.{TextFault}
-use Rattle.snoop_trace.specs.declared.step.Step.{Step}
+use Rattle.std.specs.{Prelude.{ℕ, List, ◌++◌, Option, Result, Ok, Err, IfSome}, Io.KnownBytes.Appends}
+use Rattle.snoop_trace.specs.{Extent.Extent, Output.AppendsFront, Text.{Gives, steps_of}, declared.{fault.TextFault.TextFault, step.Step.Step}}
 use Rattle.snoop_trace.specs.declared.protocol.Protocol.{Protocol}
 use Rattle.snoop_history.specs.Report.{report_of}
-use Rattle.snoop_model.specs.declared.replies.Reply.{Reply}
-use Rattle.snoop_model.specs.declared.replies.Refused.{Refused}
-use Rattle.snoop_model.specs.Pictures.Situation.{Situation}
-use Rattle.snoop_engine.specs.Line.{line_texts}
-use Rattle.snoop_model.specs.Runs.Run.{TheRun}
-use Rattle.snoop_engine.specs.declared.fault.SimFault.{SimFault}
-use Rattle.snoop_engine.specs.declared.fault.SimFault.TheVariants.{Text, NoMemory, Write}
+use Rattle.snoop_model.specs.{declared.replies.{Reply.Reply, Refused.Refused}, Pictures.Situation.Situation, Runs.Run.TheRun}
+use Rattle.snoop_engine.specs.{Line.line_texts, declared.fault.SimFault.{SimFault, TheVariants.{Text, NoMemory, Write}}}
 
 -- a text, where its bytes are known, was read so: its steps, or its first fault, or a failure to read it
 abbrev pub Reads : Protocol → Extent → Option (List ℕ) → Result (List Step) TextFault → Type 0

@@ -1,24 +1,11 @@
 -- What a simulation of rows leaves, by what it answers.
 -- Source: this project's profile.
-use Rattle.std.specs.Prelude.{◌≡◌, ℕ, List, ◌++◌, All, IsOk, Option, Result, Ok, Err, IfSome, ◌⊎◌}
-use Rattle.std.specs.Io.KnownBytes.{Appends}
-use Rattle.snoop_trace.specs.Extent.{Extent}
-use Rattle.snoop_trace.specs.Output.{AppendsFront}
-use Rattle.snoop_trace.specs.Text.{Gives, rows_of}
-use Rattle.snoop_trace.specs.declared.fault.TextFault.{TextFault}
-use Rattle.snoop_trace.specs.declared.step.Row.{Row}
-use Rattle.snoop_trace.specs.declared.step.Step.{Step}
-use Rattle.snoop_trace.specs.declared.protocol.Protocol.{Protocol}
+use Rattle.std.specs.{Prelude.{◌≡◌, ℕ, List, ◌++◌, All, IsOk, Option, Result, Ok, Err, IfSome, ◌⊎◌}, Io.KnownBytes.Appends}
+use Rattle.snoop_trace.specs.{Extent.Extent, Output.AppendsFront, Text.{Gives, rows_of}, declared.{fault.TextFault.TextFault, step.{Row.Row, Step.Step}}}
+use Rattle.snoop_trace.specs.declared.{protocol.Protocol.Protocol, step.Work.Work}
 use Rattle.snoop_history.specs.Report.{report_of}
-use Rattle.snoop_model.specs.declared.replies.Reply.{Reply}
-use Rattle.snoop_model.specs.declared.replies.Refused.{Refused}
-use Rattle.snoop_model.specs.Pictures.Situation.{Situation}
-use Rattle.snoop_model.specs.Runs.Run.{TheRun}
-use Rattle.snoop_engine.specs.Line.{line_texts}
-use Rattle.snoop_engine.specs.Served.{Serves, asks_of}
-use Rattle.snoop_engine.specs.Todo.{works_of}
-use Rattle.snoop_trace.specs.declared.step.Work.{Work}
-use Rattle.snoop_engine.specs.declared.fault.SimFault.{SimFault}
+use Rattle.snoop_model.specs.{declared.replies.{Reply.Reply, Refused.Refused}, Pictures.Situation.Situation, Runs.Run.TheRun}
+use Rattle.snoop_engine.specs.{Line.line_texts, Served.{Serves, asks_of}, Todo.works_of, declared.fault.SimFault.SimFault}
 use Rattle.snoop_engine.specs.declared.fault.SimFault.TheVariants.{Text, NoMemory, Write}
 
 -- a text, where its bytes are known, was read so: its rows, or its first fault, or a failure to read it

@@ -1,22 +1,11 @@
 -- What a simulation of rows in the order of their text leaves, by what it answers.
 -- Source: this project's profile.
-use Rattle.std.specs.Prelude.{◌≡◌, ℕ, List, ◌++◌, map, All, IsOk, Option, Result, Ok, Err, ◌⊎◌}
-use Rattle.std.specs.Io.KnownBytes.{Appends}
-use Rattle.snoop_trace.specs.Extent.{Extent}
-use Rattle.snoop_trace.specs.Output.{AppendsFront}
-use Rattle.snoop_trace.specs.declared.step.Row.{Row}
-use Rattle.snoop_trace.specs.declared.step.Step.{Step}
-use Rattle.snoop_trace.specs.declared.protocol.Protocol.{Protocol}
+use Rattle.std.specs.{Prelude.{◌≡◌, ℕ, List, ◌++◌, map, All, IsOk, Option, Result, Ok, Err, ◌⊎◌}, Io.KnownBytes.Appends}
+use Rattle.snoop_trace.specs.{Extent.Extent, Output.AppendsFront, declared.{step.{Row.Row, Step.Step}, protocol.Protocol.Protocol}}
 use Rattle.snoop_history.specs.Report.{report_of}
-use Rattle.snoop_model.specs.declared.replies.Reply.{Reply}
-use Rattle.snoop_model.specs.declared.replies.Refused.{Refused}
-use Rattle.snoop_model.specs.Pictures.Situation.{Situation}
-use Rattle.snoop_model.specs.Runs.Run.{TheRun}
-use Rattle.snoop_engine.specs.Line.{line_texts}
-use Rattle.snoop_engine.specs.Serial.{AsksAtRest, ServesSerially, all_asks, ask_for}
-use Rattle.snoop_engine.specs.SimulatedRun.{ReadsRows}
-use Rattle.snoop_engine.specs.declared.fault.SimFault.{SimFault}
-use Rattle.snoop_engine.specs.declared.fault.SimFault.TheVariants.{Text, NoMemory, Write}
+use Rattle.snoop_model.specs.{declared.replies.{Reply.Reply, Refused.Refused}, Pictures.Situation.Situation, Runs.Run.TheRun}
+use Rattle.snoop_engine.specs.{Line.line_texts, Serial.{AsksAtRest, ServesSerially, all_asks, ask_for}, SimulatedRun.ReadsRows}
+use Rattle.snoop_engine.specs.declared.fault.SimFault.{SimFault, TheVariants.{Text, NoMemory, Write}}
 
 -- the writer got the lines of a run that serves the rows one after another, and then the report of its history
 pub record ReportsSerial (protocol : Protocol) (shape : Extent) (rows : List Row) (old new : Option (List ℕ)) : Type 0 where

@@ -1,19 +1,10 @@
 -- What the simulation of a view leaves, by what it answers.
 -- Source: this project's profile.
-use Rattle.std.specs.Prelude.{ℕ, All, List, Option, Result, Ok, Err}
-use Rattle.std.specs.Io.KnownBytes.{Appends}
-use Rattle.snoop_trace.specs.Extent.{Extent}
-use Rattle.snoop_trace.specs.Output.{AppendsFront}
-use Rattle.snoop_trace.specs.declared.step.Step.{Step}
-use Rattle.snoop_trace.specs.declared.protocol.Protocol.{Protocol}
-use Rattle.snoop_model.specs.Pictures.Situation.{Situation}
-use Rattle.snoop_model.specs.Runs.Run.{TheRun}
-use Rattle.snoop_engine.specs.Frames.{AreFrames, Frame, outcomes_of}
-use Rattle.snoop_engine.specs.Inputs.{GivesSteps, IsRefusedText}
-use Rattle.snoop_engine.specs.TrueLines.{ShowsRows}
-use Rattle.snoop_engine.specs.declared.fault.SimFault.{SimFault}
-use Rattle.snoop_engine.specs.declared.input.Input.{Input}
-use Rattle.snoop_engine.specs.declared.fault.SimFault.TheVariants.{Text, NoMemory, Write}
+use Rattle.std.specs.{Prelude.{ℕ, All, List, Option, Result, Ok, Err}, Io.KnownBytes.Appends}
+use Rattle.snoop_trace.specs.{Extent.Extent, Output.AppendsFront, declared.{step.Step.Step, protocol.Protocol.Protocol}}
+use Rattle.snoop_model.specs.{Pictures.Situation.Situation, Runs.Run.TheRun}
+use Rattle.snoop_engine.specs.{Frames.{AreFrames, Frame, outcomes_of}, Inputs.{GivesSteps, IsRefusedText}, TrueLines.ShowsRows, declared.input.Input.Input}
+use Rattle.snoop_engine.specs.declared.fault.SimFault.{SimFault, TheVariants.{Text, NoMemory, Write}}
 
 -- the writer got this text of the frames of the run of the steps, whose lines are the rows that the controllers take
 pub record ShowsRun (protocol : Protocol) (shape : Extent) (text : List Frame → Situation → List ℕ) (steps : List Step) (old new : Option (List ℕ)) : Type 0 where

@@ -1,35 +1,15 @@
 -- The states of a run as a text of fields: for each step that is shown a line for each controller that takes a row of its table.
 -- Source: the fields and their form are this project's profile.
-use Rattle.std.specs.Prelude.{ℕ, ◌==◌, ◌&&◌, List, [], ◌++◌, codes, Option, Some, None, Result, Ok, option_map, nat_lt, if◌then◌else◌}
-use Rattle.std.specs.Fmt.{decimal}
-use Rattle.std.specs.List.{flat_map, range_with_len}
-use Rattle.std.specs.Option.{option_map_or}
-use Rattle.snoop_trace.specs.Extent.{Extent}
-use Rattle.snoop_trace.specs.Output.{step_text}
-use Rattle.snoop_trace.specs.Words.{word_at}
-use Rattle.snoop_trace.specs.declared.step.Step.{Step}
-use Rattle.snoop_trace.specs.declared.protocol.Protocol.{Protocol}
-use Rattle.snoop_rules.specs.declared.names.CacheState.{CacheState}
-use Rattle.snoop_rules.specs.declared.names.CacheEvent.{CacheEvent}
-use Rattle.snoop_rules.specs.declared.names.MemState.{MemState}
-use Rattle.snoop_rules.specs.declared.names.MemEvent.{MemEvent}
-use Rattle.snoop_rules.specs.Cell.{cell_of}
-use Rattle.snoop_rules.specs.MemoryCell.{memory_cell_of}
-use Rattle.snoop_rules.specs.Names.{action_text, event_name, memory_action_text, memory_event_name, memory_state_name, state_name}
+use Rattle.std.specs.{Prelude.{ℕ, ◌==◌, ◌&&◌, List, [], ◌++◌, codes, Option, Some, None, Result, Ok, option_map, nat_lt, if◌then◌else◌}, Fmt.decimal}
+use Rattle.std.specs.{List.{flat_map, range_with_len}, Option.option_map_or}
+use Rattle.snoop_trace.specs.{Extent.Extent, Output.step_text, Words.word_at, declared.{step.Step.Step, protocol.Protocol.Protocol}}
+use Rattle.snoop_rules.specs.{declared.names.{CacheState.CacheState, CacheEvent.CacheEvent, MemState.MemState, MemEvent.MemEvent}, Cell.cell_of}
+use Rattle.snoop_rules.specs.{MemoryCell.memory_cell_of, Names.{action_text, event_name, memory_action_text, memory_event_name, memory_state_name, state_name}}
 use Rattle.snoop_bus.specs.Queues.{place_in, queue_of}
-use Rattle.snoop_model.specs.declared.replies.Reply.{Reply}
-use Rattle.snoop_model.specs.declared.replies.Reply.TheVariants.{Came}
-use Rattle.snoop_model.specs.declared.replies.Refused.{Refused}
-use Rattle.snoop_model.specs.Pictures.Picture.{held_by}
+use Rattle.snoop_model.specs.{declared.replies.{Reply.{Reply, TheVariants.Came}, Refused.Refused}, Pictures.Picture.held_by}
 use Rattle.snoop_model.specs.Pictures.Situation.{Situation, picture_of}
-use Rattle.snoop_engine.specs.Chosen.{Chosen, is_shown}
-use Rattle.snoop_engine.specs.Line.{outcome_text}
-use Rattle.snoop_engine.specs.Frames.{Frame}
-use Rattle.snoop_engine.specs.Numbered.{numbered_from}
-use Rattle.snoop_engine.specs.Taken.{lines_of_step, memory_at, state_at}
-use Rattle.snoop_engine.specs.Views.{block_of_step}
-use Rattle.snoop_engine.specs.declared.taken.Taken.{Taken}
-use Rattle.snoop_engine.specs.declared.taken.Taken.TheVariants.{Core, Memory, Nobody}
+use Rattle.snoop_engine.specs.{Chosen.{Chosen, is_shown}, Line.outcome_text, Frames.Frame, Numbered.numbered_from, Taken.{lines_of_step, memory_at, state_at}}
+use Rattle.snoop_engine.specs.{Views.block_of_step, declared.taken.Taken.{Taken, TheVariants.{Core, Memory, Nobody}}}
 
 -- the value of a word that the core keeps, where all of them are there
 abbrev pub kept_at : Situation → ℕ → ℕ → ℕ → Option ℕ

@@ -1,30 +1,16 @@
 -- Which rows of the tables the controllers take at a step.
 -- Source: "A Primer on Memory Consistency and Cache Coherence", 2nd edition, chapter 7, whose tables they are; which lines there are is this project's profile.
-use Rattle.std.specs.Prelude.{◌≡◌, ℕ, ◌&&◌, List, [], ◌∷◌, ◌++◌, Option, Some, None, Result, Ok, Err, nat_lt, slice_get, if◌then◌else◌}
+use Rattle.std.specs.{Prelude.{◌≡◌, ℕ, ◌&&◌, List, [], ◌∷◌, ◌++◌, Option, Some, None, Result, Ok, Err, nat_lt, slice_get, if◌then◌else◌}, Option.option_map_or}
 use Rattle.std.specs.List.{flat_map, range_with_len}
-use Rattle.std.specs.Option.{option_map_or}
-use Rattle.snoop_trace.specs.declared.step.Op.{Op}
+use Rattle.snoop_trace.specs.declared.step.{Op.Op, Step.{Step, TheVariants.{Ask, Order, Respond}}}
 use Rattle.snoop_trace.specs.declared.step.Op.TheVariants as op
-use Rattle.snoop_trace.specs.declared.step.Step.{Step}
-use Rattle.snoop_trace.specs.declared.step.Step.TheVariants.{Ask, Order, Respond}
-use Rattle.snoop_rules.specs.declared.names.CacheState.{CacheState}
-use Rattle.snoop_rules.specs.declared.names.CacheState.TheVariants.{I}
-use Rattle.snoop_rules.specs.declared.names.CacheEvent.{CacheEvent}
-use Rattle.snoop_rules.specs.declared.names.MemEvent.{MemEvent}
-use Rattle.snoop_rules.specs.declared.names.MemState.{MemState}
-use Rattle.snoop_rules.specs.declared.names.Payload.{Payload}
-use Rattle.snoop_rules.specs.declared.names.Request.{Request}
-use Rattle.snoop_rules.specs.declared.names.Request.TheVariants.{GetS, GetM, PutM}
+use Rattle.snoop_rules.specs.declared.names.{CacheState.{CacheState, TheVariants.I}, CacheEvent.CacheEvent, MemEvent.MemEvent, MemState.MemState}
+use Rattle.snoop_rules.specs.{declared.names.{Payload.Payload, Request.{Request, TheVariants.{GetS, GetM, PutM}}}, Waits.waiting_request}
 use Rattle.snoop_rules.specs.Takers.{asked, seen_by, at_memory, arrival, arrival_at_memory, takes_payload}
-use Rattle.snoop_rules.specs.Waits.{waiting_request}
-use Rattle.snoop_bus.specs.Traffic.{Open}
-use Rattle.snoop_bus.specs.Queues.{queue_of}
-use Rattle.snoop_model.specs.declared.replies.Reply.{Reply}
-use Rattle.snoop_model.specs.declared.replies.Refused.{Refused}
-use Rattle.snoop_model.specs.declared.replies.Refused.TheVariants.{Stalled, NothingWaiting, BusTaken, NoTransaction}
+use Rattle.snoop_bus.specs.{Traffic.Open, Queues.queue_of}
+use Rattle.snoop_model.specs.declared.replies.{Reply.Reply, Refused.{Refused, TheVariants.{Stalled, NothingWaiting, BusTaken, NoTransaction}}}
 use Rattle.snoop_model.specs.Pictures.Situation.{Situation, picture_of, state_of}
-use Rattle.snoop_engine.specs.declared.taken.Taken.{Taken}
-use Rattle.snoop_engine.specs.declared.taken.Taken.TheVariants.{Core, Memory, Nobody}
+use Rattle.snoop_engine.specs.declared.taken.Taken.{Taken, TheVariants.{Core, Memory, Nobody}}
 
 -- the core's state of the block, where both are there
 abbrev pub state_at : Situation → ℕ → ℕ → Option CacheState

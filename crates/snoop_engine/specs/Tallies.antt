@@ -1,13 +1,9 @@
 -- Counters of the rows of the tables, and the lines that they have counted.
 -- Source: this project's profile.
 use Rattle.std.specs.Prelude.{◌≡◌, ℕ, ◌+◌, ◌*◌, List, length, get_or}
-use Rattle.snoop_rules.specs.declared.names.CacheEvent.{CacheEvent}
-use Rattle.snoop_rules.specs.declared.names.CacheState.{CacheState}
-use Rattle.snoop_rules.specs.declared.names.MemEvent.{MemEvent}
-use Rattle.snoop_rules.specs.declared.names.MemState.{MemState}
+use Rattle.snoop_rules.specs.declared.names.{CacheEvent.CacheEvent, CacheState.CacheState, MemEvent.MemEvent, MemState.MemState}
 use Rattle.snoop_history.specs.Totals.{capped}
-use Rattle.snoop_engine.specs.Counts.{memory_times, times}
-use Rattle.snoop_engine.specs.Numbers.{event_number, memory_event_number, memory_state_number, state_number}
+use Rattle.snoop_engine.specs.{Counts.{memory_times, times}, Numbers.{event_number, memory_event_number, memory_state_number, state_number}}
 use Rattle.snoop_engine.specs.declared.taken.Taken.{Taken}
 
 -- the place of a row of the cache table among the counters

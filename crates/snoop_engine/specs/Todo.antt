@@ -1,14 +1,8 @@
 -- What each core has to do.
 -- Source: this project's profile.
 use Rattle.std.specs.Prelude.{ℕ, ◌/◌, ◌==◌, List, [], ◌∷◌, length, map, filter, sum_by, Option, Some, None, slice_index_or}
-use Rattle.snoop_trace.specs.Extent.{Extent}
-use Rattle.snoop_trace.specs.Asked.{step_of}
-use Rattle.snoop_trace.specs.Grammar.{IsStepWithin, word_asked}
-use Rattle.snoop_trace.specs.declared.step.Asked.{Asked}
-use Rattle.snoop_trace.specs.declared.step.Row.{Row}
-use Rattle.snoop_trace.specs.declared.step.Step.{Step}
+use Rattle.snoop_trace.specs.{Extent.Extent, Asked.step_of, Grammar.{IsStepWithin, word_asked}, declared.step.{Asked.Asked, Row.Row, Step.Step, Work.Work}}
 use Rattle.snoop_trace.specs.declared.step.Step.TheVariants.{Ask, Order, Respond}
-use Rattle.snoop_trace.specs.declared.step.Work.{Work}
 
 -- a core's rows that are left, and its work under way, which may be over
 pub record Todo : Type 0 where

@@ -1,27 +1,12 @@
 -- The lines of a step: they are the rows that its controllers take.
 -- Source: "A Primer on Memory Consistency and Cache Coherence", 2nd edition, chapter 7, whose tables they are.
 use Rattle.std.specs.Prelude.{⊤, ◌≡◌, ℕ, All, Contains, Some, None, Result, Ok, Err}
-use Rattle.snoop_trace.specs.declared.step.Step.{Step}
-use Rattle.snoop_trace.specs.declared.step.Step.TheVariants.{Order}
-use Rattle.snoop_rules.specs.declared.names.CacheAction.{CacheAction}
-use Rattle.snoop_rules.specs.declared.names.CacheEvent.{CacheEvent}
-use Rattle.snoop_rules.specs.declared.names.CacheState.{CacheState}
-use Rattle.snoop_rules.specs.declared.names.CacheState.TheVariants.{I}
-use Rattle.snoop_rules.specs.declared.names.MemAction.{MemAction}
-use Rattle.snoop_rules.specs.declared.names.MemEvent.{MemEvent}
-use Rattle.snoop_rules.specs.declared.names.MemState.{MemState}
-use Rattle.snoop_rules.specs.Cell.{cell_of}
-use Rattle.snoop_rules.specs.MemoryCell.{memory_cell_of}
-use Rattle.snoop_model.specs.declared.replies.Reply.{Reply}
-use Rattle.snoop_model.specs.declared.replies.Refused.{Refused}
-use Rattle.snoop_model.specs.declared.replies.Refused.TheVariants.{Stalled}
-use Rattle.snoop_model.specs.Pictures.Situation.{picture_of, state_of}
-use Rattle.snoop_model.specs.Moves.LookUps.{ConsultsCache, ConsultsMemory}
-use Rattle.snoop_model.specs.Moves.Move.{TakesFirst}
-use Rattle.snoop_engine.specs.Frames.{Frame}
-use Rattle.snoop_engine.specs.Taken.{lines_of_step}
-use Rattle.snoop_engine.specs.declared.taken.Taken.{Taken}
-use Rattle.snoop_engine.specs.declared.taken.Taken.TheVariants.{Core, Memory, Nobody}
+use Rattle.snoop_trace.specs.declared.step.Step.{Step, TheVariants.Order}
+use Rattle.snoop_rules.specs.declared.names.{CacheAction.CacheAction, CacheEvent.CacheEvent, CacheState.{CacheState, TheVariants.I}, MemAction.MemAction}
+use Rattle.snoop_rules.specs.{declared.names.{MemEvent.MemEvent, MemState.MemState}, Cell.cell_of, MemoryCell.memory_cell_of}
+use Rattle.snoop_model.specs.{declared.replies.{Reply.Reply, Refused.{Refused, TheVariants.Stalled}}, Pictures.Situation.{picture_of, state_of}}
+use Rattle.snoop_model.specs.Moves.{LookUps.{ConsultsCache, ConsultsMemory}, Move.TakesFirst}
+use Rattle.snoop_engine.specs.{Frames.Frame, Taken.lines_of_step, declared.taken.Taken.{Taken, TheVariants.{Core, Memory, Nobody}}}
 
 -- at the step the core looks up its row for the event on the block, in the state that it has before; and the row leads to the state that it has after
 pub record TakesCoreRow (frame : Frame) (core block : ℕ) (event : CacheEvent) (before : CacheState) : Type 0 where

@@ -1,9 +1,7 @@
 -- What is under way.
 -- Source: this project's profile.
 use Rattle.std.specs.Prelude.{ℕ, ◌==◌, Option, Some, None, if◌then◌else◌}
-use Rattle.snoop_model.specs.Pictures.Situation.{Situation}
-use Rattle.snoop_model.specs.Turns.Serving.{IsServing}
-use Rattle.snoop_model.specs.Invariant.WellKept.{IsWellKept}
+use Rattle.snoop_model.specs.{Pictures.Situation.Situation, Turns.Serving.IsServing, Invariant.WellKept.IsWellKept}
 
 -- a machine that waits only for what is under way
 pub record ServesOnly (under_way : ℕ → Option ℕ) (s : Situation) : Type 0 where

@@ -1,16 +1,10 @@
 -- What a view writes of a run, and what it sees of a step.
 -- Source: this project's profile.
 use Rattle.std.specs.Prelude.{◌≡◌, ℕ, ◌+◌, List, [], ◌∷◌, ◌++◌, length, Option, Some, slice_get}
-use Rattle.snoop_trace.specs.Extent.{Extent}
-use Rattle.snoop_trace.specs.declared.step.Step.{Step}
-use Rattle.snoop_trace.specs.declared.step.Step.TheVariants.{Ask, Order, Respond}
-use Rattle.snoop_trace.specs.declared.protocol.Protocol.{Protocol}
+use Rattle.snoop_trace.specs.{Extent.Extent, declared.{step.Step.{Step, TheVariants.{Ask, Order, Respond}}, protocol.Protocol.Protocol}}
 use Rattle.snoop_bus.specs.Queues.{queue_of}
-use Rattle.snoop_model.specs.Pictures.Situation.{Situation, reset}
-use Rattle.snoop_model.specs.Runs.Run.{GoesFirst}
-use Rattle.snoop_engine.specs.Frames.{Frame, FramesFrom}
-use Rattle.snoop_engine.specs.Taken.{lines_of_step}
-use Rattle.snoop_engine.specs.declared.seen.Seen.{Seen}
+use Rattle.snoop_model.specs.{Pictures.Situation.{Situation, reset}, Runs.Run.GoesFirst}
+use Rattle.snoop_engine.specs.{Frames.{Frame, FramesFrom}, Taken.lines_of_step, declared.seen.Seen.Seen}
 
 -- what is shown of each of some frames, by the frames before it, of which these are the first
 abbrev pub shown : (List Frame → Frame → List ℕ) → List Frame → List Frame → List ℕ

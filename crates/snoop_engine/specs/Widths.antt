@@ -1,10 +1,7 @@
 -- How wide the numbers of a text are.
 -- Source: this project's profile.
-use Rattle.std.specs.Prelude.{ℕ, List, [], ◌∷◌, length, max}
-use Rattle.std.specs.Fmt.{decimal}
-use Rattle.snoop_trace.specs.declared.step.Op.TheVariants.{Store}
-use Rattle.snoop_trace.specs.declared.step.Step.{Step}
-use Rattle.snoop_trace.specs.declared.step.Step.TheVariants.{Ask}
+use Rattle.std.specs.{Prelude.{ℕ, List, [], ◌∷◌, length, max}, Fmt.decimal}
+use Rattle.snoop_trace.specs.declared.step.{Op.TheVariants.Store, Step.{Step, TheVariants.Ask}}
 
 -- how many decimal digits a number has
 abbrev pub digits : ℕ → ℕ

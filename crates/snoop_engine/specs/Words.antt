@@ -1,23 +1,13 @@
 -- What is said of a block: of a core, of an open transaction, of memory.
 -- Source: this project's profile.
-use Rattle.std.specs.Prelude.{ℕ, Bool, true, false, List, [], ◌++◌, codes, Option, Some, None, nat_lt, if◌then◌else◌}
-use Rattle.std.specs.Fmt.{decimal}
+use Rattle.std.specs.{Prelude.{ℕ, Bool, true, false, List, [], ◌++◌, codes, Option, Some, None, nat_lt, if◌then◌else◌}, Fmt.decimal, Option.option_map_or}
 use Rattle.std.specs.List.{flat_map, range_with_len}
-use Rattle.std.specs.Option.{option_map_or}
-use Rattle.snoop_trace.specs.Words.{Data, word_at}
-use Rattle.snoop_trace.specs.declared.protocol.Protocol.{Protocol}
-use Rattle.snoop_trace.specs.declared.protocol.Protocol.TheVariants.{Msi, Mesi}
-use Rattle.snoop_rules.specs.declared.names.CacheState.{CacheState}
-use Rattle.snoop_rules.specs.declared.names.MemState.{MemState}
-use Rattle.snoop_rules.specs.declared.names.MemState.TheVariants.{IorS, I, S}
-use Rattle.snoop_rules.specs.declared.names.Payload.{Payload}
+use Rattle.snoop_trace.specs.{Words.{Data, word_at}, declared.protocol.Protocol.{Protocol, TheVariants.{Msi, Mesi}}}
+use Rattle.snoop_rules.specs.{declared.names.{CacheState.CacheState, MemState.{MemState, TheVariants.{IorS, I, S}}, Payload.Payload}, Takers.carries_value}
 use Rattle.snoop_rules.specs.Names.{memory_state_name, payload_name, request_name, state_name}
-use Rattle.snoop_rules.specs.Takers.{carries_value}
-use Rattle.snoop_bus.specs.Queues.{place_in, queue_of}
-use Rattle.snoop_bus.specs.Traffic.{Open}
+use Rattle.snoop_bus.specs.{Queues.{place_in, queue_of}, Traffic.Open}
 use Rattle.snoop_model.specs.Pictures.Situation.{Situation}
-use Rattle.snoop_engine.specs.States.{kept_at, memory_text}
-use Rattle.snoop_engine.specs.Taken.{memory_at, state_at}
+use Rattle.snoop_engine.specs.{States.{kept_at, memory_text}, Taken.{memory_at, state_at}}
 
 -- a protocol in capitals
 abbrev pub capitals : Protocol → List ℕ

@@ -1,22 +1,14 @@
 -- What an Ask does to one line.
 -- Source: this project's profile.
 use Rattle.std.specs.Prelude.{◌≡◌, ℕ}
-use Rattle.snoop_trace.specs.declared.step.Op.{Op}
+use Rattle.snoop_trace.specs.declared.{step.Op.Op, protocol.Protocol.Protocol}
 use Rattle.snoop_trace.specs.declared.step.Op.TheVariants as op
-use Rattle.snoop_trace.specs.declared.protocol.Protocol.{Protocol}
-use Rattle.snoop_rules.specs.declared.names.CacheState.{CacheState}
+use Rattle.snoop_rules.specs.{declared.names.CacheState.CacheState, Cell.Cell, Takers.asked}
 use Rattle.snoop_rules.specs.declared.names.CacheState.TheVariants as state
 use Rattle.snoop_rules.specs.declared.names.CacheAction.TheVariants as action
-use Rattle.snoop_rules.specs.Cell.{Cell}
-use Rattle.snoop_rules.specs.Takers.{asked}
-use Rattle.snoop_model.specs.Pictures.Lines.{Line}
-use Rattle.snoop_machine.specs.Cache.{changed}
+use Rattle.snoop_model.specs.{Pictures.Lines.Line, declared.replies.Refused.{Refused, TheVariants.Stalled}, Moves.Move.Hits}
+use Rattle.snoop_machine.specs.{Cache.changed, declared.ask.Asked.{Asked, TheVariants.{Absent, Hit, Issue, Drop}}}
 use Rattle.snoop_machine.specs.declared.cache.LineChange.TheVariants as change
-use Rattle.snoop_machine.specs.declared.ask.Asked.{Asked}
-use Rattle.snoop_machine.specs.declared.ask.Asked.TheVariants.{Absent, Hit, Issue, Drop}
-use Rattle.snoop_model.specs.declared.replies.Refused.{Refused}
-use Rattle.snoop_model.specs.declared.replies.Refused.TheVariants.{Stalled}
-use Rattle.snoop_model.specs.Moves.Move.{Hits}
 
 -- a line after the hit of an operation on this word
 abbrev pub after_hit : CacheState → ℕ → Op → Line → Line

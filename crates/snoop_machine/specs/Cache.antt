@@ -2,21 +2,11 @@
 -- Source: this project's profile.
 use Rattle.std.specs.Prelude.{◌≡◌, ◌≢◌, ℕ, ◌+◌, ◌-◌, ◌<◌, ◌≤◌, List, [], Option, Some, None, ⊤, length, unwrap_or, option_map, nat_eq, map, slice_set}
 use Rattle.std.specs.Map.{lookup, keys_of}
-use Rattle.snoop_model.specs.Pictures.Lines.{Line}
-use Rattle.snoop_model.specs.Pictures.Picture.{nothing_held, kept_on}
-use Rattle.snoop_model.specs.declared.access.Access.{Access}
-use Rattle.snoop_trace.specs.Words.{Data}
-use Rattle.snoop_trace.specs.declared.protocol.Protocol.{Protocol}
-use Rattle.snoop_trace.specs.declared.step.Op.{Op}
+use Rattle.snoop_model.specs.{Pictures.{Lines.Line, Picture.{nothing_held, kept_on}}, declared.access.Access.Access, Moves.Move.moves_to}
+use Rattle.snoop_trace.specs.{Words.Data, declared.{protocol.Protocol.Protocol, step.Op.Op}}
 use Rattle.snoop_trace.specs.declared.step.Op.TheVariants as op
-use Rattle.snoop_rules.specs.declared.names.CacheState.{CacheState}
-use Rattle.snoop_rules.specs.declared.names.CacheState.TheVariants.{I}
-use Rattle.snoop_rules.specs.declared.names.CacheEvent.{CacheEvent}
-use Rattle.snoop_rules.specs.declared.names.CacheAction.{CacheAction}
-use Rattle.snoop_rules.specs.Cell.{Cell}
-use Rattle.snoop_model.specs.Moves.Move.{moves_to}
-use Rattle.snoop_machine.specs.declared.cache.LineChange.{LineChange}
-use Rattle.snoop_machine.specs.declared.cache.LineChange.TheVariants.{Hit, Wait}
+use Rattle.snoop_rules.specs.{declared.names.{CacheState.{CacheState, TheVariants.I}, CacheEvent.CacheEvent, CacheAction.CacheAction}, Cell.Cell}
+use Rattle.snoop_machine.specs.declared.cache.LineChange.{LineChange, TheVariants.{Hit, Wait}}
 
 -- the entries of a core's map, by block, and for how many more there is room
 pub record Contents : Type 0 where

@@ -1,13 +1,9 @@
 -- What a step does to how many lines each core's map has.
 -- Source: this project's profile.
 use Rattle.std.specs.Prelude.{◌≡◌, ℕ, ◌+◌, ◌⊎◌, false}
-use Rattle.snoop_machine.specs.declared.ask.Asked.{Asked}
-use Rattle.snoop_machine.specs.declared.ask.Asked.TheVariants.{Issue}
-use Rattle.snoop_machine.specs.declared.plan.Plan.{Plan}
-use Rattle.snoop_machine.specs.declared.plan.Plan.TheVariants.{Ask}
+use Rattle.snoop_machine.specs.{declared.{ask.Asked.{Asked, TheVariants.Issue}, plan.Plan.{Plan, TheVariants.Ask}}, Standing.{Standing, line_count, has_line}}
 use Rattle.snoop_rules.specs.declared.names.CacheState.TheVariants.{I}
 use Rattle.snoop_model.specs.Pictures.Situation.{state_of}
-use Rattle.snoop_machine.specs.Standing.{Standing, line_count, has_line}
 use Rattle.snoop_machine.specs.Holding.{MovesToI}
 
 -- of a core's map as many lines go as blocks on which it moves to I, which is one at most

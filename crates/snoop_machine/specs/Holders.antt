@@ -1,14 +1,9 @@
 -- The cores of a block that another's request concerns.
 -- Source: "A Primer on Memory Consistency and Cache Coherence", 2nd edition, chapter 7; that an Order looks at no other cores is this project's profile.
 use Rattle.std.specs.Prelude.{◌≡◌, ◌≢◌, ℕ, Bool, false, List, [], slice_index_or, slice_set}
-use Rattle.snoop_rules.specs.declared.names.CacheState.{CacheState}
-use Rattle.snoop_rules.specs.declared.names.Request.{Request}
-use Rattle.snoop_rules.specs.declared.names.Request.TheVariants.{GetS, GetM, PutM}
-use Rattle.snoop_model.specs.Pictures.Lines.{Line}
+use Rattle.snoop_rules.specs.declared.names.{CacheState.CacheState, Request.{Request, TheVariants.{GetS, GetM, PutM}}}
+use Rattle.snoop_model.specs.{Pictures.{Lines.Line, Picture.held_at, Proper.keeps}, Invariant.Fits.is_owner}
 use Rattle.snoop_machine.specs.declared.holders.Holders.{Holders}
-use Rattle.snoop_model.specs.Pictures.Picture.{held_at}
-use Rattle.snoop_model.specs.Pictures.Proper.{keeps}
-use Rattle.snoop_model.specs.Invariant.Fits.{is_owner}
 use Rattle.snoop_blocks.specs.CoreSet.{has}
 
 -- whether another's request concerns a core, by whether it is an owner and whether it is a reader

@@ -1,13 +1,10 @@
 -- How many lines a core's map has, from step to step.
 -- Source: this project's profile.
 use Rattle.std.specs.Prelude.{◌≡◌, ◌≢◌, ◌≤◌, ◌+◌, ℕ, true, false}
-use Rattle.snoop_trace.specs.Words.{HasWord}
+use Rattle.snoop_trace.specs.{Words.HasWord, declared.step.Step.{Step, TheVariants.Ask}}
 use Rattle.snoop_trace.specs.declared.step.Op.TheVariants as op
-use Rattle.snoop_trace.specs.declared.step.Step.{Step}
-use Rattle.snoop_trace.specs.declared.step.Step.TheVariants.{Ask}
 use Rattle.snoop_rules.specs.declared.names.CacheState.TheVariants.{I}
-use Rattle.snoop_model.specs.Pictures.Situation.{Situation, state_of}
-use Rattle.snoop_model.specs.Moves.Move.{IsWithin}
+use Rattle.snoop_model.specs.{Pictures.Situation.{Situation, state_of}, Moves.Move.IsWithin}
 use Rattle.snoop_machine.specs.Standing.{Standing, line_count, has_line}
 
 -- the step is an Ask of the core that leaves I, a load or a store of a block that the core does not hold, and its map has no line for the block yet

@@ -2,19 +2,10 @@
 -- Source: this project's profile.
 use Rattle.std.specs.Prelude.{◌≡◌, ◌≢◌, ℕ, ◌+◌, ◌-◌, ◌<◌, ◌≤◌, Bool, true, false, List, [], length, map, nat_eq, slice_index_or, slice_set, ◌⊎◌, if◌then◌else◌}
 use Rattle.std.specs.List.{range_with_len, list_any}
-use Rattle.snoop_rules.specs.declared.names.CacheState.{CacheState}
-use Rattle.snoop_rules.specs.declared.names.CacheState.TheVariants.{I}
-use Rattle.snoop_rules.specs.declared.names.CacheAction.{CacheAction}
-use Rattle.snoop_rules.specs.declared.names.CacheEvent.{CacheEvent}
-use Rattle.snoop_rules.specs.Cell.{Cell}
+use Rattle.snoop_rules.specs.{declared.names.{CacheState.{CacheState, TheVariants.I}, CacheAction.CacheAction, CacheEvent.CacheEvent}, Cell.Cell}
 use Rattle.snoop_trace.specs.declared.protocol.Protocol.{Protocol}
-use Rattle.snoop_model.specs.Moves.Move.{moves_to}
-use Rattle.snoop_model.specs.Pictures.Lines.{Line}
-use Rattle.snoop_model.specs.Pictures.Picture.{held_at}
-use Rattle.snoop_model.specs.Pictures.Proper.{IsProper}
-use Rattle.snoop_machine.specs.declared.holders.Holders.{Holders}
-use Rattle.snoop_machine.specs.Holders.{AreHolders, no_holders}
-use Rattle.snoop_machine.specs.Cache.{Contents, no_cache, line_in, blocks_of, lines_held}
+use Rattle.snoop_model.specs.{Moves.Move.moves_to, Pictures.{Lines.Line, Picture.held_at, Proper.IsProper}}
+use Rattle.snoop_machine.specs.{declared.holders.Holders.Holders, Holders.{AreHolders, no_holders}, Cache.{Contents, no_cache, line_in, blocks_of, lines_held}}
 
 -- what each core holds of the block
 abbrev pub row_of : List (List Line) → ℕ → List Line

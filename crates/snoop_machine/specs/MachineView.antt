@@ -1,8 +1,6 @@
 -- A machine is seen as its parts are.
 -- Source: this project's profile.
-use Rattle.snoop_machine.specs.AnyParts.{stand}
-use Rattle.snoop_machine.specs.declared.machine.Machine.TheInside.{Inside}
-use Rattle.snoop_machine.specs.Standing.{Standing}
+use Rattle.snoop_machine.specs.{AnyParts.stand, declared.machine.Machine.TheInside.Inside, Standing.Standing}
 use Rattle.snoop_model.specs.Invariant.MachineKeeps.{MachineKeeps}
 
 -- the view of a machine is that of its parts

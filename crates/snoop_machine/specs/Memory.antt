@@ -2,8 +2,7 @@
 -- Source: this project's profile.
 use Rattle.std.specs.Prelude.{ℕ, List, slice_index_or}
 use Rattle.snoop_trace.specs.Words.{Data, zero_words}
-use Rattle.snoop_rules.specs.declared.names.MemState.{MemState}
-use Rattle.snoop_rules.specs.declared.names.MemState.TheVariants.{IorS}
+use Rattle.snoop_rules.specs.declared.names.MemState.{MemState, TheVariants.IorS}
 use Rattle.snoop_model.specs.Pictures.Lines.{MemLine}
 
 -- memory's state and words, by block

@@ -1,20 +1,12 @@
 -- What is seen of a machine's parts, and what holds between them.
 -- Source: this project's profile.
 use Rattle.std.specs.Prelude.{◌≡◌, ◌<◌, ◌≤◌, ◌==◌, ℕ, zero, suc, length, List, [], ◌∷◌, map, filter, Option, Some, option_to_list, slice_index_or}
-use Rattle.snoop_trace.specs.Extent.{Extent}
-use Rattle.snoop_trace.specs.Words.{Data}
-use Rattle.snoop_trace.specs.declared.protocol.Protocol.{Protocol}
-use Rattle.snoop_rules.specs.declared.names.MemState.{MemState}
-use Rattle.snoop_rules.specs.declared.names.Request.{Request}
-use Rattle.snoop_rules.specs.Waits.{waiting_request}
+use Rattle.snoop_trace.specs.{Extent.Extent, Words.Data, declared.protocol.Protocol.Protocol}
+use Rattle.snoop_rules.specs.{declared.names.{MemState.MemState, Request.Request}, Waits.waiting_request}
 use Rattle.snoop_bus.specs.Traffic.{Open, Traffic, Waiting, waiting_of, transaction_on}
 use Rattle.snoop_history.specs.Journal.{Journal}
-use Rattle.snoop_model.specs.Pictures.Lines.{Line}
-use Rattle.snoop_model.specs.Pictures.Picture.{Picture}
-use Rattle.snoop_model.specs.Pictures.Proper.{IsProper}
-use Rattle.snoop_machine.specs.Memory.{MemTables}
-use Rattle.snoop_machine.specs.Standing.{Standing}
-use Rattle.snoop_machine.specs.Lines.{Held, line_at}
+use Rattle.snoop_model.specs.Pictures.{Lines.Line, Picture.Picture, Proper.IsProper}
+use Rattle.snoop_machine.specs.{Memory.MemTables, Standing.Standing, Lines.{Held, line_at}}
 
 -- the parts of a machine, however it holds the words of a block
 pub record Fields : Type 0 where

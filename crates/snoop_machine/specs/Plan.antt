@@ -1,34 +1,16 @@
 -- What a step will do, found before anything changes: a plan, the room that it needs, and the item that it adds.
 -- Source: this project's profile.
-use Rattle.std.specs.Prelude.{◌≡◌, ◌≢◌, ℕ, ◌<◌, true, false, List, length, Option, Some, None, IfSome, option_map, slice_index, ⊤}
-use Rattle.std.specs.Option.{ForSome}
-use Rattle.snoop_trace.specs.Words.{HasWord, IsWord}
-use Rattle.snoop_trace.specs.declared.step.Op.{Op}
-use Rattle.snoop_trace.specs.declared.step.Step.{Step}
+use Rattle.std.specs.{Prelude.{◌≡◌, ◌≢◌, ℕ, ◌<◌, true, false, List, length, Option, Some, None, IfSome, option_map, slice_index, ⊤}, Option.ForSome}
+use Rattle.snoop_trace.specs.{Words.{HasWord, IsWord}, declared.step.{Op.Op, Step.Step}}
 use Rattle.snoop_trace.specs.declared.step.Step.TheVariants as step
-use Rattle.snoop_rules.specs.declared.names.MemState.{MemState}
-use Rattle.snoop_rules.specs.declared.names.MemCell.{MemCell}
-use Rattle.snoop_rules.specs.declared.names.Payload.{Payload}
-use Rattle.snoop_rules.specs.declared.names.Request.{Request}
-use Rattle.snoop_rules.specs.declared.names.Request.TheVariants.{PutM}
+use Rattle.snoop_rules.specs.declared.names.{MemState.MemState, MemCell.MemCell, Payload.Payload, Request.{Request, TheVariants.PutM}}
 use Rattle.snoop_rules.specs.Takers.{at_memory, seen_by}
-use Rattle.snoop_history.specs.declared.items.Came.{Came}
-use Rattle.snoop_history.specs.declared.items.Item.{Item}
+use Rattle.snoop_history.specs.declared.items.{Came.Came, Item.Item}
 use Rattle.snoop_history.specs.declared.items.Item.TheVariants as item
-use Rattle.snoop_machine.specs.declared.ask.Asked.TheVariants.{Absent, Hit, Issue, Drop}
-use Rattle.snoop_machine.specs.declared.plan.Plan.{Plan}
-use Rattle.snoop_machine.specs.declared.plan.Plan.TheVariants.{Ask, Order, Writeback, Fill}
-use Rattle.snoop_machine.specs.Standing.{Standing, has_line}
-use Rattle.snoop_machine.specs.Prepared.{room_to_issue}
-use Rattle.snoop_model.specs.Pictures.Situation.{Situation, picture_of, state_of, IsHead}
-use Rattle.snoop_model.specs.Pictures.Picture.{held_by}
-use Rattle.snoop_model.specs.Pictures.Sends.{IsOnlySender}
-use Rattle.snoop_model.specs.Pictures.Proper.{IsProper}
-use Rattle.snoop_model.specs.Moves.LookUps.{HasRow}
-use Rattle.snoop_model.specs.Moves.Move.{Fills, Settles, IsWithin, TakesMemRow, came_of, next_did}
-use Rattle.snoop_machine.specs.declared.ask.Asked.{Asked}
-use Rattle.snoop_machine.specs.Cache.{filled_line}
-use Rattle.snoop_machine.specs.Asked.{TakesAsk}
+use Rattle.snoop_machine.specs.declared.{ask.Asked.{Asked, TheVariants.{Absent, Hit, Issue, Drop}}, plan.Plan.{Plan, TheVariants.{Ask, Order, Writeback, Fill}}}
+use Rattle.snoop_machine.specs.{Standing.{Standing, has_line}, Prepared.room_to_issue, Cache.filled_line, Asked.TakesAsk}
+use Rattle.snoop_model.specs.Pictures.{Situation.{Situation, picture_of, state_of, IsHead}, Picture.held_by, Sends.IsOnlySender, Proper.IsProper}
+use Rattle.snoop_model.specs.Moves.{LookUps.HasRow, Move.{Fills, Settles, IsWithin, TakesMemRow, came_of, next_did}}
 
 -- the step that a plan is for
 abbrev pub planned_step : Plan → Step

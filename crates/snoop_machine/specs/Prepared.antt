@@ -1,19 +1,11 @@
 -- Room for a step, and a step that will be taken.
 -- Source: this project's profile.
 use Rattle.std.specs.Prelude.{◌≡◌, ℕ, ◌++◌, Option, option_to_list, min, slice_index, if◌then◌else◌}
-use Rattle.snoop_trace.specs.declared.step.Step.{Step}
-use Rattle.snoop_trace.specs.declared.step.Step.TheVariants.{Ask}
-use Rattle.snoop_rules.specs.declared.names.CacheState.{CacheState}
-use Rattle.snoop_rules.specs.declared.names.CacheAction.{CacheAction}
-use Rattle.snoop_rules.specs.declared.names.CacheAction.TheVariants.{Hit, Issue}
-use Rattle.snoop_rules.specs.Cell.{Cell}
-use Rattle.snoop_rules.specs.Takers.{asked}
+use Rattle.snoop_trace.specs.declared.step.Step.{Step, TheVariants.Ask}
+use Rattle.snoop_rules.specs.{declared.names.{CacheState.CacheState, CacheAction.{CacheAction, TheVariants.{Hit, Issue}}}, Cell.Cell, Takers.asked}
 use Rattle.snoop_history.specs.declared.items.Item.{Item}
-use Rattle.snoop_model.specs.declared.replies.Reply.{Reply}
-use Rattle.snoop_model.specs.declared.replies.Refused.{Refused}
+use Rattle.snoop_model.specs.{declared.replies.{Reply.Reply, Refused.Refused}, Pictures.Situation.{Situation, state_of}, Moves.Move.FirstMove}
 use Rattle.snoop_machine.specs.Standing.{Standing, has_line}
-use Rattle.snoop_model.specs.Pictures.Situation.{Situation, state_of}
-use Rattle.snoop_model.specs.Moves.Move.{FirstMove}
 use Rattle.snoop_model.specs.Moves.Refuses.{Refuses}
 
 -- for how many more requests of the core that need a line first there is room: each takes a place in the core's queue and one in its map

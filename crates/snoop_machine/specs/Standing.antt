@@ -1,7 +1,6 @@
 -- A machine's situation with its room, and the blocks that its maps have lines for.
 -- Source: this project's profile.
-use Rattle.std.specs.Prelude.{◌<◌, ◌≤◌, ℕ, ◌+◌, ◌-◌, Bool, List, [], length, nat_eq, slice_index, slice_index_or}
-use Rattle.std.specs.List.{list_any}
+use Rattle.std.specs.{Prelude.{◌<◌, ◌≤◌, ℕ, ◌+◌, ◌-◌, Bool, List, [], length, nat_eq, slice_index, slice_index_or}, List.list_any}
 use Rattle.snoop_bus.specs.Queues.{queue_of}
 use Rattle.snoop_model.specs.Pictures.Situation.{Situation}
 

@@ -1,12 +1,9 @@
 -- The words in which replies and refusals are printed.
 -- Source: this project's profile.
-use Rattle.std.specs.Prelude.{ℕ, List, [], ◌++◌, codes, Option, Some, None, if◌then◌else◌}
-use Rattle.std.specs.Fmt.{decimal}
+use Rattle.std.specs.{Prelude.{ℕ, List, [], ◌++◌, codes, Option, Some, None, if◌then◌else◌}, Fmt.decimal}
 use Rattle.snoop_rules.specs.Names.{payload_name, request_name, state_name}
 use Rattle.snoop_history.specs.declared.items.Did.{Did}
-use Rattle.snoop_model.specs.declared.replies.Reply.{Reply}
-use Rattle.snoop_model.specs.declared.replies.Reply.TheVariants.{Hit, StoreHit, Issued, Gone, Absent, Ordered, Came}
-use Rattle.snoop_model.specs.declared.replies.Refused.{Refused}
+use Rattle.snoop_model.specs.declared.replies.{Reply.{Reply, TheVariants.{Hit, StoreHit, Issued, Gone, Absent, Ordered, Came}}, Refused.Refused}
 use Rattle.snoop_model.specs.declared.replies.Refused.TheVariants.{NoCore, NoBlock, Stalled, NothingWaiting, BusTaken, NoTransaction, NoMemory}
 
 -- who sent a response: a core, or memory

@@ -4,8 +4,7 @@ use Rattle.std.specs.Prelude.{List, [], ◌∷◌}
 use Rattle.snoop_trace.specs.declared.protocol.Protocol.TheVariants.{Mesi}
 use Rattle.snoop_rules.specs.declared.names.CacheState.TheVariants as state
 use Rattle.snoop_rules.specs.declared.names.MemState.TheVariants as mem
-use Rattle.snoop_rules.specs.declared.names.Request.TheVariants.{GetS}
-use Rattle.snoop_rules.specs.declared.names.Payload.TheVariants.{Data, DataE}
+use Rattle.snoop_rules.specs.declared.names.{Request.TheVariants.GetS, Payload.TheVariants.{Data, DataE}}
 use Rattle.snoop_history.specs.declared.items.Item.{Item}
 use Rattle.snoop_model.specs.Pictures.Situation.{Situation}
 use Rattle.snoop_scenes.specs.Scene.{two_cores, Frame, ◌⟶◌, load, order, respond, issued, ordered, came, memory, core, loads, sent, answered, holds, remembers, states, closed, at_rest}

@@ -2,29 +2,14 @@
 -- Source: the system model of "A Primer on Memory Consistency and Cache Coherence", 2nd edition, chapter 7; the steps, replies and
 -- items are this project's profile.
 use Rattle.std.specs.Prelude.{◌≡◌, ℕ, true, false, List, [], ◌∷◌, map, replicate, slice_set, Option, Some, None, Result, Ok, Err}
-use Rattle.snoop_trace.specs.Extent.{Extent}
-use Rattle.snoop_trace.specs.Words.{zero_words}
+use Rattle.snoop_trace.specs.{Extent.Extent, Words.zero_words, declared.{step.Step.{Step, TheVariants.{Ask, Order, Respond}}, protocol.Protocol.Protocol}}
 use Rattle.snoop_trace.specs.declared.step.Op.TheVariants as op
-use Rattle.snoop_trace.specs.declared.step.Step.{Step}
-use Rattle.snoop_trace.specs.declared.step.Step.TheVariants.{Ask, Order, Respond}
-use Rattle.snoop_trace.specs.declared.protocol.Protocol.{Protocol}
-use Rattle.snoop_rules.specs.declared.names.CacheState.{CacheState}
-use Rattle.snoop_rules.specs.declared.names.MemState.{MemState}
-use Rattle.snoop_rules.specs.declared.names.Request.{Request}
-use Rattle.snoop_rules.specs.declared.names.Payload.{Payload}
-use Rattle.snoop_history.specs.declared.items.Did.{Did}
-use Rattle.snoop_history.specs.declared.items.Item.{Item}
+use Rattle.snoop_rules.specs.declared.names.{CacheState.CacheState, MemState.MemState, Request.Request, Payload.Payload}
+use Rattle.snoop_history.specs.{declared.items.{Did.Did, Item.Item, Totals.Totals}, History.flat, Totals.touched}
 use Rattle.snoop_history.specs.declared.items.Item.TheVariants as item
-use Rattle.snoop_history.specs.declared.items.Totals.{Totals}
-use Rattle.snoop_history.specs.History.{flat}
-use Rattle.snoop_history.specs.Totals.{touched}
-use Rattle.snoop_model.specs.Pictures.Lines.{Line, MemLine}
-use Rattle.snoop_model.specs.declared.replies.Reply.{Reply}
+use Rattle.snoop_model.specs.{Pictures.{Lines.{Line, MemLine}, Picture.{Picture, free_picture, held_by}}, declared.replies.{Reply.Reply, Refused.Refused}}
 use Rattle.snoop_model.specs.declared.replies.Reply.TheVariants as reply
-use Rattle.snoop_model.specs.declared.replies.Refused.{Refused}
-use Rattle.snoop_model.specs.Pictures.Picture.{Picture, free_picture, held_by}
-use Rattle.snoop_model.specs.Pictures.Situation.{Situation, reset}
-use Rattle.snoop_model.specs.Runs.Run.{GoesFirst, TheRun}
+use Rattle.snoop_model.specs.{Pictures.Situation.{Situation, reset}, Runs.Run.{GoesFirst, TheRun}}
 
 -- two cores, and one block of 64 bytes that is one word
 abbrev pub two_cores : Extent

@@ -6,11 +6,9 @@ use Rattle.std.specs.Prelude.{List, [], ◌∷◌, Some, slice_set}
 use Rattle.snoop_trace.specs.declared.protocol.Protocol.TheVariants.{Msi}
 use Rattle.snoop_rules.specs.declared.names.CacheState.TheVariants as state
 use Rattle.snoop_rules.specs.declared.names.MemState.TheVariants as mem
-use Rattle.snoop_rules.specs.declared.names.Request.TheVariants.{GetM}
-use Rattle.snoop_rules.specs.declared.names.Payload.TheVariants.{Data}
+use Rattle.snoop_rules.specs.declared.names.{Request.TheVariants.GetM, Payload.TheVariants.Data}
 use Rattle.snoop_history.specs.declared.items.Item.{Item}
-use Rattle.snoop_model.specs.Pictures.Picture.{nothing_held}
-use Rattle.snoop_model.specs.Pictures.Situation.{Situation}
+use Rattle.snoop_model.specs.Pictures.{Picture.nothing_held, Situation.Situation}
 use Rattle.snoop_scenes.specs.Scene.{two_words, Frame, ◌⟶◌, load_word, store_word, order, respond, hit, issued, ordered, came, memory, core, hit_load, missed_store, at_word, one_word, performed, sent, answered, holds_words, remembers, states, closed, at_rest}
 
 -- the steps, what each is answered, and the states after it: core 0's, core 1's and memory's

@@ -5,11 +5,9 @@ use Rattle.std.specs.Prelude.{List, [], ◌∷◌}
 use Rattle.snoop_trace.specs.declared.protocol.Protocol.TheVariants.{Msi}
 use Rattle.snoop_rules.specs.declared.names.CacheState.TheVariants as state
 use Rattle.snoop_rules.specs.declared.names.MemState.TheVariants as mem
-use Rattle.snoop_rules.specs.declared.names.Request.TheVariants.{GetS}
-use Rattle.snoop_rules.specs.declared.names.Payload.TheVariants.{Data}
+use Rattle.snoop_rules.specs.declared.names.{Request.TheVariants.GetS, Payload.TheVariants.Data}
 use Rattle.snoop_history.specs.declared.items.Item.{Item}
-use Rattle.snoop_model.specs.Pictures.Picture.{nothing_held}
-use Rattle.snoop_model.specs.Pictures.Situation.{Situation}
+use Rattle.snoop_model.specs.Pictures.{Picture.nothing_held, Situation.Situation}
 use Rattle.snoop_scenes.specs.Scene.{two_blocks, Frame, ◌⟶◌, load, order, respond, issued, ordered, came, memory, loads, sent, answered, holds, remembers, closed, at_rest}
 
 -- the steps, what each is answered, and the states after it: core 0's, core 1's and memory's

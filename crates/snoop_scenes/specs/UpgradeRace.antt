@@ -5,12 +5,9 @@ use Rattle.std.specs.Prelude.{List, [], ◌∷◌}
 use Rattle.snoop_trace.specs.declared.protocol.Protocol.TheVariants.{Msi}
 use Rattle.snoop_rules.specs.declared.names.CacheState.TheVariants as state
 use Rattle.snoop_rules.specs.declared.names.MemState.TheVariants as mem
-use Rattle.snoop_rules.specs.declared.names.Request.TheVariants.{GetS, GetM}
-use Rattle.snoop_rules.specs.declared.names.Payload.TheVariants.{Data}
-use Rattle.snoop_model.specs.declared.replies.Refused.TheVariants.{BusTaken}
+use Rattle.snoop_rules.specs.declared.names.{Request.TheVariants.{GetS, GetM}, Payload.TheVariants.Data}
+use Rattle.snoop_model.specs.{declared.replies.Refused.TheVariants.BusTaken, Pictures.{Picture.nothing_held, Situation.Situation}}
 use Rattle.snoop_history.specs.declared.items.Item.{Item}
-use Rattle.snoop_model.specs.Pictures.Picture.{nothing_held}
-use Rattle.snoop_model.specs.Pictures.Situation.{Situation}
 use Rattle.snoop_scenes.specs.Scene.{two_cores, Frame, ◌⟶◌, load, store, order, respond, issued, ordered, came, refused, memory, core, loads, stores, sent, answered, holds, remembers, states, closed, at_rest}
 
 -- the steps, what each is answered, and the states after it: core 0's, core 1's and memory's

@@ -1,21 +1,15 @@
 -- What the words ask for, by what `clap` answers to them.
 use Rattle.std.proofs.Common.{◌≡◌, ◌≢◌, ◌⊎◌, ◌∙◌, ap, ap₂, subst, sym, refl, inl, inr, arith, true, ℕ, Bool, List, [], ◌∷◌, Option, Some, None, codes}
 use Rattle.clap.specs.Words.{App, HasKind, HasMatchesOf, IsAmong, Kinds, Row, Text, fault_of, is_simple, is_simple_and_free, kind_of, subcommand_of, subcommand_rows_of}
-use Rattle.clap.specs.declared.error.Error.{Error}
-use Rattle.clap.specs.declared.error.kind.ErrorKind.{ErrorKind}
+use Rattle.clap.{specs.declared.{error.{Error.Error, kind.ErrorKind.ErrorKind}, parser.matches.ArgMatches.ArgMatches}, proofs.OnLiterals.clap_on_literals}
 use Rattle.clap.specs.declared.error.kind.ErrorKind.TheVariants.{InvalidValue, UnknownArgument, InvalidSubcommand, NoEquals, ValueValidation, TooManyValues, TooFewValues, WrongNumberOfValues, ArgumentConflict, MissingRequiredArgument, MissingSubcommand, DisplayHelp, DisplayHelpOnMissingArgumentOrSubcommand, DisplayVersion, Io, Format, OutOfMemory}
-use Rattle.clap.specs.declared.parser.matches.ArgMatches.{ArgMatches}
-use Rattle.clap.proofs.OnLiterals.{clap_on_literals}
-use Rattle.snoop_sim.specs.Asked.{AsksFor, HasNoTask, HasTask, IsShown, BeginsNothing}
-use Rattle.snoop_sim.specs.Status.{status_of, status_of_fault}
+use Rattle.snoop_sim.specs.{Asked.{AsksFor, HasNoTask, HasTask, IsShown, BeginsNothing}, Status.{status_of, status_of_fault}, declared.failure.Failure.Failure}
 use Rattle.snoop_sim.specs.CommandLine.{IsSnoop, Names, choice_rules, every_rule, flag_rule, form_rule, grouping_rule, kind_rule, long_rule, shown_rule, simulation_app, table_app, theme_rule, top_app, top_rule, view_app, with_commands}
 use Rattle.snoop_draw.specs.declared.fault.DrawFault.{DrawFault}
 use Rattle.snoop_engine.specs.declared.fault.SimFault.TheVariants.{NoMemory}
 use Rattle.snoop_lint.specs.declared.fault.LintFault.{LintFault}
-use Rattle.snoop_sim.specs.declared.fault.ThreadsFault.{ThreadsFault}
-use Rattle.snoop_sim.specs.declared.failure.Failure.{Failure}
+use Rattle.snoop_sim.specs.declared.{fault.ThreadsFault.ThreadsFault, options.Task.Task}
 use Rattle.snoop_sim.specs.declared.failure.Failure.TheVariants.{BadBy, BadChoice, BadEvery, BadSerial, BadTop, CommandLine, NoCommand, NotUtf8, Shape, Simulation, Threads as ThreadsFailure, Lint as LintFailure, Drawing, Unchosen}
-use Rattle.snoop_sim.specs.declared.options.Task.{Task}
 use Rattle.snoop_sim.specs.declared.options.Task.TheVariants.{Help, Table, Simulate, States, StateFields, Draw, DrawSvg}
 
 -- the commands, with the names that their options take

@@ -1,10 +1,7 @@
 -- What a command is described as, once an option or a subcommand is added.
 use Rattle.std.proofs.Common.{◌≡◌, ◌∙◌, ap, ap₂, refl, ◌||◌, false, true, Some, Bor, List, ℕ}
-use Rattle.clap.specs.Words.{AddsArg, AddsSubcommand, App, Rule, app_of, rule_of, with_rule, with_subcommand}
-use Rattle.clap.specs.declared.builder.arg.Arg.{Arg}
-use Rattle.clap.specs.Simple.{app_of_fields}
-use Rattle.clap.specs.declared.builder.command.Command.{Command}
-use Rattle.clap.specs.declared.builder.command.Command.TheViews.{out-Command}
+use Rattle.clap.specs.{Words.{AddsArg, AddsSubcommand, App, Rule, app_of, rule_of, with_rule, with_subcommand}, declared.builder.arg.Arg.Arg}
+use Rattle.clap.specs.{Simple.app_of_fields, declared.builder.command.Command.{Command, TheViews.out-Command}}
 use Rattle.snoop_sim.specs.CommandLine.{IsLocal}
 
 -- a command with options of its own alone, and its description

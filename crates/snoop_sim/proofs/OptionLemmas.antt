@@ -1,19 +1,11 @@
 -- What the options of a command are read as.
-use Rattle.std.proofs.Common.{◌≡◌, ◌∙◌, ◌^◌, ap, sym, refl, ℕ, Bool, true, false, List, Option, Some, None, map, codes}
-use Rattle.std.specs.Prelude.{Result, Ok, Err, is_some}
-use Rattle.std.specs.Option.{option_map}
-use Rattle.std.specs.Char.{to_ascii_lowercase}
-use Rattle.std.specs.Str.{bytes_eq}
-use Rattle.std.specs.Str.Parse.{ParsesUnsigned}
+use Rattle.std.{proofs.Common.{◌≡◌, ◌∙◌, ◌^◌, ap, sym, refl, ℕ, Bool, true, false, List, Option, Some, None, map, codes}, specs.Option.option_map}
+use Rattle.std.specs.{Prelude.{Result, Ok, Err, is_some}, Char.to_ascii_lowercase, Str.{bytes_eq, Parse.ParsesUnsigned}, Result.OkIff}
 use Rattle.std.proofs.lemmas.Slice.Eq.{bytes_eq-Decides}
-use Rattle.clap.specs.Words.{ReadsOne, first_of, first_value, one_of, one_text, rows_of}
-use Rattle.clap.specs.declared.parser.matches.Found.{Found}
+use Rattle.clap.specs.{Words.{ReadsOne, first_of, first_value, one_of, one_text, rows_of}, declared.parser.matches.Found.Found}
 use Rattle.clap.proofs.WalkLemmas.{first_value-rows, one_text-rows}
-use Rattle.snoop_trace.specs.declared.protocol.Protocol.TheVariants.{Msi, Mesi}
-use Rattle.std.specs.Result.{OkIff}
-use Rattle.snoop_trace.specs.Extent.{Extent, IsBlockCount, IsBlockSize, IsCoreCount, IsWordCount}
-use Rattle.snoop_trace.specs.declared.shape.ShapeFault.{ShapeFault}
-use Rattle.snoop_trace.specs.declared.shape.ShapeFault.TheVariants.{BadCores, BadBlocks, BadBytes, BadWords}
+use Rattle.snoop_trace.specs.{declared.protocol.Protocol.TheVariants.{Msi, Mesi}, Extent.{Extent, IsBlockCount, IsBlockSize, IsCoreCount, IsWordCount}}
+use Rattle.snoop_trace.specs.declared.shape.ShapeFault.{ShapeFault, TheVariants.{BadCores, BadBlocks, BadBytes, BadWords}}
 use Rattle.snoop_sim.specs.Options.{IsReadAs, IsShape, protocol_named, says}
 
 -- a text that is compared with another is found equal where it is equal

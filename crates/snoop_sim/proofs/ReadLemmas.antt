@@ -1,16 +1,13 @@
 -- A read that has failed shows in the status.
-use Rattle.std.proofs.Common.{◌≡◌, Bool, true, false, Option, Some, refl}
-use Rattle.std.specs.Prelude.{Err}
+use Rattle.std.{proofs.Common.{◌≡◌, Bool, true, false, Option, Some, refl}, specs.Prelude.Err}
 use Rattle.snoop_trace.specs.Text.{BlamesReader}
 use Rattle.snoop_trace.specs.declared.fault.TextFault.TheVariants as text
 use Rattle.snoop_engine.specs.declared.fault.SimFault.TheVariants as sim
 use Rattle.snoop_draw.specs.declared.fault.DrawFault.TheVariants as draw
 use Rattle.snoop_lint.specs.declared.fault.LintFault.TheVariants as lint
 use Rattle.snoop_sim.specs.declared.fault.ThreadsFault.TheVariants as threads
-use Rattle.snoop_sim.specs.declared.failure.Failure.{Failure}
+use Rattle.snoop_sim.specs.{declared.failure.Failure.Failure, Performed.IsFailedRead, Status.status_of}
 use Rattle.snoop_sim.specs.declared.failure.Failure.TheVariants.{CommandLine, NoCommand, NotUtf8, Shape, BadBy, BadChoice, BadEvery, BadTop, BadSerial, Simulation, Threads, Lint, Drawing, Unchosen}
-use Rattle.snoop_sim.specs.Performed.{IsFailedRead}
-use Rattle.snoop_sim.specs.Status.{status_of}
 
 -- a reader that is not blamed has not failed
 not_blamed : (before after : Option Bool) → BlamesReader before after ⊥ → before ≡ Some false → after ≡ Some true → ⊥

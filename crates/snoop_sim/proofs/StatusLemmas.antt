@@ -6,14 +6,12 @@ use Rattle.snoop_cores.specs.declared.fault.MakeFault.TheVariants as make
 use Rattle.snoop_cores.specs.declared.fault.RunFault.TheVariants as run
 use Rattle.snoop_cores.specs.declared.fault.SeatFault.TheVariants as seat
 use Rattle.snoop_cores.specs.declared.fault.GatherFault.TheVariants as gathering
-use Rattle.snoop_engine.specs.declared.fault.SimFault.{SimFault}
-use Rattle.snoop_engine.specs.declared.fault.SimFault.TheVariants.{Text, NoMemory, Write}
-use Rattle.snoop_sim.specs.declared.failure.Failure.{Failure}
+use Rattle.snoop_engine.specs.declared.fault.SimFault.{SimFault, TheVariants.{Text, NoMemory, Write}}
+use Rattle.snoop_sim.specs.declared.{failure.Failure.Failure, fault.ThreadsFault.ThreadsFault}
 use Rattle.snoop_sim.specs.declared.failure.Failure.TheVariants.{CommandLine, NoCommand, NotUtf8, Shape, BadBy, BadChoice, BadEvery, BadTop, BadSerial, Simulation, Threads, Lint, Drawing, Unchosen}
 use Rattle.snoop_lint.specs.declared.fault.LintFault.{LintFault}
 use Rattle.snoop_draw.specs.declared.fault.DrawFault.TheVariants as draw
 use Rattle.snoop_lint.specs.declared.fault.LintFault.TheVariants as lint
-use Rattle.snoop_sim.specs.declared.fault.ThreadsFault.{ThreadsFault}
 use Rattle.snoop_sim.specs.declared.fault.ThreadsFault.TheVariants as threads
 use Rattle.snoop_sim.specs.Status.{status_of, status_of_fault, status_of_lint, status_of_threads}
 

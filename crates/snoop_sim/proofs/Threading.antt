@@ -1,36 +1,17 @@
 -- From the threads' answers and the gathered log to the rows.
 use Rattle.std.proofs.Common.{◌≡◌, ℕ, ◌<◌, ◌/◌, ◌==◌, List, [], ◌∷◌, ◌++◌, length, take, All, Option, Some, None, Bool, true, nat_lt, if◌then◌else◌, refl, sym, ap, subst, ◌∙◌, arith}
-use Rattle.std.specs.Prelude.{slice_index_or, IsSome, IfErr, MatchResult, OnOk, OnErr, Result, Ok, Err}
-use Rattle.std.specs.Io.KnownBytes.{Appends}
-use Rattle.std.specs.Result.{IsErrAnd}
-use Rattle.std.proofs.lemmas.Bool.Decides.{nat_tests}
-use Rattle.std.proofs.lemmas.List.Elements.{All-filter, All-from_get_or, All-get_or}
-use Rattle.std.proofs.lemmas.Option.{get_or_from_slice_get, slice_get_within}
-use Rattle.snoop_trace.specs.Extent.{Extent, IsWithinLimits}
-use Rattle.snoop_trace.specs.Grammar.{block_at, IsRowWithin}
-use Rattle.snoop_trace.proofs.WordPlaces.{word_there}
-use Rattle.snoop_trace.specs.Output.{AppendsFront, IsReadableStep, text_of}
-use Rattle.snoop_trace.specs.Text.{steps_of}
-use Rattle.snoop_trace.specs.declared.fault.WriteFault.{WriteFault}
-use Rattle.snoop_trace.specs.declared.step.Row.{Row}
-use Rattle.snoop_trace.specs.declared.step.Step.{Step}
+use Rattle.std.specs.{Prelude.{slice_index_or, IsSome, IfErr, MatchResult, OnOk, OnErr, Result, Ok, Err}, Io.KnownBytes.Appends, Result.IsErrAnd}
+use Rattle.std.proofs.lemmas.{Bool.Decides.nat_tests, List.Elements.{All-filter, All-from_get_or, All-get_or}, Option.{get_or_from_slice_get, slice_get_within}}
+use Rattle.snoop_trace.{specs.{Extent.{Extent, IsWithinLimits}, Grammar.{block_at, IsRowWithin}, Text.steps_of}, proofs.WordPlaces.word_there}
+use Rattle.snoop_trace.specs.{Output.{AppendsFront, IsReadableStep, text_of}, declared.{fault.WriteFault.WriteFault, step.{Row.Row, Step.Step}}}
 use Rattle.snoop_trace.specs.declared.protocol.Protocol.{Protocol}
-use Rattle.snoop_history.specs.declared.items.Did.{Did}
-use Rattle.snoop_history.specs.declared.items.Item.{Item}
-use Rattle.snoop_history.specs.History.{answers_of}
-use Rattle.snoop_cores.specs.declared.fault.RunFault.{RunFault}
+use Rattle.snoop_history.specs.{declared.items.{Did.Did, Item.Item}, History.answers_of}
+use Rattle.snoop_cores.specs.{declared.{fault.{RunFault.RunFault, SeatFault.SeatFault}, stop.Stop.{Stop, TheVariants.Fault}}, Seats.{AreSeats, IsNew, Seating}}
 use Rattle.snoop_cores.specs.declared.fault.RunFault.TheVariants as run
-use Rattle.snoop_cores.specs.declared.fault.SeatFault.{SeatFault}
 use Rattle.snoop_cores.specs.declared.fault.SeatFault.TheVariants as seat
-use Rattle.snoop_cores.specs.declared.stop.Stop.{Stop}
-use Rattle.snoop_cores.specs.declared.stop.Stop.TheVariants.{Fault}
-use Rattle.snoop_cores.specs.Seats.{AreSeats, IsNew, Seating}
-use Rattle.snoop_cores.specs.Rows.{AnswersRows, Leaves, Grows, FailsOn, IsRefused, IsServed, RanTo, RefusesRows, rows_of_core}
-use Rattle.snoop_cores.specs.Joined.{IsJoined}
+use Rattle.snoop_cores.specs.{Rows.{AnswersRows, Leaves, Grows, FailsOn, IsRefused, IsServed, RanTo, RefusesRows, rows_of_core}, Joined.IsJoined}
 use Rattle.snoop_engine.specs.SimulatedRun.{ReadsRows}
-use Rattle.snoop_sim.specs.Threaded.{SimulatesThreads, Threaded}
-use Rattle.snoop_sim.specs.ThreadsFault.{IsOfThreads, IsOfFirstStop}
-use Rattle.snoop_sim.specs.declared.fault.ThreadsFault.{ThreadsFault}
+use Rattle.snoop_sim.specs.{Threaded.{SimulatesThreads, Threaded}, ThreadsFault.{IsOfThreads, IsOfFirstStop}, declared.fault.ThreadsFault.ThreadsFault}
 use Rattle.snoop_sim.specs.declared.fault.ThreadsFault.TheVariants as threads
 
 -- a seat that did nothing before has done its rows: its answers, which are its core's operations, are theirs

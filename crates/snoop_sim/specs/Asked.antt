@@ -1,20 +1,15 @@
 -- What the words of a command line ask for, and why nothing is begun for them.
 -- Source: this project's profile.
 use Rattle.std.specs.Prelude.{⊤, ◌≡◌, ◌≢◌, ◌⊎◌, true, false, List, [], Option, Some, None, Ok, Err, codes}
-use Rattle.clap.specs.Words.{App, IsAmong, Row, Text, fault_of, kind_of, subcommand_of}
-use Rattle.clap.specs.declared.error.kind.ErrorKind.{ErrorKind}
+use Rattle.clap.specs.{Words.{App, IsAmong, Row, Text, fault_of, kind_of, subcommand_of}, declared.error.kind.ErrorKind.ErrorKind}
 use Rattle.clap.specs.declared.error.kind.ErrorKind.TheVariants.{DisplayHelp, DisplayVersion}
 use Rattle.snoop_trace.specs.Extent.{Extent}
-use Rattle.snoop_sim.specs.CommandLine.{IsSnoop}
+use Rattle.snoop_sim.specs.{CommandLine.IsSnoop, declared.{failure.Failure.Failure, options.{Engine.Engine, Task.Task}}}
 use Rattle.snoop_sim.specs.Options.{IsChoiceOf, IsGroupingOf, IsInputOf, IsLongOf, IsPaperOf, IsShapeOf, HasNoGrouping, MisplacesPaper, MisplacesSerial, asks_serial, charset_named, kind_named, layout_named, protocol_named, says, which_named}
-use Rattle.snoop_engine.specs.declared.fault.SimFault.TheVariants.{NoMemory}
-use Rattle.snoop_engine.specs.declared.input.Input.{Input}
+use Rattle.snoop_engine.specs.declared.{fault.SimFault.TheVariants.NoMemory, input.Input.Input}
 use Rattle.snoop_svg.specs.declared.paper.Paper.{Paper}
-use Rattle.snoop_sim.specs.declared.failure.Failure.{Failure}
 use Rattle.snoop_sim.specs.declared.failure.Failure.TheVariants.{BadBy, BadChoice, BadEvery, BadSerial, BadTop, CommandLine, NoCommand, Shape, Simulation, Unchosen}
-use Rattle.snoop_sim.specs.declared.options.Engine.{Engine}
 use Rattle.snoop_sim.specs.declared.options.Engine.TheVariants.{Steps, Run, Serial, Threads, Counts, Lint}
-use Rattle.snoop_sim.specs.declared.options.Task.{Task}
 use Rattle.snoop_sim.specs.declared.options.Task.TheVariants.{Help, Table, Simulate, States, StateFields, Draw, DrawSvg}
 
 -- the engine of a command with its options

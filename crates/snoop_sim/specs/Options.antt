@@ -1,37 +1,25 @@
 -- What the options of a command say.
 -- Source: this project's profile.
 use Rattle.std.specs.Prelude.{◌≡◌, ◌⊎◌, ◌<◌, is_some, ◌^◌, ℕ, List, Option, Some, None, Result, Ok, Err, Bool, if◌then◌else◌, codes, true, false, unwrap_or}
-use Rattle.std.specs.Option.{option_map_or}
-use Rattle.std.specs.Int.NonZero.{non_zero_u64_get}
-use Rattle.std.specs.Str.Parse.{IsNumeral, digits_value, without_leading_plus}
+use Rattle.std.specs.{Option.option_map_or, Int.NonZero.non_zero_u64_get, Str.Parse.{IsNumeral, digits_value, without_leading_plus}}
 use Rattle.clap.specs.Words.{Row, Text, first_of, one_of, same_text}
-use Rattle.snoop_trace.specs.Extent.{Extent, IsBlockCount, IsBlockSize, IsCoreCount, IsWordCount}
-use Rattle.snoop_trace.specs.declared.shape.ShapeFault.{ShapeFault}
-use Rattle.snoop_trace.specs.declared.shape.ShapeFault.TheVariants.{BadCores, BadBlocks, BadBytes, BadWords}
-use Rattle.snoop_trace.specs.declared.protocol.Protocol.{Protocol}
+use Rattle.snoop_trace.specs.{Extent.{Extent, IsBlockCount, IsBlockSize, IsCoreCount, IsWordCount}, declared.shape.ShapeFault.ShapeFault}
+use Rattle.snoop_trace.specs.declared.{shape.ShapeFault.TheVariants.{BadCores, BadBlocks, BadBytes, BadWords}, protocol.Protocol.Protocol}
 use Rattle.snoop_trace.specs.declared.protocol.Protocol.TheVariants.{Msi, Mesi}
-use Rattle.snoop_engine.specs.Choice.{IsChoice}
-use Rattle.snoop_engine.specs.Chosen.{Chosen}
-use Rattle.snoop_engine.specs.declared.choice.ChoiceFault.{ChoiceFault}
-use Rattle.snoop_engine.specs.declared.input.Input.{Input}
+use Rattle.snoop_engine.specs.{Choice.IsChoice, Chosen.Chosen, declared.{choice.ChoiceFault.ChoiceFault, input.Input.Input}}
 use Rattle.snoop_engine.specs.declared.input.Input.TheVariants as input
 use Rattle.snoop_draw.specs.declared.marks.Charset.{Charset}
 use Rattle.snoop_draw.specs.declared.marks.Charset.TheVariants as charset
 use Rattle.snoop_svg.specs.declared.paper.Form.{Form as SvgForm}
 use Rattle.snoop_svg.specs.declared.paper.Form.TheVariants as svg
-use Rattle.snoop_svg.specs.declared.paper.Paper.{Paper}
-use Rattle.snoop_svg.specs.declared.paper.Theme.{Theme}
+use Rattle.snoop_svg.specs.declared.paper.{Paper.Paper, Theme.Theme}
 use Rattle.snoop_svg.specs.declared.paper.Theme.TheVariants as theme
 use Rattle.snoop_lint.specs.declared.form.Form.{Form}
 use Rattle.snoop_lint.specs.declared.form.Form.TheVariants as form
-use Rattle.snoop_sim.specs.declared.options.Layout.{Layout}
+use Rattle.snoop_sim.specs.declared.{options.{Layout.Layout, Grouping.Grouping}, failure.Failure.{Failure, TheVariants.{BadBy, BadEvery, BadTop}}}
 use Rattle.snoop_sim.specs.declared.options.Layout.TheVariants as layout
-use Rattle.snoop_sim.specs.declared.failure.Failure.{Failure}
-use Rattle.snoop_sim.specs.declared.failure.Failure.TheVariants.{BadBy, BadEvery, BadTop}
-use Rattle.snoop_sim.specs.declared.options.Grouping.{Grouping}
 use Rattle.snoop_sim.specs.declared.options.Grouping.TheVariants as grouping
-use Rattle.snoop_rules.specs.declared.table_text.Which.{Which}
-use Rattle.snoop_rules.specs.declared.table_text.Which.TheVariants.{Cache, Memory}
+use Rattle.snoop_rules.specs.declared.table_text.Which.{Which, TheVariants.{Cache, Memory}}
 
 -- whether the option has this value, in small letters or, where case is ignored, in either case
 abbrev pub says : Bool → Text → Text → List Row → Bool

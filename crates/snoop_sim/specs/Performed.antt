@@ -1,47 +1,25 @@
 -- What the program leaves for what it was asked, and the status that it ends with.
 -- Source: this project's profile.
-use Rattle.std.specs.Prelude.{⊤, ◌≡◌, ◌⊎◌, ℕ, Bool, true, List, Option, Result, Ok, Err}
-use Rattle.std.specs.Int.NonZero.{non_zero_u64_get}
-use Rattle.std.specs.Io.KnownBytes.{Appends}
-use Rattle.snoop_trace.specs.Extent.{Extent}
-use Rattle.snoop_trace.specs.Output.{AppendsFront}
-use Rattle.snoop_trace.specs.Text.{BlamesReader}
-use Rattle.snoop_trace.specs.declared.protocol.Protocol.{Protocol}
-use Rattle.snoop_rules.specs.Matrix.{matrix_text}
-use Rattle.snoop_rules.specs.TableText.{table_text}
-use Rattle.snoop_rules.specs.declared.table_text.Which.{Which}
+use Rattle.std.specs.{Prelude.{⊤, ◌≡◌, ◌⊎◌, ℕ, Bool, true, List, Option, Result, Ok, Err}, Int.NonZero.non_zero_u64_get, Io.KnownBytes.Appends}
+use Rattle.snoop_trace.specs.{Extent.Extent, Output.AppendsFront, Text.BlamesReader, declared.{protocol.Protocol.Protocol, fault.TextFault.TheVariants.Read}}
+use Rattle.snoop_rules.specs.{Matrix.matrix_text, TableText.table_text, declared.table_text.Which.Which}
 use Rattle.clap.specs.Words.{Text}
-use Rattle.snoop_sim.specs.Asked.{AsksFor, BeginsNothing}
-use Rattle.snoop_counts.specs.ByBlock.{counts_by_block}
-use Rattle.snoop_counts.specs.BySteps.{counts_by_steps}
-use Rattle.snoop_counts.specs.ByWord.{counts_by_word}
-use Rattle.snoop_counts.specs.CoreTable.{counts_by_core}
-use Rattle.snoop_engine.specs.Counts.{frames_counts_text}
-use Rattle.snoop_engine.specs.Simulated.{Simulates}
-use Rattle.snoop_engine.specs.SimulatedRun.{SimulatesRun}
-use Rattle.snoop_engine.specs.SimulatedSerial.{SimulatesSerial}
-use Rattle.snoop_engine.specs.SimulatedView.{SimulatesView}
-use Rattle.snoop_engine.specs.States.{states_text}
+use Rattle.snoop_sim.specs.{Asked.{AsksFor, BeginsNothing}, Threaded.SimulatesThreads, Status.status_of, declared.{failure.Failure.Failure, options.Task.Task}}
+use Rattle.snoop_counts.specs.{ByBlock.counts_by_block, BySteps.counts_by_steps, ByWord.counts_by_word, CoreTable.counts_by_core}
+use Rattle.snoop_engine.specs.{Counts.frames_counts_text, Simulated.Simulates, SimulatedRun.SimulatesRun, SimulatedSerial.SimulatesSerial, States.states_text}
+use Rattle.snoop_engine.specs.{SimulatedView.SimulatesView, declared.fault.SimFault.SimFault}
 use Rattle.snoop_draw.specs.Simulated.{Draws}
 use Rattle.snoop_draw.specs.declared.fault.DrawFault.TheVariants as draw
 use Rattle.snoop_lint.specs.Linted.{Lints}
 use Rattle.snoop_lint.specs.declared.fault.LintFault.TheVariants.{Read as LintRead}
 use Rattle.snoop_states.specs.Whole.{states_table_text}
 use Rattle.snoop_svg.specs.Simulated.{Draws as DrawsSvg}
-use Rattle.snoop_sim.specs.Threaded.{SimulatesThreads}
-use Rattle.snoop_sim.specs.Status.{status_of}
-use Rattle.snoop_engine.specs.declared.fault.SimFault.{SimFault}
 use Rattle.snoop_engine.specs.declared.fault.SimFault.TheVariants.{Text as TextRefused, NoMemory, Write}
-use Rattle.snoop_trace.specs.declared.fault.TextFault.TheVariants.{Read}
 use Rattle.snoop_sim.specs.declared.fault.ThreadsFault.TheVariants.{Text as RowsRefused}
-use Rattle.snoop_sim.specs.declared.failure.Failure.{Failure}
 use Rattle.snoop_sim.specs.declared.failure.Failure.TheVariants.{Simulation, Threads as ThreadsFailure, Lint as LintFailure, Drawing}
 use Rattle.snoop_sim.specs.declared.options.Grouping.TheVariants as grouping
-use Rattle.snoop_sim.specs.declared.options.Layout.{Layout}
+use Rattle.snoop_sim.specs.declared.options.{Layout.Layout, Engine.{Engine, TheVariants.{Steps, Run, Serial, Threads, Counts, Lint}}}
 use Rattle.snoop_sim.specs.declared.options.Layout.TheVariants as layout
-use Rattle.snoop_sim.specs.declared.options.Engine.{Engine}
-use Rattle.snoop_sim.specs.declared.options.Engine.TheVariants.{Steps, Run, Serial, Threads, Counts, Lint}
-use Rattle.snoop_sim.specs.declared.options.Task.{Task}
 use Rattle.snoop_sim.specs.declared.options.Task.TheVariants.{Help, Table, Simulate, States, StateFields, Draw, DrawSvg}
 
 -- a text was written whole; or, out of memory, nothing; or, where a write failed, a beginning; there was none to refuse

@@ -1,22 +1,13 @@
 -- What a simulation of rows in threads leaves, by what it answers.
 -- Source: this project's profile.
-use Rattle.std.specs.Prelude.{◌≡◌, ℕ, ◌<◌, List, All, Option, Result, Ok, Err}
-use Rattle.std.specs.Io.KnownBytes.{Appends}
-use Rattle.snoop_trace.specs.Extent.{Extent}
-use Rattle.snoop_trace.specs.Output.{AppendsFront, IsReadableStep, text_of}
-use Rattle.snoop_trace.specs.Text.{steps_of}
-use Rattle.snoop_trace.specs.declared.step.Row.{Row}
-use Rattle.snoop_trace.specs.declared.step.Step.{Step}
+use Rattle.std.specs.{Prelude.{◌≡◌, ℕ, ◌<◌, List, All, Option, Result, Ok, Err}, Io.KnownBytes.Appends}
+use Rattle.snoop_trace.specs.{Extent.Extent, Output.{AppendsFront, IsReadableStep, text_of}, Text.steps_of, declared.step.{Row.Row, Step.Step}}
 use Rattle.snoop_trace.specs.declared.protocol.Protocol.{Protocol}
 use Rattle.snoop_history.specs.History.{answers_of}
-use Rattle.snoop_model.specs.Pictures.Situation.{Situation}
-use Rattle.snoop_model.specs.Turns.Quiet.{IsQuiet}
-use Rattle.snoop_model.specs.Runs.Run.{AllTaken}
+use Rattle.snoop_model.specs.{Pictures.Situation.Situation, Turns.Quiet.IsQuiet, Runs.Run.AllTaken}
 use Rattle.snoop_cores.specs.Rows.{AnswersRows, rows_of_core}
 use Rattle.snoop_engine.specs.SimulatedRun.{ReadsRows}
-use Rattle.snoop_sim.specs.ThreadsFault.{IsOfThreads}
-use Rattle.snoop_sim.specs.declared.fault.ThreadsFault.{ThreadsFault}
-use Rattle.snoop_sim.specs.declared.fault.ThreadsFault.TheVariants.{Text, Write}
+use Rattle.snoop_sim.specs.{ThreadsFault.IsOfThreads, declared.fault.ThreadsFault.{ThreadsFault, TheVariants.{Text, Write}}}
 
 -- the steps, each of them taken, lead from reset to rest, and each core's operations are the loads and stores of its rows, in order
 pub record Threaded (protocol : Protocol) (shape : Extent) (rows : List Row) (steps : List Step) : Type 0 where

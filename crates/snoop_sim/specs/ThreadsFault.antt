@@ -2,12 +2,9 @@
 -- Source: this project's profile.
 use Rattle.std.specs.Prelude.{◌≡◌, ℕ, ⊤, List, take, All, Option, Some, None, slice_get}
 use Rattle.snoop_cores.specs.declared.fault.RunFault.TheVariants as run
-use Rattle.snoop_cores.specs.declared.fault.SeatFault.{SeatFault}
+use Rattle.snoop_cores.specs.declared.{fault.SeatFault.SeatFault, stop.Stop.{Stop, TheVariants.Fault}}
 use Rattle.snoop_cores.specs.declared.fault.SeatFault.TheVariants as seat
-use Rattle.snoop_cores.specs.declared.stop.Stop.{Stop}
-use Rattle.snoop_cores.specs.declared.stop.Stop.TheVariants.{Fault}
-use Rattle.snoop_sim.specs.declared.fault.ThreadsFault.{ThreadsFault}
-use Rattle.snoop_sim.specs.declared.fault.ThreadsFault.TheVariants.{Text, Write, Run, Seat}
+use Rattle.snoop_sim.specs.declared.fault.ThreadsFault.{ThreadsFault, TheVariants.{Text, Write, Run, Seat}}
 
 -- the fault is that of the first seat that stopped, which was refused a row
 pub record IsOfFirstStop (stops : List (Option Stop)) (fault : ThreadsFault) : Type 0 where

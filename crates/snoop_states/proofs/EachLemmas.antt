@@ -1,8 +1,6 @@
 -- Lists that grow or in which an element changes, and what holds of each element.
-use Rattle.std.proofs.Common.{◌≡◌, ℕ, ◌+◌, ◌<◌, List, [], ◌∷◌, ◌++◌, get_or, slice_set, length-set, ◌∙◌, inl, inr, arith}
-use Rattle.std.proofs.lemmas.Bool.{cases_eq}
-use Rattle.std.proofs.lemmas.List.{get_or_append_left, get_or_push, get_or-set_other, length_push}
-use Rattle.std.proofs.lemmas.Grind.{get_or-set_at}
+use Rattle.std.proofs.{Common.{◌≡◌, ℕ, ◌+◌, ◌<◌, List, [], ◌∷◌, ◌++◌, get_or, slice_set, length-set, ◌∙◌, inl, inr, arith}, lemmas.Bool.cases_eq}
+use Rattle.std.proofs.lemmas.{List.{get_or_append_left, get_or_push, get_or-set_other, length_push}, Grind.get_or-set_at}
 use Rattle.snoop_states.specs.Each.{AreEach}
 
 module _ {X : Type 0} {n : ℕ} {P Q : ℕ → X → Type 0} {xs : List X} (are : AreEach n P xs) where

@@ -1,15 +1,9 @@
 -- Which frames are kept by a test of their numbers, when one frame more is seen, and where those before a number lead; ranges, one number more.
 use Rattle.std.proofs.Common.{◌≡◌, ℕ, ◌+◌, ◌-◌, ◌<◌, ◌≤◌, Bool, false, if◌then◌else◌, List, [], ◌∷◌, ◌++◌, length, take, take_all, filter, flat_map, nat_le, refl, sym, ap, ◌∙◌, arith}
-use Rattle.std.specs.List.{range_with_len}
-use Rattle.std.proofs.lemmas.Bool.{and_left, lt-leb}
-use Rattle.std.proofs.lemmas.List.{flat_map_more, length_push, take-append-le}
-use Rattle.std.proofs.lemmas.List.Elements.{filter-append}
+use Rattle.std.{specs.List.range_with_len, proofs.lemmas.{Bool.{and_left, lt-leb}, List.{flat_map_more, length_push, take-append-le, Elements.filter-append}}}
 use Rattle.snoop_model.specs.Pictures.Situation.{Situation}
-use Rattle.snoop_engine.specs.Chosen.{Chosen, is_in_range}
-use Rattle.snoop_engine.specs.Frames.{Frame}
-use Rattle.snoop_engine.specs.Numbered.{Numbered, led_to, numbered_from}
+use Rattle.snoop_engine.{specs.{Chosen.{Chosen, is_in_range}, Frames.Frame, Numbered.{Numbered, led_to, numbered_from}}, proofs.RangeLemmas.more_from_zero}
 use Rattle.snoop_engine.proofs.NumberedLemmas.{led_on, numbered, numbered_on}
-use Rattle.snoop_engine.proofs.RangeLemmas.{more_from_zero}
 
 -- one number more of a range
 pub pieces_more : {A : Type 0} (f : ℕ → List A) (before : List A) (n : ℕ) → before ++ flat_map f (range_with_len 0 (n + 1)) ≡ (before ++ flat_map f (range_with_len 0 n)) ++ f n

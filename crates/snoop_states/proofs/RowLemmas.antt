@@ -1,10 +1,6 @@
 -- A row by its cells, as a row by its columns.
-use Rattle.std.proofs.Common.{◌≡◌, ℕ, List, map, flat_map, refl}
-use Rattle.std.proofs.lemmas.List.Folds.{flat_map-map}
-use Rattle.std.proofs.lemmas.Simd.{map-map}
-use Rattle.snoop_states.specs.declared.column.Column.{Column}
-use Rattle.snoop_states.specs.declared.table.Cell.{Cell}
-use Rattle.snoop_states.specs.Seen.{HasCells, pair}
+use Rattle.std.proofs.{Common.{◌≡◌, ℕ, List, map, flat_map, refl}, lemmas.{List.Folds.flat_map-map, Simd.map-map}}
+use Rattle.snoop_states.specs.{declared.{column.Column.Column, table.Cell.Cell}, Seen.{HasCells, pair}}
 
 module _ (columns : List Column) (text : Column → List ℕ) (cells : List Cell) (has : HasCells columns text cells) where
   -- what is appended of each cell, by its column and its text

@@ -1,24 +1,13 @@
 -- The table of a block, when one frame more is seen.
 use Rattle.std.proofs.Common.{◌≡◌, ℕ, ◌+◌, ◌-◌, ◌<◌, ◌≤◌, ◌==◌, ◌&&◌, Bool, true, false, if◌then◌else◌, Option, Some, None, List, [], ◌∷◌, ◌++◌, map, length, nat_le, nat_lt, refl, sym, ◌∙◌, append_assoc, append-nil, take_all, arith, codes, inl, inr, leb-true, lt-ltb, ne_eqb}
-use Rattle.std.specs.Option.{option_map_or}
-use Rattle.std.proofs.lemmas.Bool.{and_left, and_parts, and_right, both_ways, cases_lt, false≢true}
+use Rattle.std.{specs.Option.option_map_or, proofs.lemmas.Bool.{and_left, and_parts, and_right, both_ways, cases_lt, false≢true}}
 use Rattle.std.proofs.lemmas.List.{length_push, map-append}
-use Rattle.snoop_trace.specs.Extent.{Extent}
-use Rattle.snoop_trace.specs.declared.protocol.Protocol.{Protocol}
+use Rattle.snoop_trace.specs.{Extent.Extent, declared.protocol.Protocol.Protocol}
 use Rattle.snoop_model.specs.Pictures.Situation.{Situation, reset}
-use Rattle.snoop_engine.specs.Chosen.{Chosen, is_chosen, is_in_range}
-use Rattle.snoop_engine.specs.Frames.{Frame}
-use Rattle.snoop_engine.specs.Line.{line_text}
-use Rattle.snoop_engine.specs.Numbered.{Numbered, led_to}
-use Rattle.snoop_engine.specs.Views.{block_of_step}
-use Rattle.snoop_states.proofs.KeptLemmas.{kept_on, led_comes, led_stays, none_kept, not_before}
+use Rattle.snoop_engine.specs.{Chosen.{Chosen, is_chosen, is_in_range}, Frames.Frame, Line.line_text, Numbered.{Numbered, led_to}, Views.block_of_step}
+use Rattle.snoop_states.{proofs.KeptLemmas.{kept_on, led_comes, led_stays, none_kept, not_before}, specs.declared.{column.Column.Column, widths.Widths.Widths}}
 use Rattle.snoop_engine.proofs.NumberedLemmas.{led_on, numbered}
-use Rattle.snoop_states.specs.declared.column.Column.{Column}
-use Rattle.snoop_states.specs.declared.widths.Widths.{Widths}
-use Rattle.snoop_states.specs.declared.table.Table.{Table}
-use Rattle.snoop_states.specs.Cells.{cell_text}
-use Rattle.snoop_states.specs.Rows.{cells_text, names_text}
-use Rattle.snoop_states.specs.Seen.{Grows, HasRows, IsEmpty, IsTable}
+use Rattle.snoop_states.specs.{declared.table.Table.Table, Cells.cell_text, Rows.{cells_text, names_text}, Seen.{Grows, HasRows, IsEmpty, IsTable}}
 use Rattle.snoop_states.specs.Tables.{first_row, first_shown, heading_text, is_of, rows_text, shown_block, shown_of, table_text}
 
 -- one row more

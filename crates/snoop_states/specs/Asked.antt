@@ -1,10 +1,8 @@
 -- The marks of which cores ask for which blocks.
 -- Source: this project's profile.
-use Rattle.std.specs.Prelude.{◌≡◌, ◌<◌, ℕ, Bool, false, List, length, slice_get, slice_index_or}
-use Rattle.std.specs.Option.{option_map_or}
+use Rattle.std.specs.{Prelude.{◌≡◌, ◌<◌, ℕ, Bool, false, List, length, slice_get, slice_index_or}, Option.option_map_or}
 use Rattle.snoop_trace.specs.Extent.{Extent}
-use Rattle.snoop_states.specs.declared.asked.Marks.{Marks}
-use Rattle.snoop_states.specs.Each.{AreEach}
+use Rattle.snoop_states.specs.{declared.asked.Marks.Marks, Each.AreEach}
 
 -- the mark of a core; not set where there is none
 abbrev pub mark_of : Marks → ℕ → Bool

@@ -1,8 +1,6 @@
 -- The last line: which cores still wait at the end of a text, and on which blocks a transaction is open.
 -- Source: this project's profile.
-use Rattle.std.specs.Prelude.{ℕ, Bool, List, [], ◌∷◌, ◌++◌, codes, length, is_some, nat_lt}
-use Rattle.std.specs.Fmt.{decimal}
-use Rattle.std.specs.List.{filter, flat_map, range_with_len}
+use Rattle.std.specs.{Prelude.{ℕ, Bool, List, [], ◌∷◌, ◌++◌, codes, length, is_some, nat_lt}, Fmt.decimal, List.{filter, flat_map, range_with_len}}
 use Rattle.snoop_bus.specs.Queues.{queue_of}
 use Rattle.snoop_model.specs.Pictures.Situation.{Situation, picture_of}
 

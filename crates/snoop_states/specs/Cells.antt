@@ -1,11 +1,9 @@
 -- What stands in the cells of a block's table: its state in a core, on the bus and in memory.
 -- Source: this project's profile.
-use Rattle.std.specs.Prelude.{ℕ, List, codes}
-use Rattle.std.specs.Option.{option_map_or}
+use Rattle.std.specs.{Prelude.{ℕ, List, codes}, Option.option_map_or}
 use Rattle.snoop_model.specs.Pictures.Situation.{Situation, picture_of}
 use Rattle.snoop_engine.specs.Words.{core_words, memory_words, message_words}
-use Rattle.snoop_states.specs.declared.column.Column.{Column}
-use Rattle.snoop_states.specs.declared.column.Column.TheVariants.{Core, Bus, Memory}
+use Rattle.snoop_states.specs.declared.column.Column.{Column, TheVariants.{Core, Bus, Memory}}
 
 -- the block's open transaction, if there is one
 abbrev pub bus_cell : Situation → ℕ → List ℕ

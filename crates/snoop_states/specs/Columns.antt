@@ -1,14 +1,8 @@
 -- The columns of a block's table.
 -- Source: this project's profile.
-use Rattle.std.specs.Prelude.{ℕ, ◌+◌, ◌==◌, ◌&&◌, Bool, false, List, [], ◌∷◌, ◌++◌, codes, map}
-use Rattle.std.specs.Fmt.{decimal}
-use Rattle.std.specs.List.{filter, list_any, range_with_len}
-use Rattle.snoop_trace.specs.Extent.{Extent}
-use Rattle.snoop_trace.specs.declared.step.Step.{Step}
-use Rattle.snoop_trace.specs.declared.step.Step.TheVariants.{Ask}
-use Rattle.snoop_states.specs.declared.column.Column.{Column}
-use Rattle.snoop_states.specs.declared.column.Column.TheVariants.{Core, Bus, Memory}
-use Rattle.snoop_states.specs.declared.widths.Widths.{Widths}
+use Rattle.std.specs.{Prelude.{ℕ, ◌+◌, ◌==◌, ◌&&◌, Bool, false, List, [], ◌∷◌, ◌++◌, codes, map}, Fmt.decimal, List.{filter, list_any, range_with_len}}
+use Rattle.snoop_trace.specs.{Extent.Extent, declared.step.Step.{Step, TheVariants.Ask}}
+use Rattle.snoop_states.specs.declared.{column.Column.{Column, TheVariants.{Core, Bus, Memory}}, widths.Widths.Widths}
 
 -- in this step the core asks for the block
 abbrev pub asks_for : ℕ → ℕ → Step → Bool

@@ -1,12 +1,8 @@
 -- A row of a table: a number, a cell in each column, and what is written of the step.
 -- Source: this project's profile.
-use Rattle.std.specs.Prelude.{ℕ, ◌-◌, max, List, ◌++◌, codes, length, replicate, if◌then◌else◌, nat_eq}
-use Rattle.std.specs.Cmp.Lexicographic.{pointwise}
-use Rattle.std.specs.Fmt.{decimal}
+use Rattle.std.specs.{Prelude.{ℕ, ◌-◌, max, List, ◌++◌, codes, length, replicate, if◌then◌else◌, nat_eq}, Cmp.Lexicographic.pointwise, Fmt.decimal}
 use Rattle.std.specs.List.{flat_map}
-use Rattle.snoop_states.specs.declared.column.Column.{Column}
-use Rattle.snoop_states.specs.declared.widths.Widths.{Widths}
-use Rattle.snoop_states.specs.Columns.{column_name, width_of}
+use Rattle.snoop_states.specs.{declared.{column.Column.Column, widths.Widths.Widths}, Columns.{column_name, width_of}}
 
 -- so many blanks
 abbrev pub blanks : ℕ → List ℕ

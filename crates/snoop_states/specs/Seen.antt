@@ -1,20 +1,11 @@
 -- What the tables of a run are while the run is seen.
 -- Source: this project's profile.
 use Rattle.std.specs.Prelude.{◌≡◌, ◌<◌, ◌≤◌, ℕ, ◌+◌, Bool, true, false, List, [], ◌++◌, length, map, nat_lt}
-use Rattle.snoop_trace.specs.Extent.{Extent}
-use Rattle.snoop_trace.specs.declared.protocol.Protocol.{Protocol}
+use Rattle.snoop_trace.specs.{Extent.Extent, declared.protocol.Protocol.Protocol}
 use Rattle.snoop_model.specs.Pictures.Situation.{Situation}
-use Rattle.snoop_engine.specs.Frames.{Frame}
-use Rattle.snoop_engine.specs.Numbered.{Numbered, led_to}
-use Rattle.snoop_states.specs.declared.column.Column.{Column}
-use Rattle.snoop_states.specs.declared.widths.Widths.{Widths}
-use Rattle.snoop_states.specs.declared.table.Cell.{Cell}
-use Rattle.snoop_states.specs.declared.table.Table.{Table}
-use Rattle.snoop_states.specs.Cells.{cell_text}
-use Rattle.snoop_states.specs.Each.{AreEach}
-use Rattle.snoop_engine.specs.Chosen.{Chosen, is_chosen}
-use Rattle.snoop_states.specs.Rows.{cells_text}
-use Rattle.snoop_states.specs.Tables.{first_row, first_shown, rows_text, shown_of}
+use Rattle.snoop_engine.specs.{Frames.Frame, Numbered.{Numbered, led_to}, Chosen.{Chosen, is_chosen}}
+use Rattle.snoop_states.specs.{declared.{column.Column.Column, widths.Widths.Widths, table.{Cell.Cell, Table.Table}}, Cells.cell_text, Each.AreEach}
+use Rattle.snoop_states.specs.{Rows.cells_text, Tables.{first_row, first_shown, rows_text, shown_of}}
 
 -- a column of a table, and the text that stands above its next row there
 abbrev pub pair : Cell → Column × List ℕ

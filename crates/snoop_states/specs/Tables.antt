@@ -1,23 +1,12 @@
 -- The table of a block: a row for each of its steps that is shown.
 -- Source: this project's profile.
-use Rattle.std.specs.Prelude.{ℕ, ◌+◌, ◌-◌, ◌==◌, ◌&&◌, Bool, false, List, [], ◌∷◌, ◌++◌, codes, take, Option, Some, None, if◌then◌else◌}
-use Rattle.std.specs.Fmt.{decimal}
-use Rattle.std.specs.List.{filter}
-use Rattle.std.specs.Option.{option_map_or}
-use Rattle.snoop_trace.specs.Extent.{Extent}
-use Rattle.snoop_trace.specs.Output.{address_of}
-use Rattle.snoop_trace.specs.declared.protocol.Protocol.{Protocol}
+use Rattle.std.specs.{Prelude.{ℕ, ◌+◌, ◌-◌, ◌==◌, ◌&&◌, Bool, false, List, [], ◌∷◌, ◌++◌, codes, take, Option, Some, None, if◌then◌else◌}, Fmt.decimal}
+use Rattle.std.specs.{List.filter, Option.option_map_or}
+use Rattle.snoop_trace.specs.{Extent.Extent, Output.address_of, declared.protocol.Protocol.Protocol}
 use Rattle.snoop_model.specs.Pictures.Situation.{Situation, reset}
-use Rattle.snoop_engine.specs.Chosen.{Chosen, is_chosen, is_in_range}
-use Rattle.snoop_engine.specs.Frames.{Frame}
-use Rattle.snoop_engine.specs.Line.{line_text}
-use Rattle.snoop_engine.specs.Numbered.{Numbered, led_to, numbered_from}
-use Rattle.snoop_engine.specs.Views.{block_of_step}
-use Rattle.snoop_engine.specs.Words.{capitals}
-use Rattle.snoop_states.specs.declared.column.Column.{Column}
-use Rattle.snoop_states.specs.declared.widths.Widths.{Widths}
-use Rattle.snoop_states.specs.Cells.{cell_text}
-use Rattle.snoop_states.specs.Rows.{cells_text, names_text}
+use Rattle.snoop_engine.specs.{Chosen.{Chosen, is_chosen, is_in_range}, Frames.Frame, Line.line_text, Numbered.{Numbered, led_to, numbered_from}}
+use Rattle.snoop_engine.specs.{Views.block_of_step, Words.capitals}
+use Rattle.snoop_states.specs.{declared.{column.Column.Column, widths.Widths.Widths}, Cells.cell_text, Rows.{cells_text, names_text}}
 
 -- the step is of the block
 abbrev pub is_of : ℕ → Frame → Bool

@@ -1,17 +1,10 @@
 -- The view of a run as tables.
 -- Source: this project's profile.
 use Rattle.std.specs.Prelude.{◌≡◌, ℕ, List}
-use Rattle.snoop_trace.specs.Extent.{Extent}
-use Rattle.snoop_trace.specs.declared.protocol.Protocol.{Protocol}
-use Rattle.snoop_trace.specs.declared.step.Step.{Step}
-use Rattle.snoop_engine.specs.Frames.{Frame}
-use Rattle.snoop_states.specs.declared.column.Column.{Column}
-use Rattle.snoop_states.specs.declared.tables.Tables.{Tables}
-use Rattle.snoop_states.specs.Asked.{AreMarks, mark_at}
-use Rattle.snoop_engine.specs.Chosen.{Chosen}
-use Rattle.snoop_states.specs.Columns.{columns_for, is_asker}
-use Rattle.snoop_states.specs.Seen.{AreTables, IsTable}
-use Rattle.snoop_states.specs.Widths.{widths_of}
+use Rattle.snoop_trace.specs.{Extent.Extent, declared.{protocol.Protocol.Protocol, step.Step.Step}}
+use Rattle.snoop_engine.specs.{Frames.Frame, Chosen.Chosen}
+use Rattle.snoop_states.specs.{declared.{column.Column.Column, tables.Tables.Tables}, Asked.{AreMarks, mark_at}, Columns.{columns_for, is_asker}}
+use Rattle.snoop_states.specs.{Seen.{AreTables, IsTable}, Widths.widths_of}
 
 -- the view is for these steps
 pub record IsFor (shape : Extent) (wanted : Chosen) (steps : List Step) (view : Tables) : Type 0 where

@@ -1,18 +1,11 @@
 -- The states of a run as tables: one for each block that a shown step is of, and a last line.
 -- Source: this project's profile.
-use Rattle.std.specs.Prelude.{ℕ, List, [], ◌++◌, if◌then◌else◌}
-use Rattle.std.specs.List.{flat_map, range_with_len}
-use Rattle.snoop_trace.specs.Extent.{Extent}
-use Rattle.snoop_trace.specs.declared.protocol.Protocol.{Protocol}
+use Rattle.std.specs.{Prelude.{ℕ, List, [], ◌++◌, if◌then◌else◌}, List.{flat_map, range_with_len}}
+use Rattle.snoop_trace.specs.{Extent.Extent, declared.protocol.Protocol.Protocol}
 use Rattle.snoop_model.specs.Pictures.Situation.{Situation}
-use Rattle.snoop_engine.specs.Frames.{Frame, steps_of}
-use Rattle.snoop_states.specs.declared.column.Column.{Column}
-use Rattle.snoop_states.specs.declared.widths.Widths.{Widths}
-use Rattle.snoop_states.specs.AtEnd.{end_text}
-use Rattle.snoop_engine.specs.Chosen.{Chosen, is_chosen}
-use Rattle.snoop_states.specs.Columns.{columns_of}
+use Rattle.snoop_engine.specs.{Frames.{Frame, steps_of}, Chosen.{Chosen, is_chosen}}
+use Rattle.snoop_states.specs.{declared.{column.Column.Column, widths.Widths.Widths}, AtEnd.end_text, Columns.columns_of, Widths.widths_of}
 use Rattle.snoop_states.specs.Tables.{first_shown, shown_of, table_text}
-use Rattle.snoop_states.specs.Widths.{widths_of}
 
 -- the table of one block of the frames, if the block is shown
 abbrev pub block_table : Widths → Chosen → Protocol → Extent → (ℕ → List Column) → List Frame → ℕ → List ℕ

@@ -1,8 +1,7 @@
 -- How wide the columns of a text's tables are.
 -- Source: this project's profile.
 use Rattle.std.specs.Prelude.{◌+◌, ◌*◌, max, List, length}
-use Rattle.snoop_trace.specs.Extent.{Extent}
-use Rattle.snoop_trace.specs.declared.step.Step.{Step}
+use Rattle.snoop_trace.specs.{Extent.Extent, declared.step.Step.Step}
 use Rattle.snoop_engine.specs.Widths.{digits, most_stored}
 use Rattle.snoop_states.specs.declared.widths.Widths.{Widths}
 

@@ -1,20 +1,11 @@
 -- What one frame more adds to what is drawn.
-use Rattle.std.proofs.Common.{◌≡◌, ℕ, ◌+◌, ◌-◌, ◌<◌, ◌≤◌, true, false, cond, List, [], ◌∷◌, ◌++◌, length, refl, ap, ◌∙◌, append-nil, arith}
-use Rattle.std.specs.Prelude.{nat_le}
-use Rattle.std.specs.List.{filter}
-use Rattle.std.proofs.lemmas.Bool.{and_left, lt-leb}
-use Rattle.std.proofs.lemmas.List.{length_push, take-append-le, take_all}
-use Rattle.std.proofs.lemmas.List.Elements.{filter-append}
-use Rattle.snoop_trace.specs.Extent.{Extent}
-use Rattle.snoop_trace.specs.declared.protocol.Protocol.{Protocol}
+use Rattle.std.{proofs.Common.{◌≡◌, ℕ, ◌+◌, ◌-◌, ◌<◌, ◌≤◌, true, false, cond, List, [], ◌∷◌, ◌++◌, length, refl, ap, ◌∙◌, append-nil, arith}, specs.List.filter}
+use Rattle.std.{specs.Prelude.nat_le, proofs.lemmas.{Bool.{and_left, lt-leb}, List.{length_push, take-append-le, take_all, Elements.filter-append}}}
+use Rattle.snoop_trace.specs.{Extent.Extent, declared.protocol.Protocol.Protocol}
 use Rattle.snoop_model.specs.Pictures.Situation.{reset}
-use Rattle.snoop_engine.specs.Frames.{Frame}
-use Rattle.snoop_engine.specs.Views.{block_of_step}
-use Rattle.snoop_engine.specs.Chosen.{Chosen}
-use Rattle.snoop_engine.specs.Numbered.{Numbered, led_to, numbered_from}
+use Rattle.snoop_engine.specs.{Frames.Frame, Views.block_of_step, Chosen.Chosen, Numbered.{Numbered, led_to, numbered_from}}
 use Rattle.snoop_engine.proofs.NumberedLemmas.{led_on, not_within, numbered, numbered_on}
-use Rattle.snoop_svg.specs.Drawings.{drawn, first_above, has_row, last_above, row_above}
-use Rattle.snoop_svg.specs.Sheets.{AfterSteps}
+use Rattle.snoop_svg.specs.{Drawings.{drawn, first_above, has_row, last_above, row_above}, Sheets.AfterSteps}
 
 -- what is there after a frame
 abbrev pub after : ℕ → Frame → AfterSteps

@@ -1,16 +1,8 @@
 -- The frames of a run are the only ones.
-use Rattle.std.proofs.Common.{◌≡◌, List, [], ◌∷◌, ◌++◌, refl, sym, ◌∙◌}
-use Rattle.std.specs.Prelude.{Result}
-use Rattle.std.proofs.lemmas.List.{same_from_push}
-use Rattle.snoop_trace.specs.Extent.{Extent}
-use Rattle.snoop_trace.specs.declared.protocol.Protocol.{Protocol}
-use Rattle.snoop_trace.specs.declared.step.Step.{Step}
-use Rattle.snoop_model.specs.declared.replies.Reply.{Reply}
-use Rattle.snoop_model.specs.declared.replies.Refused.{Refused}
-use Rattle.snoop_model.specs.Pictures.Situation.{Situation, reset}
-use Rattle.snoop_model.specs.Runs.Run.{GoesFirst, RunsAreOne}
-use Rattle.snoop_engine.specs.Frames.{AreFrames, Frame, FramesFrom, outcomes_of, steps_of}
-use Rattle.snoop_engine.proofs.FrameLemmas.{are_the_run, frames_on}
+use Rattle.std.{proofs.{Common.{◌≡◌, List, [], ◌∷◌, ◌++◌, refl, sym, ◌∙◌}, lemmas.List.same_from_push}, specs.Prelude.Result}
+use Rattle.snoop_trace.specs.{Extent.Extent, declared.{protocol.Protocol.Protocol, step.Step.Step}}
+use Rattle.snoop_model.specs.{declared.replies.{Reply.Reply, Refused.Refused}, Pictures.Situation.{Situation, reset}, Runs.Run.{GoesFirst, RunsAreOne}}
+use Rattle.snoop_engine.{specs.Frames.{AreFrames, Frame, FramesFrom, outcomes_of, steps_of}, proofs.FrameLemmas.{are_the_run, frames_on}}
 use Rattle.snoop_engine.proofs.TakenLemmas.{run_more}
 
 module _ (protocol : Protocol) (shape : Extent) (one : RunsAreOne) where

@@ -1,20 +1,12 @@
 -- Edges and bold words.
-use Rattle.std.proofs.Common.{◌≡◌, ◌≢◌, ℕ, Bool, List, codes, Decides, get_or, refl, sym, ap, ◌∙◌, inl, inr}
-use Rattle.std.specs.Prelude.{nat_eq, not}
-use Rattle.std.specs.Cmp.{unsigned_Decides}
-use Rattle.std.specs.Cmp.Lexicographic.{pointwise}
-use Rattle.std.proofs.lemmas.Bool.{false≢true, false_from_ne_true}
-use Rattle.std.proofs.lemmas.Slice.Eq.{slice_eq-Decides}
+use Rattle.std.{proofs.Common.{◌≡◌, ◌≢◌, ℕ, Bool, List, codes, Decides, get_or, refl, sym, ap, ◌∙◌, inl, inr}, specs.Prelude.{nat_eq, not}}
+use Rattle.std.{specs.Cmp.{unsigned_Decides, Lexicographic.pointwise}, proofs.lemmas.{Bool.{false≢true, false_from_ne_true}, Slice.Eq.slice_eq-Decides}}
 use Rattle.snoop_rules.specs.declared.names.CacheState.{CacheState}
 use Rattle.snoop_model.specs.Pictures.Situation.{Situation}
-use Rattle.snoop_draw.specs.Events.{may}
+use Rattle.snoop_draw.specs.{Events.may, Rows.held_in, declared.marks.Mark.Mark}
 use Rattle.snoop_draw.specs.Laws.{HasOneEdge as MarksOneEdge}
-use Rattle.snoop_draw.specs.Rows.{held_in}
-use Rattle.snoop_draw.specs.declared.marks.Mark.{Mark}
 use Rattle.snoop_draw.specs.declared.marks.Mark.TheVariants as sign
-use Rattle.snoop_svg.specs.Bands.{HasEdge, marked_band}
-use Rattle.snoop_svg.specs.Cells.{class_of_words}
-use Rattle.snoop_svg.specs.Laws.{HasOneEdge, NewWordsAreBold}
+use Rattle.snoop_svg.specs.{Bands.{HasEdge, marked_band}, Cells.class_of_words, Laws.{HasOneEdge, NewWordsAreBold}}
 
 -- a band with an edge is that of a core that may write
 edged : (mark : Mark) (held : CacheState) → HasEdge (marked_band mark held) → mark ≡ sign.MayWrite

@@ -1,8 +1,7 @@
 -- Lanes and panels are not wide.
 use Rattle.std.proofs.Common.{ℕ, ◌+◌, ◌*◌, ◌≤◌, List, [], ◌∷◌, length, arith}
 use Rattle.snoop_draw.specs.Panels.{Panel}
-use Rattle.snoop_svg.specs.declared.sizes.Sizes.{Sizes}
-use Rattle.snoop_svg.specs.Layout.{AreNarrow, after_lanes, after_panel}
+use Rattle.snoop_svg.specs.{declared.sizes.Sizes.Sizes, Layout.{AreNarrow, after_lanes, after_panel}}
 
 pub after_lanes_near : (sizes : Sizes) → AreNarrow sizes → (x : ℕ) (cores : List ℕ) → after_lanes sizes x cores ≤ x + 11508 * length cores
 after_lanes_near sizes narrow x [] = omega arith

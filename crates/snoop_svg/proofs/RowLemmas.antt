@@ -1,13 +1,9 @@
 -- How many rows there are.
 use Rattle.std.proofs.Common.{◌≡◌, ℕ, ◌+◌, List, [], ◌∷◌, ◌++◌, Bool, true, false, cond, codes, length, length-append, refl, ap, ◌∙◌, append-nil, arith}
-use Rattle.snoop_engine.specs.Frames.{Frame}
-use Rattle.snoop_engine.specs.Views.{block_of_step, shown}
+use Rattle.snoop_engine.specs.{Frames.Frame, Views.{block_of_step, shown}, Chosen.Chosen, Numbered.{Numbered, numbered_from}}
 use Rattle.std.specs.List.{filter, flat_map}
-use Rattle.snoop_engine.specs.Chosen.{Chosen}
-use Rattle.snoop_engine.specs.Numbered.{Numbered, numbered_from}
 use Rattle.snoop_engine.proofs.ViewLemmas.{shown_numbered}
-use Rattle.snoop_svg.specs.Drawings.{drawn, has_row}
-use Rattle.snoop_svg.specs.Size.{mark_text}
+use Rattle.snoop_svg.specs.{Drawings.{drawn, has_row}, Size.mark_text}
 
 -- a mark for a row
 one_mark : (b : Bool) (n : Numbered) (ns : List Numbered) (rest : List ℕ) → length rest ≡ length ns → length (cond b (codes "\n") [] ++ rest) ≡ length (cond b (n ∷ ns) ns)

@@ -1,17 +1,9 @@
 -- A drawing, when it sees one frame more.
 use Rattle.std.proofs.Common.{◌≡◌, ℕ, ◌+◌, ◌%◌, ◌<◌, ◌≤◌, min, true, false, List, [], ◌∷◌, ◌++◌, length, refl, sym, ap, subst, ◌∙◌, arith}
-use Rattle.std.specs.Prelude.{◌==◌, nat_le}
-use Rattle.std.proofs.lemmas.Bool.{and_parts, leb-true, lt-ltb}
-use Rattle.std.proofs.lemmas.List.{length_push}
-use Rattle.snoop_trace.specs.Extent.{Extent}
-use Rattle.snoop_trace.specs.declared.protocol.Protocol.{Protocol}
-use Rattle.snoop_engine.specs.Frames.{Frame}
-use Rattle.snoop_engine.specs.Taken.{lines_of_step}
-use Rattle.snoop_engine.specs.Views.{block_of_step}
-use Rattle.snoop_engine.specs.Chosen.{Chosen}
-use Rattle.snoop_engine.proofs.NumberedLemmas.{numbered, within_of_shown}
-use Rattle.snoop_svg.specs.declared.drawing.Drawing.{Drawing}
-use Rattle.snoop_svg.specs.Drawings.{HasSeen, StandsBelow, drawn, frame_text, has_row, rows_per_sheet, row_above, turn_text}
+use Rattle.std.{specs.Prelude.{◌==◌, nat_le}, proofs.lemmas.{Bool.{and_parts, leb-true, lt-ltb}, List.length_push}}
+use Rattle.snoop_trace.specs.{Extent.Extent, declared.protocol.Protocol.Protocol}
+use Rattle.snoop_engine.{specs.{Frames.Frame, Taken.lines_of_step, Views.block_of_step, Chosen.Chosen}, proofs.NumberedLemmas.{numbered, within_of_shown}}
+use Rattle.snoop_svg.specs.{declared.drawing.Drawing.Drawing, Drawings.{HasSeen, StandsBelow, drawn, frame_text, has_row, rows_per_sheet, row_above, turn_text}}
 use Rattle.snoop_svg.specs.Sheets.{Plan, row_text, row_y}
 use Rattle.snoop_svg.proofs.DrawnLemmas.{after, drawn_grows, drawn_stays, none_yet, standing_grows, standing_starts, standing_stays}
 

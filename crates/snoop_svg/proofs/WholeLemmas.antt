@@ -1,16 +1,9 @@
 -- What the view of a plan writes that is the drawing of the steps.
 use Rattle.std.proofs.Common.{◌≡◌, List, length, sym, ◌∙◌}
-use Rattle.snoop_trace.specs.Extent.{Extent}
-use Rattle.snoop_trace.specs.declared.protocol.Protocol.{Protocol}
-use Rattle.snoop_trace.specs.declared.step.Step.{Step}
-use Rattle.snoop_model.specs.Pictures.Situation.{Situation}
-use Rattle.snoop_model.specs.Runs.Run.{RunsAreOne}
-use Rattle.snoop_engine.specs.Frames.{AreFrames, Frame}
-use Rattle.snoop_engine.specs.Chosen.{Chosen}
-use Rattle.snoop_svg.specs.declared.paper.Paper.{Paper}
-use Rattle.snoop_svg.specs.Drawings.{drawing_text, drawn, plan_for, planned_text}
-use Rattle.snoop_svg.specs.Sheets.{Plan}
-use Rattle.snoop_svg.specs.Simulated.{IsPlanOf}
+use Rattle.snoop_trace.specs.{Extent.Extent, declared.{protocol.Protocol.Protocol, step.Step.Step}}
+use Rattle.snoop_model.specs.{Pictures.Situation.Situation, Runs.Run.RunsAreOne}
+use Rattle.snoop_engine.specs.{Frames.{AreFrames, Frame}, Chosen.Chosen}
+use Rattle.snoop_svg.specs.{declared.paper.Paper.Paper, Drawings.{drawing_text, drawn, plan_for, planned_text}, Sheets.Plan, Simulated.IsPlanOf}
 use Rattle.snoop_svg.proofs.FrameLemmas.{frames_are_one}
 
 module _ (protocol : Protocol) (shape : Extent) (choice : Chosen) (paper : Paper) (steps : List Step) (plan : Plan)

@@ -2,17 +2,13 @@
 -- Source: this project's profile.
 use Rattle.std.specs.Prelude.{◌≡◌, ◌⊎◌, ℕ, ◌+◌, ◌-◌, Bool, true, false, List, [], ◌++◌, codes, Option, Some, None, if◌then◌else◌, bytes_eq}
 use Rattle.snoop_trace.specs.declared.protocol.Protocol.{Protocol}
-use Rattle.snoop_rules.specs.declared.names.CacheState.{CacheState}
-use Rattle.snoop_rules.specs.declared.names.CacheState.TheVariants.{E, EiA}
-use Rattle.snoop_rules.specs.declared.names.MemState.{MemState}
+use Rattle.snoop_rules.specs.declared.names.{CacheState.{CacheState, TheVariants.{E, EiA}}, MemState.MemState}
 use Rattle.snoop_bus.specs.Traffic.{Open}
 use Rattle.snoop_engine.specs.Words.{answers}
-use Rattle.snoop_draw.specs.Events.{may}
-use Rattle.snoop_draw.specs.declared.marks.Mark.{Mark}
+use Rattle.snoop_draw.specs.{Events.may, declared.marks.Mark.Mark}
 use Rattle.snoop_draw.specs.declared.marks.Mark.TheVariants as sign
-use Rattle.snoop_svg.specs.declared.bands.Band.{Band}
+use Rattle.snoop_svg.specs.{declared.bands.Band.Band, Elements.box}
 use Rattle.snoop_svg.specs.declared.bands.Band.TheVariants as band
-use Rattle.snoop_svg.specs.Elements.{box}
 
 -- the class of a band; none has none
 abbrev pub class_of : Band → List ℕ

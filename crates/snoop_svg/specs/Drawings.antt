@@ -2,23 +2,13 @@
 -- Source: this project's profile.
 use Rattle.std.specs.Prelude.{ℕ, ◌+◌, ◌-◌, ◌%◌, ◌==◌, ◌&&◌, ◌≡◌, ◌≤◌, Bool, List, [], ◌∷◌, ◌++◌, Option, length, min, nat_lt, take, if◌then◌else◌}
 use Rattle.std.specs.List.{filter}
-use Rattle.snoop_trace.specs.Extent.{Extent}
-use Rattle.snoop_trace.specs.declared.protocol.Protocol.{Protocol}
-use Rattle.snoop_trace.specs.declared.step.Step.{Step}
+use Rattle.snoop_trace.specs.{Extent.Extent, declared.{protocol.Protocol.Protocol, step.Step.Step}}
 use Rattle.snoop_model.specs.Pictures.Situation.{Situation, reset}
-use Rattle.snoop_engine.specs.Chosen.{Chosen, is_shown}
-use Rattle.snoop_engine.specs.Frames.{Frame, steps_of}
-use Rattle.snoop_engine.specs.Numbered.{Numbered, led_to, numbered_from}
-use Rattle.snoop_engine.specs.Taken.{lines_of_step}
+use Rattle.snoop_engine.specs.{Chosen.{Chosen, is_shown}, Frames.{Frame, steps_of}, Numbered.{Numbered, led_to, numbered_from}, Taken.lines_of_step}
 use Rattle.snoop_engine.specs.Views.{block_of_step, view_text}
 use Rattle.snoop_draw.specs.Panels.{panels_for}
-use Rattle.snoop_svg.specs.declared.drawing.Drawing.{Drawing}
-use Rattle.snoop_svg.specs.declared.paper.Form.{Form}
-use Rattle.snoop_svg.specs.declared.paper.Form.TheVariants.{Svg, Html}
-use Rattle.snoop_svg.specs.declared.paper.Paper.{Paper}
-use Rattle.snoop_svg.specs.Layout.{after_panels, columns_from, sizes_for}
-use Rattle.snoop_svg.specs.Looks.{cells_at}
-use Rattle.snoop_svg.specs.Sheets.{Plan, AfterSteps, first_row, heading_text, row_text, row_y, sheet_closed}
+use Rattle.snoop_svg.specs.{declared.{drawing.Drawing.Drawing, paper.{Form.{Form, TheVariants.{Svg, Html}}, Paper.Paper}}, Looks.cells_at}
+use Rattle.snoop_svg.specs.{Layout.{after_panels, columns_from, sizes_for}, Sheets.{Plan, AfterSteps, first_row, heading_text, row_text, row_y, sheet_closed}}
 use Rattle.snoop_svg.specs.Styles.{page_end, page_head}
 
 -- the step of a frame is drawn

@@ -1,7 +1,6 @@
 -- The elements of a drawing, each one line. All numbers are pixels.
 -- Source: the elements are those of SVG 1.1; their form is this project's profile.
-use Rattle.std.specs.Prelude.{ℕ, ◌+◌, ◌-◌, List, ◌++◌, codes}
-use Rattle.std.specs.Fmt.{decimal}
+use Rattle.std.specs.{Prelude.{ℕ, ◌+◌, ◌-◌, List, ◌++◌, codes}, Fmt.decimal}
 
 -- an attribute with a number
 abbrev pub number_attribute : List ℕ → ℕ → List ℕ

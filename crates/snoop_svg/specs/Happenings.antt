@@ -1,29 +1,17 @@
 -- What happens at a step, in the panel of its block.
 -- Source: this project's profile.
-use Rattle.std.specs.Prelude.{ℕ, ◌+◌, ◌-◌, Bool, true, false, List, [], ◌++◌, codes, Option, Some, None, Result, Ok, Err, if◌then◌else◌}
-use Rattle.std.specs.Fmt.{decimal}
+use Rattle.std.specs.{Prelude.{ℕ, ◌+◌, ◌-◌, Bool, true, false, List, [], ◌++◌, codes, Option, Some, None, Result, Ok, Err, if◌then◌else◌}, Fmt.decimal}
 use Rattle.std.specs.List.{list_any}
-use Rattle.snoop_trace.specs.declared.step.Op.{Op}
-use Rattle.snoop_trace.specs.declared.step.Op.TheVariants.{Load, Store, Evict}
-use Rattle.snoop_trace.specs.declared.step.Step.{Step}
-use Rattle.snoop_trace.specs.declared.step.Step.TheVariants.{Ask, Order, Respond}
-use Rattle.snoop_rules.specs.declared.names.Payload.{Payload}
-use Rattle.snoop_rules.specs.declared.names.Request.{Request}
-use Rattle.snoop_rules.specs.Names.{payload_name, request_name}
+use Rattle.snoop_trace.specs.declared.step.{Op.{Op, TheVariants.{Load, Store, Evict}}, Step.{Step, TheVariants.{Ask, Order, Respond}}}
+use Rattle.snoop_rules.specs.{declared.names.{Payload.Payload, Request.Request}, Names.{payload_name, request_name}}
 use Rattle.snoop_history.specs.declared.items.Did.{Did}
 use Rattle.snoop_bus.specs.Traffic.{Open}
-use Rattle.snoop_model.specs.Pictures.Situation.{Situation, picture_of}
-use Rattle.snoop_model.specs.Texts.{reply_text}
-use Rattle.snoop_model.specs.declared.replies.Refused.{Refused}
-use Rattle.snoop_model.specs.declared.replies.Reply.{Reply}
+use Rattle.snoop_model.specs.{Pictures.Situation.{Situation, picture_of}, Texts.reply_text, declared.replies.{Refused.Refused, Reply.Reply}}
 use Rattle.snoop_model.specs.declared.replies.Reply.TheVariants.{Came, Hit, Issued, StoreHit}
 use Rattle.snoop_engine.specs.declared.taken.Taken.{Taken}
 use Rattle.snoop_draw.specs.Events.{names_memory}
-use Rattle.snoop_svg.specs.declared.columns.Column.{Column}
-use Rattle.snoop_svg.specs.declared.columns.Subject.TheVariants.{Core, Bus, Memory}
-use Rattle.snoop_svg.specs.Cells.{rail_of}
+use Rattle.snoop_svg.specs.{declared.columns.{Column.Column, Subject.TheVariants.{Core, Bus, Memory}}, Cells.rail_of, Layout.column_for}
 use Rattle.snoop_svg.specs.Elements.{cross, dot, left_arrow, line, operation_opened, right_arrow, text, text_closed, text_opened}
-use Rattle.snoop_svg.specs.Layout.{column_for}
 
 -- the Ask is a hit
 abbrev pub is_hit : Result Reply Refused → Bool

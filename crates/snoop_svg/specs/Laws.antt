@@ -3,10 +3,7 @@
 use Rattle.std.specs.Prelude.{◌≡◌, ◌≢◌, ◌↔◌, ℕ, List, codes, Some}
 use Rattle.snoop_model.specs.Pictures.Situation.{Situation}
 use Rattle.snoop_draw.specs.Rows.{held_in}
-use Rattle.snoop_svg.specs.declared.bands.Band.TheVariants.{Bare}
-use Rattle.snoop_svg.specs.Bands.{HasEdge, core_band}
-use Rattle.snoop_svg.specs.Cells.{class_of_words, is_new}
-use Rattle.snoop_svg.specs.Looks.{Look}
+use Rattle.snoop_svg.specs.{declared.bands.Band.TheVariants.Bare, Bands.{HasEdge, core_band}, Cells.{class_of_words, is_new}, Looks.Look}
 
 -- beside a core whose band has an edge, no other has a band
 abbrev pub HasOneEdge : Situation → Type 0

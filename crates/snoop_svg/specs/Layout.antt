@@ -1,15 +1,10 @@
 -- Where the columns of a drawing stand. All numbers are pixels.
 -- Source: this project's profile.
 use Rattle.std.specs.Prelude.{ℕ, ◌+◌, ◌*◌, ◌≤◌, ◌==◌, ◌&&◌, Bool, false, List, [], ◌∷◌, ◌++◌, length, Option, Some, None, if◌then◌else◌}
-use Rattle.snoop_trace.specs.Extent.{Extent}
-use Rattle.snoop_trace.specs.declared.step.Step.{Step}
+use Rattle.snoop_trace.specs.{Extent.Extent, declared.step.Step.Step}
 use Rattle.snoop_engine.specs.Widths.{digits, most_stored}
-use Rattle.snoop_draw.specs.Panels.{Panel}
-use Rattle.snoop_draw.specs.Widths.{values_width}
-use Rattle.snoop_svg.specs.declared.columns.Column.{Column}
-use Rattle.snoop_svg.specs.declared.columns.Subject.{Subject}
-use Rattle.snoop_svg.specs.declared.columns.Subject.TheVariants.{Core, Bus, Memory}
-use Rattle.snoop_svg.specs.declared.sizes.Sizes.{Sizes}
+use Rattle.snoop_draw.specs.{Panels.Panel, Widths.values_width}
+use Rattle.snoop_svg.specs.declared.{columns.{Column.Column, Subject.{Subject, TheVariants.{Core, Bus, Memory}}}, sizes.Sizes.Sizes}
 
 -- the sizes for a text of these steps, by its numbers of digits: where the numbers of steps end, their records and the panels begin, the widths of the columns, and of a reply
 abbrev pub sizes_for : Extent → List Step → Sizes

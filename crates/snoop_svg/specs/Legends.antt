@@ -1,12 +1,9 @@
 -- What the marks of a drawing mean.
 -- Source: this project's profile.
 use Rattle.std.specs.Prelude.{ℕ, ◌+◌, List, ◌++◌, codes}
-use Rattle.snoop_trace.specs.declared.protocol.Protocol.{Protocol}
-use Rattle.snoop_trace.specs.declared.protocol.Protocol.TheVariants.{Msi, Mesi}
-use Rattle.snoop_svg.specs.declared.bands.Band.{Band}
+use Rattle.snoop_trace.specs.declared.protocol.Protocol.{Protocol, TheVariants.{Msi, Mesi}}
+use Rattle.snoop_svg.specs.{declared.bands.Band.Band, Bands.part, Elements.{box, cross, dot, line, right_arrow, text}}
 use Rattle.snoop_svg.specs.declared.bands.Band.TheVariants as band
-use Rattle.snoop_svg.specs.Bands.{part}
-use Rattle.snoop_svg.specs.Elements.{box, cross, dot, line, right_arrow, text}
 
 -- a band, and what it means
 abbrev pub key : ℕ → ℕ → Band → List ℕ → List ℕ

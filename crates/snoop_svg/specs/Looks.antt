@@ -2,18 +2,10 @@
 -- Source: this project's profile.
 use Rattle.std.specs.Prelude.{ℕ, List, [], codes, map}
 use Rattle.snoop_model.specs.Pictures.Situation.{Situation, picture_of}
-use Rattle.snoop_engine.specs.Taken.{memory_at}
-use Rattle.snoop_engine.specs.Words.{core_words, memory_words}
-use Rattle.snoop_draw.specs.Events.{awaits}
-use Rattle.snoop_draw.specs.Rows.{held_in}
-use Rattle.snoop_draw.specs.Words.{bus_words}
-use Rattle.snoop_draw.specs.declared.marks.Mark.{Mark}
+use Rattle.snoop_engine.specs.{Taken.memory_at, Words.{core_words, memory_words}}
+use Rattle.snoop_draw.specs.{Events.awaits, Rows.held_in, Words.bus_words, declared.marks.Mark.Mark}
 use Rattle.snoop_draw.specs.declared.marks.Mark.TheVariants as sign
-use Rattle.snoop_svg.specs.declared.bands.Band.{Band}
-use Rattle.snoop_svg.specs.declared.columns.Column.{Column}
-use Rattle.snoop_svg.specs.declared.columns.Subject.{Subject}
-use Rattle.snoop_svg.specs.declared.columns.Subject.TheVariants.{Core, Bus, Memory}
-use Rattle.snoop_svg.specs.declared.looks.Rail.{Rail}
+use Rattle.snoop_svg.specs.declared.{bands.Band.Band, columns.{Column.Column, Subject.{Subject, TheVariants.{Core, Bus, Memory}}}, looks.Rail.Rail}
 use Rattle.snoop_svg.specs.declared.looks.Rail.TheVariants as rail
 use Rattle.snoop_svg.specs.Bands.{bus_band, core_band, memory_band}
 

@@ -1,32 +1,12 @@
 -- A sheet of a drawing: its heading, its first row, its rows and its end. All numbers are pixels.
 -- Source: this project's profile.
-use Rattle.std.specs.Prelude.{ℕ, ◌+◌, ◌-◌, ◌*◌, ◌==◌, max, min, List, [], ◌++◌, codes, Option, Result, Ok, Err, if◌then◌else◌}
-use Rattle.std.specs.Fmt.{decimal}
-use Rattle.std.specs.List.{flat_map}
-use Rattle.snoop_trace.specs.Extent.{Extent}
-use Rattle.snoop_trace.specs.Output.{address_of, step_text}
-use Rattle.snoop_trace.specs.declared.protocol.Protocol.{Protocol}
-use Rattle.snoop_trace.specs.declared.step.Step.{Step}
-use Rattle.snoop_model.specs.Pictures.Situation.{Situation}
-use Rattle.snoop_model.specs.declared.replies.Refused.{Refused}
-use Rattle.snoop_model.specs.declared.replies.Reply.{Reply}
-use Rattle.snoop_engine.specs.Line.{outcome_text}
-use Rattle.snoop_engine.specs.Words.{capitals}
-use Rattle.snoop_engine.specs.declared.taken.Taken.{Taken}
-use Rattle.snoop_engine.specs.Chosen.{Chosen}
-use Rattle.snoop_svg.specs.declared.columns.Column.{Column}
-use Rattle.snoop_svg.specs.declared.columns.Subject.{Subject}
-use Rattle.snoop_svg.specs.declared.columns.Subject.TheVariants.{Core, Bus, Memory}
-use Rattle.snoop_svg.specs.declared.paper.Form.{Form}
-use Rattle.snoop_svg.specs.declared.paper.Form.TheVariants.{Svg, Html}
-use Rattle.snoop_svg.specs.declared.paper.Paper.{Paper}
-use Rattle.snoop_svg.specs.declared.sizes.Sizes.{Sizes}
-use Rattle.snoop_svg.specs.Cells.{first_cells, next_cells}
-use Rattle.snoop_svg.specs.Elements.{box, line, number, size, text, text_closed, text_opened}
-use Rattle.snoop_svg.specs.Happenings.{event_text}
-use Rattle.snoop_svg.specs.Legends.{legend_text}
-use Rattle.snoop_svg.specs.Styles.{style}
-use Rattle.snoop_svg.specs.Titles.{row_title, step_line}
+use Rattle.std.specs.{Prelude.{ℕ, ◌+◌, ◌-◌, ◌*◌, ◌==◌, max, min, List, [], ◌++◌, codes, Option, Result, Ok, Err, if◌then◌else◌}, Fmt.decimal, List.flat_map}
+use Rattle.snoop_trace.specs.{Extent.Extent, Output.{address_of, step_text}, declared.{protocol.Protocol.Protocol, step.Step.Step}}
+use Rattle.snoop_model.specs.{Pictures.Situation.Situation, declared.replies.{Refused.Refused, Reply.Reply}}
+use Rattle.snoop_engine.specs.{Line.outcome_text, Words.capitals, declared.taken.Taken.Taken, Chosen.Chosen}
+use Rattle.snoop_svg.specs.declared.{columns.{Column.Column, Subject.{Subject, TheVariants.{Core, Bus, Memory}}}, paper.Form.{Form, TheVariants.{Svg, Html}}}
+use Rattle.snoop_svg.specs.{declared.{paper.Paper.Paper, sizes.Sizes.Sizes}, Cells.{first_cells, next_cells}, Happenings.event_text, Legends.legend_text}
+use Rattle.snoop_svg.specs.{Elements.{box, line, number, size, text, text_closed, text_opened}, Styles.style, Titles.{row_title, step_line}}
 
 -- what all sheets of a drawing share: its sizes and columns, where replies begin, which steps are drawn and how many, and what it is written for
 pub record Plan : Type 0 where

@@ -1,21 +1,11 @@
 -- What the command leaves that draws a run as SVG, by what it answers.
 -- Source: this project's profile.
 use Rattle.std.specs.Prelude.{◌≡◌, ℕ, List, Option, Some, None, Result, Ok, Err, ◌⊎◌}
-use Rattle.snoop_trace.specs.Extent.{Extent}
-use Rattle.snoop_trace.specs.declared.protocol.Protocol.{Protocol}
-use Rattle.snoop_trace.specs.declared.step.Step.{Step}
-use Rattle.snoop_engine.specs.Inputs.{GivesSteps, IsRefusedText}
-use Rattle.snoop_engine.specs.SimulatedView.{BeginsToShow, ShowsRun}
+use Rattle.snoop_trace.specs.{Extent.Extent, declared.{protocol.Protocol.Protocol, step.Step.Step}}
+use Rattle.snoop_engine.specs.{Inputs.{GivesSteps, IsRefusedText}, SimulatedView.{BeginsToShow, ShowsRun}, declared.input.Input.Input, Chosen.Chosen}
 use Rattle.snoop_engine.specs.declared.fault.SimFault.TheVariants.{Text, NoMemory, Write}
-use Rattle.snoop_engine.specs.declared.input.Input.{Input}
-use Rattle.snoop_engine.specs.Chosen.{Chosen}
-use Rattle.snoop_draw.specs.Panels.{panels_for}
-use Rattle.snoop_draw.specs.declared.fault.DrawFault.{DrawFault}
-use Rattle.snoop_draw.specs.declared.fault.DrawFault.TheVariants.{Simulation, TooLarge}
-use Rattle.snoop_svg.specs.declared.paper.Paper.{Paper}
-use Rattle.snoop_svg.specs.Drawings.{drawing_text, plan_for}
-use Rattle.snoop_svg.specs.Sheets.{Plan}
-use Rattle.snoop_svg.specs.Size.{HasRows, IsSmall}
+use Rattle.snoop_draw.specs.{Panels.panels_for, declared.fault.DrawFault.{DrawFault, TheVariants.{Simulation, TooLarge}}}
+use Rattle.snoop_svg.specs.{declared.paper.Paper.Paper, Drawings.{drawing_text, plan_for}, Sheets.Plan, Size.{HasRows, IsSmall}}
 
 -- the drawing of the steps is small enough
 abbrev pub IsDrawable : Protocol → Extent → Chosen → List Step → Type 0

@@ -1,14 +1,10 @@
 -- How large a drawing is.
 -- Source: this project's profile.
 use Rattle.std.specs.Prelude.{◌≡◌, ℕ, ◌+◌, ◌*◌, ◌≤◌, List, [], codes, Option, length, if◌then◌else◌}
-use Rattle.snoop_trace.specs.Extent.{Extent}
-use Rattle.snoop_trace.specs.declared.protocol.Protocol.{Protocol}
-use Rattle.snoop_trace.specs.declared.step.Step.{Step}
+use Rattle.snoop_trace.specs.{Extent.Extent, declared.{protocol.Protocol.Protocol, step.Step.Step}}
 use Rattle.snoop_model.specs.Pictures.Situation.{Situation}
-use Rattle.snoop_engine.specs.Frames.{AreFrames, Frame}
-use Rattle.snoop_engine.specs.Chosen.{Chosen, is_shown}
-use Rattle.snoop_draw.specs.Panels.{Panel}
-use Rattle.snoop_draw.specs.Size.{columns_of}
+use Rattle.snoop_engine.specs.{Frames.{AreFrames, Frame}, Chosen.{Chosen, is_shown}}
+use Rattle.snoop_draw.specs.{Panels.Panel, Size.columns_of}
 use Rattle.snoop_svg.specs.Drawings.{drawn}
 
 -- a drawing of so many rows and these panels has at most 20,000 cells

@@ -1,8 +1,7 @@
 -- The colours of a drawing, and what stands around the sheets of a page.
 -- Source: the words are those of CSS and HTML; which of them stand here is this project's profile.
 use Rattle.std.specs.Prelude.{ℕ, List, ◌++◌, codes}
-use Rattle.snoop_svg.specs.declared.paper.Theme.{Theme}
-use Rattle.snoop_svg.specs.declared.paper.Theme.TheVariants.{Auto, Light, Dark}
+use Rattle.snoop_svg.specs.declared.paper.Theme.{Theme, TheVariants.{Auto, Light, Dark}}
 
 -- the rules of each class, as they are on light ground
 unfoldable pub light_rules : List ℕ

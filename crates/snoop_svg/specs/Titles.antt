@@ -1,25 +1,11 @@
 -- The title of a row: the line of its step, and the rows of the tables that the controllers take.
 -- Source: this project's profile.
-use Rattle.std.specs.Prelude.{ℕ, List, [], ◌++◌, codes, Option, Some, None, Result}
-use Rattle.std.specs.Fmt.{decimal}
-use Rattle.std.specs.List.{flat_map}
-use Rattle.std.specs.Option.{option_map_or}
-use Rattle.snoop_trace.specs.Extent.{Extent}
-use Rattle.snoop_trace.specs.Output.{step_text}
-use Rattle.snoop_trace.specs.declared.protocol.Protocol.{Protocol}
-use Rattle.snoop_trace.specs.declared.step.Step.{Step}
-use Rattle.snoop_rules.specs.declared.names.CacheEvent.{CacheEvent}
-use Rattle.snoop_rules.specs.declared.names.CacheState.{CacheState}
-use Rattle.snoop_rules.specs.declared.names.MemEvent.{MemEvent}
-use Rattle.snoop_rules.specs.declared.names.MemState.{MemState}
+use Rattle.std.specs.{Prelude.{ℕ, List, [], ◌++◌, codes, Option, Some, None, Result}, Fmt.decimal, List.flat_map, Option.option_map_or}
+use Rattle.snoop_trace.specs.{Extent.Extent, Output.step_text, declared.{protocol.Protocol.Protocol, step.Step.Step}}
+use Rattle.snoop_rules.specs.declared.names.{CacheEvent.CacheEvent, CacheState.CacheState, MemEvent.MemEvent, MemState.MemState}
 use Rattle.snoop_rules.specs.Names.{event_name, memory_event_name, memory_state_name, state_name}
-use Rattle.snoop_model.specs.Pictures.Situation.{Situation}
-use Rattle.snoop_model.specs.declared.replies.Refused.{Refused}
-use Rattle.snoop_model.specs.declared.replies.Reply.{Reply}
-use Rattle.snoop_engine.specs.Line.{outcome_text}
-use Rattle.snoop_engine.specs.States.{done_text, memory_done_text}
-use Rattle.snoop_engine.specs.Taken.{memory_at, state_at}
-use Rattle.snoop_engine.specs.declared.taken.Taken.{Taken}
+use Rattle.snoop_model.specs.{Pictures.Situation.Situation, declared.replies.{Refused.Refused, Reply.Reply}}
+use Rattle.snoop_engine.specs.{Line.outcome_text, States.{done_text, memory_done_text}, Taken.{memory_at, state_at}, declared.taken.Taken.Taken}
 use Rattle.snoop_engine.specs.declared.taken.Taken.TheVariants.{Core, Memory, Nobody}
 
 -- the row of a core: its state before, what it meets and does, and its state now

@@ -1,7 +1,6 @@
 -- What holds of a writer after it has appended or published an item.
 use Rattle.std.proofs.Common.{◌≡◌, ℕ, ◌<◌, ◌≤◌, List, [], ◌∷◌, ◌++◌, length, fold, true≢false, refl, sym, ap, ◌∙◌, arith}
-use Rattle.snoop_versions.proofs.Common.{Adds, Err, grown, IsOk, IsPublishing, Item, MatchResult, Ok, Result, Version, View}
-use Rattle.snoop_versions.proofs.Versions.{version_of-push}
+use Rattle.snoop_versions.proofs.{Common.{Adds, Err, grown, IsOk, IsPublishing, Item, MatchResult, Ok, Result, Version, View}, Versions.version_of-push}
 
 -- after an append to nothing at most one item is ready
 pub ready_grows : {A : Type 0} (r : Result A Item) (old new : List Item) (entry : Item) → MatchResult r (λ _. new ≡ old ++ entry ∷ []) (λ back. (back ≡ entry) × (new ≡ old)) → old ≡ [] → length new ≤ 1

@@ -1,15 +1,12 @@
 -- Publishing and entering keep the rule of the versions.
 use Rattle.std.proofs.Common.{◌≡◌, ◌≢◌, ℕ, List, [], ◌∷◌, ◌++◌, map, Some, None, inl, inr, true, false, refl, sym, ap, ◌∙◌, ⊎_elim, append-nil, append_assoc}
 use Rattle.snoop_versions.proofs.Common.{absorbed_board, Adds, All, Enters, Fits, grown, IsWriting, Item, Kept, newcomer, newest_of, same_shape, Sees, Version, version_of, View, viewing}
-use Rattle.std.proofs.lemmas.Bool.{cases_Bool}
-use Rattle.std.proofs.lemmas.List.{map-append}
+use Rattle.std.proofs.lemmas.{Bool.cases_Bool, List.map-append}
 use mathlib.Core.Option.{some}
 use lib.ListN.{get_elem?, set}
 use Rattle.left_right.specs.Register.{Admits, TurnsAt, Turns}
 use Rattle.atomic_table.proofs.Lists.{at_set, at_snoc}
-use Rattle.snoop_history.specs.History.{Legal, last_or}
-use Rattle.snoop_history.specs.Within.{IsItemWithin}
-use Rattle.snoop_history.proofs.Pushed.{last_or-append}
+use Rattle.snoop_history.{specs.{History.{Legal, last_or}, Within.IsItemWithin}, proofs.Pushed.last_or-append}
 
 -- the last of a list that has grown by one
 pub last-push : {A : Type 0} (list : List A) (entry : A) → last_or None (map Some (list ++ entry ∷ [])) ≡ Some entry

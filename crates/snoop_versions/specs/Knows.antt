@@ -2,9 +2,7 @@
 -- Source: this project's profile.
 use Rattle.std.specs.Prelude.{Option}
 use Rattle.atomic_table.specs.declared.shared.Seat.{Seat}
-use Rattle.left_right.specs.declared.part.Part.{Part}
-use Rattle.left_right.specs.declared.board.Doing.{Doing}
-use Rattle.left_right.specs.Sides.{view}
+use Rattle.left_right.specs.{declared.{part.Part.Part, board.Doing.Doing}, Sides.view}
 
 -- what the handle with this place in the table knows
 abbrev pub knows : {T V : Type 0} → Seat (Option (Part T)) (Doing T V) → V

@@ -2,8 +2,7 @@
 -- Source: this project's profile.
 use Rattle.std.specs.Prelude.{◌≡◌, ℕ, List, ◌++◌}
 use Rattle.snoop_trace.specs.Extent.{Extent}
-use Rattle.snoop_history.specs.declared.items.Item.{Item}
-use Rattle.snoop_history.specs.History.{Legal}
+use Rattle.snoop_history.specs.{declared.items.Item.Item, History.Legal}
 
 -- what the writer shows: the shape, the list whose board is published, and the item that is appended and not published yet
 pub record Publishing : Type 0 where

@@ -3,13 +3,8 @@
 use Rattle.std.specs.Prelude.{◌≡◌, ◌≢◌, ℕ, ◌≤◌, List, [], ◌++◌, All, length, map, Option, Some, None, option_to_list, true, false}
 use mathlib.Core.Option.{some}
 use lib.ListN.{get_elem?}
-use Rattle.snoop_history.specs.declared.items.Item.{Item}
-use Rattle.snoop_history.specs.History.{Legal, last_or}
-use Rattle.snoop_history.specs.Within.{IsItemWithin}
-use Rattle.snoop_history.specs.Board.{board_of, absorbed}
-use Rattle.snoop_versions.specs.declared.version.Version.{Version}
-use Rattle.snoop_versions.specs.declared.rule.View.{View}
-use Rattle.snoop_versions.specs.Readings.{StartsWith, Viewing}
+use Rattle.snoop_history.specs.{declared.items.Item.Item, History.{Legal, last_or}, Within.IsItemWithin, Board.{board_of, absorbed}}
+use Rattle.snoop_versions.specs.{declared.{version.Version.Version, rule.View.View}, Readings.{StartsWith, Viewing}}
 
 -- the last item of a list, if any
 abbrev pub newest_of : List Item → Option Item

@@ -12,7 +12,7 @@ ghost use Rattle.snoop_machine.specs.Following.{LosesLines};
 ghost use Rattle.snoop_model.specs.Pictures.Picture.{held_by, with_line};
 ghost use Rattle.snoop_model.specs.Pictures.Situation.{picture_of, state_of, with_picture};
 ghost use Rattle.snoop_model.specs.Pictures.Proper.{IsProper};
-ghost use Rattle.snoop_model.specs.Moves.Move.{AskMove, is_load, kept_waiting, next_did};
+ghost use Rattle.snoop_model.specs.Moves.Move.{AskMove, is_load, as_access, next_did};
 ghost use Rattle.snoop_machine.specs.declared.cache.LineChange.TheVariants.{Hit, Wait};
 ghost use Rattle.snoop_machine.specs.Cache.{changed, IsOfWords};
 ghost use Rattle.snoop_machine.specs.Asked.{TakesAsk};
@@ -158,7 +158,7 @@ impl<B: Block> Parts<B> {
 
 /// The load or store that waits once its request is issued.
 fn waiting_for(word: u32, op: Op) -> Option<Access>
-    ensures { result ≡ kept_waiting word op }
+    ensures { result ≡ as_access word op }
 {
     match op {
         Op::Load | Op::Store(_) => Some(Access { word, op }),

@@ -1,5 +1,5 @@
 -- What the invariant says of a situation: one writer, current copies and memory, all rows, one sender.
-use Rattle.snoop_model.proofs.Lists.Facts.{if_some}
+use Rattle.snoop_model.{proofs.{Lists.Facts.if_some, Tables.Rows.hit_keeps}, specs.Moves.LookUps.{HasRow, HasMemRow, ConsultsCache, ConsultsMemory, FindsRows}}
 use Rattle.snoop_model.proofs.Common.{arith, arrival, arrival_at_memory, Ask, asked, awaited_request, BlockInvariant, both_ways, CacheEvent, CacheState, CanOrder, carries_value, Cell, cond_both, data_under_way, eq-eqb, false, false_from_ne_true, flat_words, FollowsSenderTable, ForSome, get_or_past, GetS, HasOpen, held_by, IfSome, Invariant, is_put_m, is_some, IsSome, IsSomeAnd, IsWellKept, IsWithin, keeps, length, Line, List, MemEvent, ne_eqb, None, none-some, nothing_held, nothing_there, Op, Open, Option, Order, OrdersFollowSenderTable, owns, Picture, picture_of, Protocol, PutM, refl, Request, Respond, seen_by, Situation, Some, state_of, Step, sym, talk_of, true, waiting_request, Waits, ℕ, ◌<◌, ◌↔◌, ◌∙◌, ◌≡◌, ◌≢◌, ◌≤◌}
 use Rattle.snoop_trace.specs.declared.step.Op.TheVariants as op
 use Rattle.snoop_rules.specs.declared.names.CacheState.TheVariants as state
@@ -7,10 +7,9 @@ use Rattle.snoop_rules.specs.declared.names.CacheEvent.TheVariants as event
 use Rattle.snoop_rules.specs.declared.names.CacheAction.TheVariants as action
 use Rattle.snoop_rules.specs.Possible.{MayLoad, MayStore}
 use Rattle.snoop_rules.specs.Takers.{other as another}
-use Rattle.snoop_model.specs.Moves.LookUps.{HasRow, HasMemRow, ConsultsCache, ConsultsMemory, FindsRows}
-use Rattle.snoop_model.specs.Pictures.OneWriter.{OneWriter}
-use Rattle.snoop_model.proofs.Tables.{StateTests.some_of, AskTests.ask_rule, AskTests.fit_rule, AskTests.is_hit-true, AskTests.is_idle_evict, Rows.hit_keeps, RespondTests.memory_row_for, RespondTests.row_for, RespondTests.awaited-get, StateTests.brings_data, StateTests.claims_rule}
-use Rattle.snoop_model.proofs.OneBlock.{Facts.owned_alone, Possible.order_possible, RespondStep.Closing, RespondStep.close, RespondStep.answered}
+use Rattle.snoop_model.{specs.Pictures.OneWriter.OneWriter, proofs.{Tables.StateTests.{some_of, brings_data, claims_rule}, OneBlock.Facts.owned_alone}}
+use Rattle.snoop_model.proofs.Tables.{AskTests.{ask_rule, fit_rule, is_hit-true, is_idle_evict}, RespondTests.{memory_row_for, row_for, awaited-get}}
+use Rattle.snoop_model.proofs.OneBlock.{Possible.order_possible, RespondStep.{Closing, close, answered}}
 
 -- where no core may write the block, none owns it
 nobody_owns : {p : Protocol} {n : ℕ} {value : List ℕ} {picture : Picture} (g : BlockInvariant p n value picture) → ((core : ℕ) → ¬ MayStore p (held_by picture core).state) → g.claims.owned ≡ false

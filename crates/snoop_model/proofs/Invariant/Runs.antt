@@ -1,12 +1,12 @@
 -- The invariant holds at reset, and after each move: flat memory and the log first, then the block, and what waits.
-use Rattle.snoop_model.proofs.Common.{Data, is_some, keeps, missed_request, [], Access, after_order, All, All-append, All-cons, All-nil, ap, append-nil, arith, Ask, BlockInvariant, Bool, CacheAction, CacheState, came_of, claims_of, cond, Did, eqb_tells, Err, Extent, false, fill_by_all, first_memory, fits, flat, flat_words, get_or-map-range_with_len, get_or-replicate, get_or-set_other, get_or-set_same, get_or_past, Goes, HasWord, held_by, I, IfSome, IfSome_then, if◌then◌else◌, in_protocol, inl, inr, Invariant, is_clean, is_owner, is_sharer, is_store_to, IsNext, IsProper, IsShaped, IsWithin, IsWord, Item, kept_waiting, Legal, length, length-map-range_with_len, length-replicate, length-set, Line, List, MoveOn, next_did, NoMemory, None, none-some, not, nothing_held, nothing_there, Ok, Op, Open, operation_of, operations, Option, option_map, option_map_or, option_to_list, Order, Picture, picture_of, Protocol, queues_after, refl, Refused, replicate, Reply, request_for, reset, Respond, Result, same, same_Some, Situation, slice_set, Some, Step, sym, Takes, true, untouched, wait_fits, with_line, word_at, ℕ, ◌&&◌, ◌++◌, ◌<◌, ◌==◌, ◌∙◌, ◌∷◌, ◌≡◌, ◌≢◌}
+use Rattle.snoop_model.proofs.Common.{Data, is_some, keeps, missed_request, [], Access, after_order, All, All-append, All-cons, All-nil, ap, append-nil, arith, Ask, BlockInvariant, Bool, CacheAction, CacheState, came_of, claims_of, cond, Did, eqb_tells, Err, Extent, false, fill_by_all, first_memory, fits, flat, flat_words, get_or-map-range_with_len, get_or-replicate, get_or-set_other, get_or-set_same, get_or_past, Goes, HasWord, held_by, I, IfSome, IfSome_then, if◌then◌else◌, in_protocol, inl, inr, Invariant, is_clean, is_owner, is_sharer, is_store_to, IsNext, IsProper, IsShaped, IsWithin, IsWord, Item, as_access, Legal, length, length-map-range_with_len, length-replicate, length-set, Line, List, MoveOn, next_did, NoMemory, None, none-some, not, nothing_held, nothing_there, Ok, Op, Open, operation_of, operations, Option, option_map, option_map_or, option_to_list, Order, Picture, picture_of, Protocol, queues_after, refl, Refused, replicate, Reply, request_for, reset, Respond, Result, same, same_Some, Situation, slice_set, Some, Step, sym, Takes, true, untouched, wait_fits, with_line, word_at, ℕ, ◌&&◌, ◌++◌, ◌<◌, ◌==◌, ◌∙◌, ◌∷◌, ◌≡◌, ◌≢◌}
 use Rattle.snoop_trace.specs.declared.step.Op.TheVariants as op
 use Rattle.snoop_rules.specs.declared.names.CacheAction.TheVariants as action
 use Rattle.snoop_history.specs.declared.items.Item.TheVariants as item
 use Rattle.snoop_history.proofs.Legal.{flat-grows, legal-grows}
-use Rattle.snoop_model.proofs.Lists.{Writes.each_set, Facts.replicated}
-use Rattle.snoop_model.proofs.OneBlock.{Facts.each_held, Facts.did_in, Facts.operations_moved, Facts.performed_so, Facts.flat_after, Facts.IsLawful, OfBlocks.changed, OfBlocks.in_pictures, OfBlocks.each_picture, OfBlocks.shaped_after, AskStep.ask_keeps, OrderStep.order_keeps, RespondStep.respond_keeps}
-use Rattle.snoop_model.proofs.Lines.Answered.{by_request, arrives_length, still_waiting}
+use Rattle.snoop_model.proofs.{Lists.{Writes.each_set, Facts.replicated}, OneBlock.OfBlocks.{changed, in_pictures, each_picture, shaped_after}}
+use Rattle.snoop_model.proofs.OneBlock.{Facts.{each_held, did_in, operations_moved, performed_so, flat_after, IsLawful}, AskStep.ask_keeps}
+use Rattle.snoop_model.proofs.{OneBlock.{OrderStep.order_keeps, RespondStep.respond_keeps}, Lines.Answered.{by_request, arrives_length, still_waiting}}
 use Rattle.snoop_trace.specs.declared.protocol.Protocol.TheVariants as protocol
 
 -- a word of a block in flat memory
@@ -96,7 +96,7 @@ as_many_after : (a : CacheAction) (queues : List (List ℕ)) (core block : ℕ) 
 as_many_after (action.Issue r) queues core block = length-set queues core _
 as_many_after _ queues core block = refl
 
-issued_access : (s : Situation) (word : ℕ) (asking : Op) (access : Access) → HasWord s.shape word asking → kept_waiting word asking ≡ Some access → IsWord s.shape access.word
+issued_access : (s : Situation) (word : ℕ) (asking : Op) (access : Access) → HasWord s.shape word asking → as_access word asking ≡ Some access → IsWord s.shape access.word
 issued_access s word op.Evict access within e = cc
 issued_access s word _ access within e = rw (← same_Some _ _ e) within
 

@@ -3,17 +3,12 @@ use Rattle.snoop_model.proofs.Common.{Absent, moves_to, PutM, ◌≢◌, ap, ari
 use Rattle.snoop_trace.specs.declared.step.Op.TheVariants as op
 use Rattle.snoop_rules.specs.declared.names.CacheState.TheVariants as state
 use Rattle.snoop_rules.specs.declared.names.CacheAction.TheVariants as action
-use Rattle.snoop_model.specs.Coherent.{IsCoherent}
-use Rattle.snoop_model.specs.Runs.Safe.{IsSafe}
-use Rattle.snoop_model.specs.Invariant.MachineKeeps.{AreOnSenderLines, MachineKeeps}
-use Rattle.snoop_model.proofs.Lists.Facts.{if_some}
-use Rattle.snoop_model.proofs.Tables.{Rows.action_rule, Rows.IsProper-drop, SentBy.sends_is, RespondTests.settled_so}
-use Rattle.snoop_model.proofs.OneBlock.{AfterMoves.ask_line, AfterMoves.respond_here, OfBlocks.in_pictures, OfBlocks.each_picture}
-use Rattle.snoop_model.proofs.Invariant.{Coherence.has_one_writer, Coherence.kept_read, Coherence.readers_current, Coherence.data_current, Coherence.memory_current, Coherence.names_its_block, Coherence.data_awaited, Coherence.each_line, Coherence.held_within, Coherence.finds_rows, Coherence.orders_follow_sender_table, Runs.reset_invariant, Runs.reset_open, Runs.nothing_proper, Runs.idle_line, Runs.goes_kept, Runs.word_flat, Runs.move_keeps}
-use Rattle.snoop_model.proofs.Queues.Moves.{on_kept, starts_well}
-use Rattle.snoop_model.proofs.Runs.{Along.kept_along, GoOn.moves_on}
-use Rattle.snoop_model.proofs.Steps.GoesNext.{order_made}
-use Rattle.snoop_model.proofs.Turns.Laws.{stall_busy, busy_cases}
+use Rattle.snoop_model.{specs.{Coherent.IsCoherent, Runs.Safe.IsSafe, Invariant.MachineKeeps.{AreOnSenderLines, MachineKeeps}}, proofs.Lists.Facts.if_some}
+use Rattle.snoop_model.proofs.{Tables.{Rows.{action_rule, IsProper-drop}, SentBy.sends_is, RespondTests.settled_so}, Queues.Moves.{on_kept, starts_well}}
+use Rattle.snoop_model.proofs.{OneBlock.{AfterMoves.{ask_line, respond_here}, OfBlocks.{in_pictures, each_picture}}, Runs.{Along.kept_along, GoOn.moves_on}}
+use Rattle.snoop_model.proofs.Invariant.Coherence.{has_one_writer, kept_read, readers_current, data_current, memory_current, names_its_block, data_awaited, each_line, held_within, finds_rows, orders_follow_sender_table}
+use Rattle.snoop_model.proofs.Invariant.Runs.{reset_invariant, reset_open, nothing_proper, idle_line, goes_kept, word_flat, move_keeps}
+use Rattle.snoop_model.proofs.{Steps.GoesNext.order_made, Turns.Laws.{stall_busy, busy_cases}}
 
 -- each open transaction is on a line
 abbrev OnLine : Protocol → Picture → Type 0

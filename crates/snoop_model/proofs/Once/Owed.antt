@@ -1,7 +1,6 @@
 -- What waited, or was asked, waits or is its core's last operation: by `once` alone.
 use Rattle.snoop_model.proofs.Common.{[], Access, answers_of, ap, append_cancel_left, arith, asked_access, cases_Bool, cons_option, Contains, Contains-append_cases, Contains-append_left, Contains-append_right, Contains-permutation, Did, did_access, eqb-true, filter, filter-append, FirstMove, held_by, inl, inr, IsLast, IsOwed, IsPermutation, IsPermutation-sym, Item, last_or-append, List, map, map-append, None, of_core, Ok, OnceMore, operations, Option, option_to_list, picture_of, refl, Reply, same_Some, Situation, Some, Step, sym, waiting_at, zero, ℕ, ◌++◌, ◌==◌, ◌∙◌, ◌∷◌, ◌≡◌, ◌⊎◌}
-use Rattle.snoop_model.proofs.Runs.Shape.{on_stays}
-use Rattle.snoop_model.proofs.OneBlock.Facts.{did_in, operations_moved}
+use Rattle.snoop_model.proofs.{Runs.Shape.on_stays, OneBlock.Facts.{did_in, operations_moved}}
 
 -- a core's operations with one item more
 pub answers_are : (log : List Item) (entry : Option Item) (core : ℕ) → answers_of (log ++ option_to_list entry) core ≡ answers_of log core ++ of_core core (did_in entry)

@@ -1,14 +1,10 @@
 -- Each load and store that a run asks is done once, or waits.
-use Rattle.snoop_model.proofs.Lists.{Writes.each_set, Facts.either_way}
-use Rattle.snoop_model.proofs.Common.{[], Access, accesses_in, after_order, ap, append-nil, append_assoc, arith, Ask, asked, asked_access, Bool, CacheAction, CacheState, came_of, Cell, cond, Did, did_access, eq-eqb, eqb, Err, Extent, false, filter, filter-append, filter_map, filter_map-append, Goes, held_at, held_by, IfSome, inl, inr, Invariant, IsPermutation, IsPermutation-append_comm, IsPermutation-append_left, IsPermutation-append_right, IsPermutation-refl, IsPermutation-trans, IsProper, Item, kept_waiting, length, Line, List, map, map-append, MoveOn, ne_eqb, None, nothing_held, of_core, Ok, Once, OnceMore, Op, operation_of, Option, option_map, option_to_list, Order, Picture, picture_of, Protocol, queues_after, refl, Refused, Reply, reset, Respond, Result, RunBy, Situation, slice_set, Some, Step, sym, taken, Takes, true, waiting_at, with_line, ℕ, ◌&&◌, ◌++◌, ◌<◌, ◌==◌, ◌∙◌, ◌∷◌, ◌≡◌}
+use Rattle.snoop_model.proofs.{Lists.{Writes.each_set, Facts.either_way}, Tables.Rows.{issue-missed, drop_evicts}, OneBlock.Facts.{did_in, performed_so}}
+use Rattle.snoop_model.proofs.Common.{[], Access, accesses_in, after_order, ap, append-nil, append_assoc, arith, Ask, asked, asked_access, Bool, CacheAction, CacheState, came_of, Cell, cond, Did, did_access, eq-eqb, eqb, Err, Extent, false, filter, filter-append, filter_map, filter_map-append, Goes, held_at, held_by, IfSome, inl, inr, Invariant, IsPermutation, IsPermutation-append_comm, IsPermutation-append_left, IsPermutation-append_right, IsPermutation-refl, IsPermutation-trans, IsProper, Item, as_access, length, Line, List, map, map-append, MoveOn, ne_eqb, None, nothing_held, of_core, Ok, Once, OnceMore, Op, operation_of, Option, option_map, option_to_list, Order, Picture, picture_of, Protocol, queues_after, refl, Refused, Reply, reset, Respond, Result, RunBy, Situation, slice_set, Some, Step, sym, taken, Takes, true, waiting_at, with_line, ℕ, ◌&&◌, ◌++◌, ◌<◌, ◌==◌, ◌∙◌, ◌∷◌, ◌≡◌}
 use Rattle.snoop_rules.specs.declared.names.CacheAction.TheVariants as action
 use Rattle.snoop_history.specs.declared.items.Item.TheVariants as item
-use Rattle.snoop_model.proofs.Tables.Rows.{issue-missed, drop_evicts}
-use Rattle.snoop_model.proofs.OneBlock.{Facts.did_in, Facts.performed_so, OfBlocks.changed, OfBlocks.each_picture, OfBlocks.in_pictures}
-use Rattle.snoop_model.proofs.Lines.Answered.{by_request}
-use Rattle.snoop_model.proofs.Queues.Moves.{each_taken}
-use Rattle.snoop_model.proofs.Once.Owed.{answers_are, cons_one}
-use Rattle.snoop_model.proofs.Invariant.Runs.{nothing_waits, goes_keeps, refusal_same, reset_invariant, reset_line}
+use Rattle.snoop_model.proofs.{OneBlock.OfBlocks.{changed, each_picture, in_pictures}, Lines.Answered.by_request, Queues.Moves.each_taken}
+use Rattle.snoop_model.proofs.{Once.Owed.{answers_are, cons_one}, Invariant.Runs.{nothing_waits, goes_keeps, refusal_same, reset_invariant, reset_line}}
 
 -- the operation that was done, if any
 abbrev done : Option Did → Option Access
@@ -33,13 +29,13 @@ unchanged waits = rw (append-nil waits) (IsPermutation-refl waits)
 -- an Ask of one line
 module _ (p : Protocol) (next : CacheState) (log : List Item) (core block word : ℕ) (asking : Op) (old new : Line) (answer : Reply) (entry : Option Item) (proper : IsProper old) where
   line_once : (act : CacheAction) → Cell p old.state (asked asking) act next → Takes act next log core block word asking old new answer entry
-      → IsBy core block (did_in entry) × IsPermutation (option_to_list old.waiting ++ option_to_list (kept_waiting word asking)) (option_to_list (done (did_in entry)) ++ option_to_list new.waiting)
+      → IsBy core block (did_in entry) × IsPermutation (option_to_list old.waiting ++ option_to_list (as_access word asking)) (option_to_list (done (did_in entry)) ++ option_to_list new.waiting)
   line_once action.Hit row t =
       let so = performed_so word asking t.1.0.before t.0 t.1.0.after log core block true t.1.0.performed in
       rw (t.1.0.held, t.1.2, so.0, so.1) ((refl, refl), IsPermutation-append_comm (option_to_list old.waiting) (record { word = word; op = asking } ∷ []))
   line_once (action.Issue q) row t =
       let none = nothing_waits old.waiting (proper.waiting ∙ (issue-missed p old.state (asked asking) q next row).0) in
-      rw (t.0, t.2, none) (tt, IsPermutation-refl (option_to_list (kept_waiting word asking)))
+      rw (t.0, t.2, none) (tt, IsPermutation-refl (option_to_list (as_access word asking)))
   line_once action.Drop row t = rw (t.0, t.2, drop_evicts p old.state asking next row) (tt, unchanged (option_to_list old.waiting))
   line_once _ row t = absurd t
 
@@ -89,7 +85,7 @@ move_once b old (Ask c on word asking) answer new g m = elim m.moves [
   | inr a ↦
       (let before : Picture = picture_of old b in
       let once = line_once old.protocol a.row.next old.log c b word asking (held_by before c) a.held answer a.entry ((g.blocks b m.within.1).proper c m.within.0) a.row.action a.is_row a.taken in
-      rw (m.on_block, a.after) (grown old b c (with_line before c a.held) (queues_after a.row.action old.queues c b) a.entry (kept_waiting word asking) (Ask c b word asking) answer
+      rw (m.on_block, a.after) (grown old b c (with_line before c a.held) (queues_after a.row.action old.queues c b) a.entry (as_access word asking) (Ask c b word asking) answer
       (in_pictures old b g.shaped m.within.1) (λ core block. refl)
       (balances old b c a.held _ (did_in a.entry) (rw (g.shaped.row b m.within.1) m.within.0) once.0 once.1)))
 ]

@@ -3,9 +3,8 @@ use Rattle.snoop_model.proofs.Common.{asked, Asks, BlockInvariant, Bool, both_wa
 use Rattle.snoop_trace.specs.declared.step.Op.TheVariants as op
 use Rattle.snoop_rules.specs.declared.names.CacheEvent.TheVariants as event
 use Rattle.snoop_rules.specs.declared.names.CacheAction.TheVariants as action
-use Rattle.snoop_model.proofs.OneBlock.{Facts.did_in, Facts.flat_after, Facts.IsLawful, Facts.LineFits, Facts.carried_line, Facts.line_of, Facts.owned_alone, Facts.still_fits}
-use Rattle.snoop_model.proofs.Lists.Writes.{each_set}
-use Rattle.snoop_model.proofs.Tables.{Rows.hit_keeps, Rows.IsProper-issue, Rows.IsProper-hit, Rows.IsProper-drop, AskTests.ask_rule, AskTests.asked_row, StateTests.kept_reader}
+use Rattle.snoop_model.proofs.{OneBlock.Facts.{did_in, flat_after, IsLawful, LineFits, carried_line, line_of, owned_alone, still_fits}, Lists.Writes.each_set}
+use Rattle.snoop_model.proofs.Tables.{Rows.{hit_keeps, IsProper-issue, IsProper-hit, IsProper-drop}, AskTests.{ask_rule, asked_row}, StateTests.kept_reader}
 
 module _ (s : Situation) (core block word : ℕ) (asking : Op) (answer : Reply) (new : Situation) (asks : Asks s core block word asking answer new)
     (n : ℕ) (flat : List ℕ) (g : BlockInvariant s.protocol n flat (picture_of s block)) (asker_in : core < n) (in_row : core < length (picture_of s block).caches) where

@@ -1,8 +1,7 @@
 -- Each step finds its rows, and an Order exactly one sender.
-use Rattle.snoop_model.specs.Moves.LookUps.{HasRow}
+use Rattle.snoop_model.{specs.Moves.LookUps.HasRow, proofs.{Tables.SenderLines.led_line, OneBlock.Facts.{below_owner, is_itself}}}
 use Rattle.snoop_model.proofs.Common.{BlockInvariant, FollowsSenderTable, held_by, length, List, None, Picture, Protocol, refl, Request, seen_by, Some, waiting_request, ℕ, ◌<◌, ◌≡◌}
-use Rattle.snoop_model.proofs.Tables.{SenderLines.led_line}
-use Rattle.snoop_model.proofs.OneBlock.{Facts.below_owner, Facts.is_itself, OrderStep.each_row, OrderStep.look, OrderStep.meant, OrderStep.meant_in, OrderStep.sender_told, OrderStep.sends, OrderStep.sends_if_meant, OrderStep.sent}
+use Rattle.snoop_model.proofs.OneBlock.OrderStep.{each_row, look, meant, meant_in, sender_told, sends, sends_if_meant, sent}
 
 -- an Order finds each core's row and exactly one sender, and is a line of the table of Orders
 pub order_possible : (p : Protocol) (flat : List ℕ) (before : Picture) (c : ℕ) (q : Request) → BlockInvariant p (length before.caches) flat before → c < length before.caches → waiting_request (held_by before c).state ≡ Some q → before.transaction ≡ None

@@ -3,9 +3,9 @@ use Rattle.snoop_model.proofs.Common.{ap, arith, arrival, arrival_at_memory, Arr
 use Rattle.snoop_trace.specs.declared.step.Op.TheVariants as op
 use Rattle.snoop_rules.specs.declared.names.CacheAction.TheVariants as action
 use Rattle.snoop_rules.specs.declared.names.MemAction.TheVariants as mem_action
-use Rattle.snoop_model.proofs.Lists.{Facts.of_choice, Writes.each_set}
-use Rattle.snoop_model.proofs.Tables.{Tested.of_open, RespondTests.answer_claims, RespondTests.fills_store, RespondTests.gains, RespondTests.respond_rule, RespondTests.respond_claims, RespondTests.row_for, RespondTests.settled_row, RespondTests.settled_so, RespondTests.stays_so, RespondTests.writes, Rows.IsProper-fill}
-use Rattle.snoop_model.proofs.OneBlock.{Facts.LineFits, Facts.line_of, Facts.still_fits, Facts.OwnerIn, Facts.owns_owned, Facts.flat_after, Facts.IsLawful}
+use Rattle.snoop_model.proofs.{Lists.{Facts.of_choice, Writes.each_set}, Tables.{Tested.of_open, Rows.IsProper-fill}}
+use Rattle.snoop_model.proofs.Tables.RespondTests.{answer_claims, fills_store, gains, respond_rule, respond_claims, row_for, settled_row, settled_so, stays_so, writes}
+use Rattle.snoop_model.proofs.OneBlock.Facts.{LineFits, line_of, still_fits, OwnerIn, owns_owned, flat_after, IsLawful}
 
 -- all that a Respond looks up of a picture that keeps its invariant
 pub record Closing {p : Protocol} {n : ℕ} {flat : List ℕ} {before : Picture} (good : BlockInvariant p n flat before) (o : Open) : Type 0 where

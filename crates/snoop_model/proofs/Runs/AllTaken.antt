@@ -1,8 +1,6 @@
 -- Runs whose steps were all taken.
 use Rattle.snoop_model.proofs.Common.{[], ap, Err, FirstRunFrom, Goes, GoesFirst, List, map, map-append, NoMemory, Ok, refl, Refused, Reply, reset, Result, Situation, Step, taken, TakenGoesOn, ◌++◌, ◌∷◌, ◌≡◌}
-use Rattle.snoop_model.specs.Runs.TakenOnce.{TakenOnce}
-use Rattle.snoop_model.proofs.Once.Runs.{run_asked_once}
-use Rattle.snoop_model.proofs.Runs.Along.{run_more, seen_along}
+use Rattle.snoop_model.{specs.Runs.TakenOnce.TakenOnce, proofs.{Once.Runs.run_asked_once, Runs.Along.{run_more, seen_along}}}
 
 -- the outcomes of steps that were all taken
 abbrev all_ok : List Reply → List (Result Reply Refused)

@@ -1,9 +1,7 @@
 -- From every situation of a run each step leads on, in one way: it is a move, or refused for a cause.
 use Rattle.snoop_model.proofs.Common.{[], ap, Err, Extent, FirstMove, FirstRunFrom, GoesFirst, Invariant, IsWellKept, KeepsWell, List, None, Ok, Protocol, refl, Refused, Refuses, Reply, reset, Result, rules, Situation, Step, sym, ◌∙◌, ◌∷◌, ◌≡◌}
-use Rattle.snoop_model.proofs.Invariant.Runs.{reset_invariant, move_keeps}
-use Rattle.snoop_model.proofs.Queues.Moves.{keeps_well, starts_well, AreQueued}
-use Rattle.snoop_model.proofs.Steps.{Next.next_of, GoesNext.goes_is, GoesNext.goes_next}
-use Rattle.snoop_model.proofs.Runs.Along.{kept_along}
+use Rattle.snoop_model.proofs.{Invariant.Runs.{reset_invariant, move_keeps}, Queues.Moves.{keeps_well, starts_well, AreQueued}, Steps.Next.next_of}
+use Rattle.snoop_model.proofs.{Steps.GoesNext.{goes_is, goes_next}, Runs.Along.kept_along}
 
 -- a step that is not refused is a move, an Order's on the first block of its core's queue
 pub moves_on : (s : Situation) → Invariant s → AreQueued s → (step : Step) → ((cause : Refused) → ¬ Refuses s step cause)

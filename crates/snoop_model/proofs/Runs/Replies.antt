@@ -2,9 +2,7 @@
 use Rattle.snoop_model.proofs.Common.{[], ap, append-nil, Ask, asked, CacheAction, CacheState, Cell, Err, false, FirstMove, Goes, held_by, IfSome, inl, inr, Invariant, Item, Line, List, Ok, Op, Option, option_to_list, Order, picture_of, Protocol, refl, Refused, Reply, Respond, Result, RunBy, same_Some, Situation, Step, subst, sym, Takes, ℕ, ◌++◌, ◌∙◌, ◌∷◌, ◌≡◌}
 use Rattle.snoop_trace.specs.declared.step.Op.TheVariants as op
 use Rattle.snoop_rules.specs.declared.names.CacheAction.TheVariants as action
-use Rattle.snoop_model.specs.Moves.Replies.{Tells}
-use Rattle.snoop_model.proofs.Lines.Answered.{by_request}
-use Rattle.snoop_model.proofs.Tables.Rows.{action_rule, serving-asked, drop_evicts}
+use Rattle.snoop_model.{specs.Moves.Replies.Tells, proofs.{Lines.Answered.by_request, Tables.Rows.{action_rule, serving-asked, drop_evicts}}}
 use Rattle.snoop_model.proofs.Invariant.Runs.{refusal_same, goes_keeps}
 
 -- what an Ask's row adds is what its reply tells

@@ -1,8 +1,7 @@
 -- Steps leave the protocol and the shape.
 use Rattle.snoop_model.proofs.Common.{append-nil, Ask, came_of, FirstMove, Goes, inl, inr, Item, List, MoveOn, None, Option, option_to_list, Order, refl, Refused, Reply, Respond, Result, RunBy, Situation, Some, Step, sym, ℕ, ◌++◌, ◌∙◌, ◌≡◌}
 use Rattle.snoop_history.specs.declared.items.Item.TheVariants as item
-use Rattle.snoop_model.proofs.Invariant.Runs.{goes_kept}
-use Rattle.snoop_model.proofs.Runs.Along.{kept_along}
+use Rattle.snoop_model.proofs.{Invariant.Runs.goes_kept, Runs.Along.kept_along}
 
 -- the protocol and the shape are as they were
 abbrev pub IsAlike : Situation → Situation → Type 0

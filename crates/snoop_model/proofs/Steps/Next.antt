@@ -1,13 +1,12 @@
 -- What a step comes to, computed: what it is answered, and where it leads. Where a table has no row, which no run meets, the state stays.
-use Rattle.snoop_model.proofs.Common.{[], Access, after_order, arrival, Ask, asked, at_memory, Bool, BusTaken, CacheAction, CacheState, came_of, cell_of, Data, Did, Err, Extent, false, free_picture, held_at, held_by, if◌then◌else◌, is_load, is_some, Item, kept_waiting, length, Line, List, ltb, map, memory_cell_of, moves_to, next_did, NoBlock, NoCore, None, NothingWaiting, NoTransaction, Ok, Op, Open, Option, option_map_or, option_to_list, Order, Picture, picture_of, Protocol, PutM, queue_of, queues_after, range_with_len, Refused, Reply, Request, Respond, Result, seen_by, Situation, slice_get, slice_set, Some, Stalled, state_of, Step, suc, true, unwrap_or, value_sent, waiting_request, with_line, with_picture, word_at, word_places, written, zero, zero_words, ℕ, ◌&&◌, ◌++◌, ◌∷◌}
+use Rattle.snoop_model.proofs.Common.{[], Access, after_order, arrival, Ask, asked, at_memory, Bool, BusTaken, CacheAction, CacheState, came_of, cell_of, Data, Did, Err, Extent, false, free_picture, held_at, held_by, if◌then◌else◌, is_load, is_some, Item, as_access, length, Line, List, ltb, map, memory_cell_of, moves_to, next_did, NoBlock, NoCore, None, NothingWaiting, NoTransaction, Ok, Op, Open, Option, option_map_or, option_to_list, Order, Picture, picture_of, Protocol, PutM, queue_of, queues_after, range_with_len, Refused, Reply, Request, Respond, Result, seen_by, Situation, slice_get, slice_set, Some, Stalled, state_of, Step, suc, true, unwrap_or, value_sent, waiting_request, with_line, with_picture, word_at, word_places, written, zero, zero_words, ℕ, ◌&&◌, ◌++◌, ◌∷◌}
 use Rattle.snoop_trace.specs.declared.step.Op.TheVariants as op
 use Rattle.snoop_rules.specs.declared.names.CacheAction.TheVariants as action
 use Rattle.snoop_rules.specs.declared.names.MemAction.TheVariants as mem_action
 use Rattle.snoop_rules.specs.declared.names.Payload.TheVariants as payload
 use Rattle.snoop_history.specs.declared.items.Item.TheVariants as item
 use Rattle.snoop_model.specs.declared.replies.Reply.TheVariants as reply
-use Rattle.snoop_model.proofs.OneBlock.OfBlocks.{changed}
-use Rattle.snoop_model.proofs.Tables.{RespondTests.row_for, RespondTests.settled_row, SentBy.payload_from}
+use Rattle.snoop_model.proofs.{OneBlock.OfBlocks.changed, Tables.{RespondTests.{row_for, settled_row}, SentBy.payload_from}}
 
 -- what a step is answered, and where it leads
 abbrev pub Next : Type 0
@@ -44,7 +43,7 @@ module _ (s : Situation) (core block word : ℕ) (asking : Op) where
       let did : Item = item.Did (next_did s.log core block word asking value true) in
       (Ok (if is_load asking then reply.Hit value else reply.StoreHit), after_ask action.Hit held (Some did))
   by_row (action.Issue request) next =
-      let held : Line = record (moves_to next asker) { waiting = kept_waiting word asking } in
+      let held : Line = record (moves_to next asker) { waiting = as_access word asking } in
       (Ok (reply.Issued request), after_ask (action.Issue request) held None)
   by_row action.Drop next = (Ok reply.Gone, after_ask action.Drop (moves_to next asker) None)
   by_row _ next = (Err (Stalled asker.state), s)

@@ -3,7 +3,8 @@ use Rattle.snoop_model.proofs.Common.{all_events, all_events-at, all_protocols, 
 use Rattle.snoop_rules.specs.declared.names.CacheAction.TheVariants as action
 use Rattle.snoop_rules.specs.declared.names.CacheState.TheVariants as state
 use Rattle.snoop_rules.specs.declared.names.CacheEvent.TheVariants as event
-use Rattle.snoop_model.proofs.Tables.{Tested.◌also◌, Tested.Tested, Tested.equal, Tested.each_bool, Tested.each_fitting, Tested.each_of, Tested.each_option, Tested.each_protocol, Tested.fails, Tested.found, Tested.given, Tested.holds, Tested.provided, Tested.unless, StateTests.is_hit, StateTests.carries, Rows.serving, Rows.serving-asked}
+use Rattle.snoop_model.proofs.Tables.{Tested.◌also◌, StateTests.{is_hit, carries}, Rows.{serving, serving-asked}}
+use Rattle.snoop_model.proofs.Tables.Tested.{Tested, equal, each_bool, each_fitting, each_of, each_option, each_protocol, fails, found, given, holds, provided, unless}
 
 abbrev pub is_store : CacheEvent → Bool
 is_store event.Store = true

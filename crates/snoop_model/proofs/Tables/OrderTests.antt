@@ -1,7 +1,8 @@
 -- A test of the rows of an Order, computed over the whole tables.
 use Rattle.snoop_model.proofs.Common.{all_memories, all_protocols, all_states, at_memory, Bool, CacheCell, CacheState, carries_value, cell_of, Claims, claims_of, cond, false, fits, in_protocol, is_clean, is_owner, is_put_m, is_sharer, keeps, MemCell, Memory, memory_cell_of, MemState, None, not, Option, option_or, Other, other, own, Payload, payloads, Protocol, refl, Request, Requestor, same, Some, true, unwrap_or, wait_fits, waiting_request, ◌&&◌, ◌||◌}
 use Rattle.snoop_rules.specs.declared.names.Payload.TheVariants as payload
-use Rattle.snoop_model.proofs.Tables.{Tested.◌also◌, Tested.Tested, Tested.each_fitting, Tested.each_memory, Tested.each_protocol, Tested.equal, Tested.found, Tested.given, Tested.holds, Tested.provided, StateTests.carries, SenderLines.follows_sender_table, SentBy.sent_by, SentBy.sent_by_memory}
+use Rattle.snoop_model.proofs.Tables.{Tested.◌also◌, Tested.{Tested, each_fitting, each_memory, each_protocol, equal, found, given, holds, provided}}
+use Rattle.snoop_model.proofs.Tables.{StateTests.carries, SenderLines.follows_sender_table, SentBy.{sent_by, sent_by_memory}}
 
 -- what a controller sends is this payload if it is meant to send, else nothing; one that sends is on a line of the table, and has the words that the payload carries
 abbrev pub sends_so : Option Payload → Bool → Payload → Tested → Bool → Tested

@@ -1,5 +1,5 @@
 -- What holds of every row, found by trying all.
-use Rattle.snoop_model.proofs.Common.{all_events, all_protocols, all_requests, all_states, all_states-at, and-false, and-true, asked, awaited_request, Bool, CacheAction, CacheEvent, CacheState, Cell, cell_of, each_row, false, GetM, GetS, I, if◌then◌else◌, IiA, ImAd, is_load, is_some, IsProper, keeps, kept_on, kept_waiting, Line, List, missed_request, moves_to, None, not, Op, Option, option_map, other, own, Protocol, PutM, refl, Request, request_for, requests, same, seen_by, Some, states, sym, true, waiting_request, ℕ, ◌&&◌, ◌==◌, ◌||◌, ◌∙◌, ◌≡◌}
+use Rattle.snoop_model.proofs.Common.{all_events, all_protocols, all_requests, all_states, all_states-at, and-false, and-true, asked, awaited_request, Bool, CacheAction, CacheEvent, CacheState, Cell, cell_of, each_row, false, GetM, GetS, I, if◌then◌else◌, IiA, ImAd, is_load, is_some, IsProper, keeps, kept_on, as_access, Line, List, missed_request, moves_to, None, not, Op, Option, option_map, other, own, Protocol, PutM, refl, Request, request_for, requests, same, seen_by, Some, states, sym, true, waiting_request, ℕ, ◌&&◌, ◌==◌, ◌||◌, ◌∙◌, ◌≡◌}
 use Rattle.snoop_trace.specs.declared.step.Op.TheVariants as op
 use Rattle.snoop_rules.specs.declared.names.CacheEvent.TheVariants as event
 use Rattle.snoop_rules.specs.declared.names.CacheAction.TheVariants as action
@@ -120,12 +120,12 @@ module _ (p : Protocol) (s : CacheState) (e : CacheEvent) (q : Request) (n : Cac
   pub issue-missed : (missed_request s ≡ None) × (missed_request n ≡ missed_at e)
   issue-missed = (action_rule p s e (action.Issue q) n row).1.1.0
 
-pub asked_missed : (word : ℕ) (asking : Op) → option_map (λ access. request_for access.op) (kept_waiting word asking) ≡ missed_at (asked asking)
+pub asked_missed : (word : ℕ) (asking : Op) → option_map (λ access. request_for access.op) (as_access word asking) ≡ missed_at (asked asking)
 asked_missed word op.Evict = refl
 asked_missed word _ = refl
 
 pub IsProper-issue : (p : Protocol) (old : Line) (word : ℕ) (asking : Op) (q : Request) (n : CacheState) → IsProper old → Cell p old.state (asked asking) (action.Issue q) n
-    → IsProper (record { state = n; kept = kept_on n old.kept; waiting = kept_waiting word asking })
+    → IsProper (record { state = n; kept = kept_on n old.kept; waiting = as_access word asking })
 IsProper-issue p old word asking q n proper row = record {
   kept = is_some-kept_on n old.kept (keeps old.state) proper.kept ∙ sym (action_rule p old.state (asked asking) (action.Issue q) n row).0;
   waiting = asked_missed word asking ∙ sym (issue-missed p old.state (asked asking) q n row).1;

@@ -1,7 +1,7 @@
 -- The table of senders as a test.
 use Rattle.snoop_model.proofs.Common.{and_parts, ap, arrival_at_memory, Bool, false, held_by, IsSenderLine, lines_of, list_any, memories, Memory, MemState, Option, Other, Payload, payloads, Picture, Protocol, refl, Request, Requestor, same_true, sameb, Sender, sender_of, states, takes_payload, true, ℕ, ◌&&◌, ◌≡◌}
 use Rattle.std.proofs.lemmas.Map.Views.{Contains-from_any}
-use Rattle.snoop_model.proofs.Tables.{Tested.Tested, Tested.found, Tested.holds, RespondTests.settled_row, RespondTests.settled_so}
+use Rattle.snoop_model.proofs.Tables.{Tested.{Tested, found, holds}, RespondTests.{settled_row, settled_so}}
 
 abbrev same_sender : Sender → Sender → Bool
 same_sender Memory Memory = true

@@ -1,11 +1,9 @@
 -- All laws of turns that follow the turn rule: what they keep, that they are never refused, what they cost, and when a work is over.
 use Rattle.snoop_model.proofs.Common.{[], Access, All, All-contains, All-filter, All-push, All-weaker, ap, arith, Ask, asked, awaited_request, BusTaken, CacheAction, CacheEvent, CacheState, Cell, ClosedIsLast, ComesToRest, cond_some, Contains-get_or, Ends, EndsAtOnce, eq-eqb, false, FirstMove, has_transaction, held_by, I, inl, inr, is_some, IsServing, Issued, IsWellKept, Item, length, Line, List, missed_request, ne_eqb, NeverRefused, None, none-some, not, nothing_there, NothingWaiting, Op, Open, Option, or_cases, Order, Pays, Picture, picture_of, Protocol, queue_of, queues_after, refl, Refused, Refuses, Reply, Request, Respond, same_Some, ServesOn, Situation, slice_index_or, slice_set, Some, Stalled, state_of, sum_by, sym, Takes, true, TurnLaws, waiting_request, Waits, with_line, ℕ, ◌+◌, ◌==◌, ◌∙◌, ◌≡◌, ◌≢◌, ◌≤◌, ◌⊎◌}
 use Rattle.snoop_rules.specs.declared.names.CacheAction.TheVariants as action
-use Rattle.snoop_model.specs.Turns.Turn.{step_under_way, turn_of}
-use Rattle.snoop_model.proofs.Lists.{Writes.all_first, Writes.each_still, Writes.sum_issued, Writes.sum_ordered, Writes.count_set}
-use Rattle.snoop_model.proofs.Queues.Moves.{none_there, starts_well, keeps_well, queued_waits, waits_queued}
-use Rattle.snoop_model.proofs.Once.Owed.{owed_after}
-use Rattle.snoop_model.proofs.Tables.{Rows.action_rule, Rows.is_busy, StateTests.some_of}
+use Rattle.snoop_model.{specs.Turns.Turn.{step_under_way, turn_of}, proofs.Lists.Writes.{all_first, each_still, sum_issued, sum_ordered, count_set}}
+use Rattle.snoop_model.proofs.{Queues.Moves.{none_there, starts_well, keeps_well, queued_waits, waits_queued}, Once.Owed.owed_after, Tables.StateTests.some_of}
+use Rattle.snoop_model.proofs.Tables.Rows.{action_rule, is_busy}
 
 -- a stall comes only where the core waits
 pub stall_busy : (p : Protocol) (s : CacheState) (e : CacheEvent) (n : CacheState) → Cell p s e action.Stall n → is_busy s ≡ true

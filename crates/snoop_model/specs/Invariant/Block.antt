@@ -1,15 +1,10 @@
 -- The inductive invariant of one block's picture, for any number of cores.
 -- Source: this project's profile.
-use Rattle.std.specs.Prelude.{◌≡◌, ◌<◌, ◌==◌, ℕ, Bool, true, false, cond, Option, Some, None, is_some}
-use Rattle.std.specs.Option.{ForSome}
-use Rattle.snoop_trace.specs.Words.{Data}
-use Rattle.snoop_trace.specs.declared.protocol.Protocol.{Protocol}
-use Rattle.snoop_rules.specs.declared.names.Request.{Request}
-use Rattle.snoop_rules.specs.Takers.{carries_value}
+use Rattle.std.specs.{Prelude.{◌≡◌, ◌<◌, ◌==◌, ℕ, Bool, true, false, cond, Option, Some, None, is_some}, Option.ForSome}
+use Rattle.snoop_trace.specs.{Words.Data, declared.protocol.Protocol.Protocol}
+use Rattle.snoop_rules.specs.{declared.names.Request.Request, Takers.carries_value}
 use Rattle.snoop_bus.specs.Traffic.{Open}
-use Rattle.snoop_model.specs.Pictures.Picture.{Picture, held_by}
-use Rattle.snoop_model.specs.Pictures.Proper.{keeps, IsProper}
-use Rattle.snoop_model.specs.Invariant.Fits.{Claims, Talk, claims_of, is_clean, fits}
+use Rattle.snoop_model.specs.{Pictures.{Picture.{Picture, held_by}, Proper.{keeps, IsProper}}, Invariant.Fits.{Claims, Talk, claims_of, is_clean, fits}}
 
 -- what is said on the bus
 abbrev pub talk_of : Option Open → Option Talk

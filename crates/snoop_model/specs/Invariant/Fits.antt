@@ -1,16 +1,10 @@
 -- What a block's picture may be like in every run: the words of the inductive invariant.
 -- Source: this project's profile.
 use Rattle.std.specs.Prelude.{◌&&◌, ◌||◌, Bool, true, false, not, Option, Some, None}
-use Rattle.snoop_trace.specs.declared.protocol.Protocol.{Protocol}
-use Rattle.snoop_trace.specs.declared.protocol.Protocol.TheVariants.{Msi, Mesi}
-use Rattle.snoop_rules.specs.declared.names.CacheState.{CacheState}
+use Rattle.snoop_trace.specs.declared.protocol.Protocol.{Protocol, TheVariants.{Msi, Mesi}}
+use Rattle.snoop_rules.specs.declared.names.{CacheState.CacheState, MemState.{MemState, TheVariants.{IorS, M, IorSD, MD, I, S, EorM, ID, SD, EorMD}}}
 use Rattle.snoop_rules.specs.declared.names.CacheState.TheVariants as state
-use Rattle.snoop_rules.specs.declared.names.MemState.{MemState}
-use Rattle.snoop_rules.specs.declared.names.MemState.TheVariants.{IorS, M, IorSD, MD, I, S, EorM, ID, SD, EorMD}
-use Rattle.snoop_rules.specs.declared.names.Request.{Request}
-use Rattle.snoop_rules.specs.declared.names.Request.TheVariants.{GetS, GetM, PutM}
-use Rattle.snoop_rules.specs.declared.names.Payload.{Payload}
-use Rattle.snoop_rules.specs.declared.names.Payload.TheVariants.{Data, DataE, NoData, NoDataE}
+use Rattle.snoop_rules.specs.declared.names.{Request.{Request, TheVariants.{GetS, GetM, PutM}}, Payload.{Payload, TheVariants.{Data, DataE, NoData, NoDataE}}}
 
 -- owned: exactly one core may write, else none. shared: cores may be in S or SM_AD, else none. fresh: memory's value is the block's.
 pub record Claims : Type 0 where

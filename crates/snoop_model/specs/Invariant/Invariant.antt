@@ -4,10 +4,7 @@ use Rattle.std.specs.Prelude.{◌≡◌, ℕ, ◌<◌, Some, All}
 use Rattle.snoop_trace.specs.Words.{IsWord}
 use Rattle.snoop_history.specs.History.{flat_words, operations, Legal}
 use Rattle.snoop_bus.specs.Traffic.{Open}
-use Rattle.snoop_model.specs.declared.access.Access.{Access}
-use Rattle.snoop_model.specs.Pictures.Picture.{held_by}
-use Rattle.snoop_model.specs.Pictures.Situation.{IsShaped, Situation, picture_of}
-use Rattle.snoop_model.specs.Moves.Move.{IsWithin}
+use Rattle.snoop_model.specs.{declared.access.Access.Access, Pictures.{Picture.held_by, Situation.{IsShaped, Situation, picture_of}}, Moves.Move.IsWithin}
 use Rattle.snoop_model.specs.Invariant.Block.{BlockInvariant}
 
 -- the lists have the shape's lengths, an open transaction is of its block, each block's picture keeps its own invariant for its words in flat memory, the log is legal, and what waits and what the log has are of cores, blocks and words that there are

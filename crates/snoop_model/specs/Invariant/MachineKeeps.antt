@@ -1,10 +1,7 @@
 -- What every machine keeps.
 -- Source: this project's profile.
 use Rattle.std.specs.Prelude.{ℕ, IfSome}
-use Rattle.snoop_model.specs.Pictures.Picture.{Picture}
-use Rattle.snoop_model.specs.Pictures.Situation.{Situation, picture_of}
-use Rattle.snoop_model.specs.Moves.SenderTable.{IsSenderLine}
-use Rattle.snoop_model.specs.Invariant.Invariant.{Invariant}
+use Rattle.snoop_model.specs.{Pictures.{Picture.Picture, Situation.{Situation, picture_of}}, Moves.SenderTable.IsSenderLine, Invariant.Invariant.Invariant}
 use Rattle.snoop_model.specs.Invariant.WellKept.{IsWellKept}
 
 -- each open transaction is on a line of the table of senders, with memory's state now

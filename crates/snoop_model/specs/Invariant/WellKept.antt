@@ -1,12 +1,9 @@
 -- What every run keeps between the states of the lines, the queues and the open transactions.
 -- Source: this project's profile.
 use Rattle.std.specs.Prelude.{◌≡◌, ℕ, Some, IsSome}
-use Rattle.snoop_model.specs.declared.access.Access.{Access}
+use Rattle.snoop_model.specs.{declared.access.Access.Access, Pictures.{Picture.held_by, Situation.{Situation, IsShaped, picture_of, state_of, HasOpen}}}
 use Rattle.snoop_rules.specs.declared.names.Request.{Request}
-use Rattle.snoop_model.specs.Pictures.Picture.{held_by}
-use Rattle.snoop_model.specs.Pictures.Situation.{Situation, IsShaped, picture_of, state_of, HasOpen}
-use Rattle.snoop_model.specs.Pictures.InQueue.{IsInQueue}
-use Rattle.snoop_model.specs.Pictures.Proper.{missed_request, awaited_request}
+use Rattle.snoop_model.specs.Pictures.{InQueue.IsInQueue, Proper.{missed_request, awaited_request}}
 
 -- lists are as long as the shape says, and queues, open transactions and waiting operations are as the states of the lines say
 pub record IsWellKept (s : Situation) : Type 0 where

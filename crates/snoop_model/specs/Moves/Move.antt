@@ -1,42 +1,22 @@
 -- The moves of the machine.
 -- Source: "A Primer on Memory Consistency and Cache Coherence", 2nd edition, chapter 7: atomic transactions, each controller taking its row of the tables; replies and items are this project's profile.
 use Rattle.std.specs.Prelude.{◌≡◌, ℕ, ◌<◌, Bool, true, false, List, [], ◌∷◌, ◌++◌, length, Option, Some, None, option_to_list, slice_set, MatchBool, IsSomeAnd, ◌⊎◌, ⊤, if◌then◌else◌}
-use Rattle.snoop_trace.specs.Words.{Data, HasWord, word_at}
-use Rattle.snoop_trace.specs.declared.step.Op.{Op}
+use Rattle.snoop_trace.specs.{Words.{Data, HasWord, word_at}, declared.step.{Op.Op, Step.{Step, TheVariants.{Ask, Order, Respond}}}}
 use Rattle.snoop_trace.specs.declared.step.Op.TheVariants as op
-use Rattle.snoop_trace.specs.declared.step.Step.{Step}
-use Rattle.snoop_trace.specs.declared.step.Step.TheVariants.{Ask, Order, Respond}
 use Rattle.snoop_trace.specs.declared.protocol.Protocol.{Protocol}
-use Rattle.snoop_rules.specs.declared.names.CacheState.{CacheState}
+use Rattle.snoop_rules.specs.declared.names.{CacheState.CacheState, CacheEvent.CacheEvent, CacheAction.CacheAction, MemEvent.MemEvent, MemState.MemState}
 use Rattle.snoop_rules.specs.declared.names.CacheState.TheVariants as state
-use Rattle.snoop_rules.specs.declared.names.CacheEvent.{CacheEvent}
-use Rattle.snoop_rules.specs.declared.names.CacheAction.{CacheAction}
 use Rattle.snoop_rules.specs.declared.names.CacheAction.TheVariants as action
-use Rattle.snoop_rules.specs.declared.names.MemEvent.{MemEvent}
-use Rattle.snoop_rules.specs.declared.names.MemState.{MemState}
-use Rattle.snoop_rules.specs.declared.names.MemAction.{MemAction}
+use Rattle.snoop_rules.specs.declared.names.{MemAction.MemAction, Request.{Request, TheVariants.PutM}, Payload.Payload, CacheCell.CacheCell, MemCell.MemCell}
 use Rattle.snoop_rules.specs.declared.names.MemAction.TheVariants as mem_action
-use Rattle.snoop_rules.specs.declared.names.Request.{Request}
-use Rattle.snoop_rules.specs.declared.names.Request.TheVariants.{PutM}
-use Rattle.snoop_rules.specs.declared.names.Payload.{Payload}
-use Rattle.snoop_rules.specs.declared.names.CacheCell.{CacheCell}
-use Rattle.snoop_rules.specs.declared.names.MemCell.{MemCell}
-use Rattle.snoop_rules.specs.Cell.{cell_of}
-use Rattle.snoop_rules.specs.MemoryCell.{MemoryCell, memory_cell_of}
+use Rattle.snoop_rules.specs.{Cell.cell_of, MemoryCell.{MemoryCell, memory_cell_of}}
 use Rattle.snoop_rules.specs.Takers.{asked, seen_by, at_memory, arrival, arrival_at_memory, takes_payload}
-use Rattle.snoop_history.specs.declared.items.Did.{Did}
-use Rattle.snoop_history.specs.declared.items.Came.{Came}
-use Rattle.snoop_history.specs.declared.items.Item.{Item}
+use Rattle.snoop_history.specs.{declared.items.{Did.Did, Came.Came, Item.Item}, History.next_number}
 use Rattle.snoop_history.specs.declared.items.Item.TheVariants as item
-use Rattle.snoop_history.specs.History.{next_number}
-use Rattle.snoop_bus.specs.Traffic.{Open}
-use Rattle.snoop_bus.specs.Queues.{after_issue, after_order}
-use Rattle.snoop_model.specs.declared.replies.Reply.{Reply}
+use Rattle.snoop_bus.specs.{Traffic.Open, Queues.{after_issue, after_order}}
+use Rattle.snoop_model.specs.{declared.replies.Reply.Reply, Pictures.{Picture.{Picture, held_at, held_by, with_line, kept_on}, Lines.{Line, MemLine}}}
 use Rattle.snoop_model.specs.declared.replies.Reply.TheVariants as reply
-use Rattle.snoop_model.specs.Pictures.Picture.{Picture, held_at, held_by, with_line, kept_on}
-use Rattle.snoop_model.specs.Pictures.Situation.{Situation, picture_of, with_picture, state_of, CanOrder, StandsFirst}
-use Rattle.snoop_model.specs.Pictures.Lines.{Line, MemLine}
-use Rattle.snoop_model.specs.declared.access.Access.{Access}
+use Rattle.snoop_model.specs.{Pictures.Situation.{Situation, picture_of, with_picture, state_of, CanOrder, StandsFirst}, declared.access.Access.Access}
 use Rattle.snoop_model.specs.Pictures.Sends.{IsOnlySender, value_sent}
 
 -- an operation on one word of a block: the value that it loads or stores, and the block's words after it; a store keeps the other words
@@ -50,10 +30,10 @@ abbrev pub is_load : Op → Bool
 is_load op.Load = true
 is_load _ = false
 
--- what waits once a request is issued: a load or a store of this word, but not an eviction
-abbrev pub kept_waiting : ℕ → Op → Option Access
-kept_waiting word op.Evict = None
-kept_waiting word asking = Some (record { word = word; op = asking })
+-- an operation on a word as the load or store that it is; an eviction is none
+abbrev pub as_access : ℕ → Op → Option Access
+as_access word op.Evict = None
+as_access word asking = Some (record { word = word; op = asking })
 
 -- the core's next operation in the log, as it is performed
 abbrev pub next_did : List Item → ℕ → ℕ → ℕ → Op → ℕ → Bool → Did
@@ -147,7 +127,7 @@ Takes action.Hit next log core block word asking old new answer entry =
     (value : ℕ) × (Hits next old new word asking value × (answer ≡ (if is_load asking then reply.Hit value else reply.StoreHit))
     × (entry ≡ Some (item.Did (next_did log core block word asking value true))))
 Takes (action.Issue request) next log core block word asking old new answer entry =
-    (new ≡ record (moves_to next old) { waiting = kept_waiting word asking }) × (answer ≡ reply.Issued request) × (entry ≡ None)
+    (new ≡ record (moves_to next old) { waiting = as_access word asking }) × (answer ≡ reply.Issued request) × (entry ≡ None)
 Takes action.Drop next log core block word asking old new answer entry =
     (new ≡ moves_to next old) × (answer ≡ reply.Gone) × (entry ≡ None)
 Takes _ next log core block word asking old new answer entry = ⊥

@@ -1,18 +1,10 @@
 -- When a step is refused, and why.
 -- Source: this project's profile.
 use Rattle.std.specs.Prelude.{◌≡◌, ℕ, ◌<◌, ◌≤◌, ◌⊎◌, None, IsSome}
-use Rattle.snoop_trace.specs.Words.{HasWord}
-use Rattle.snoop_trace.specs.declared.step.Step.{Step}
-use Rattle.snoop_trace.specs.declared.step.Step.TheVariants.{Ask, Order, Respond}
-use Rattle.snoop_rules.specs.declared.names.CacheState.{CacheState}
-use Rattle.snoop_rules.specs.declared.names.CacheAction.TheVariants.{Stall}
-use Rattle.snoop_rules.specs.declared.names.Request.{Request}
-use Rattle.snoop_rules.specs.Cell.{Cell}
-use Rattle.snoop_rules.specs.Takers.{asked}
-use Rattle.snoop_model.specs.declared.replies.Refused.{Refused}
-use Rattle.snoop_model.specs.declared.replies.Refused.TheVariants.{NoCore, NoBlock, Stalled, NothingWaiting, BusTaken, NoTransaction, NoMemory}
-use Rattle.snoop_model.specs.Pictures.Situation.{Situation, picture_of, state_of, Waits, StandsFirst}
-use Rattle.snoop_model.specs.Moves.Move.{IsWithin}
+use Rattle.snoop_trace.specs.{Words.HasWord, declared.step.Step.{Step, TheVariants.{Ask, Order, Respond}}}
+use Rattle.snoop_rules.specs.{declared.names.{CacheState.CacheState, CacheAction.TheVariants.Stall, Request.Request}, Cell.Cell, Takers.asked}
+use Rattle.snoop_model.specs.declared.replies.Refused.{Refused, TheVariants.{NoCore, NoBlock, Stalled, NothingWaiting, BusTaken, NoTransaction, NoMemory}}
+use Rattle.snoop_model.specs.{Pictures.Situation.{Situation, picture_of, state_of, Waits, StandsFirst}, Moves.Move.IsWithin}
 
 -- the core waits on no block
 abbrev pub WaitsOnNone : Situation → ℕ → Type 0

@@ -2,16 +2,12 @@
 -- Source: this project's profile.
 use Rattle.std.specs.Prelude.{◌≡◌, ℕ, true, false, List, [], ◌∷◌, ◌++◌, Result, Ok, Err, IfSome}
 use Rattle.snoop_trace.specs.declared.step.Op.TheVariants as op
-use Rattle.snoop_trace.specs.declared.step.Step.{Step}
-use Rattle.snoop_trace.specs.declared.step.Step.TheVariants.{Ask, Order, Respond}
+use Rattle.snoop_trace.specs.declared.step.Step.{Step, TheVariants.{Ask, Order, Respond}}
 use Rattle.snoop_rules.specs.declared.names.Request.{Request}
 use Rattle.snoop_history.specs.declared.items.Item.{Item}
 use Rattle.snoop_history.specs.declared.items.Item.TheVariants as item
-use Rattle.snoop_model.specs.declared.replies.Reply.{Reply}
-use Rattle.snoop_model.specs.declared.replies.Refused.{Refused}
-use Rattle.snoop_model.specs.declared.replies.Reply.TheVariants.{Hit, StoreHit, Issued, Gone, Absent, Ordered, Came}
-use Rattle.snoop_model.specs.Pictures.Proper.{request_for}
-use Rattle.snoop_model.specs.Moves.Move.{next_did}
+use Rattle.snoop_model.specs.declared.replies.{Reply.{Reply, TheVariants.{Hit, StoreHit, Issued, Gone, Absent, Ordered, Came}}, Refused.Refused}
+use Rattle.snoop_model.specs.{Pictures.Proper.request_for, Moves.Move.next_did}
 
 -- what a step with this outcome adds to the history, and which replies it may have: a hit is the operation that was asked, with the value that a load replied; what is issued is the request that serves it; an Order adds the request that was replied, of some block; a Respond adds the response that was replied, to some request for this block, with the operation, if any, of its requestor on the block; an issue, Gone, Absent and a refusal add nothing, and no step has another reply
 abbrev pub Tells : List Item → Step → Result Reply Refused → List Item → Type 0

@@ -1,20 +1,12 @@
 -- Each Order and each open transaction goes by the table of senders.
 -- Source: "A Primer on Memory Consistency and Cache Coherence", 2nd edition, chapter 7; MESI's memory is this project's profile.
 use Rattle.std.specs.Prelude.{◌≡◌, ℕ, Option, None, Contains}
-use Rattle.snoop_trace.specs.declared.step.Step.TheVariants.{Respond}
-use Rattle.snoop_trace.specs.declared.protocol.Protocol.{Protocol}
-use Rattle.snoop_rules.specs.declared.names.MemState.{MemState}
-use Rattle.snoop_rules.specs.declared.names.MemAction.{MemAction}
-use Rattle.snoop_rules.specs.declared.names.Request.{Request}
-use Rattle.snoop_rules.specs.declared.names.Payload.{Payload}
-use Rattle.snoop_rules.specs.Takers.{at_memory}
+use Rattle.snoop_trace.specs.declared.{step.Step.TheVariants.Respond, protocol.Protocol.Protocol}
+use Rattle.snoop_rules.specs.{declared.names.{MemState.MemState, MemAction.MemAction, Request.Request, Payload.Payload}, Takers.at_memory}
 use Rattle.snoop_rules.specs.WhoSends.{sender_of, lines_of}
 use Rattle.snoop_bus.specs.Traffic.{Open}
-use Rattle.snoop_model.specs.declared.replies.Reply.{Reply}
-use Rattle.snoop_model.specs.Pictures.Picture.{Picture, held_by}
-use Rattle.snoop_model.specs.Pictures.Situation.{Situation, picture_of, CanOrder}
-use Rattle.snoop_model.specs.Moves.Move.{TakesMemRow, Settles, MoveOn}
-use Rattle.snoop_model.specs.Pictures.Sends.{IsOnlySender}
+use Rattle.snoop_model.specs.{declared.replies.Reply.Reply, Pictures.{Picture.{Picture, held_by}, Situation.{Situation, picture_of, CanOrder}}}
+use Rattle.snoop_model.specs.{Moves.Move.{TakesMemRow, Settles, MoveOn}, Pictures.Sends.IsOnlySender}
 
 -- the core's request is met as a line of the table says: from memory's state and the sender's before it, to memory's state after it, from which memory's row for the payload, where memory takes it, leads to `done`
 pub record IsSenderLine (protocol : Protocol) (before : Picture) (core : ℕ) (request : Request) (from : Option ℕ) (payload : Payload) (next : MemState) : Type 0 where

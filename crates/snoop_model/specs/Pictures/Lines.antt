@@ -2,8 +2,7 @@
 -- Source: this project's profile.
 use Rattle.std.specs.Prelude.{Option}
 use Rattle.snoop_trace.specs.Words.{Data}
-use Rattle.snoop_rules.specs.declared.names.CacheState.{CacheState}
-use Rattle.snoop_rules.specs.declared.names.MemState.{MemState}
+use Rattle.snoop_rules.specs.declared.names.{CacheState.CacheState, MemState.MemState}
 use Rattle.snoop_model.specs.declared.access.Access.{Access}
 
 -- what a cache holds of a block: its state; the words that loads read, where the state may read; and the load or store that waits

@@ -1,14 +1,9 @@
 -- The picture of a block: what each core, memory and the bus hold of it.
 -- Source: "A Primer on Memory Consistency and Cache Coherence", 2nd edition, chapter 7, system model.
 use Rattle.std.specs.Prelude.{ℕ, List, Option, None, Some, slice_index_or, slice_set, if◌then◌else◌}
-use Rattle.snoop_trace.specs.Words.{Data}
-use Rattle.snoop_trace.specs.declared.protocol.Protocol.{Protocol}
-use Rattle.snoop_trace.specs.declared.protocol.Protocol.TheVariants.{Msi, Mesi}
-use Rattle.snoop_rules.specs.declared.names.CacheState.{CacheState}
-use Rattle.snoop_rules.specs.declared.names.CacheState.TheVariants.{I, ImAd, IiA}
-use Rattle.snoop_rules.specs.declared.names.MemState.{MemState}
+use Rattle.snoop_trace.specs.{Words.Data, declared.protocol.Protocol.{Protocol, TheVariants.{Msi, Mesi}}}
+use Rattle.snoop_rules.specs.{declared.names.{CacheState.{CacheState, TheVariants.{I, ImAd, IiA}}, MemState.MemState}, Takers.carries_value}
 use Rattle.snoop_rules.specs.declared.names.MemState.TheVariants as mem
-use Rattle.snoop_rules.specs.Takers.{carries_value}
 use Rattle.snoop_model.specs.Pictures.Lines.{Line, MemLine}
 use Rattle.snoop_bus.specs.Traffic.{Open}
 

@@ -3,9 +3,7 @@
 use Rattle.std.specs.Prelude.{◌≡◌, Bool, true, false, Option, Some, None, is_some, option_map}
 use Rattle.snoop_trace.specs.declared.step.Op.{Op}
 use Rattle.snoop_trace.specs.declared.step.Op.TheVariants as op
-use Rattle.snoop_rules.specs.declared.names.CacheState.{CacheState}
-use Rattle.snoop_rules.specs.declared.names.CacheState.TheVariants.{IsAd, IsD, ImAd, ImD, S, SmAd, SmD, E, M, EiA, MiA}
-use Rattle.snoop_rules.specs.declared.names.Request.{Request}
+use Rattle.snoop_rules.specs.declared.names.{CacheState.{CacheState, TheVariants.{IsAd, IsD, ImAd, ImD, S, SmAd, SmD, E, M, EiA, MiA}}, Request.Request}
 use Rattle.snoop_rules.specs.declared.names.Request.TheVariants.{GetS, GetM, PutM}
 use Rattle.snoop_model.specs.Pictures.Lines.{Line}
 

@@ -1,18 +1,11 @@
 -- Who sends at an Order.
 -- Source: "A Primer on Memory Consistency and Cache Coherence", 2nd edition, chapter 7; the rows for MESI memory and E's eviction are this project's profile.
 use Rattle.std.specs.Prelude.{◌≡◌, ℕ, ◌<◌, length, Option, Some, None, unwrap_or, if◌then◌else◌}
-use Rattle.snoop_trace.specs.Words.{Data, zero_words}
-use Rattle.snoop_trace.specs.declared.protocol.Protocol.{Protocol}
+use Rattle.snoop_trace.specs.{Words.{Data, zero_words}, declared.protocol.Protocol.Protocol}
 use Rattle.snoop_rules.specs.declared.names.CacheAction.TheVariants as action
 use Rattle.snoop_rules.specs.declared.names.MemAction.TheVariants as mem_action
-use Rattle.snoop_rules.specs.declared.names.Request.{Request}
-use Rattle.snoop_rules.specs.declared.names.Payload.{Payload}
-use Rattle.snoop_rules.specs.declared.names.CacheState.{CacheState}
-use Rattle.snoop_rules.specs.declared.names.MemState.{MemState}
-use Rattle.snoop_rules.specs.declared.names.Target.{Target}
-use Rattle.snoop_rules.specs.Cell.{Cell}
-use Rattle.snoop_rules.specs.MemoryCell.{MemoryCell}
-use Rattle.snoop_rules.specs.Takers.{seen_by, at_memory, carries_value}
+use Rattle.snoop_rules.specs.{declared.names.{Request.Request, Payload.Payload, CacheState.CacheState, MemState.MemState, Target.Target}, Cell.Cell}
+use Rattle.snoop_rules.specs.{MemoryCell.MemoryCell, Takers.{seen_by, at_memory, carries_value}}
 use Rattle.snoop_model.specs.Pictures.Picture.{Picture, held_by}
 
 -- the controller, memory or a core, sends this payload when the core's request is ordered: its row for the request is to send it

@@ -1,17 +1,11 @@
 -- The machine as its callers see it.
 -- Source: this project's profile.
 use Rattle.std.specs.Prelude.{◌≡◌, ◌<◌, ℕ, List, [], Some, None, slice_get, slice_index_or, slice_set, replicate, length}
-use Rattle.snoop_trace.specs.Extent.{Extent}
-use Rattle.snoop_trace.specs.Words.{zero_words}
-use Rattle.snoop_trace.specs.declared.protocol.Protocol.{Protocol}
-use Rattle.snoop_rules.specs.declared.names.CacheState.{CacheState}
-use Rattle.snoop_rules.specs.declared.names.Request.{Request}
-use Rattle.snoop_rules.specs.Waits.{waiting_request}
+use Rattle.snoop_trace.specs.{Extent.Extent, Words.zero_words, declared.protocol.Protocol.Protocol}
+use Rattle.snoop_rules.specs.{declared.names.{CacheState.CacheState, Request.Request, MemState.TheVariants.IorS}, Waits.waiting_request}
 use Rattle.snoop_history.specs.declared.items.Item.{Item}
 use Rattle.snoop_model.specs.Pictures.Picture.{Picture, first_memory, nothing_held, held_by}
-use Rattle.snoop_bus.specs.Queues.{queue_of}
-use Rattle.snoop_bus.specs.Traffic.{Open}
-use Rattle.snoop_rules.specs.declared.names.MemState.TheVariants.{IorS}
+use Rattle.snoop_bus.specs.{Queues.queue_of, Traffic.Open}
 
 -- the protocol and the shape, the picture of each block, each core's queue, and the log, which is the history
 pub record Situation : Type 0 where

@@ -3,16 +3,9 @@
 use Rattle.std.specs.Prelude.{◌≡◌, ℕ, ◌&&◌, ◌==◌, List, [], ◌∷◌, ◌++◌, map, filter, filter_map, Option, None, option_to_list, Result, Ok, Err, if◌then◌else◌}
 use Rattle.std.specs.List.Sorted.{IsPermutation}
 use Rattle.snoop_trace.specs.declared.step.Op.TheVariants as op
-use Rattle.snoop_trace.specs.declared.step.Step.{Step}
-use Rattle.snoop_trace.specs.declared.step.Step.TheVariants.{Ask}
-use Rattle.snoop_history.specs.declared.items.Did.{Did}
-use Rattle.snoop_history.specs.declared.items.Item.{Item}
-use Rattle.snoop_history.specs.History.{answers_of}
-use Rattle.snoop_model.specs.declared.access.Access.{Access}
-use Rattle.snoop_model.specs.declared.replies.Reply.{Reply}
-use Rattle.snoop_model.specs.declared.replies.Refused.{Refused}
-use Rattle.snoop_model.specs.Moves.Move.{kept_waiting}
-use Rattle.snoop_model.specs.Pictures.Picture.{held_by}
+use Rattle.snoop_trace.specs.declared.step.Step.{Step, TheVariants.Ask}
+use Rattle.snoop_history.specs.{declared.items.{Did.Did, Item.Item}, History.answers_of}
+use Rattle.snoop_model.specs.{declared.{access.Access.Access, replies.{Reply.Reply, Refused.Refused}}, Moves.Move.as_access, Pictures.Picture.held_by}
 use Rattle.snoop_model.specs.Pictures.Situation.{Situation, picture_of}
 
 -- the steps that were taken
@@ -23,7 +16,7 @@ taken _ _ = []
 
 -- the load or store of the block that a step asks of the core's cache, if any
 abbrev pub asked_access : ℕ → ℕ → Step → Option Access
-asked_access core block (Ask c b word asking) = if b == block && c == core then kept_waiting word asking else None
+asked_access core block (Ask c b word asking) = if b == block && c == core then as_access word asking else None
 asked_access core block _ = None
 
 -- the load or store that was performed

@@ -1,22 +1,12 @@
 -- What a core is still owed: its operation waits, or is the last one that it performed.
 -- Source: this project's profile.
 use Rattle.std.specs.Prelude.{◌≡◌, ◌≢◌, ◌⊎◌, ℕ, true, [], ◌∷◌, Option, Some, None, Ok}
-use Rattle.snoop_trace.specs.declared.step.Op.{Op}
-use Rattle.snoop_trace.specs.declared.step.Step.{Step}
-use Rattle.snoop_trace.specs.declared.step.Step.TheVariants.{Ask}
+use Rattle.snoop_trace.specs.declared.step.{Op.Op, Step.{Step, TheVariants.Ask}}
 use Rattle.snoop_rules.specs.declared.names.Request.{Request}
-use Rattle.snoop_history.specs.declared.items.Did.{Did}
-use Rattle.snoop_history.specs.History.{last_of}
-use Rattle.snoop_model.specs.declared.access.Access.{Access}
-use Rattle.snoop_model.specs.declared.replies.Reply.{Reply}
-use Rattle.snoop_model.specs.declared.replies.Reply.TheVariants.{Issued}
-use Rattle.snoop_model.specs.Pictures.Picture.{held_by}
-use Rattle.snoop_model.specs.Pictures.Situation.{Situation, picture_of}
-use Rattle.snoop_model.specs.Moves.Move.{FirstMove}
-use Rattle.snoop_model.specs.Runs.Once.{did_access, asked_access, OnceMore}
-use Rattle.snoop_model.specs.Invariant.WellKept.{IsWellKept}
-use Rattle.snoop_model.specs.Turns.Serving.{IsServing}
-use Rattle.snoop_model.specs.Turns.Turn.{turn_of}
+use Rattle.snoop_history.specs.{declared.items.Did.Did, History.last_of}
+use Rattle.snoop_model.specs.{declared.{access.Access.Access, replies.Reply.{Reply, TheVariants.Issued}}, Pictures.Picture.held_by, Moves.Move.FirstMove}
+use Rattle.snoop_model.specs.{Pictures.Situation.{Situation, picture_of}, Runs.Once.{did_access, asked_access, OnceMore}, Invariant.WellKept.IsWellKept}
+use Rattle.snoop_model.specs.Turns.{Serving.IsServing, Turn.turn_of}
 
 -- the last operation that the core performed is this one on the block
 abbrev pub IsLast : Situation → ℕ → ℕ → Access → Type 0

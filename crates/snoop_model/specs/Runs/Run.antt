@@ -1,15 +1,9 @@
 -- Whole runs from reset.
 -- Source: this project's profile.
 use Rattle.std.specs.Prelude.{◌≡◌, ℕ, List, [], ◌∷◌, ◌++◌, map, Result, Ok, Err}
-use Rattle.snoop_trace.specs.Extent.{Extent}
-use Rattle.snoop_trace.specs.declared.step.Step.{Step}
-use Rattle.snoop_trace.specs.declared.protocol.Protocol.{Protocol}
-use Rattle.snoop_model.specs.declared.replies.Reply.{Reply}
-use Rattle.snoop_model.specs.declared.replies.Refused.{Refused}
-use Rattle.snoop_model.specs.declared.replies.Refused.TheVariants.{NoMemory}
-use Rattle.snoop_model.specs.Pictures.Situation.{Situation, reset}
-use Rattle.snoop_model.specs.Moves.Move.{MoveOn, FirstMove}
-use Rattle.snoop_model.specs.Moves.Refuses.{Refuses}
+use Rattle.snoop_trace.specs.{Extent.Extent, declared.{step.Step.Step, protocol.Protocol.Protocol}}
+use Rattle.snoop_model.specs.{declared.replies.{Reply.Reply, Refused.{Refused, TheVariants.NoMemory}}, Pictures.Situation.{Situation, reset}}
+use Rattle.snoop_model.specs.Moves.{Move.{MoveOn, FirstMove}, Refuses.Refuses}
 
 -- one step of a run: a move, an Order being on any block, or a refusal, which leaves all equal; any step may be refused as out of memory
 abbrev pub Goes : Situation → Step → Result Reply Refused → Situation → Type 0

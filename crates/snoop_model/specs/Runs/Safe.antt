@@ -1,13 +1,9 @@
 -- What holds of every machine, as its users see it.
 -- Source: this project's profile.
-use Rattle.snoop_model.specs.Coherent.{IsCoherent}
+use Rattle.snoop_model.specs.{Coherent.IsCoherent, Pictures.{Picture.held_by, Situation.{Situation, picture_of, state_of}, Proper.keeps}, Runs.Run.EveryRun}
 use Rattle.snoop_trace.specs.declared.step.Step.{Step}
 use Rattle.std.specs.Prelude.{◌≡◌, ℕ, is_some}
-use Rattle.snoop_model.specs.Pictures.Picture.{held_by}
-use Rattle.snoop_model.specs.Pictures.Situation.{Situation, picture_of, state_of}
-use Rattle.snoop_model.specs.Pictures.Proper.{keeps}
 use Rattle.snoop_model.specs.Moves.LookUps.{FindsRows}
-use Rattle.snoop_model.specs.Runs.Run.{EveryRun}
 
 -- no step of a run meets an impossible cell
 abbrev pub RowsAreFound : Type 0

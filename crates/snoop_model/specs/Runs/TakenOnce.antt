@@ -1,13 +1,8 @@
 -- What was asked by steps that were all taken.
 -- Source: this project's profile.
-use Rattle.std.specs.Prelude.{ℕ, List, ◌++◌, filter_map}
-use Rattle.std.specs.List.Sorted.{IsPermutation}
-use Rattle.snoop_trace.specs.Extent.{Extent}
-use Rattle.snoop_trace.specs.declared.step.Step.{Step}
-use Rattle.snoop_trace.specs.declared.protocol.Protocol.{Protocol}
-use Rattle.snoop_model.specs.Pictures.Situation.{Situation}
-use Rattle.snoop_model.specs.Runs.Run.{AllTaken}
-use Rattle.snoop_model.specs.Runs.Once.{asked_access, accesses_in, waiting_at}
+use Rattle.std.specs.{Prelude.{ℕ, List, ◌++◌, filter_map}, List.Sorted.IsPermutation}
+use Rattle.snoop_trace.specs.{Extent.Extent, declared.{step.Step.Step, protocol.Protocol.Protocol}}
+use Rattle.snoop_model.specs.{Pictures.Situation.Situation, Runs.{Run.AllTaken, Once.{asked_access, accesses_in, waiting_at}}}
 
 -- of steps that were all taken: the loads and stores that they ask are those in the log and those that wait, each as often
 abbrev pub TakenOnce : Type 0

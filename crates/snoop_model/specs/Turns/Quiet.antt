@@ -1,9 +1,7 @@
 -- When a machine has come to rest.
 -- Source: this project's profile.
 use Rattle.std.specs.Prelude.{◌≡◌, ℕ, None}
-use Rattle.snoop_model.specs.Pictures.Picture.{held_by}
-use Rattle.snoop_model.specs.Pictures.Situation.{Situation, picture_of}
-use Rattle.snoop_model.specs.Moves.Refuses.{WaitsOnNone}
+use Rattle.snoop_model.specs.{Pictures.{Picture.held_by, Situation.{Situation, picture_of}}, Moves.Refuses.WaitsOnNone}
 
 -- no core waits, no transaction is open, and no operation waits
 pub record IsQuiet (s : Situation) : Type 0 where

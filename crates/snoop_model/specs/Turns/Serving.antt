@@ -1,12 +1,9 @@
 -- What holds between the turns of cores that have one work at a time, and what their steps cost.
 -- Source: this project's profile.
 use Rattle.std.specs.Prelude.{◌≡◌, ℕ, ◌+◌, ◌*◌, Bool, length, All, Option, Some, is_some, sum_by, count_by, ⊤}
-use Rattle.snoop_trace.specs.declared.step.Step.{Step}
-use Rattle.snoop_trace.specs.declared.step.Step.TheVariants.{Ask}
-use Rattle.snoop_bus.specs.Traffic.{Open}
-use Rattle.snoop_bus.specs.Queues.{queue_of}
-use Rattle.snoop_model.specs.Pictures.Picture.{Picture}
-use Rattle.snoop_model.specs.Pictures.Situation.{Situation, picture_of}
+use Rattle.snoop_trace.specs.declared.step.Step.{Step, TheVariants.Ask}
+use Rattle.snoop_bus.specs.{Traffic.Open, Queues.queue_of}
+use Rattle.snoop_model.specs.Pictures.{Picture.Picture, Situation.{Situation, picture_of}}
 
 -- a core waits, and has a transaction open, only on the block of its work under way
 pub record IsServing (under_way : ℕ → Option ℕ) (s : Situation) : Type 0 where

@@ -1,11 +1,8 @@
 -- The turn rule: which step a turn takes.
 -- Source: this project's profile.
 use Rattle.std.specs.Prelude.{ℕ, ◌==◌, Bool, true, false, Option, Some, None, if◌then◌else◌}
-use Rattle.snoop_trace.specs.declared.step.Op.{Op}
-use Rattle.snoop_trace.specs.declared.step.Step.{Step}
-use Rattle.snoop_trace.specs.declared.step.Step.TheVariants.{Ask, Order, Respond}
-use Rattle.snoop_rules.specs.declared.names.Request.{Request}
-use Rattle.snoop_rules.specs.Waits.{waiting_request}
+use Rattle.snoop_trace.specs.declared.step.{Op.Op, Step.{Step, TheVariants.{Ask, Order, Respond}}}
+use Rattle.snoop_rules.specs.{declared.names.Request.Request, Waits.waiting_request}
 use Rattle.snoop_bus.specs.Traffic.{Open}
 use Rattle.snoop_model.specs.Pictures.Situation.{Situation, picture_of, state_of}
 

@@ -1,20 +1,9 @@
 -- The laws of turns that follow the turn rule.
 -- Source: this project's profile.
 use Rattle.std.specs.Prelude.{◌≡◌, ◌≢◌, ℕ, ◌<◌, ◌≤◌, ◌+◌, Bool, true, Option, Some, None, if◌then◌else◌}
-use Rattle.snoop_trace.specs.Words.{HasWord}
-use Rattle.snoop_trace.specs.Extent.{Extent}
-use Rattle.snoop_trace.specs.declared.step.Op.{Op}
-use Rattle.snoop_trace.specs.declared.step.Step.{Step}
-use Rattle.snoop_trace.specs.declared.protocol.Protocol.{Protocol}
-use Rattle.snoop_model.specs.declared.replies.Reply.{Reply}
-use Rattle.snoop_model.specs.declared.replies.Refused.{Refused}
-use Rattle.snoop_model.specs.Pictures.Situation.{Situation, reset}
-use Rattle.snoop_model.specs.Moves.Move.{FirstMove}
-use Rattle.snoop_model.specs.Moves.Refuses.{Refuses}
-use Rattle.snoop_model.specs.Turns.Turn.{turn_of}
-use Rattle.snoop_model.specs.Turns.Serving.{IsServing, IsUnderWay, steps_owed, steps_paid}
-use Rattle.snoop_model.specs.Invariant.WellKept.{IsWellKept}
-use Rattle.snoop_model.specs.Turns.Quiet.{IsQuiet}
+use Rattle.snoop_trace.specs.{Words.HasWord, Extent.Extent, declared.{step.{Op.Op, Step.Step}, protocol.Protocol.Protocol}}
+use Rattle.snoop_model.specs.{declared.replies.{Reply.Reply, Refused.Refused}, Pictures.Situation.{Situation, reset}, Moves.{Move.FirstMove, Refuses.Refuses}}
+use Rattle.snoop_model.specs.{Turns.{Turn.turn_of, Serving.{IsServing, IsUnderWay, steps_owed, steps_paid}, Quiet.IsQuiet}, Invariant.WellKept.IsWellKept}
 use Rattle.snoop_model.specs.Runs.Owed.{Owes, ClosedIsLast, EndsAtOnce}
 
 -- a machine at reset is well kept, and serves whatever works are under way

@@ -1,5 +1,4 @@
-use Rattle.snoop_cores.proofs.Common.{refl, slice_index_or, sym, ◌∙◌, ◌≡◌}
-use Rattle.snoop_cores.proofs.Joining.{first_on}
+use Rattle.snoop_cores.proofs.{Common.{refl, slice_index_or, sym, ◌∙◌, ◌≡◌}, Joining.first_on}
 use Rattle.snoop_cores.proofs.gathering.answers_match.Goals.{in-Some-did+else-not-is_at_its_number, in_default-did}
 use Rattle.snoop_cores.proofs.gathering.answers_match.Goals as goal
 

@@ -1,5 +1,4 @@
-use Rattle.snoop_cores.proofs.Common.{length, next_number, Seating, slice_index_or, take, ℕ, ◌<◌}
-use Rattle.snoop_cores.proofs.Joining.{AreFirst}
+use Rattle.snoop_cores.proofs.{Common.{length, next_number, Seating, slice_index_or, take, ℕ, ◌<◌}, Joining.AreFirst}
 use Rattle.snoop_cores.proofs.gathering.answers_match.Given as goal
 
 -- so far each core's operations are the first answers at its place

@@ -1,5 +1,4 @@
-use Rattle.snoop_cores.proofs.Common.{arith, refl, sym, take_all, true≢false, ◌∙◌}
-use Rattle.snoop_cores.proofs.Joining.{first_less, next_differs, next_passes, next_stands}
+use Rattle.snoop_cores.proofs.{Common.{arith, refl, sym, take_all, true≢false, ◌∙◌}, Joining.{first_less, next_differs, next_passes, next_stands}}
 use Rattle.snoop_cores.proofs.gathering.first_difference.Goals.{in-Some-own_did+else-not-stands_at, in_default-own_did}
 use Rattle.snoop_cores.proofs.gathering.first_difference.Goals as goal
 

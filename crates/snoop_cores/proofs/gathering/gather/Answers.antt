@@ -1,10 +1,7 @@
 use Rattle.std.proofs.Common.{◌∙◌, ℕ, List, ap, sym, subst, Result, Ok, Err, IfErr}
-use Rattle.snoop_cores.proofs.Common.{Extent, IsHeld, IsKept, Locked, OneForEach, RefusesGather, RefusesJoin, Seating}
+use Rattle.snoop_cores.proofs.{Common.{Extent, IsHeld, IsKept, Locked, OneForEach, RefusesGather, RefusesJoin, Seating}, Joining.{odd_one, not_odd}}
 use Rattle.snoop_trace.specs.declared.protocol.Protocol.{Protocol}
-use Rattle.snoop_cores.specs.declared.gathering.Gathered.{Gathered}
-use Rattle.snoop_cores.specs.declared.fault.GatherFault.{GatherFault}
-use Rattle.snoop_cores.specs.declared.fault.GatherFault.TheVariants.{NotAllSeats}
-use Rattle.snoop_cores.proofs.Joining.{odd_one, not_odd}
+use Rattle.snoop_cores.specs.declared.{gathering.Gathered.Gathered, fault.GatherFault.{GatherFault, TheVariants.NotAllSeats}}
 use Rattle.snoop_cores.proofs.gathering.gather.Goals as goal
 
 pub returns-in-Some-clause-not_all : goal.returns-in-Some-clause-not_all

@@ -1,6 +1,5 @@
-use Rattle.snoop_cores.proofs.Common.{answers_of, IsOp, subst}
+use Rattle.snoop_cores.proofs.{Common.{answers_of, IsOp, subst}, Shown.stranger_more}
 use Rattle.snoop_trace.specs.declared.step.Op.{Op}
-use Rattle.snoop_cores.proofs.Shown.{stranger_more}
 use Rattle.snoop_cores.proofs.own.find_same.Goals as goal
 
 pub returns-in-More-clause-err : goal.returns-in-More-clause-err

@@ -1,5 +1,4 @@
-use Rattle.snoop_cores.proofs.Common.{arith, true_from_ne_false}
-use Rattle.snoop_cores.proofs.Joining.{no_seat}
+use Rattle.snoop_cores.proofs.{Common.{arith, true_from_ne_false}, Joining.no_seat}
 use Rattle.snoop_cores.proofs.rows.is_served.Goals as goal
 
 pub returns-clause-whole : goal.returns-clause-whole

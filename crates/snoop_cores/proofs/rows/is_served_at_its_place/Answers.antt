@@ -1,6 +1,5 @@
-use Rattle.snoop_cores.proofs.Common.{ap, block_at, Extent, slice_get-get_or, Some, sym, ◌∙◌}
+use Rattle.snoop_cores.proofs.{Common.{ap, block_at, Extent, slice_get-get_or, Some, sym, ◌∙◌}, Joining.serves_one}
 use Rattle.std.specs.Option.{is_some}
-use Rattle.snoop_cores.proofs.Joining.{serves_one}
 use Rattle.snoop_cores.proofs.rows.is_served_at_its_place.Goals as goal
 
 pub returns-in-Some : goal.returns-in-Some

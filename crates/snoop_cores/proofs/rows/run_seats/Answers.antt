@@ -1,6 +1,4 @@
-use Rattle.snoop_cores.proofs.Common.{arith, get_or_default, length, None, slice_index_or, ◌<◌}
-use Rattle.snoop_cores.proofs.Dealing.{ran_to}
-use Rattle.snoop_cores.proofs.Joining.{no_seat}
+use Rattle.snoop_cores.proofs.{Common.{arith, get_or_default, length, None, slice_index_or, ◌<◌}, Dealing.ran_to, Joining.no_seat}
 use Rattle.snoop_cores.proofs.rows.run_seats.Goals as goal
 
 pub returns-clause-on_time : goal.returns-clause-on_time

@@ -1,6 +1,5 @@
-use Rattle.snoop_cores.proofs.Common.{get_or_default, IsServed, refl, Row, slice_index_or, subst, ℕ}
+use Rattle.snoop_cores.proofs.{Common.{get_or_default, IsServed, refl, Row, slice_index_or, subst, ℕ}, Performed.no_row}
 use borrow.Author.Count.{below_more}
-use Rattle.snoop_cores.proofs.Performed.{no_row}
 use Rattle.snoop_cores.proofs.rows.unserved.Goals as goal
 
 pub loop-row-preserved : goal.loop-row-preserved

@@ -1,7 +1,5 @@
 use Rattle.std.proofs.Common.{◌≡◌, List, map}
-use Rattle.snoop_counts.specs.BlockTally.{CountsBlocks}
-use Rattle.snoop_counts.specs.ByBlock.{blocks_named, with_requests}
-use Rattle.snoop_counts.specs.declared.count.Happening.{Happening}
+use Rattle.snoop_counts.specs.{BlockTally.CountsBlocks, ByBlock.{blocks_named, with_requests}, declared.count.Happening.Happening}
 use Rattle.snoop_counts.proofs.block_table.blocks_named.Given as goal
 
 -- the blocks so far

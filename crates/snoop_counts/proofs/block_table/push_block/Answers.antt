@@ -1,9 +1,5 @@
-use Rattle.std.proofs.Common.{append_assoc, rules}
-use Rattle.std.proofs.lemmas.Result.{IfOk-equal}
-use Rattle.snoop_counts.specs.ByBlock.{block_counts}
-use Rattle.snoop_counts.specs.Counted.{counted_of}
-use Rattle.snoop_counts.specs.declared.count.Subjects.TheVariants.{Blocks}
-use Rattle.snoop_counts.proofs.BlockLemmas.{fields_are}
+use Rattle.std.proofs.{Common.{append_assoc, rules}, lemmas.Result.IfOk-equal}
+use Rattle.snoop_counts.{specs.{ByBlock.block_counts, Counted.counted_of, declared.count.Subjects.TheVariants.Blocks}, proofs.BlockLemmas.fields_are}
 use Rattle.snoop_counts.proofs.block_table.push_block.Goals as goal
 
 pub returns-in_ok-push_counts-in-Some : goal.returns-in_ok-push_counts-in-Some

@@ -1,10 +1,5 @@
-use Rattle.std.proofs.Common.{◌≡◌, ◌<◌, true, List, ◌++◌, All, take}
-use Rattle.std.specs.List.{flat_map}
-use Rattle.snoop_counts.specs.BlockTally.{CountsBlocks}
-use Rattle.snoop_counts.specs.ByBlock.{block_line}
-use Rattle.snoop_counts.specs.Counted.{is_named}
-use Rattle.snoop_counts.specs.declared.count.Happening.{Happening}
-use Rattle.snoop_counts.specs.declared.count.Subjects.TheVariants.{Blocks}
+use Rattle.std.{proofs.Common.{◌≡◌, ◌<◌, true, List, ◌++◌, All, take}, specs.List.flat_map}
+use Rattle.snoop_counts.specs.{BlockTally.CountsBlocks, ByBlock.block_line, Counted.is_named, declared.count.{Happening.Happening, Subjects.TheVariants.Blocks}}
 use Rattle.snoop_counts.proofs.block_table.push_blocks.Given as goal
 
 -- the lines so far

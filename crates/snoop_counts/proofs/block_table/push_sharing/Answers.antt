@@ -1,5 +1,4 @@
-use Rattle.std.proofs.Common.{append_assoc, rules}
-use Rattle.std.proofs.lemmas.Result.{IfOk-equal}
+use Rattle.std.proofs.{Common.{append_assoc, rules}, lemmas.Result.IfOk-equal}
 use Rattle.snoop_counts.specs.declared.count.Count.TheVariants as count
 use Rattle.snoop_counts.specs.declared.count.Subjects.TheVariants.{Blocks}
 use Rattle.snoop_counts.proofs.block_table.push_sharing.Goals as goal

@@ -1,6 +1,5 @@
-use Rattle.snoop_engine.proofs.ShownLemmas.{same_view}
+use Rattle.snoop_engine.proofs.{ShownLemmas.same_view, ViewLemmas.quiet_view}
 use Rattle.snoop_counts.specs.ByBlock.{counts_by_block}
-use Rattle.snoop_engine.proofs.ViewLemmas.{quiet_view}
 use Rattle.snoop_counts.proofs.by_block.simulate_counts_by_block.Goals as goal
 
 pub returns-clause-does : goal.returns-clause-does

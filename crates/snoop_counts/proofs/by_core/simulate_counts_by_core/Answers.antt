@@ -1,6 +1,5 @@
-use Rattle.snoop_engine.proofs.ShownLemmas.{same_view}
+use Rattle.snoop_engine.proofs.{ShownLemmas.same_view, ViewLemmas.quiet_view}
 use Rattle.snoop_counts.specs.CoreTable.{counts_by_core}
-use Rattle.snoop_engine.proofs.ViewLemmas.{quiet_view}
 use Rattle.snoop_counts.proofs.by_core.simulate_counts_by_core.Goals as goal
 
 pub returns-clause-does : goal.returns-clause-does

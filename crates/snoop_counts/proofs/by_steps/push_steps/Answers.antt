@@ -1,9 +1,5 @@
-use Rattle.std.proofs.Common.{◌<◌, append_assoc, arith, rules}
-use Rattle.std.proofs.lemmas.Result.{IfOk-equal}
-use Rattle.snoop_counts.specs.BySteps.{machine_counts}
-use Rattle.snoop_counts.specs.Counted.{counted_of}
-use Rattle.snoop_counts.specs.declared.count.Subjects.TheVariants.{Machine}
-use Rattle.snoop_counts.proofs.BlockLemmas.{fields_are}
+use Rattle.std.proofs.{Common.{◌<◌, append_assoc, arith, rules}, lemmas.Result.IfOk-equal}
+use Rattle.snoop_counts.{specs.{BySteps.machine_counts, Counted.counted_of, declared.count.Subjects.TheVariants.Machine}, proofs.BlockLemmas.fields_are}
 use Rattle.snoop_counts.proofs.by_steps.push_steps.Goals as goal
 
 pub returns-in_ok-push_counts-in-Some : goal.returns-in_ok-push_counts-in-Some

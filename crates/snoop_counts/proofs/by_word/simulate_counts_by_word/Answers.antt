@@ -1,6 +1,5 @@
-use Rattle.snoop_engine.proofs.ShownLemmas.{same_view}
+use Rattle.snoop_engine.proofs.{ShownLemmas.same_view, ViewLemmas.quiet_view}
 use Rattle.snoop_counts.specs.ByWord.{counts_by_word}
-use Rattle.snoop_engine.proofs.ViewLemmas.{quiet_view}
 use Rattle.snoop_counts.proofs.by_word.simulate_counts_by_word.Goals as goal
 
 pub returns-clause-does : goal.returns-clause-does

@@ -1,9 +1,5 @@
-use Rattle.std.proofs.Common.{◌≡◌, List, ◌++◌}
-use Rattle.std.specs.List.{flat_map, range_with_len}
-use Rattle.snoop_counts.specs.CoreTable.{core_header, core_line}
-use Rattle.snoop_counts.specs.Tally.{HasCounted}
-use Rattle.snoop_counts.specs.declared.count.Happening.{Happening}
-use Rattle.snoop_counts.specs.declared.count.Subjects.TheVariants.{Cores}
+use Rattle.std.{proofs.Common.{◌≡◌, List, ◌++◌}, specs.List.{flat_map, range_with_len}}
+use Rattle.snoop_counts.specs.{CoreTable.{core_header, core_line}, Tally.HasCounted, declared.count.{Happening.Happening, Subjects.TheVariants.Cores}}
 use Rattle.snoop_counts.proofs.core_table.push_core_table.Given as goal
 
 -- the lines so far

@@ -1,5 +1,4 @@
-use Rattle.std.proofs.Common.{rules}
-use Rattle.std.proofs.lemmas.List.Sorted.{answers_always}
+use Rattle.std.proofs.{Common.rules, lemmas.List.Sorted.answers_always}
 use Rattle.snoop_counts.proofs.RankingLemmas.{goes_before, order, sorted_is_ranked}
 use Rattle.snoop_counts.proofs.ranking.rank.Goals as goal
 

@@ -1,8 +1,6 @@
 use Rattle.std.proofs.Common.{◌≡◌, List, map, take}
 use Rattle.snoop_engine.specs.Frames.{Frame}
-use Rattle.snoop_counts.specs.Causes.{cause_of}
-use Rattle.snoop_counts.specs.LastSteps.{KnowsLastSteps}
-use Rattle.snoop_counts.specs.declared.count.Happening.TheVariants.{Line}
+use Rattle.snoop_counts.specs.{Causes.cause_of, LastSteps.KnowsLastSteps, declared.count.Happening.TheVariants.Line}
 use Rattle.snoop_counts.proofs.watch.write_lines.Given as goal
 
 -- the lines so far

@@ -1,9 +1,5 @@
-use Rattle.std.proofs.Common.{append_assoc, rules}
-use Rattle.std.proofs.lemmas.Result.{IfOk-equal}
-use Rattle.snoop_counts.specs.ByWord.{word_counts}
-use Rattle.snoop_counts.specs.Counted.{counted_of}
-use Rattle.snoop_counts.specs.declared.count.Subjects.TheVariants.{Words}
-use Rattle.snoop_counts.proofs.BlockLemmas.{fields_are}
+use Rattle.std.proofs.{Common.{append_assoc, rules}, lemmas.Result.IfOk-equal}
+use Rattle.snoop_counts.{specs.{ByWord.word_counts, Counted.counted_of, declared.count.Subjects.TheVariants.Words}, proofs.BlockLemmas.fields_are}
 use Rattle.snoop_counts.proofs.word_table.push_word.Goals as goal
 
 pub returns-in_ok-push_counts-in-Some : goal.returns-in_ok-push_counts-in-Some

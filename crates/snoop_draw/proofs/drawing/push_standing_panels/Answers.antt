@@ -1,8 +1,6 @@
-use Rattle.std.proofs.Common.{◌++◌, ◌∙◌}
-use Rattle.std.specs.Prelude.{[]}
+use Rattle.std.{proofs.Common.{◌++◌, ◌∙◌}, specs.Prelude.[]}
 use Rattle.snoop_rules.proofs.TextLemmas.{piece_more}
-use Rattle.snoop_draw.specs.Rows.{panel_text}
-use Rattle.snoop_draw.specs.declared.event.Event.TheVariants.{Before}
+use Rattle.snoop_draw.specs.{Rows.panel_text, declared.event.Event.TheVariants.Before}
 use Rattle.snoop_draw.proofs.drawing.push_standing_panels.Goals as goal
 
 pub loop-panel-preserved : goal.loop-panel-preserved

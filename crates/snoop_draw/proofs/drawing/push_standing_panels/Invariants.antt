@@ -1,6 +1,5 @@
 use Rattle.std.proofs.Common.{◌≡◌, ◌++◌, take, flat_map, []}
-use Rattle.snoop_draw.specs.Rows.{panel_text}
-use Rattle.snoop_draw.specs.declared.event.Event.TheVariants.{Before}
+use Rattle.snoop_draw.specs.{Rows.panel_text, declared.event.Event.TheVariants.Before}
 use Rattle.snoop_draw.proofs.drawing.push_standing_panels.Given as goal
 
 -- the pieces so far

@@ -1,11 +1,8 @@
 use Rattle.std.proofs.Common.{◌≡◌, ◌&&◌, nat_lt, Bool, true, false, cond, Option, Some, None, unwrap_or, refl, sym, ap, ◌∙◌}
 use Rattle.snoop_model.proofs.Common.{CacheAction, CacheCell, CacheState, Protocol, cell_of, state_of}
 use Rattle.snoop_engine.proofs.Common.{I, Mesi, Msi}
-use Rattle.snoop_rules.specs.Possible.{MayLoad, MayStore}
-use Rattle.snoop_rules.specs.declared.names.CacheAction.TheVariants.{Hit}
-use Rattle.snoop_rules.specs.declared.names.CacheEvent.TheVariants.{Load, Store}
-use Rattle.snoop_draw.specs.declared.marks.Mark.TheVariants.{Blank, MayRead, MayWrite}
-use Rattle.snoop_draw.specs.Events.{is_hit, is_hit_action, may}
+use Rattle.snoop_rules.specs.{Possible.{MayLoad, MayStore}, declared.names.{CacheAction.TheVariants.Hit, CacheEvent.TheVariants.{Load, Store}}}
+use Rattle.snoop_draw.specs.{declared.marks.Mark.TheVariants.{Blank, MayRead, MayWrite}, Events.{is_hit, is_hit_action, may}}
 use Rattle.snoop_draw.proofs.laws.one_edge.Goals as goal
 
 action_is : (act : CacheAction) → is_hit_action act ≡ true → act ≡ Hit

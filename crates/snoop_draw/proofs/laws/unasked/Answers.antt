@@ -1,15 +1,12 @@
 use Rattle.std.proofs.Common.{◌≡◌, ℕ, List, [], length, get_or, set, Option, Some, None, Ok, refl, sym, subst, ◌∙◌, inl, inr, arith, false, ◌&&◌, ◌==◌, ◌∷◌, replicate, Result, Err, ap, eq-eqb}
-use Rattle.std.proofs.lemmas.Bool.{cases_lt, both_ways, or_parts}
-use Rattle.std.proofs.lemmas.List.{get_or_past, get_or-replicate, length-replicate}
+use Rattle.std.proofs.lemmas.{Bool.{cases_lt, both_ways, or_parts}, List.{get_or_past, get_or-replicate, length-replicate}}
 use Rattle.snoop_engine.proofs.Common.{Ask, CacheCell, CacheEvent, Did, Extent, GetM, GetS, GoesFirst, I, Item, Line, Mesi, Msi, Open, Order, Protocol, PutM, Refused, Reply, Request, Respond, Step, arrival, option_map_or}
 use Rattle.snoop_rules.specs.declared.names.Payload.TheVariants.{Data}
 use Rattle.snoop_model.proofs.Common.{ArrivesFor, FillsRequestor, Payload, Picture, Situation, TakesRows, cell_of, held_at, held_by, nothing_held, nothing_there, picture_of, reset, state_of, untouched, with_line}
-use Rattle.snoop_model.proofs.Lists.Writes.{set_cases}
-use Rattle.snoop_model.proofs.Lists.Facts.{replicated}
+use Rattle.snoop_model.proofs.Lists.{Writes.set_cases, Facts.replicated}
 use Rattle.snoop_machine.proofs.ConcernedCores.{Cell-leaves}
 use Rattle.snoop_engine.specs.Frames.{Frame, FramesFrom, steps_of}
-use Rattle.snoop_draw.specs.Laws.{HoldsNothing}
-use Rattle.snoop_draw.specs.Panels.{asks_somewhere, is_ask_for}
+use Rattle.snoop_draw.specs.{Laws.HoldsNothing, Panels.{asks_somewhere, is_ask_for}}
 use Rattle.snoop_draw.proofs.laws.unasked.Goals as goal
 
 -- what holds in a place of a list still holds after a write, if what was written there has it

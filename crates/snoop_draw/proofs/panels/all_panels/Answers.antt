@@ -1,6 +1,5 @@
 use Rattle.std.proofs.Common.{◌≡◌, [], arith}
-use Rattle.snoop_draw.proofs.RangeLemmas.{pieces_more}
-use Rattle.snoop_draw.specs.Panels.{columns, panel_with}
+use Rattle.snoop_draw.{proofs.RangeLemmas.pieces_more, specs.Panels.{columns, panel_with}}
 use Rattle.snoop_draw.proofs.panels.all_panels.Goals as goal
 
 pub loop-block-preserved : goal.loop-block-preserved

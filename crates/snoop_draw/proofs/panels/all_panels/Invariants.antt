@@ -1,5 +1,4 @@
-use Rattle.std.proofs.Common.{◌≡◌, List}
-use Rattle.std.specs.List.{flat_map, range_with_len}
+use Rattle.std.{proofs.Common.{◌≡◌, List}, specs.List.{flat_map, range_with_len}}
 use Rattle.snoop_trace.specs.declared.step.Step.{Step}
 use Rattle.snoop_draw.specs.Panels.{IsAskedTable, columns, panel_with}
 use Rattle.snoop_draw.proofs.panels.all_panels.Given as goal

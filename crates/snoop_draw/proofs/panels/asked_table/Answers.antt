@@ -1,7 +1,5 @@
-use Rattle.std.proofs.Common.{take}
-use Rattle.std.proofs.lemmas.List.{take_all, take_more}
-use Rattle.snoop_trace.specs.declared.step.Op.TheVariants.{Load}
-use Rattle.snoop_trace.specs.declared.step.Step.TheVariants.{Ask}
+use Rattle.std.proofs.{Common.take, lemmas.List.{take_all, take_more}}
+use Rattle.snoop_trace.specs.declared.step.{Op.TheVariants.Load, Step.TheVariants.Ask}
 use Rattle.snoop_draw.proofs.panels.asked_table.Goals as goal
 
 pub loop-step-preserved : goal.loop-step-preserved

@@ -1,5 +1,4 @@
-use Rattle.std.proofs.Common.{◌≡◌, List}
-use Rattle.std.specs.List.{filter, range_with_len}
+use Rattle.std.{proofs.Common.{◌≡◌, List}, specs.List.{filter, range_with_len}}
 use Rattle.snoop_trace.specs.declared.step.Step.{Step}
 use Rattle.snoop_draw.specs.Panels.{IsAskedTable, asks_somewhere}
 use Rattle.snoop_draw.proofs.panels.columns.Given as goal

@@ -1,5 +1,4 @@
-use Rattle.std.proofs.Common.{ap, ◌++◌, ◌∙◌}
-use Rattle.std.proofs.lemmas.Result.{on_ok_weaker}
+use Rattle.std.proofs.{Common.{ap, ◌++◌, ◌∙◌}, lemmas.Result.on_ok_weaker}
 use Rattle.snoop_model.specs.Pictures.Situation.{picture_of}
 use Rattle.snoop_draw.specs.Rows.{moment_text, sender_in}
 use Rattle.snoop_draw.proofs.row.push_panel.Goals as goal

@@ -1,17 +1,8 @@
 use Rattle.std.proofs.Common.{◌≡◌, ◌+◌, List, [], length, refl, inr}
-use Rattle.snoop_engine.proofs.Common.{Extent, Protocol, Situation, Step}
-use Rattle.snoop_engine.specs.Chosen.{Chosen}
-use Rattle.snoop_engine.specs.Frames.{AreFrames, Frame}
-use Rattle.snoop_engine.specs.Views.{view_text}
+use Rattle.snoop_engine.{proofs.Common.{Extent, Protocol, Situation, Step}, specs.{Chosen.Chosen, Frames.{AreFrames, Frame}, Views.view_text}}
 use Rattle.snoop_engine.proofs.ViewLemmas.{shown_numbered}
-use Rattle.snoop_draw.proofs.DrawnLemmas.{begun_so, shown_so}
-use Rattle.snoop_draw.specs.declared.marks.Charset.{Charset}
-use Rattle.snoop_draw.specs.declared.widths.Widths.{Widths}
-use Rattle.snoop_draw.specs.Drawings.{Sheet, beginning_text, rows_at, sheet_for}
-use Rattle.snoop_draw.specs.Headings.{legend_text}
-use Rattle.snoop_draw.specs.Panels.{Panel, panels_for}
-use Rattle.snoop_draw.specs.Simulated.{drawing}
-use Rattle.snoop_draw.specs.Widths.{widths_for}
+use Rattle.snoop_draw.{proofs.DrawnLemmas.{begun_so, shown_so}, specs.{declared.{marks.Charset.Charset, widths.Widths.Widths}, Headings.legend_text}}
+use Rattle.snoop_draw.specs.{Drawings.{Sheet, beginning_text, rows_at, sheet_for}, Panels.{Panel, panels_for}, Simulated.drawing, Widths.widths_for}
 use Rattle.snoop_draw.proofs.simulate.draw_steps.Goals as goal
 
 -- the view of the sheet that is made for these steps writes their drawing

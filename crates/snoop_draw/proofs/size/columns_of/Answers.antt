@@ -1,7 +1,5 @@
-use Rattle.std.proofs.Common.{◌≡◌, ◌+◌, List, [], ◌∷◌, ◌++◌, length, take, ap, ◌∙◌, arith}
-use Rattle.std.proofs.lemmas.List.{take_more}
-use Rattle.snoop_draw.specs.Panels.{Panel}
-use Rattle.snoop_draw.specs.Size.{columns_of}
+use Rattle.std.proofs.{Common.{◌≡◌, ◌+◌, List, [], ◌∷◌, ◌++◌, length, take, ap, ◌∙◌, arith}, lemmas.List.take_more}
+use Rattle.snoop_draw.specs.{Panels.Panel, Size.columns_of}
 use Rattle.snoop_draw.proofs.size.columns_of.Goals as goal
 
 -- one panel more

@@ -1,5 +1,4 @@
-use Rattle.snoop_engine.proofs.Common.{piece_more, pieces_all}
-use Rattle.snoop_engine.specs.Counts.{memory_counts}
+use Rattle.snoop_engine.{proofs.Common.{piece_more, pieces_all}, specs.Counts.memory_counts}
 use Rattle.snoop_engine.proofs.counts_text.push_memory_counts.Goals as goal
 
 pub loop-state-preserved : goal.loop-state-preserved

@@ -1,4 +1,4 @@
-use Rattle.snoop_engine.proofs.{Common.◌∙◌, CourseLemmas.driver_serves, CourseLemmas.in_order_serves}
+use Rattle.snoop_engine.proofs.{Common.◌∙◌, CourseLemmas.{driver_serves, in_order_serves}}
 use Rattle.snoop_engine.proofs.gather.read_input.Goals as goal
 
 pub returns-in_ok-gather-in-Rows-clause-steps : goal.returns-in_ok-gather-in-Rows-clause-steps

@@ -1,4 +1,4 @@
-use Rattle.snoop_engine.proofs.{Common.inl, Common.inr, WrittenLemmas.begins_run, WrittenLemmas.reports_run, WrittenLemmas.write_faulted}
+use Rattle.snoop_engine.proofs.{Common.{inl, inr}, WrittenLemmas.{begins_run, reports_run, write_faulted}}
 use Rattle.snoop_engine.proofs.run.simulate_run.Goals as goal
 
 pub returns-in_err-write_lines-clause-does : goal.returns-in_err-write_lines-clause-does

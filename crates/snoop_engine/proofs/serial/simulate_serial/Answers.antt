@@ -1,4 +1,4 @@
-use Rattle.snoop_engine.proofs.{Common.inl, Common.inr, Common.◌∙◌, WrittenLemmas.begins_serial, WrittenLemmas.reports_serial, WrittenLemmas.write_faulted}
+use Rattle.snoop_engine.proofs.{Common.◌∙◌, Common.{inl, inr}, WrittenLemmas.{begins_serial, reports_serial, write_faulted}}
 use Rattle.snoop_engine.proofs.serial.simulate_serial.Goals as goal
 
 pub returns-in_err-write_lines-clause-does : goal.returns-in_err-write_lines-clause-does

@@ -1,4 +1,4 @@
-use Rattle.snoop_engine.proofs.{Common.◌≡◌, Common.Some, Common.false, Common.AreAskers, ShownLemmas.Showing}
+use Rattle.snoop_engine.proofs.{Common.◌≡◌, Common.{Some, false, AreAskers}, ShownLemmas.Showing}
 use Rattle.snoop_engine.proofs.show.show.Given as goal
 
 -- so many steps were taken and seen, what was shown of them was written or stands in the chunk, no write has failed, and the askers are those of the machine

@@ -1,4 +1,4 @@
-use Rattle.snoop_engine.proofs.{Common.inl, Common.inr, WrittenLemmas.write_faulted}
+use Rattle.snoop_engine.proofs.{Common.{inl, inr}, WrittenLemmas.write_faulted}
 use Rattle.snoop_engine.proofs.steps.simulate_steps.Goals as goal
 
 pub returns-in_err-write_output-clause-does : goal.returns-in_err-write_output-clause-does

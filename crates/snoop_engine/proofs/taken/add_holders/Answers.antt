@@ -1,5 +1,5 @@
-use Rattle.snoop_engine.proofs.Common.{ℕ, List, arith, of_holder, Taken}
-use Rattle.snoop_engine.proofs.{AskerLemmas.no_line_in_i, AskerLemmas.no_line_past, RangeLemmas.range_piece, RangeLemmas.range_same, RangeLemmas.range_stops}
+use Rattle.snoop_engine.proofs.{Common.{ℕ, List, arith, of_holder, Taken}, AskerLemmas.{no_line_in_i, no_line_past}}
+use Rattle.snoop_engine.proofs.RangeLemmas.{range_piece, range_same, range_stops}
 use Rattle.snoop_engine.proofs.taken.add_holders.Goals as goal
 
 pub loop-core-preserved : goal.loop-core-preserved

@@ -1,4 +1,4 @@
-use Rattle.snoop_engine.proofs.{Common.◌≡◌, Common.◌<◌, Common.ap, Common.◌∙◌, Common.arith, Common.Extent, Common.BusTaken, Common.picture_of, Inside.is_opened}
+use Rattle.snoop_engine.proofs.{Common.◌≡◌, Common.◌<◌, Common.◌∙◌, Common.{ap, arith, Extent, BusTaken, picture_of}, Inside.is_opened}
 use Rattle.snoop_engine.proofs.taken.is_bus_taken.Goals as goal
 
 pub returns-in-Some : goal.returns-in-Some

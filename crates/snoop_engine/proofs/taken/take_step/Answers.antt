@@ -1,6 +1,5 @@
-use Rattle.snoop_engine.proofs.Common.{AreAskers}
+use Rattle.snoop_engine.proofs.{Common.AreAskers, taken.take_step.Goals.{then-not-is_bus_taken+in_ok-add_taken, else-not-is_bus_taken}}
 use Rattle.snoop_engine.proofs.taken.take_step.Goals as goal
-use Rattle.snoop_engine.proofs.taken.take_step.Goals.{then-not-is_bus_taken+in_ok-add_taken, else-not-is_bus_taken}
 
 pub returns-in-Ok-clause-askers : goal.returns-in-Ok-clause-askers
 returns-in-Ok-clause-askers g c =

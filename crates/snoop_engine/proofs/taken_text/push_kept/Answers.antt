@@ -1,4 +1,4 @@
-use Rattle.snoop_engine.proofs.{Common.kept_at, Common.value_text, RangeLemmas.range_piece}
+use Rattle.snoop_engine.proofs.{Common.{kept_at, value_text}, RangeLemmas.range_piece}
 use Rattle.snoop_engine.proofs.taken_text.push_kept.Goals as goal
 
 pub loop-word-preserved : goal.loop-word-preserved

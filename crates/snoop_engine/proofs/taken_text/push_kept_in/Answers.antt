@@ -1,4 +1,4 @@
-use Rattle.snoop_engine.proofs.{Common.rules, Common.◌≡◌, Common.false, Common.sym, Common.◌∙◌, Common.append-nil, Common.keeps, Inside.none_kept}
+use Rattle.snoop_engine.proofs.{Common.◌≡◌, Common.◌∙◌, Common.{rules, false, sym, append-nil, keeps}, Inside.none_kept}
 use Rattle.snoop_engine.proofs.taken_text.push_kept_in.Goals as goal
 
 pub returns-in-Some : goal.returns-in-Some

@@ -1,4 +1,4 @@
-use Rattle.snoop_engine.proofs.{Common.memory_value_at, Common.value_text, RangeLemmas.range_piece}
+use Rattle.snoop_engine.proofs.{Common.{memory_value_at, value_text}, RangeLemmas.range_piece}
 use Rattle.snoop_engine.proofs.taken_text.push_memory_values.Goals as goal
 
 pub loop-word-preserved : goal.loop-word-preserved

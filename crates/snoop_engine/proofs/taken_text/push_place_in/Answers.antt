@@ -1,4 +1,4 @@
-use Rattle.snoop_engine.proofs.{Common.rules, Common.◌≡◌, Common.false, Common.sym, Common.◌∙◌, Common.append-nil, Common.is_some, Common.waiting_request, Inside.none_placed}
+use Rattle.snoop_engine.proofs.{Common.◌≡◌, Common.◌∙◌, Common.{rules, false, sym, append-nil, is_some, waiting_request}, Inside.none_placed}
 use Rattle.snoop_engine.proofs.taken_text.push_place_in.Goals as goal
 
 pub returns-in-Some : goal.returns-in-Some

@@ -1,4 +1,4 @@
-use Rattle.snoop_engine.proofs.{Common.◌++◌, Common.codes, Common.decimal, Common.word_at, RangeLemmas.range_piece}
+use Rattle.snoop_engine.proofs.{Common.◌++◌, Common.{codes, decimal, word_at}, RangeLemmas.range_piece}
 use Rattle.snoop_engine.proofs.words.push_data.Goals as goal
 
 pub loop-word-preserved : goal.loop-word-preserved

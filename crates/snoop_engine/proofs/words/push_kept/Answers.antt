@@ -1,4 +1,4 @@
-use Rattle.snoop_engine.proofs.{Common.kept_at, Common.spaced, RangeLemmas.range_piece}
+use Rattle.snoop_engine.proofs.{Common.{kept_at, spaced}, RangeLemmas.range_piece}
 use Rattle.snoop_engine.proofs.words.push_kept.Goals as goal
 
 pub loop-word-preserved : goal.loop-word-preserved

@@ -1,5 +1,4 @@
-use Rattle.snoop_machine.proofs.Common.{◌∙◌, get_or_default, no_holders}
-use Rattle.snoop_machine.proofs.LineChanges.{followed-still}
+use Rattle.snoop_machine.proofs.{Common.{◌∙◌, get_or_default, no_holders}, LineChanges.followed-still}
 use Rattle.snoop_machine.proofs.holders.follow.Goals as goal
 
 pub returns-then-are_alike : goal.returns-then-are_alike

@@ -1,8 +1,7 @@
 -- Steps in order keep the machine coherent.
 use Rattle.snoop_machine.proofs.Common.{◌≡◌, ◌≤◌, ◌+◌, List, take, subst, arith, take_all, Step, stand, Standing, is_safe}
-use Rattle.snoop_machine.proofs.Runs.{answers, steps_stay, Going, has_run, goes_on}
+use Rattle.snoop_machine.proofs.{Runs.{answers, steps_stay, Going, has_run, goes_on}, machine.run_steps.Goals.{then-is_ok, else-is_ok}}
 use Rattle.snoop_machine.proofs.machine.run_steps.Goals as goal
-use Rattle.snoop_machine.proofs.machine.run_steps.Goals.{then-is_ok, else-is_ok}
 
 pub step-requires : goal.step-requires
 step-requires c = c.loop-step.invariant.0.keeps.inductive

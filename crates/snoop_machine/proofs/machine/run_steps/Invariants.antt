@@ -1,6 +1,5 @@
 -- The steps so far have been taken.
-use Rattle.snoop_machine.proofs.Common.{◌≤◌, take, stand}
-use Rattle.snoop_machine.proofs.Runs.{Going}
+use Rattle.snoop_machine.proofs.{Common.{◌≤◌, take, stand}, Runs.Going}
 use Rattle.snoop_machine.proofs.machine.run_steps.Given as goal
 
 abbrev pub invariant-loop-step : goal.invariant-loop-step

@@ -1,7 +1,5 @@
 -- Every run is coherent, by the invariant of every run.
-use Rattle.snoop_model.proofs.Common.{reset}
-use Rattle.snoop_model.proofs.Invariant.{Runs.reset_invariant, Safety.is_coherent, Safety.reset_keeps, Safety.run_keeps_all}
-use Rattle.snoop_model.proofs.Once.Runs.{run_asked_once}
+use Rattle.snoop_model.proofs.{Common.reset, Invariant.{Runs.reset_invariant, Safety.{is_coherent, reset_keeps, run_keeps_all}}, Once.Runs.run_asked_once}
 use Rattle.snoop_model.proofs.Runs.{Replies.run_tells, Shape.run_stays}
 use Rattle.snoop_model.proofs.laws.coherent.Goals as goal
 

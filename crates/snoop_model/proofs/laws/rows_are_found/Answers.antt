@@ -1,6 +1,5 @@
 -- Every row is found, by the invariant of every run.
-use Rattle.snoop_model.proofs.Common.{reset}
-use Rattle.snoop_model.proofs.Invariant.{Safety.reset_keeps, Safety.run_keeps_all, Coherence.finds_rows}
+use Rattle.snoop_model.proofs.{Common.reset, Invariant.{Safety.{reset_keeps, run_keeps_all}, Coherence.finds_rows}}
 use Rattle.snoop_model.proofs.laws.rows_are_found.Goals as goal
 
 pub returns : goal.returns

@@ -1,6 +1,5 @@
 -- A run is the only one, since each of its steps has one outcome.
-use Rattle.snoop_model.proofs.Common.{reset}
-use Rattle.snoop_model.proofs.Runs.GoOn.{reset_steady, run_one}
+use Rattle.snoop_model.proofs.{Common.reset, Runs.GoOn.{reset_steady, run_one}}
 use Rattle.snoop_model.proofs.laws.runs_are_one.Goals as goal
 
 pub returns : goal.returns

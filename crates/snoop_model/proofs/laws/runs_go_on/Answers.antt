@@ -1,6 +1,5 @@
 -- A run goes on, since every situation that it reaches is coherent and well kept.
-use Rattle.snoop_model.proofs.Common.{reset}
-use Rattle.snoop_model.proofs.Runs.GoOn.{reset_steady, run_steady, runs_on}
+use Rattle.snoop_model.proofs.{Common.reset, Runs.GoOn.{reset_steady, run_steady, runs_on}}
 use Rattle.snoop_model.proofs.laws.runs_go_on.Goals as goal
 
 pub returns : goal.returns

@@ -1,8 +1,6 @@
-use Rattle.std.proofs.Common.{rules, codes, pos}
-use Rattle.std.proofs.lemmas.Result.{IfOk-weaker}
+use Rattle.std.proofs.{Common.{rules, codes, pos}, lemmas.Result.IfOk-weaker}
 use Rattle.clap.specs.declared.builder.value_parser.ValueParser.TheVariants as parser
-use Rattle.snoop_sim.specs.CommandLine.{long_rule, optional_rule}
-use Rattle.snoop_sim.proofs.CommandLineLemmas.{DescribesOption, adds_option, described}
+use Rattle.snoop_sim.{specs.CommandLine.{long_rule, optional_rule}, proofs.CommandLineLemmas.{DescribesOption, adds_option, described}}
 use Rattle.snoop_sim.proofs.options.choosing.Goals as goal
 
 pub returns : goal.returns

@@ -1,5 +1,4 @@
-use Rattle.std.proofs.Common.{rules, codes, [], ◌∙◌, ap}
-use Rattle.std.proofs.lemmas.Result.{IfOk-weaker}
+use Rattle.std.proofs.{Common.{rules, codes, [], ◌∙◌, ap}, lemmas.Result.IfOk-weaker}
 use Rattle.snoop_sim.specs.CommandLine.{choice_rules, flag_rule, form_rule, shown_rule, theme_rule, view_app, with_rules}
 use Rattle.snoop_sim.proofs.CommandLineLemmas.{Describes, DescribesOption, adds_option}
 use Rattle.snoop_sim.proofs.options.draw.Goals as goal

@@ -1,6 +1,5 @@
 use Rattle.std.proofs.lemmas.Result.{IfOk-weaker}
-use Rattle.snoop_sim.specs.CommandLine.{top_app}
-use Rattle.snoop_sim.proofs.CommandLineLemmas.{Describes, adds_command, described}
+use Rattle.snoop_sim.{specs.CommandLine.top_app, proofs.CommandLineLemmas.{Describes, adds_command, described}}
 use Rattle.snoop_sim.proofs.options.grammar.Goals as goal
 
 pub returns : goal.returns

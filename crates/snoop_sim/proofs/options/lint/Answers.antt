@@ -1,7 +1,5 @@
-use Rattle.std.proofs.Common.{rules, codes, []}
-use Rattle.std.proofs.lemmas.Result.{IfOk-weaker}
-use Rattle.snoop_sim.specs.CommandLine.{kind_rule, long_rule, simulation_app}
-use Rattle.snoop_sim.proofs.CommandLineLemmas.{Describes, DescribesOption, adds_option}
+use Rattle.std.proofs.{Common.{rules, codes, []}, lemmas.Result.IfOk-weaker}
+use Rattle.snoop_sim.{specs.CommandLine.{kind_rule, long_rule, simulation_app}, proofs.CommandLineLemmas.{Describes, DescribesOption, adds_option}}
 use Rattle.snoop_sim.proofs.options.lint.Goals as goal
 
 pub returns : goal.returns

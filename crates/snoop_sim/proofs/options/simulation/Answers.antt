@@ -1,8 +1,6 @@
-use Rattle.std.proofs.Common.{rules, codes}
-use Rattle.std.proofs.lemmas.Result.{IfOk-weaker}
+use Rattle.std.proofs.{Common.{rules, codes}, lemmas.Result.IfOk-weaker}
 use Rattle.clap.specs.Words.{new_app}
-use Rattle.snoop_sim.specs.CommandLine.{number_rule, protocol_rule}
-use Rattle.snoop_sim.proofs.CommandLineLemmas.{Describes, DescribesOption, adds_option}
+use Rattle.snoop_sim.{specs.CommandLine.{number_rule, protocol_rule}, proofs.CommandLineLemmas.{Describes, DescribesOption, adds_option}}
 use Rattle.snoop_sim.proofs.options.simulation.Goals as goal
 
 pub returns : goal.returns

@@ -1,7 +1,5 @@
-use Rattle.std.proofs.Common.{rules, codes, [], ◌∙◌, ap}
-use Rattle.std.proofs.lemmas.Result.{IfOk-weaker}
-use Rattle.snoop_sim.specs.CommandLine.{choice_rules, form_rule, view_app, with_rules}
-use Rattle.snoop_sim.proofs.CommandLineLemmas.{Describes, DescribesOption, adds_option}
+use Rattle.std.proofs.{Common.{rules, codes, [], ◌∙◌, ap}, lemmas.Result.IfOk-weaker}
+use Rattle.snoop_sim.{specs.CommandLine.{choice_rules, form_rule, view_app, with_rules}, proofs.CommandLineLemmas.{Describes, DescribesOption, adds_option}}
 use Rattle.snoop_sim.proofs.options.states.Goals as goal
 
 pub choosing-requires : goal.choosing-requires

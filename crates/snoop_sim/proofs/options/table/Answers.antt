@@ -1,9 +1,7 @@
-use Rattle.std.proofs.Common.{rules, codes}
-use Rattle.std.proofs.lemmas.Result.{IfOk-weaker}
+use Rattle.std.proofs.{Common.{rules, codes}, lemmas.Result.IfOk-weaker}
 use Rattle.clap.specs.Words.{new_app}
 use Rattle.clap.specs.declared.builder.value_parser.ValueParser.TheVariants as parser
-use Rattle.snoop_sim.specs.CommandLine.{layout_rule, option_rule, protocol_rule}
-use Rattle.snoop_sim.proofs.CommandLineLemmas.{Describes, DescribesOption, adds_option}
+use Rattle.snoop_sim.{specs.CommandLine.{layout_rule, option_rule, protocol_rule}, proofs.CommandLineLemmas.{Describes, DescribesOption, adds_option}}
 use Rattle.snoop_sim.proofs.options.table.Goals as goal
 
 pub returns : goal.returns

@@ -1,8 +1,6 @@
-use Rattle.std.proofs.Common.{rules, map, string_bytes}
-use Rattle.std.proofs.lemmas.Result.{IfErr-weaker, IfOk-weaker}
+use Rattle.std.proofs.{Common.{rules, map, string_bytes}, lemmas.Result.{IfErr-weaker, IfOk-weaker}}
 use Rattle.clap.specs.Words.{app_of, kind_of}
-use Rattle.snoop_sim.specs.Asked.{AsksFor, BeginsNothing}
-use Rattle.snoop_sim.proofs.AskedLemmas.{asked, command_named, help_asked, is_free, refused, shown, without_task}
+use Rattle.snoop_sim.{specs.Asked.{AsksFor, BeginsNothing}, proofs.AskedLemmas.{asked, command_named, help_asked, is_free, refused, shown, without_task}}
 use Rattle.snoop_sim.proofs.options.task_in.Goals as goal
 
 pub returns-in-Ok-clause-ok : goal.returns-in-Ok-clause-ok

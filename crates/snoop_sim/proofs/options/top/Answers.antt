@@ -1,8 +1,6 @@
 use Rattle.std.proofs.Common.{ap, codes}
-use Rattle.clap.specs.Words.{new_app}
-use Rattle.clap.specs.Simple.{app_of_fields}
-use Rattle.snoop_sim.specs.CommandLine.{top_app}
-use Rattle.snoop_sim.proofs.CommandLineLemmas.{Describes, keeps_description, requires_command, sets_version}
+use Rattle.clap.specs.{Words.new_app, Simple.app_of_fields}
+use Rattle.snoop_sim.{specs.CommandLine.top_app, proofs.CommandLineLemmas.{Describes, keeps_description, requires_command, sets_version}}
 use Rattle.snoop_sim.proofs.options.top.Goals as goal
 
 pub returns : goal.returns

@@ -1,7 +1,5 @@
-use Rattle.std.proofs.Common.{codes, []}
-use Rattle.std.proofs.lemmas.Result.{IfOk-weaker}
-use Rattle.snoop_sim.specs.CommandLine.{flag_rule, kind_rule, simulation_app}
-use Rattle.snoop_sim.proofs.CommandLineLemmas.{Describes, DescribesOption, adds_option}
+use Rattle.std.proofs.{Common.{codes, []}, lemmas.Result.IfOk-weaker}
+use Rattle.snoop_sim.{specs.CommandLine.{flag_rule, kind_rule, simulation_app}, proofs.CommandLineLemmas.{Describes, DescribesOption, adds_option}}
 use Rattle.snoop_sim.proofs.options.view.Goals as goal
 
 pub returns : goal.returns

@@ -1,6 +1,5 @@
 use Rattle.std.proofs.Common.{ℕ, ◌<◌, ◌∙◌, sym, subst}
-use Rattle.snoop_sim.proofs.ReadLemmas.{failed_read_status}
-use Rattle.snoop_sim.proofs.StatusLemmas.{status_known}
+use Rattle.snoop_sim.proofs.{ReadLemmas.failed_read_status, StatusLemmas.status_known}
 use Rattle.snoop_sim.proofs.program.command.Goals as goal
 
 pub returns-in-Err-clause-known : goal.returns-in-Err-clause-known

@@ -1,7 +1,6 @@
 use Rattle.std.proofs.Common.{rules, ◌≡◌, Ok, sym, subst}
 use Rattle.snoop_trace.specs.Extent.{IsWithinLimits}
-use Rattle.snoop_sim.specs.ThreadsFault.{IsOfThreads}
-use Rattle.snoop_sim.specs.declared.fault.ThreadsFault.TheVariants.{Run}
+use Rattle.snoop_sim.specs.{ThreadsFault.IsOfThreads, declared.fault.ThreadsFault.TheVariants.Run}
 use Rattle.snoop_sim.proofs.Threading.{begun, first_refused, named, threaded, turned}
 use Rattle.snoop_sim.proofs.threads.take_seated.Goals as goal
 

@@ -1,6 +1,5 @@
 use Rattle.std.proofs.Common.{take}
-use Rattle.snoop_states.specs.Asked.{AreMarks}
-use Rattle.snoop_states.specs.Columns.{is_asker}
+use Rattle.snoop_states.specs.{Asked.AreMarks, Columns.is_asker}
 use Rattle.snoop_states.proofs.asked.asked_by.Given as goal
 
 -- the marks of the steps so far

@@ -1,5 +1,4 @@
-use Rattle.std.proofs.Common.{append_assoc}
-use Rattle.std.proofs.lemmas.Result.{IfOk-equal}
+use Rattle.std.proofs.{Common.append_assoc, lemmas.Result.IfOk-equal}
 use Rattle.snoop_states.proofs.at_end.push_end.Goals as goal
 
 pub returns : goal.returns

@@ -1,5 +1,4 @@
-use Rattle.std.proofs.Common.{rules, ◌≡◌, ◌∙◌, ap, Err, Ok}
-use Rattle.std.proofs.lemmas.Result.{err_from_is_err_and}
+use Rattle.std.proofs.{Common.{rules, ◌≡◌, ◌∙◌, ap, Err, Ok}, lemmas.Result.err_from_is_err_and}
 use Rattle.snoop_engine.proofs.ShownLemmas.{simulates_view_front}
 use Rattle.snoop_states.specs.Whole.{states_table_text}
 use Rattle.snoop_states.proofs.simulate.simulate_states_table.Goals as goal

@@ -1,26 +1,11 @@
-use Rattle.std.proofs.Common.{◌≡◌, ℕ, zero, suc, ◌+◌, ◌<◌, ◌≤◌, Bool, Option, List, [], flat_map, refl, ◌∙◌, inl, inr, arith}
-use Rattle.std.specs.List.{range_with_len}
-use Rattle.std.proofs.lemmas.Option.{slice_get_cases}
-use Rattle.std.proofs.lemmas.Result.{on_err_weaker, on_ok_weaker}
-use Rattle.snoop_trace.specs.Extent.{Extent}
-use Rattle.snoop_trace.specs.declared.protocol.Protocol.{Protocol}
-use Rattle.snoop_trace.specs.declared.step.Step.{Step}
-use Rattle.snoop_trace.proofs.OutputLemmas.{on_err}
+use Rattle.std.{proofs.Common.{◌≡◌, ℕ, zero, suc, ◌+◌, ◌<◌, ◌≤◌, Bool, Option, List, [], flat_map, refl, ◌∙◌, inl, inr, arith}, specs.List.range_with_len}
+use Rattle.std.proofs.lemmas.{Option.slice_get_cases, Result.{on_err_weaker, on_ok_weaker}}
+use Rattle.snoop_trace.{specs.{Extent.Extent, declared.{protocol.Protocol.Protocol, step.Step.Step}}, proofs.OutputLemmas.on_err}
 use Rattle.snoop_model.specs.Pictures.Situation.{Situation}
-use Rattle.snoop_engine.specs.Chosen.{Chosen}
-use Rattle.snoop_engine.specs.Frames.{AreFrames, Frame}
-use Rattle.snoop_engine.specs.Views.{view_text}
-use Rattle.snoop_engine.proofs.RangeLemmas.{filter_range}
-use Rattle.snoop_engine.specs.SimulatedView.{BeginsToShow, ShowsRun}
-use Rattle.snoop_engine.proofs.ShownLemmas.{begins_nothing}
-use Rattle.snoop_engine.proofs.ViewLemmas.{quiet_view}
-use Rattle.snoop_states.specs.declared.asked.Marks.{Marks}
-use Rattle.snoop_states.specs.declared.tables.Tables.{Tables}
-use Rattle.snoop_states.specs.Asked.{AreMarks, mark_at}
-use Rattle.snoop_states.specs.Columns.{columns_of, is_asker}
-use Rattle.snoop_states.specs.Views.{IsFor, columns_in}
-use Rattle.snoop_states.specs.Whole.{block_table, states_table_text, tables_text}
-use Rattle.snoop_states.specs.Widths.{widths_of}
+use Rattle.snoop_engine.{specs.{Chosen.Chosen, Frames.{AreFrames, Frame}, Views.view_text}, proofs.{RangeLemmas.filter_range, ShownLemmas.begins_nothing}}
+use Rattle.snoop_engine.{specs.SimulatedView.{BeginsToShow, ShowsRun}, proofs.ViewLemmas.quiet_view}
+use Rattle.snoop_states.specs.{declared.{asked.Marks.Marks, tables.Tables.Tables}, Asked.{AreMarks, mark_at}, Columns.{columns_of, is_asker}, Widths.widths_of}
+use Rattle.snoop_states.specs.{Views.{IsFor, columns_in}, Whole.{block_table, states_table_text, tables_text}}
 use Rattle.snoop_states.proofs.simulate.write_tables.Goals as goal
 
 -- another definition of the text that is shown of the run

@@ -1,8 +1,5 @@
 use Rattle.std.proofs.Common.{◌≡◌, ◌++◌, map, take, flat_map}
-use Rattle.snoop_states.specs.Cells.{cell_text}
-use Rattle.snoop_states.specs.Columns.{width_of}
-use Rattle.snoop_states.specs.Rows.{below, padded_text}
-use Rattle.snoop_states.specs.Seen.{pair}
+use Rattle.snoop_states.specs.{Cells.cell_text, Columns.width_of, Rows.{below, padded_text}, Seen.pair}
 use Rattle.snoop_states.proofs.table.push_cells.Given as goal
 
 -- the cells so far

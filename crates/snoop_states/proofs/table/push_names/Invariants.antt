@@ -1,6 +1,5 @@
 use Rattle.std.proofs.Common.{◌≡◌, ◌++◌, take, flat_map}
-use Rattle.snoop_states.specs.Columns.{column_name, width_of}
-use Rattle.snoop_states.specs.Rows.{padded_text}
+use Rattle.snoop_states.specs.{Columns.{column_name, width_of}, Rows.padded_text}
 use Rattle.snoop_states.proofs.table.push_names.Given as goal
 
 -- the names so far

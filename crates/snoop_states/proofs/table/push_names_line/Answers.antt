@@ -1,9 +1,5 @@
-use Rattle.std.proofs.Common.{ℕ, List, append_assoc, rules}
-use Rattle.std.proofs.lemmas.Result.{IfOk-equal}
-use Rattle.snoop_states.specs.declared.column.Column.{Column}
-use Rattle.snoop_states.specs.Columns.{column_name, width_of}
-use Rattle.snoop_states.specs.Rows.{padded_text}
-use Rattle.snoop_states.proofs.RowLemmas.{pieces_of}
+use Rattle.std.proofs.{Common.{ℕ, List, append_assoc, rules}, lemmas.Result.IfOk-equal}
+use Rattle.snoop_states.{specs.{declared.column.Column.Column, Columns.{column_name, width_of}, Rows.padded_text}, proofs.RowLemmas.pieces_of}
 use Rattle.snoop_states.proofs.table.push_names_line.Goals as goal
 
 pub returns : goal.returns

@@ -1,9 +1,6 @@
-use Rattle.std.proofs.Common.{◌≡◌, ◌++◌, ℕ, List}
-use Rattle.std.specs.List.{flat_map, range_with_len}
+use Rattle.std.{proofs.Common.{◌≡◌, ◌++◌, ℕ, List}, specs.List.{flat_map, range_with_len}}
 use Rattle.snoop_engine.specs.Frames.{Frame}
-use Rattle.snoop_states.specs.declared.column.Column.{Column}
-use Rattle.snoop_states.specs.Seen.{AreTables, IsTable}
-use Rattle.snoop_states.specs.Whole.{block_table}
+use Rattle.snoop_states.specs.{declared.column.Column.Column, Seen.{AreTables, IsTable}, Whole.block_table}
 use Rattle.snoop_states.proofs.tables.push_tables.Given as goal
 
 -- the tables so far

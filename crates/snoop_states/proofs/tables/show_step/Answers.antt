@@ -1,9 +1,6 @@
-use Rattle.std.proofs.Common.{◌≡◌, ◌+◌, ◌<◌, true, Some, length, get_or, refl, sym, ◌∙◌, arith, eq-eqb, ne_eqb}
-use Rattle.std.proofs.lemmas.Result.{on_ok_weaker}
+use Rattle.std.proofs.{Common.{◌≡◌, ◌+◌, ◌<◌, true, Some, length, get_or, refl, sym, ◌∙◌, arith, eq-eqb, ne_eqb}, lemmas.Result.on_ok_weaker}
 use Rattle.snoop_engine.specs.Line.{line_text}
-use Rattle.snoop_states.specs.Seen.{Grows}
-use Rattle.snoop_states.proofs.EachLemmas.{each_mapped, each_set}
-use Rattle.snoop_states.proofs.TableLemmas.{shown_in, table_grows, table_starts, table_stays}
+use Rattle.snoop_states.{specs.Seen.Grows, proofs.{EachLemmas.{each_mapped, each_set}, TableLemmas.{shown_in, table_grows, table_starts, table_stays}}}
 use Rattle.snoop_states.proofs.tables.show_step.Goals as goal
 
 pub returns-then-number-from : goal.returns-then-number-from

@@ -1,6 +1,4 @@
-use Rattle.std.proofs.Common.{◌≡◌, get_or, sym, ◌∙◌, inl, inr, arith}
-use Rattle.std.proofs.lemmas.Bool.{both_ways, cases_eq}
-use Rattle.std.proofs.lemmas.Result.{on_ok_weaker}
+use Rattle.std.proofs.{Common.{◌≡◌, get_or, sym, ◌∙◌, inl, inr, arith}, lemmas.{Bool.{both_ways, cases_eq}, Result.on_ok_weaker}}
 use Rattle.snoop_states.proofs.EachLemmas.{each_mapped, each_set}
 use Rattle.snoop_states.proofs.tables.start_table.Goals as goal
 

@@ -1,7 +1,5 @@
-use Rattle.std.proofs.Common.{◌≡◌, ◌++◌, Some, map, take}
-use Rattle.std.specs.List.{flat_map}
-use Rattle.snoop_svg.specs.Cells.{cell_text}
-use Rattle.snoop_svg.specs.Looks.{cell_at, look_at}
+use Rattle.std.{proofs.Common.{◌≡◌, ◌++◌, Some, map, take}, specs.List.flat_map}
+use Rattle.snoop_svg.specs.{Cells.cell_text, Looks.{cell_at, look_at}}
 use Rattle.snoop_svg.proofs.cells.push_below.Given as goal
 
 -- the cells and the pieces so far

@@ -1,5 +1,4 @@
-use Rattle.std.proofs.Common.{◌≡◌, ◌++◌, None, take}
-use Rattle.std.specs.List.{flat_map}
+use Rattle.std.{proofs.Common.{◌≡◌, ◌++◌, None, take}, specs.List.flat_map}
 use Rattle.snoop_svg.specs.Cells.{cell_text}
 use Rattle.snoop_svg.proofs.cells.push_filled.Given as goal
 

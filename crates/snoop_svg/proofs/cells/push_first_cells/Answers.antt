@@ -1,9 +1,5 @@
-use Rattle.std.proofs.Common.{ℕ, List, ◌++◌, None, ap, ◌∙◌}
-use Rattle.std.specs.List.{flat_map}
-use Rattle.std.proofs.lemmas.List.Folds.{flat_map-map}
-use Rattle.std.proofs.lemmas.Result.{on_ok_weaker}
-use Rattle.snoop_svg.specs.Cells.{cell_text}
-use Rattle.snoop_svg.specs.Looks.{SheetCell, cell_at}
+use Rattle.std.{proofs.{Common.{ℕ, List, ◌++◌, None, ap, ◌∙◌}, lemmas.{List.Folds.flat_map-map, Result.on_ok_weaker}}, specs.List.flat_map}
+use Rattle.snoop_svg.specs.{Cells.cell_text, Looks.{SheetCell, cell_at}}
 use Rattle.snoop_svg.proofs.cells.push_first_cells.Goals as goal
 
 pub returns : goal.returns

@@ -1,10 +1,6 @@
-use Rattle.std.proofs.Common.{◌≡◌, ℕ, List, ◌++◌, Some, map, ap, ◌∙◌}
-use Rattle.std.specs.List.{flat_map}
-use Rattle.std.proofs.lemmas.List.Folds.{flat_map-map}
-use Rattle.std.proofs.lemmas.Simd.{map-map}
+use Rattle.std.{proofs.{Common.{◌≡◌, ℕ, List, ◌++◌, Some, map, ap, ◌∙◌}, lemmas.{List.Folds.flat_map-map, Simd.map-map}}, specs.List.flat_map}
 use Rattle.std.proofs.lemmas.Result.{IfOk-weaker, on_ok_weaker}
-use Rattle.snoop_svg.specs.Cells.{cell_text}
-use Rattle.snoop_svg.specs.Looks.{SheetCell, cell_at, cells_at, look_at}
+use Rattle.snoop_svg.specs.{Cells.cell_text, Looks.{SheetCell, cell_at, cells_at, look_at}}
 use Rattle.snoop_svg.proofs.cells.push_next_cells.Goals as goal
 
 pub returns-clause-cells : goal.returns-clause-cells

@@ -1,5 +1,4 @@
-use Rattle.std.proofs.Common.{length, ap, append_assoc, arith}
-use Rattle.std.proofs.lemmas.List.{drop_more}
+use Rattle.std.proofs.{Common.{length, ap, append_assoc, arith}, lemmas.List.drop_more}
 use Rattle.snoop_svg.proofs.columns.add_lanes.Goals as goal
 
 pub loop-core-preserved : goal.loop-core-preserved

@@ -1,6 +1,5 @@
 use Rattle.std.proofs.Common.{ap, arith}
-use Rattle.snoop_svg.specs.declared.columns.Column.{Column}
-use Rattle.snoop_svg.proofs.LayoutLemmas.{after_lanes_near}
+use Rattle.snoop_svg.{specs.declared.columns.Column.Column, proofs.LayoutLemmas.after_lanes_near}
 use Rattle.snoop_svg.proofs.columns.add_panel.Goals as goal
 
 pub bus_column-bus-requires-clause-room : goal.bus_column-bus-requires-clause-room

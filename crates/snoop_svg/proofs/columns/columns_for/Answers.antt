@@ -1,7 +1,5 @@
-use Rattle.std.proofs.Common.{◌≡◌, ◌+◌, ◌∷◌, drop, ap, append_assoc, arith}
-use Rattle.std.proofs.lemmas.List.{drop_more}
-use Rattle.snoop_draw.specs.Panels.{Panel}
-use Rattle.snoop_draw.specs.Size.{columns_of}
+use Rattle.std.proofs.{Common.{◌≡◌, ◌+◌, ◌∷◌, drop, ap, append_assoc, arith}, lemmas.List.drop_more}
+use Rattle.snoop_draw.specs.{Panels.Panel, Size.columns_of}
 use Rattle.snoop_svg.proofs.LayoutLemmas.{after_panel_near}
 use Rattle.snoop_svg.proofs.columns.columns_for.Goals as goal
 

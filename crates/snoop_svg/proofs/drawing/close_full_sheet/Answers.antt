@@ -1,5 +1,4 @@
-use Rattle.std.proofs.Common.{◌++◌, ◌∙◌}
-use Rattle.std.proofs.lemmas.Result.{on_ok_weaker}
+use Rattle.std.proofs.{Common.{◌++◌, ◌∙◌}, lemmas.Result.on_ok_weaker}
 use Rattle.snoop_svg.specs.Sheets.{sheet_closed}
 use Rattle.snoop_svg.proofs.drawing.close_full_sheet.Goals as goal
 

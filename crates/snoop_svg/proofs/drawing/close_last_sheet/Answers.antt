@@ -1,7 +1,5 @@
-use Rattle.std.proofs.Common.{ap, ◌++◌, ◌∙◌}
-use Rattle.std.proofs.lemmas.Result.{on_ok_weaker}
-use Rattle.snoop_svg.specs.Drawings.{sheet_rows}
-use Rattle.snoop_svg.specs.Sheets.{sheet_closed}
+use Rattle.std.proofs.{Common.{ap, ◌++◌, ◌∙◌}, lemmas.Result.on_ok_weaker}
+use Rattle.snoop_svg.specs.{Drawings.sheet_rows, Sheets.sheet_closed}
 use Rattle.snoop_svg.proofs.drawing.close_last_sheet.Goals as goal
 
 pub returns : goal.returns

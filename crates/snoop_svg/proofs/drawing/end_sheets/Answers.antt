@@ -1,7 +1,5 @@
 use Rattle.std.proofs.lemmas.Result.{on_ok_weaker}
-use Rattle.snoop_svg.specs.Drawings.{sheet_rows, sheet_start, tail_text}
-use Rattle.snoop_svg.specs.Sheets.{sheet_closed}
-use Rattle.snoop_svg.proofs.TextLemmas.{joined}
+use Rattle.snoop_svg.{specs.{Drawings.{sheet_rows, sheet_start, tail_text}, Sheets.sheet_closed}, proofs.TextLemmas.joined}
 use Rattle.snoop_svg.proofs.drawing.end_sheets.Goals as goal
 
 pub returns : goal.returns

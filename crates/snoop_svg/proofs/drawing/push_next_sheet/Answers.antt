@@ -1,7 +1,5 @@
 use Rattle.std.proofs.lemmas.Result.{on_ok_weaker}
-use Rattle.snoop_svg.specs.Drawings.{turned}
-use Rattle.snoop_svg.specs.Sheets.{first_row}
-use Rattle.snoop_svg.proofs.TextLemmas.{joined}
+use Rattle.snoop_svg.{specs.{Drawings.turned, Sheets.first_row}, proofs.TextLemmas.joined}
 use Rattle.snoop_svg.proofs.drawing.push_next_sheet.Goals as goal
 
 pub returns : goal.returns

@@ -1,5 +1,4 @@
-use Rattle.std.proofs.Common.{◌≡◌, ◌++◌, take}
-use Rattle.std.specs.List.{flat_map}
+use Rattle.std.{proofs.Common.{◌≡◌, ◌++◌, take}, specs.List.flat_map}
 use Rattle.snoop_svg.specs.Sheets.{column_heading}
 use Rattle.snoop_svg.proofs.sheet.push_column_headings.Given as goal
 

@@ -1,5 +1,4 @@
-use Rattle.std.proofs.Common.{append_assoc, rules}
-use Rattle.std.proofs.lemmas.Result.{IfOk-equal}
+use Rattle.std.proofs.{Common.{append_assoc, rules}, lemmas.Result.IfOk-equal}
 use Rattle.snoop_svg.proofs.sheet.push_first_row.Goals as goal
 
 pub returns : goal.returns

@@ -1,5 +1,4 @@
-use Rattle.std.proofs.Common.{◌+◌, ◌++◌, ◌∙◌}
-use Rattle.std.proofs.lemmas.Result.{on_ok_weaker}
+use Rattle.std.proofs.{Common.{◌+◌, ◌++◌, ◌∙◌}, lemmas.Result.on_ok_weaker}
 use Rattle.snoop_svg.specs.Legends.{legend_text}
 use Rattle.snoop_svg.proofs.sheet.push_legend_below.Goals as goal
 

@@ -1,7 +1,5 @@
 use Rattle.std.proofs.Common.{ℕ, List, ◌++◌}
-use Rattle.snoop_svg.specs.Cells.{next_cells}
-use Rattle.snoop_svg.specs.Sheets.{row_end, row_head}
-use Rattle.snoop_svg.proofs.TextLemmas.{joined}
+use Rattle.snoop_svg.{specs.{Cells.next_cells, Sheets.{row_end, row_head}}, proofs.TextLemmas.joined}
 use Rattle.snoop_svg.proofs.sheet.push_row.Goals as goal
 
 pub returns-clause-cells : goal.returns-clause-cells

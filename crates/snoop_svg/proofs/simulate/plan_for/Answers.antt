@@ -1,5 +1,4 @@
-use Rattle.std.proofs.Common.{◌≤◌, ◌+◌, ◌*◌, ℕ, arith}
-use Rattle.std.proofs.lemmas.Nat.{mul-le}
+use Rattle.std.proofs.{Common.{◌≤◌, ◌+◌, ◌*◌, ℕ, arith}, lemmas.Nat.mul-le}
 use Rattle.snoop_draw.specs.Size.{columns_of}
 use Rattle.snoop_svg.proofs.simulate.plan_for.Goals as goal
 

@@ -1,5 +1,4 @@
-use Rattle.std.proofs.Common.{◌≡◌, ◌++◌, take}
-use Rattle.std.specs.List.{flat_map}
+use Rattle.std.{proofs.Common.{◌≡◌, ◌++◌, take}, specs.List.flat_map}
 use Rattle.snoop_svg.specs.Titles.{taken_row}
 use Rattle.snoop_svg.proofs.titles.push_rows_taken.Given as goal
 

@@ -1,5 +1,4 @@
-use Rattle.snoop_versions.proofs.Common.{knows}
-use Rattle.snoop_versions.proofs.Versions.{sees}
+use Rattle.snoop_versions.proofs.{Common.knows, Versions.sees}
 use Rattle.snoop_versions.proofs.enter.enter_shape.Goals as goal
 
 pub enter_as-requires : goal.enter_as-requires

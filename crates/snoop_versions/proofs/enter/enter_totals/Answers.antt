@@ -1,5 +1,4 @@
-use Rattle.snoop_versions.proofs.Common.{ap, knows, Sees, Version, ◌∙◌}
-use Rattle.snoop_versions.proofs.Versions.{enters, sees}
+use Rattle.snoop_versions.proofs.{Common.{ap, knows, Sees, Version, ◌∙◌}, Versions.{enters, sees}}
 use Rattle.snoop_versions.proofs.enter.enter_totals.Goals as goal
 
 pub enter_as-requires : goal.enter_as-requires

@@ -1,6 +1,4 @@
-use Rattle.snoop_bench.proofs.Common.{None, refl, well_kept_in}
-use Rattle.snoop_bench.proofs.Turning.{Facing, facing, over_keeps}
-use Rattle.snoop_bench.proofs.Outcomes.{finishes}
+use Rattle.snoop_bench.proofs.{Common.{None, refl, well_kept_in}, Turning.{Facing, facing, over_keeps}, Outcomes.finishes}
 use Rattle.snoop_bench.proofs.bench.Bench.close.Goals.{After-recorded}
 use Rattle.snoop_bench.proofs.bench.Bench.close.Goals as goal
 

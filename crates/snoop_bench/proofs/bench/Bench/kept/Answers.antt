@@ -1,5 +1,4 @@
-use Rattle.snoop_bench.proofs.Common.{access_of, well_kept_in}
-use Rattle.snoop_bench.proofs.Outcomes.{ends_with, closed_turn}
+use Rattle.snoop_bench.proofs.{Common.{access_of, well_kept_in}, Outcomes.{ends_with, closed_turn}}
 use Rattle.snoop_bench.proofs.bench.Bench.kept.Goals as goal
 
 pub returns-clause-kept : goal.returns-clause-kept

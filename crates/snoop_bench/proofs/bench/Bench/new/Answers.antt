@@ -1,5 +1,4 @@
-use Rattle.snoop_bench.proofs.Common.{ap, None, Recording, replicate, reset, rules, ◌∙◌, ◌≡◌}
-use Rattle.snoop_bench.proofs.Turning.{reset_under_way}
+use Rattle.snoop_bench.proofs.{Common.{ap, None, Recording, replicate, reset, rules, ◌∙◌, ◌≡◌}, Turning.reset_under_way}
 use Rattle.snoop_bench.proofs.bench.Bench.new.Goals as goal
 
 pub invariant_of-result : goal.invariant_of-result

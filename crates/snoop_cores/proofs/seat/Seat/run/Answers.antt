@@ -1,6 +1,4 @@
-use Rattle.snoop_cores.proofs.Common.{Ran, shown, subst, sym}
-use Rattle.snoop_cores.specs.contracts.seat.Seat.{the_view}
-use Rattle.snoop_cores.proofs.Performed.{ran_noted}
+use Rattle.snoop_cores.{proofs.{Common.{Ran, shown, subst, sym}, Performed.ran_noted}, specs.contracts.seat.Seat.the_view}
 use Rattle.snoop_cores.proofs.seat.Seat.run.Goals as goal
 
 pub returns-clause-ran : goal.returns-clause-ran

@@ -1,5 +1,4 @@
-use Rattle.snoop_cores.proofs.Common.{[], arith, Bor, get_or-map, Grows, length, length-map, Row, shown, subst, sym, ◌<◌, ◌∷◌}
-use Rattle.snoop_cores.proofs.Performed.{no_row, did_row}
+use Rattle.snoop_cores.proofs.{Common.{[], arith, Bor, get_or-map, Grows, length, length-map, Row, shown, subst, sym, ◌<◌, ◌∷◌}, Performed.{no_row, did_row}}
 use Rattle.snoop_cores.proofs.seat.Seat.run_rows.Goals as goal
 
 pub loop-number-preserved : goal.loop-number-preserved

@@ -1,7 +1,5 @@
 use Rattle.std.proofs.Common.{◌≡◌, List, [], ◌∷◌, ◌++◌, refl, sym, ap, ◌∙◌, subst}
-use Rattle.snoop_history.specs.declared.items.Item.{Item}
-use Rattle.snoop_history.specs.History.{Legal}
-use Rattle.snoop_history.specs.Journal.{Journal}
+use Rattle.snoop_history.specs.{declared.items.Item.Item, History.Legal, Journal.Journal}
 use Rattle.snoop_versions.specs.Readings.{Publishing}
 use Rattle.snoop_cores_tests.proofs.Followed.{legal_on}
 use Rattle.snoop_cores_tests.proofs.versions.memory.add.Goals as goal

@@ -1,6 +1,5 @@
 use Rattle.std.proofs.Common.{ℕ, List, ◌++◌, take}
-use Rattle.snoop_counts.specs.BlockTally.{CountsBlocks}
-use Rattle.snoop_counts.specs.declared.count.Happening.{Happening}
+use Rattle.snoop_counts.specs.{BlockTally.CountsBlocks, declared.count.Happening.Happening}
 use Rattle.snoop_counts.proofs.block_tally.BlockTally.add_all.Given as goal
 
 -- those so far are counted

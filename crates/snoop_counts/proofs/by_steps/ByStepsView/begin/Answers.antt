@@ -1,6 +1,4 @@
-use Rattle.std.proofs.Common.{◌%◌, refl}
-use Rattle.std.specs.Int.NonZero.{non_zero_u64_get}
-use Rattle.std.proofs.lemmas.Result.{on_ok_weaker}
+use Rattle.std.{proofs.{Common.{◌%◌, refl}, lemmas.Result.on_ok_weaker}, specs.Int.NonZero.non_zero_u64_get}
 use Rattle.snoop_counts.proofs.WindowLemmas.{none_begun}
 use Rattle.snoop_counts.proofs.by_steps.ByStepsView.begin.Goals as goal
 

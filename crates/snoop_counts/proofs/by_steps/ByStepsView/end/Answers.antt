@@ -1,5 +1,4 @@
-use Rattle.std.proofs.Common.{◌≡◌}
-use Rattle.std.specs.Int.NonZero.{non_zero_u64_get}
+use Rattle.std.{proofs.Common.{◌≡◌}, specs.Int.NonZero.non_zero_u64_get}
 use Rattle.snoop_counts.proofs.WindowLemmas.{left_line}
 use Rattle.snoop_counts.proofs.by_steps.ByStepsView.end.Goals as goal
 

@@ -1,8 +1,6 @@
-use Rattle.std.proofs.Common.{◌≡◌, ◌<◌, append-nil, sym, arith}
-use Rattle.std.specs.Int.NonZero.{non_zero_u64_get}
+use Rattle.std.{proofs.Common.{◌≡◌, ◌<◌, append-nil, sym, arith}, specs.Int.NonZero.non_zero_u64_get}
 use Rattle.snoop_engine.specs.Views.{frame_seen}
-use Rattle.snoop_counts.specs.declared.count.Subjects.TheVariants.{Machine}
-use Rattle.snoop_counts.proofs.WindowLemmas.{begins_anew, goes_on, line_now, nothing_yet, numbered}
+use Rattle.snoop_counts.{specs.declared.count.Subjects.TheVariants.Machine, proofs.WindowLemmas.{begins_anew, goes_on, line_now, nothing_yet, numbered}}
 use Rattle.snoop_counts.proofs.by_steps.ByStepsView.see.Goals as goal
 
 pub returns-then-seen-every-ne0 : goal.returns-then-seen-every-ne0

@@ -1,8 +1,6 @@
-use Rattle.std.proofs.Common.{List, subst, sym, take}
-use Rattle.std.proofs.lemmas.List.{take_more}
+use Rattle.std.proofs.{Common.{List, subst, sym, take}, lemmas.List.take_more}
 use Rattle.snoop_engine.specs.declared.taken.Taken.{Taken}
-use Rattle.snoop_counts.specs.LastSteps.{MarksLines}
-use Rattle.snoop_counts.proofs.CauseLemmas.{lines_more}
+use Rattle.snoop_counts.{specs.LastSteps.MarksLines, proofs.CauseLemmas.lines_more}
 use Rattle.snoop_counts.proofs.copies.Copies.add_lines.Goals as goal
 
 pub loop-line-preserved : goal.loop-line-preserved

@@ -1,5 +1,4 @@
-use Rattle.std.proofs.Common.{[], length, sym, ap, ◌∙◌, arith}
-use Rattle.std.proofs.lemmas.Option.{get_or_from_slice_get}
+use Rattle.std.proofs.{Common.{[], length, sym, ap, ◌∙◌, arith}, lemmas.Option.get_or_from_slice_get}
 use Rattle.snoop_blocks.specs.CoreSet.{has}
 use Rattle.snoop_engine.proofs.RangeLemmas.{filter_range}
 use Rattle.snoop_counts.specs.Sharers.{is_shared_by}

@@ -1,7 +1,5 @@
 use Rattle.std.proofs.Common.{ℕ, List, ◌++◌, take}
-use Rattle.snoop_counts.specs.Tally.{HasCounted}
-use Rattle.snoop_counts.specs.declared.count.Happening.{Happening}
-use Rattle.snoop_counts.specs.declared.count.Subjects.{Subjects}
+use Rattle.snoop_counts.specs.{Tally.HasCounted, declared.count.{Happening.Happening, Subjects.Subjects}}
 use Rattle.snoop_counts.proofs.tally.Tally.add_all.Given as goal
 
 -- those so far are counted

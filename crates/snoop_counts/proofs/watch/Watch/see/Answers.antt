@@ -1,5 +1,4 @@
-use Rattle.std.proofs.Common.{refl}
-use Rattle.std.proofs.lemmas.Result.{on_ok_weaker}
+use Rattle.std.proofs.{Common.refl, lemmas.Result.on_ok_weaker}
 use Rattle.snoop_model.specs.Pictures.Situation.{reset}
 use Rattle.snoop_engine.specs.Views.{frame_seen}
 use Rattle.snoop_counts.proofs.CauseLemmas.{led_by_last}

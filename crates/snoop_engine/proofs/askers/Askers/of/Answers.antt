@@ -1,4 +1,4 @@
-use Rattle.snoop_engine.proofs.{Common.sym, Common.◌∙◌, AskerLemmas.asked_by, AskerLemmas.asked_by_none}
+use Rattle.snoop_engine.proofs.{Common.◌∙◌, Common.sym, AskerLemmas.{asked_by, asked_by_none}}
 use Rattle.snoop_engine.proofs.askers.Askers.of.Goals as goal
 
 pub returns-in-None : goal.returns-in-None

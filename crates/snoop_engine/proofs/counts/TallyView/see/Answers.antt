@@ -1,4 +1,4 @@
-use Rattle.snoop_engine.proofs.{Common.append-nil, Common.sym, Common.all_lines, Common.frame_seen, ViewLemmas.all_lines_more}
+use Rattle.snoop_engine.proofs.{Common.{append-nil, sym, all_lines, frame_seen}, ViewLemmas.all_lines_more}
 use Rattle.snoop_engine.proofs.counts.TallyView.see.Goals as goal
 
 pub returns : goal.returns

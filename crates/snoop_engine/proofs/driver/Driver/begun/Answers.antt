@@ -1,4 +1,4 @@
-use Rattle.snoop_engine.proofs.{Common.sym, Common.◌∙◌, Driving.first_in, Driving.fit_begins, Driving.fit_idles, Driving.goes_begun, Driving.takes_first}
+use Rattle.snoop_engine.proofs.{Common.◌∙◌, Common.sym, Driving.{first_in, fit_begins, fit_idles, goes_begun, takes_first}}
 use Rattle.snoop_engine.proofs.driver.Driver.begun.Goals as goal
 
 pub turn_step-requires-clause-block : goal.turn_step-requires-clause-block

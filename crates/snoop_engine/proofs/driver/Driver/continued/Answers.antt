@@ -1,4 +1,4 @@
-use Rattle.snoop_engine.proofs.{Common.sym, Driving.goes_on, Driving.over_now}
+use Rattle.snoop_engine.proofs.{Common.sym, Driving.{goes_on, over_now}}
 use Rattle.snoop_engine.proofs.driver.Driver.continued.Goals as goal
 
 pub returns-clause-enabled : goal.returns-clause-enabled

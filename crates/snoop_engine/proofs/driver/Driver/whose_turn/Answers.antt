@@ -1,4 +1,4 @@
-use Rattle.snoop_engine.proofs.{Common.◌≡◌, Common.slice_get, Common.arith, Common.common_steps, Driving.all_done}
+use Rattle.snoop_engine.proofs.{Common.◌≡◌, Common.{slice_get, arith, common_steps}, Driving.all_done}
 use Rattle.snoop_engine.proofs.driver.Driver.whose_turn.Goals as goal
 
 pub returns-clause-done : goal.returns-clause-done

@@ -1,4 +1,4 @@
-use Rattle.snoop_engine.proofs.{Common.refl, Common.Progress, CourseLemmas.driver_follows, CourseLemmas.driver_leads, Driving.fit_moves}
+use Rattle.snoop_engine.proofs.{Common.{refl, Progress}, CourseLemmas.{driver_follows, driver_leads}, Driving.fit_moves}
 use Rattle.snoop_engine.proofs.driver.DriverCourse.take.Goals as goal
 
 pub invariant_of-self-2 : goal.invariant_of-self-2

@@ -1,4 +1,4 @@
-use Rattle.snoop_engine.proofs.{Common.rules, Common.◌≡◌, Common.Some, InOrderLemmas.block_is, InOrderLemmas.goes_on_enabled, InOrderLemmas.over_now}
+use Rattle.snoop_engine.proofs.{Common.◌≡◌, Common.{rules, Some}, InOrderLemmas.{block_is, goes_on_enabled, over_now}}
 use Rattle.snoop_engine.proofs.serial_driver.SerialDriver.continued.Goals as goal
 
 pub returns-clause-enabled : goal.returns-clause-enabled

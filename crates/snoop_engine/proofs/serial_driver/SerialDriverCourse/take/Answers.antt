@@ -1,4 +1,4 @@
-use Rattle.snoop_engine.proofs.{Common.refl, Common.InOrder, CourseLemmas.fewer_in_order, CourseLemmas.in_order_follows, CourseLemmas.in_order_leads, InOrderLemmas.in_order_moves}
+use Rattle.snoop_engine.proofs.{Common.{refl, InOrder}, CourseLemmas.{fewer_in_order, in_order_follows, in_order_leads}, InOrderLemmas.in_order_moves}
 use Rattle.snoop_engine.proofs.serial_driver.SerialDriverCourse.take.Goals as goal
 
 pub invariant_of-self-2 : goal.invariant_of-self-2

@@ -1,4 +1,4 @@
-use Rattle.snoop_engine.proofs.{Common.sym, Common.refl, Common.◌∙◌, Common.append-nil, Common.on_ok_weaker, ViewLemmas.text_hidden, ViewLemmas.text_shown}
+use Rattle.snoop_engine.proofs.{Common.◌∙◌, Common.{sym, refl, append-nil, on_ok_weaker}, ViewLemmas.{text_hidden, text_shown}}
 use Rattle.snoop_engine.proofs.states.StatesView.see.Goals as goal
 
 pub returns-then-has_step : goal.returns-then-has_step

@@ -1,7 +1,5 @@
 use Rattle.snoop_machine.proofs.Common.{◌≡◌, ℕ, ◌≤◌, ◌⊎◌, inl, inr, arith, zero, suc, common_steps}
-use Rattle.std.specs.Int.{IsPowerOfTwo}
-use Rattle.std.proofs.lemmas.Nat.{pow_pos}
-use Rattle.std.proofs.Math.Nat.{pow-suc}
+use Rattle.std.{specs.Int.IsPowerOfTwo, proofs.{lemmas.Nat.pow_pos, Math.Nat.pow-suc}}
 use Rattle.snoop_machine.proofs.any_parts.AnyParts.reset.Goals as goal
 
 -- a power of two up to 64 is one of seven

@@ -1,8 +1,6 @@
-use Rattle.snoop_machine.proofs.Common.{◌∙◌, ap, arith, Line, changed, line_at}
-use Rattle.snoop_machine.proofs.LineChanges.{HasWritten, lines_after, writes, stands}
-use Rattle.snoop_machine.proofs.LineMaps.{is_map, in_rows, held_placed, among_seen, settled}
+use Rattle.snoop_machine.proofs.{Common.{◌∙◌, ap, arith, Line, changed, line_at}, LineChanges.{HasWritten, lines_after, writes, stands}}
+use Rattle.snoop_machine.proofs.{LineMaps.{is_map, in_rows, held_placed, among_seen, settled}, lines.Lines.change.Goals.After-follow}
 use Rattle.snoop_machine.proofs.lines.Lines.change.Goals as goal
-use Rattle.snoop_machine.proofs.lines.Lines.change.Goals.{After-follow}
 
 pub index_mut-cache-requires : goal.index_mut-cache-requires
 index_mut-cache-requires g c = let within = in_rows c.self.invariant c.self.view_is c.args.core c.args.block c.requires.block c.requires.core in omega arith

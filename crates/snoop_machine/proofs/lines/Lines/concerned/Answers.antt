@@ -1,5 +1,4 @@
-use Rattle.snoop_machine.proofs.Common.{[], refl, ◌∙◌, arith, slice_index_or, get_or_default, AreHolders, no_holders}
-use Rattle.snoop_machine.proofs.LineMaps.{in_rows, row_seen, line_seen}
+use Rattle.snoop_machine.proofs.{Common.{[], refl, ◌∙◌, arith, slice_index_or, get_or_default, AreHolders, no_holders}, LineMaps.{in_rows, row_seen, line_seen}}
 use Rattle.snoop_machine.proofs.lines.Lines.concerned.Goals as goal
 use Rattle.snoop_machine.proofs.lines.Lines.concerned.Goals.{After-concerned}
 

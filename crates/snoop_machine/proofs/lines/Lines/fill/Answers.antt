@@ -1,6 +1,4 @@
-use Rattle.snoop_machine.proofs.Common.{arith, filled_line}
-use Rattle.snoop_machine.proofs.LineChanges.{HasWritten, lines_after, writes, stands}
-use Rattle.snoop_machine.proofs.LineMaps.{is_map, in_rows, held_placed}
+use Rattle.snoop_machine.proofs.{Common.{arith, filled_line}, LineChanges.{HasWritten, lines_after, writes, stands}, LineMaps.{is_map, in_rows, held_placed}}
 use Rattle.snoop_machine.proofs.lines.Lines.fill.Goals as goal
 use Rattle.snoop_machine.proofs.lines.Lines.fill.Goals.{After-follow}
 

@@ -1,5 +1,4 @@
-use Rattle.snoop_machine.proofs.Common.{◌∙◌, ap, arith, line_or_nothing}
-use Rattle.snoop_machine.proofs.LineMaps.{is_map, in_rows}
+use Rattle.snoop_machine.proofs.{Common.{◌∙◌, ap, arith, line_or_nothing}, LineMaps.{is_map, in_rows}}
 use Rattle.snoop_machine.proofs.lines.Lines.get.Goals as goal
 
 pub index-cache-requires : goal.index-cache-requires

@@ -1,5 +1,4 @@
-use Rattle.snoop_machine.proofs.Common.{sym, ◌∙◌}
-use Rattle.snoop_machine.proofs.LineMaps.{among_seen, held_placed}
+use Rattle.snoop_machine.proofs.{Common.{sym, ◌∙◌}, LineMaps.{among_seen, held_placed}}
 use Rattle.snoop_machine.proofs.lines.Lines.len.Goals as goal
 
 pub returns-clause-held : goal.returns-clause-held

@@ -1,6 +1,5 @@
 use Rattle.snoop_machine.proofs.Common.{◌≡◌, length, refl, ◌∙◌, ap, slice_index_or, get_or_read, map-set, Contents, no_cache, line_in, blocks_of, ℕ}
-use Rattle.snoop_machine.proofs.LineMaps.{rows-same, in_maps, among_seen, spare_seen, blocks_seen}
-use Rattle.snoop_machine.proofs.LineChanges.{AreLines-alike, spares_kept}
+use Rattle.snoop_machine.proofs.{LineMaps.{rows-same, in_maps, among_seen, spare_seen, blocks_seen}, LineChanges.{AreLines-alike, spares_kept}}
 use Rattle.snoop_machine.proofs.lines.Lines.put_ahead.Goals as goal
 use Rattle.snoop_machine.proofs.lines.Lines.put_ahead.Goals.{After-index_mut-cache}
 

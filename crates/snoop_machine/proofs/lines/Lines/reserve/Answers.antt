@@ -1,8 +1,6 @@
 use Rattle.snoop_machine.proofs.Common.{◌≡◌, ℕ, List, length, ◌∙◌, ap, slice_index_or, slice_set, map, keys_of, map-set_same, get_or_read, get_or-set_same, map-set, Contents, no_cache, blocks_of, get_or-map, line_in, Line, line_or_nothing, lookup, nat_eq}
-use Rattle.snoop_machine.proofs.LineMaps.{rows-same, in_maps}
-use Rattle.snoop_machine.proofs.LineChanges.{AreLines-alike, spares_kept}
+use Rattle.snoop_machine.proofs.{LineMaps.{rows-same, in_maps}, LineChanges.{AreLines-alike, spares_kept}, lines.Lines.reserve.Goals.After-reserve}
 use Rattle.snoop_machine.proofs.lines.Lines.reserve.Goals as goal
-use Rattle.snoop_machine.proofs.lines.Lines.reserve.Goals.{After-reserve}
 
 read : (g : _) (c : After-reserve g) → c.index_mut-cache.result.now ≡ slice_index_or c.self.inside.caches.items c.args.core no_cache
 read g c = get_or_read c.self.inside.caches.items c.args.core c.index_mut-cache.result.now (in_maps c.self.invariant c.self.view_is c.args.core c.requires.core) c.index_mut-cache.ensures.value no_cache

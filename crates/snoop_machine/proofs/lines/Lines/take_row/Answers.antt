@@ -1,6 +1,5 @@
 use Rattle.snoop_machine.proofs.Common.{List, sym, ◌∙◌, ap, arith, CacheState, moves_to, Line, line_at, Holders}
-use Rattle.snoop_machine.proofs.LineMaps.{settled, moves_to_same, is_map, in_rows}
-use Rattle.snoop_machine.proofs.LineChanges.{stands, followed-still, HasWritten, lines_after, writes}
+use Rattle.snoop_machine.proofs.{LineMaps.{settled, moves_to_same, is_map, in_rows}, LineChanges.{stands, followed-still, HasWritten, lines_after, writes}}
 use Rattle.snoop_machine.proofs.lines.Lines.take_row.Goals as goal
 use Rattle.snoop_machine.proofs.lines.Lines.take_row.Goals.{After-take_row, In_default, After-follow}
 

@@ -1,8 +1,7 @@
 use Rattle.snoop_machine.proofs.Common.{◌≡◌, ◌<◌, length, arith, ◌∙◌, set-set, length-set, row_of, line_at, IsProper-order, Taking, Taking-more, Taking-past}
-use Rattle.snoop_machine.proofs.PartsViews.{LinesGo-more, KeepsMapsRoom-more, row_after}
+use Rattle.snoop_machine.proofs.{PartsViews.{LinesGo-more, KeepsMapsRoom-more, row_after}, lines.Lines.take_rows.Goals.{After-concerned-concerned, In-Some}}
 use Rattle.snoop_machine.proofs.ConcernedCores.{AreConcerned, concerned_within, TakesRow-passed, Cell-leaves}
 use Rattle.snoop_machine.proofs.lines.Lines.take_rows.Goals as goal
-use Rattle.snoop_machine.proofs.lines.Lines.take_rows.Goals.{After-concerned-concerned, In-Some}
 
 -- the set has the cores that the request concerns
 concerned : (g : _) (c : After-concerned-concerned g)

@@ -1,8 +1,6 @@
-use Rattle.snoop_machine.proofs.Common.{stand, Answers, is_safe}
+use Rattle.snoop_machine.proofs.{Common.{stand, Answers, is_safe}, Runs.{answers, step_keeps, step_stays, step_tells}, machine.Machine.step.Goals.After-step}
 use Rattle.snoop_model.proofs.Invariant.Steps.{step_once}
-use Rattle.snoop_machine.proofs.Runs.{answers, step_keeps, step_stays, step_tells}
 use Rattle.snoop_machine.proofs.machine.Machine.step.Goals as goal
-use Rattle.snoop_machine.proofs.machine.Machine.step.Goals.{After-step}
 
 went : (c : After-step) → Answers (stand c.self.inside.parts) c.args.step c.step.result (stand c.step.new.self)
 went c = answers _ _ c.args.step c.step.result c.step.ensures.taken c.step.ensures.refused c.step.ensures.full c.step.ensures.room c.step.ensures.lines

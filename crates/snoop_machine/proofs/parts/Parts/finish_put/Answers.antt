@@ -1,7 +1,6 @@
-use Rattle.snoop_machine.proofs.Common.{None, [], refl, sym, ◌∙◌, set-get_or, fields, PutM, ◌≡◌, arith}
+use Rattle.snoop_machine.proofs.{Common.{None, [], refl, sym, ◌∙◌, set-get_or, fields, PutM, ◌≡◌, arith}, parts.Parts.finish_put.Goals.In-Some}
 use Rattle.snoop_machine.proofs.Closing.{Closes, never_none, header, whole_after, room_after, responded, loses}
 use Rattle.snoop_machine.proofs.parts.Parts.finish_put.Goals as goal
-use Rattle.snoop_machine.proofs.parts.Parts.finish_put.Goals.{In-Some}
 
 abbrev closes : (g : _) (c : In-Some g)
     → Closes (fields c.self.inside.protocol c.self.inside.shape c.self.inside.lines c.self.inside.memory c.self.inside.bus c.self.inside.log) c.args.self.now c.args.came c.args.memory c.in-Some.closing

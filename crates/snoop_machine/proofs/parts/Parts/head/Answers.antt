@@ -1,7 +1,6 @@
 use Rattle.snoop_machine.proofs.Common.{◌≡◌, ℕ, ◌<◌, Option, Some, None, refl, sym, ap, ◌∙◌, length, arith, IfSome, IfNone, slice_get, waiting_request, Request, queue_of, head_of, WaitsOnNone, IsHead, get_or_past, [], waiting_of}
-use Rattle.snoop_machine.proofs.PartsViews.{state_seen, head_alone, nothing_for, first_shown}
+use Rattle.snoop_machine.proofs.{PartsViews.{state_seen, head_alone, nothing_for, first_shown}, parts.Parts.head.Goals.After-head}
 use Rattle.snoop_machine.proofs.parts.Parts.head.Goals as goal
-use Rattle.snoop_machine.proofs.parts.Parts.head.Goals.{After-head}
 
 -- what callers see of the head of a queue, and of one without
 shown : (g : _) (c : After-head g) (o : Option (Request × ℕ)) → head_of c.self.inside.bus c.args.core ≡ o

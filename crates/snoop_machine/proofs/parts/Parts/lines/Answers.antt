@@ -1,5 +1,4 @@
-use Rattle.snoop_machine.proofs.Common.{◌∙◌}
-use Rattle.snoop_machine.proofs.PartsViews.{state_seen}
+use Rattle.snoop_machine.proofs.{Common.{◌∙◌}, PartsViews.state_seen}
 use Rattle.snoop_machine.proofs.parts.Parts.lines.Goals as goal
 
 pub returns-clause-held : goal.returns-clause-held

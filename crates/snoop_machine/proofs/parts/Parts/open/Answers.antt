@@ -1,5 +1,4 @@
-use Rattle.snoop_machine.proofs.Common.{refl}
-use Rattle.snoop_machine.proofs.PartsViews.{seen}
+use Rattle.snoop_machine.proofs.{Common.refl, PartsViews.seen}
 use Rattle.snoop_machine.proofs.parts.Parts.open.Goals as goal
 
 pub returns-in_err-opened-clause-value : goal.returns-in_err-opened-clause-value

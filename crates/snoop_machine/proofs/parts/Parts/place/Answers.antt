@@ -1,5 +1,4 @@
-use Rattle.snoop_machine.proofs.Common.{◌∙◌}
-use Rattle.snoop_machine.proofs.PartsViews.{place_shown}
+use Rattle.snoop_machine.proofs.{Common.{◌∙◌}, PartsViews.place_shown}
 use Rattle.snoop_machine.proofs.parts.Parts.place.Goals as goal
 
 pub returns : goal.returns

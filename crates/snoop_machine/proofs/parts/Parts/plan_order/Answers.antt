@@ -1,10 +1,8 @@
 use Rattle.snoop_machine.proofs.Common.{◌≡◌, Option, Some, None, refl, sym, ap, ◌∙◌, false, ℕ, is_some, option_copied, Order, seen_by, Open, Picture, free_picture, picture_of, row_of, memory_line, Fields, standing, IsWhole, IsPlan, Standing, orders_follow_sender_table, finds_rows, arith}
 use Rattle.std.specs.Borrow.{Bor}
 use Rattle.snoop_machine.specs.declared.plan.Plan.TheVariants as plan
-use Rattle.snoop_machine.proofs.Plans.{plan-allowed}
+use Rattle.snoop_machine.proofs.{Plans.plan-allowed, parts.Parts.plan_order.Goals.After-sender-from, PartsViews.{seen, line_seen, protocol_seen}}
 use Rattle.snoop_machine.proofs.parts.Parts.plan_order.Goals as goal
-use Rattle.snoop_machine.proofs.parts.Parts.plan_order.Goals.{After-sender-from}
-use Rattle.snoop_machine.proofs.PartsViews.{seen, line_seen, protocol_seen}
 
 -- a block that was found without an open transaction
 free_copied : (found : Option (Bor Open)) (transaction : Option Open) → option_copied found ≡ transaction → is_some found ≡ false → transaction ≡ None

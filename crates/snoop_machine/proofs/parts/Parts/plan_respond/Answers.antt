@@ -1,7 +1,6 @@
 use Rattle.snoop_machine.proofs.Common.{arith, ◌≡◌, Some, refl, sym, ap, ◌∙◌, option_copied, Respond, arrival, arrival_at_memory, Came, Line, picture_of, IsClosing, finds_rows, sender_within, Access, if_some, ◌<◌}
-use Rattle.snoop_machine.proofs.PartsViews.{protocol_seen, words_seen}
+use Rattle.snoop_machine.proofs.{PartsViews.{protocol_seen, words_seen}, parts.Parts.plan_respond.Goals.After-came-came}
 use Rattle.snoop_machine.proofs.parts.Parts.plan_respond.Goals as goal
-use Rattle.snoop_machine.proofs.parts.Parts.plan_respond.Goals.{After-came-came}
 
 pub settle-memory-requires : goal.settle-memory-requires
 settle-memory-requires g c =

@@ -1,5 +1,4 @@
-use Rattle.snoop_machine.proofs.Common.{err_from_is_err_and}
-use Rattle.snoop_machine.proofs.Plans.{plan-allowed, IsPrepared-plan, IsFull-plan, HoldsOn-room}
+use Rattle.snoop_machine.proofs.{Common.err_from_is_err_and, Plans.{plan-allowed, IsPrepared-plan, IsFull-plan, HoldsOn-room}}
 use Rattle.snoop_machine.proofs.parts.Parts.prepare.Goals as goal
 
 pub returns-in_err-make_room-clause-refused : goal.returns-in_err-make_room-clause-refused

@@ -1,5 +1,4 @@
-use Rattle.snoop_machine.proofs.Common.{ap, arith, refl, waiting_of}
-use Rattle.snoop_machine.proofs.PartsViews.{held_in-set, keeps_room, sized_on, queues_of-room, IsSound-room}
+use Rattle.snoop_machine.proofs.{Common.{ap, arith, refl, waiting_of}, PartsViews.{held_in-set, keeps_room, sized_on, queues_of-room, IsSound-room}}
 use Rattle.snoop_machine.proofs.parts.Parts.reserve_request.Goals as goal
 
 pub invariant_of-self : goal.invariant_of-self

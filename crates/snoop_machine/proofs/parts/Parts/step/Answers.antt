@@ -1,5 +1,4 @@
-use Rattle.snoop_machine.proofs.Common.{refl, err_from_is_err_and}
-use Rattle.snoop_machine.proofs.Plans.{plan-allowed, IsFull-plan, HoldsOn-taken, KeepsRoom-taken}
+use Rattle.snoop_machine.proofs.{Common.{refl, err_from_is_err_and}, Plans.{plan-allowed, IsFull-plan, HoldsOn-taken, KeepsRoom-taken}}
 use Rattle.snoop_machine.proofs.parts.Parts.step.Goals as goal
 
 pub returns-in_err-make_room-clause-refused : goal.returns-in_err-make_room-clause-refused

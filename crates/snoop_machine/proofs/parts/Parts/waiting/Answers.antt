@@ -1,5 +1,4 @@
-use Rattle.snoop_machine.proofs.Common.{waiting_of, arith}
-use Rattle.snoop_machine.proofs.PartsViews.{queue_of-queues_of, some_first}
+use Rattle.snoop_machine.proofs.{Common.{waiting_of, arith}, PartsViews.{queue_of-queues_of, some_first}}
 use Rattle.snoop_machine.proofs.parts.Parts.waiting.Goals as goal
 
 pub returns : goal.returns

@@ -1,6 +1,4 @@
-use Rattle.std.proofs.Common.{refl, append_assoc}
-use Rattle.std.proofs.lemmas.List.{map-append}
-use Rattle.std.proofs.lemmas.Simd.{map-map}
+use Rattle.std.proofs.{Common.{refl, append_assoc}, lemmas.{List.map-append, Simd.map-map}}
 use Rattle.snoop_states.proofs.table.Table.new.Goals as goal
 
 pub returns : goal.returns

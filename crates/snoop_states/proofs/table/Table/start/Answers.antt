@@ -1,5 +1,4 @@
-use Rattle.std.proofs.Common.{ℕ, List, [], ◌++◌, ap, append-nil, ◌∙◌}
-use Rattle.std.proofs.lemmas.Result.{on_ok_weaker}
+use Rattle.std.proofs.{Common.{ℕ, List, [], ◌++◌, ap, append-nil, ◌∙◌}, lemmas.Result.on_ok_weaker}
 use Rattle.snoop_states.proofs.table.Table.start.Goals as goal
 
 pub returns : goal.returns

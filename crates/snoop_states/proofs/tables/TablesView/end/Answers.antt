@@ -1,9 +1,5 @@
-use Rattle.std.proofs.Common.{ℕ, List, ◌++◌, ap, ◌∙◌, append_assoc}
-use Rattle.std.specs.List.{flat_map, range_with_len}
-use Rattle.std.proofs.lemmas.Result.{on_ok_weaker}
-use Rattle.snoop_states.specs.AtEnd.{end_text}
-use Rattle.snoop_states.specs.Views.{columns_in}
-use Rattle.snoop_states.specs.Whole.{block_table}
+use Rattle.std.{proofs.{Common.{ℕ, List, ◌++◌, ap, ◌∙◌, append_assoc}, lemmas.Result.on_ok_weaker}, specs.List.{flat_map, range_with_len}}
+use Rattle.snoop_states.specs.{AtEnd.end_text, Views.columns_in, Whole.block_table}
 use Rattle.snoop_states.proofs.tables.TablesView.end.Goals as goal
 
 pub returns : goal.returns

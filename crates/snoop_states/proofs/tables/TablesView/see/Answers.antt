@@ -1,5 +1,4 @@
-use Rattle.std.proofs.Common.{refl, sym, append-nil}
-use Rattle.std.proofs.lemmas.Result.{on_ok_weaker}
+use Rattle.std.proofs.{Common.{refl, sym, append-nil}, lemmas.Result.on_ok_weaker}
 use Rattle.snoop_engine.specs.Views.{frame_seen}
 use Rattle.snoop_states.specs.Views.{columns_in}
 use Rattle.snoop_states.proofs.tables.TablesView.see.Goals as goal

@@ -1,7 +1,5 @@
 use Rattle.std.proofs.Common.{◌≡◌, ◌++◌, refl, ◌∙◌}
-use Rattle.snoop_svg.specs.Drawings.{turn_text}
-use Rattle.snoop_svg.specs.Sheets.{AfterSteps, row_text}
-use Rattle.snoop_svg.proofs.TextLemmas.{joined}
+use Rattle.snoop_svg.{specs.{Drawings.turn_text, Sheets.{AfterSteps, row_text}}, proofs.TextLemmas.joined}
 use Rattle.snoop_svg.proofs.drawing.Drawing.push_placed.Goals as goal
 
 pub returns-clause-below : goal.returns-clause-below

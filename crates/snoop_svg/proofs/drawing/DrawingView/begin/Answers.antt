@@ -1,11 +1,7 @@
-use Rattle.std.proofs.Common.{◌≡◌, ◌<◌, ◌-◌, [], ◌++◌, take, refl, subst, ap, ◌∙◌, append-nil, arith}
-use Rattle.std.proofs.lemmas.Bool.{eq-eqb, ne_eqb}
-use Rattle.std.proofs.lemmas.Result.{on_ok_weaker}
+use Rattle.std.proofs.{Common.{◌≡◌, ◌<◌, ◌-◌, [], ◌++◌, take, refl, subst, ap, ◌∙◌, append-nil, arith}, lemmas.{Bool.{eq-eqb, ne_eqb}, Result.on_ok_weaker}}
 use Rattle.snoop_model.specs.Pictures.Situation.{Situation, reset}
 use Rattle.snoop_engine.specs.Numbered.{led_to}
-use Rattle.snoop_svg.specs.Drawings.{StandsBelow, opening, row_above}
-use Rattle.snoop_svg.specs.Sheets.{AfterSteps, first_row}
-use Rattle.snoop_svg.proofs.TextLemmas.{joined}
+use Rattle.snoop_svg.{specs.{Drawings.{StandsBelow, opening, row_above}, Sheets.{AfterSteps, first_row}}, proofs.TextLemmas.joined}
 use Rattle.snoop_svg.proofs.drawing.DrawingView.begin.Goals as goal
 
 at_start : Situation → AfterSteps

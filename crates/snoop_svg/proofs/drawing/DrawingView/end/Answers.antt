@@ -1,7 +1,5 @@
-use Rattle.std.proofs.Common.{ap, ◌++◌, ◌∙◌}
-use Rattle.std.proofs.lemmas.Result.{on_ok_weaker}
-use Rattle.snoop_svg.specs.Drawings.{closing}
-use Rattle.snoop_svg.proofs.SeenLemmas.{shown_rows}
+use Rattle.std.proofs.{Common.{ap, ◌++◌, ◌∙◌}, lemmas.Result.on_ok_weaker}
+use Rattle.snoop_svg.{specs.Drawings.closing, proofs.SeenLemmas.shown_rows}
 use Rattle.snoop_svg.proofs.drawing.DrawingView.end.Goals as goal
 
 pub returns : goal.returns

@@ -1,12 +1,7 @@
-use Rattle.std.proofs.Common.{◌≡◌, ℕ, ◌+◌, ◌%◌, true, false, List, [], length, ◌++◌, inl, inr, refl, sym, ap, ◌∙◌, append-nil, arith}
-use Rattle.std.specs.Prelude.{◌==◌}
+use Rattle.std.{proofs.Common.{◌≡◌, ℕ, ◌+◌, ◌%◌, true, false, List, [], length, ◌++◌, inl, inr, refl, sym, ap, ◌∙◌, append-nil, arith}, specs.Prelude.{◌==◌}}
 use Rattle.std.proofs.lemmas.Bool.{both_ways, cases_lt, eqb-true, eq-eqb, le-ltb}
-use Rattle.snoop_engine.specs.Chosen.{is_shown}
-use Rattle.snoop_engine.specs.Frames.{Frame}
-use Rattle.snoop_engine.specs.Views.{frame_seen}
-use Rattle.snoop_engine.proofs.NumberedLemmas.{numbered}
-use Rattle.snoop_svg.specs.Drawings.{drawn, frame_text, has_row, rows_per_sheet, row_above, turn_text}
-use Rattle.snoop_svg.specs.Sheets.{Plan, row_text, row_y}
+use Rattle.snoop_engine.{specs.{Chosen.is_shown, Frames.Frame, Views.frame_seen}, proofs.NumberedLemmas.numbered}
+use Rattle.snoop_svg.specs.{Drawings.{drawn, frame_text, has_row, rows_per_sheet, row_above, turn_text}, Sheets.{Plan, row_text, row_y}}
 use Rattle.snoop_svg.proofs.SeenLemmas.{seen_blank, seen_drawn, seen_start, seen_stays, stands_above, text_shown}
 use Rattle.snoop_svg.proofs.TextLemmas.{on_ok_any, on_ok_three, on_ok_two}
 use Rattle.snoop_svg.proofs.drawing.DrawingView.see.Goals as goal
