@@ -25,27 +25,29 @@ pub record IsCoherent (s : Situation) : Type 0 where
   pub kept : (core block : ℕ) → IsSome (held_by (picture_of s block) core).kept → MayLoad s.protocol (state_of s core block)
   -- each copy that may be read has in each word the value of the last store to it, or 0 where there is none
   pub current : (core block : ℕ) → MayLoad s.protocol (state_of s core block) → (held_by (picture_of s block) core).kept ≡ Some (flat_words s.log block)
-  -- so has data under way
+  -- so has data under way in each of its words
   pub carried : (block : ℕ) → block < s.shape.blocks → IfSome (data_under_way (picture_of s block).transaction) (λ words. words ≡ flat_words s.log block)
-  -- and so has memory, where no core may write the block and no data is under way
+  -- and so has memory, where no core may write the block and no data of it is under way
   pub memory : (block : ℕ) → block < s.shape.blocks → ((core : ℕ) → ¬ MayStore s.protocol (state_of s core block)) → data_under_way (picture_of s block).transaction ≡ None → (picture_of s block).memory.value ≡ flat_words s.log block
-  -- memory has that too where a core holds the block in E or EI_A: the copy is clean
+  -- memory has these values too where a core holds the block in E or EI_A: the copy is clean
   pub clean : (core block : ℕ) → (state_of s core block ≡ E) ⊎ (state_of s core block ≡ EiA) → (picture_of s block).memory.value ≡ flat_words s.log block
   -- a block's open transaction is of this block, and its requestor is a core of the machine; so is its sender, where that isn't memory
   pub opened : (block : ℕ) → IfSome (picture_of s block).transaction (λ transaction. (transaction.block ≡ block) × (transaction.core < s.shape.cores) × IfSome transaction.from (λ sender. sender < s.shape.cores))
-  -- an operation waits exactly where one has missed: a load or a store, as the state says
+  -- an operation waits exactly where one was issued and is not yet performed: a load or a store, as the state says
   pub waiting : (core block : ℕ) → option_map (λ access. request_for access.op) (held_by (picture_of s block) core).waiting ≡ missed_request (state_of s core block)
   -- a core is in IS_D exactly where it is the requestor of the block's open GetS, and in IM_D or SM_D exactly where it is that of the block's open GetM
   pub awaited : (core block : ℕ) (request : Request) → (awaited_request (state_of s core block) ≡ Some request) ↔ (HasOpen s core block request × (request ≢ PutM))
-  -- each core's queue has the blocks on which it waits to be ordered, each once
+  -- each core's queue has the blocks for which its request is not yet ordered, each once
   pub queued : (core block : ℕ) → IsInQueue s core block
   -- an operation is stalled only where its core's own request for the block waits, or is open and no PutM
   pub stalls : (core block word : ℕ) (asking : Op) (state : CacheState) → Refuses s (Ask core block word asking) (Stalled state) → (request : Request) × (Waits s core block request ⊎ (HasOpen s core block request × (request ≢ PutM)))
   -- an eviction that is answered Gone or Absent leaves the core with nothing of the block
   pub gone : (core block word : ℕ) (answer : Reply) (new : Situation) → (answer ≡ Gone) ⊎ (answer ≡ Absent) → MoveOn block s (Ask core block word Evict) answer new → held_by (picture_of new block) core ≡ nothing_held
-  -- no step is stuck at an impossible cell: each that is not refused is a move, an Order's on the first block of its core's queue
+  -- a core whose PutM is open keeps nothing of the block
+  pub given_up : (core block : ℕ) → HasOpen s core block PutM → (held_by (picture_of s block) core).kept ≡ None
+  -- no step is stuck at an impossible cell: each that has no cause to be refused has a move, an Order on the first block of its core's queue
   pub moves : (step : Step) → ((cause : Refused) → ¬ Refuses s step cause) → (answer : Reply) × ((new : Situation) × FirstMove s step answer new)
-  -- so is an Order of a waiting request of any free block: each controller takes its row for it, and exactly one sends
+  -- so has an Order of a waiting request of any free block: each controller takes its row for it, and exactly one sends
   pub orders : (core block : ℕ) (request : Request) → CanOrder s core block request → (new : Situation) × Orders s core block request new
   -- each Order that is taken next, of any block, is a line of the table of senders, `lines_of`
   pub by_table : (core block : ℕ) (request : Request) (new : Situation) (made : Orders s core block request new) → IsSenderLine s.protocol (picture_of s block) core request made.from made.payload made.next.memory.state
@@ -60,5 +62,5 @@ pub record IsCoherentRun (protocol : Protocol) (shape : Extent) (steps : List St
   pub coherent : IsCoherent s
   -- the loads and stores in the history and those that wait are exactly those whose Asks were taken, each as often
   pub once : Once steps outcomes s
-  -- each step adds to the history what its outcome tells, and its reply is one that it may have: a load's has the value that stands there
+  -- each step adds to the history what its outcome tells, and its reply is one that it may have: that of a load that hits has the value that stands there
   pub told : RunBy Tells [] steps outcomes s.log

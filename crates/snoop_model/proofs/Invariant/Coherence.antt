@@ -1,5 +1,5 @@
 -- What the invariant says of a situation: one writer, current copies and memory, all rows, one sender.
-use Rattle.snoop_model.{proofs.{Lists.Facts.if_some, Tables.Rows.hit_keeps}, specs.Moves.LookUps.{HasRow, HasMemRow, ConsultsCache, ConsultsMemory, FindsRows}}
+use Rattle.snoop_model.{proofs.{Lists.Facts.{if_some, is_none}, Tables.Rows.hit_keeps}, specs.Moves.LookUps.{HasRow, HasMemRow, ConsultsCache, ConsultsMemory, FindsRows}}
 use Rattle.snoop_model.proofs.Common.{arith, arrival, arrival_at_memory, Ask, asked, awaited_request, BlockInvariant, both_ways, CacheEvent, CacheState, CanOrder, carries_value, Cell, cond_both, data_under_way, eq-eqb, false, false_from_ne_true, flat_words, FollowsSenderTable, ForSome, get_or_past, GetS, HasOpen, held_by, IfSome, Invariant, is_put_m, is_some, IsSome, IsSomeAnd, IsWellKept, IsWithin, keeps, length, Line, List, MemEvent, ne_eqb, None, none-some, nothing_held, nothing_there, Op, Open, Option, Order, OrdersFollowSenderTable, owns, Picture, picture_of, Protocol, PutM, refl, Request, Respond, seen_by, Situation, Some, state_of, Step, sym, talk_of, true, waiting_request, Waits, ℕ, ◌<◌, ◌↔◌, ◌∙◌, ◌≡◌, ◌≢◌, ◌≤◌}
 use Rattle.snoop_trace.specs.declared.step.Op.TheVariants as op
 use Rattle.snoop_rules.specs.declared.names.CacheState.TheVariants as state
@@ -119,8 +119,16 @@ module _ (s : Situation) (g : Invariant s) where
     λ open_get.
         let (o, is) = open_get.0 in
         let good = g.blocks block (opened_within block o is.0) in
-        (fit_rule _ _ _ _ _ (good.states core (rw (← is.1) (good.requestor_in o is.0)))).1.1 q (rw (is.0, is.1, eq-eqb core core refl, is.2) refl) (not_put q open_get.1),
+        ((fit_rule _ _ _ _ _ (good.states core (rw (← is.1) (good.requestor_in o is.0)))).1.1 q (rw (is.0, is.1, eq-eqb core core refl, is.2) refl)).0 (not_put q open_get.1),
   )
+
+  -- a core whose PutM is open keeps nothing
+  pub put_gives_up : (core block : ℕ) → HasOpen s core block PutM → (held_by (picture_of s block) core).kept ≡ None
+  put_gives_up core block (o, is) =
+      let good = g.blocks block (opened_within block o is.0) in
+      let there : core < s.shape.cores = rw (← is.1) (good.requestor_in o is.0) in
+      let gone = ((fit_rule _ _ _ _ _ (good.states core there)).1.1 PutM (rw (is.0, is.1, eq-eqb core core refl, is.2) refl)).1 refl in
+      is_none _ ((good.proper core there).kept ∙ gone)
 
   -- a core that waits is within the shape, and so is its block
   pub waits_within : (core block : ℕ) (q : Request) → Waits s core block q → IsWithin s core block

@@ -4,7 +4,7 @@ use Rattle.snoop_trace.specs.declared.step.Op.TheVariants as op
 use Rattle.snoop_rules.specs.declared.names.CacheAction.TheVariants as action
 use Rattle.snoop_history.specs.declared.items.Item.TheVariants as item
 use Rattle.snoop_history.proofs.Legal.{flat-grows, legal-grows}
-use Rattle.snoop_model.proofs.{Lists.{Writes.each_set, Facts.replicated}, OneBlock.OfBlocks.{changed, in_pictures, each_picture, shaped_after}}
+use Rattle.snoop_model.proofs.{Lists.{Writes.each_set, Facts.{replicated, is_none}}, OneBlock.OfBlocks.{changed, in_pictures, each_picture, shaped_after}}
 use Rattle.snoop_model.proofs.OneBlock.{Facts.{each_held, did_in, operations_moved, performed_so, flat_after, IsLawful}, AskStep.ask_keeps}
 use Rattle.snoop_model.proofs.{OneBlock.{OrderStep.order_keeps, RespondStep.respond_keeps}, Lines.Answered.{by_request, arrives_length, still_waiting}}
 use Rattle.snoop_trace.specs.declared.protocol.Protocol.TheVariants as protocol
@@ -178,15 +178,10 @@ pub nothing_waits : (waiting : Option Access) → option_map (λ access. request
 nothing_waits None h = refl
 nothing_waits (Some access) h = cc
 
--- where no words are kept
-pub nothing_kept : (kept : Option Data) → is_some kept ≡ false → kept ≡ None
-nothing_kept None h = refl
-nothing_kept (Some words) h = cc
-
 -- a line in I holds nothing
 pub idle_line : (line : Line) → IsProper line → line.state ≡ I → line ≡ nothing_held
 idle_line line proper idle =
-    let kept = nothing_kept line.kept (proper.kept ∙ ap keeps idle) in
+    let kept = is_none line.kept (proper.kept ∙ ap keeps idle) in
     let waiting = nothing_waits line.waiting (proper.waiting ∙ ap missed_request idle) in
     λ i. record { state = idle i; kept = kept i; waiting = waiting i }
 

@@ -6,7 +6,7 @@ use Rattle.snoop_rules.specs.declared.names.CacheAction.TheVariants as action
 use Rattle.snoop_model.{specs.{Coherent.IsCoherent, Runs.Safe.IsSafe, Invariant.MachineKeeps.{AreOnSenderLines, MachineKeeps}}, proofs.Lists.Facts.if_some}
 use Rattle.snoop_model.proofs.{Tables.{Rows.{action_rule, IsProper-drop}, SentBy.sends_is, RespondTests.settled_so}, Queues.Moves.{on_kept, starts_well}}
 use Rattle.snoop_model.proofs.{OneBlock.{AfterMoves.{ask_line, respond_here}, OfBlocks.{in_pictures, each_picture}}, Runs.{Along.kept_along, GoOn.moves_on}}
-use Rattle.snoop_model.proofs.Invariant.Coherence.{has_one_writer, kept_read, readers_current, data_current, memory_current, names_its_block, data_awaited, each_line, held_within, finds_rows, orders_follow_sender_table}
+use Rattle.snoop_model.proofs.Invariant.Coherence.{has_one_writer, kept_read, readers_current, data_current, memory_current, names_its_block, data_awaited, put_gives_up, each_line, held_within, finds_rows, orders_follow_sender_table}
 use Rattle.snoop_model.proofs.Invariant.Runs.{reset_invariant, reset_open, nothing_proper, idle_line, goes_kept, word_flat, move_keeps}
 use Rattle.snoop_model.proofs.{Steps.GoesNext.order_made, Turns.Laws.{stall_busy, busy_cases}}
 
@@ -128,6 +128,7 @@ is_coherent s g on_lines well_kept = record {
   queued = well_kept.queued;
   stalls = stall_waits s g well_kept;
   gone = gone_leaves s g;
+  given_up = put_gives_up s g;
 }
 
 pub is_safe : (s : Situation) → MachineKeeps s → IsSafe s

@@ -40,12 +40,12 @@ pub is_hit-true : (a : CacheAction) → is_hit a ≡ true → a ≡ action.Hit
 is_hit-true action.Hit h = refl
 is_hit-true _ h = cc
 
--- a core whose state fits may store where it owns the block, and load where it keeps words, and after its own GetS or GetM it awaits the data
+-- a core whose state fits may store where it owns the block, and load where it keeps words, and after its own GetS or GetM it awaits the data; after its own PutM it keeps nothing
 abbrev every_fit : Tested
 every_fit = each_protocol λ p. each_bool λ shared. each_option all_requests all_requests-at λ w. each_fitting p shared w λ s owns.
     provided owns (λ _. found (cell_of p s event.Store) (λ row. holds (is_hit row.action)))
     also provided (keeps s) (λ _. found (cell_of p s event.Load) (λ row. holds (is_hit row.action)))
-    also given w (λ q. unless (is_put_m q) (λ _. equal requests tt (awaited_request s) (Some q)))
+    also given w (λ q. unless (is_put_m q) (λ _. equal requests tt (awaited_request s) (Some q)) also provided (is_put_m q) (λ _. fails (keeps s)))
 
 pub fit_rule : every_fit.claim
 unfolding all_protocols all_states all_requests fits is_owner is_sharer is_clean wait_fits in_protocol same

@@ -80,13 +80,17 @@ is_clean state.E = true
 is_clean state.EiA = true
 is_clean _ = false
 
--- the state waits for data exactly where the core's own open request is this GetS or GetM
+-- the state waits for data exactly where the core's own open request is this GetS or GetM; while its PutM is open the core has given the block up, and may have asked for it anew
 unfoldable pub wait_fits : Option Request → CacheState → Bool
 wait_fits (Some GetS) state.IsD = true
 wait_fits (Some GetS) _ = false
 wait_fits (Some GetM) state.ImD = true
 wait_fits (Some GetM) state.SmD = true
 wait_fits (Some GetM) _ = false
+wait_fits (Some PutM) state.I = true
+wait_fits (Some PutM) state.IsAd = true
+wait_fits (Some PutM) state.ImAd = true
+wait_fits (Some PutM) _ = false
 wait_fits _ state.IsD = false
 wait_fits _ state.ImD = false
 wait_fits _ state.SmD = false

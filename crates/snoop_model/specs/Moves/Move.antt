@@ -30,7 +30,7 @@ abbrev pub is_load : Op → Bool
 is_load op.Load = true
 is_load _ = false
 
--- an operation on a word as the load or store that it is; an eviction is none
+-- an operation on this word as an access; an eviction is none
 abbrev pub as_access : ℕ → Op → Option Access
 as_access word op.Evict = None
 as_access word asking = Some (record { word = word; op = asking })
@@ -95,7 +95,7 @@ abbrev pub written : MemAction → Data → Data → Data
 written mem_action.Write value before = value
 written _ value before = before
 
--- what memory does with the message of a request's transaction, and its state then: it takes that of a PutM, and another's where it waits for one; else it does nothing and stays
+-- what memory does with the message of a request's transaction, and its next state: it takes that of a PutM, and another's where it waits for one; else it does nothing and stays
 abbrev pub Settles : Protocol → Request → Payload → MemState → MemAction → MemState → Type 0
 Settles protocol request payload old act new =
     MatchBool (takes_payload request old)
@@ -176,7 +176,7 @@ pub record Responds (old : Situation) (block : ℕ) (closing : Open) (did : Opti
     log = old.log ++ item.Came (came_of closing) did ∷ [];
   }
 
--- an Ask on this block, of a core and a word that there are: an Evict in I, or one that takes a row
+-- an Ask on this block, of a core that exists, and of a word that does if it loads or stores: an Evict in I, or one that takes a row
 pub record AskMove (block : ℕ) (old : Situation) (core on word : ℕ) (asking : Op) (answer : Reply) (new : Situation) : Type 0 where
   pub on_block : on ≡ block
   pub within : IsWithin old core block

@@ -10,7 +10,7 @@ use Rattle.snoop_model.specs.{Pictures.Situation.{Situation, picture_of, state_o
 abbrev pub WaitsOnNone : Situation → ℕ → Type 0
 WaitsOnNone s core = (block : ℕ) (request : Request) → ¬ Waits s core block request
 
--- the step is refused for this cause, the first that holds; out of memory is none of them
+-- the step may be refused for this cause, the first that holds; out of memory is none of them
 abbrev pub Refuses : Situation → Step → Refused → Type 0
 Refuses s (Ask core block word asking) NoCore = s.shape.cores ≤ core
 Refuses s (Ask core block word asking) NoBlock = (core < s.shape.cores) × ((s.shape.blocks ≤ block) ⊎ (¬ HasWord s.shape word asking))

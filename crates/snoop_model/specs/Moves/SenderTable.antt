@@ -8,7 +8,7 @@ use Rattle.snoop_bus.specs.Traffic.{Open}
 use Rattle.snoop_model.specs.{declared.replies.Reply.Reply, Pictures.{Picture.{Picture, held_by}, Situation.{Situation, picture_of, CanOrder}}}
 use Rattle.snoop_model.specs.{Moves.Move.{TakesMemRow, Settles, MoveOn}, Pictures.Sends.IsOnlySender}
 
--- the core's request is met as a line of the table says: from memory's state and the sender's before it, to memory's state after it, from which memory's row for the payload, where memory takes it, leads to `done`
+-- the core's request is met as a line of the table says: from memory's state and the sender's before it, to memory's state after it, from which memory's row for the payload leads to `done` where memory takes it; else that is `done`
 pub record IsSenderLine (protocol : Protocol) (before : Picture) (core : ℕ) (request : Request) (from : Option ℕ) (payload : Payload) (next : MemState) : Type 0 where
   pub done : MemState
   pub line : Contains (lines_of protocol request before.memory.state) (sender_of core (λ k. (held_by before k).state) from, payload, next, done)

@@ -1,4 +1,4 @@
--- Every load and store stands once in the history, or still waits.
+-- Every load and store that was taken stands once in the history, or still waits.
 -- Source: this project's profile.
 use Rattle.std.specs.Prelude.{◌≡◌, ℕ, ◌&&◌, ◌==◌, List, [], ◌∷◌, ◌++◌, map, filter, filter_map, Option, None, option_to_list, Result, Ok, Err, if◌then◌else◌}
 use Rattle.std.specs.List.Sorted.{IsPermutation}
