@@ -126,8 +126,7 @@ What only the tables and the moves below say, and no clause:
 - which operations stall while their core's request waits or is open, and why else a step is
   refused;
 - whether a response performs an operation;
-- whether an eviction is answered Gone, Absent or by a request, and that a core gives the block up
-  when its PutM is ordered (under MSI; under MESI a table that keeps it there breaks a clause);
+- whether an eviction is answered Gone, Absent or by a request;
 - that E is ever reached;
 - in which order the blocks stand in a queue;
 - which block an Order is of in the history, and that the request, payload and sender which are
