@@ -66,27 +66,27 @@ that is clean and the only one. Each cache has a controller, and so has memory, 
 A machine begins at **reset**, with empty caches and a memory of 0, and takes **steps** of three
 kinds. At an **Ask** a core asks its cache to load, to store or to give a block up. A load or store
 **hits** where the cache may do it at once, and misses elsewhere. Where it misses and is not
-stalled, and where a block in E or M is given up, the cache issues a request, which waits in the
-core's queue; a load or store waits until its data comes. A block in S is dropped silently, with no
-request. While the core's request for a block waits or its transaction is open, the cache may refuse
-a further operation on that block, which is a stall. An **Order** puts a waiting request on the bus:
-all controllers see it, one of them sends a message, and the block has an open **transaction**,
-whose **requestor** is the core of the request. A **Respond** brings the message, with data or
-without, to the requestor, to memory or to both, and closes the transaction; a block has one at a
-time. A step is taken, with a reply, or refused for a cause; a refused step changes nothing. The
-reply or the cause is its **outcome**.
+stalled, and where a block in E or M is to be given up, the cache issues a request, which waits in
+the core's queue; a load or store waits until its data comes. A block in S is dropped silently, with
+no request. While the core's request for a block waits or its transaction is open, the cache may
+refuse a further operation on that block, which is a stall. An **Order** puts a waiting request on
+the bus: all controllers see it, one of them sends a message, and the block has an open
+**transaction**, whose **requestor** is the core of the request. A **Respond** brings the message,
+with data or without, to the requestor, to memory or to both, and closes the transaction; a block
+has at most one at a time. A step is taken, with a reply, or refused for a cause; a refused step
+changes nothing. The reply or the cause is its **outcome**.
 
 A **situation** is all that is seen of a machine: its protocol and shape (how many cores and blocks
 it has, and how large a block is); of each block its **picture**; each core's queue; and the
 **log**, the history of what was done, whose items are operations that hit, ordered requests, and
 responses with what they performed. A picture has a line for each core (its state, the words that it
-keeps, the operation that waits), memory's line, and the open transaction, if any. Flat memory is
-what the stores of a history leave. A core may load a block where its table has a hit for a load,
-and store where it has one for a store.
+keeps, the operation that waits, if any), memory's line, and the open transaction, if any. Flat
+memory is what the stores of a history leave in a memory of 0. A core may load a block where the
+table has a hit for a load in the core's state, and store where it has one for a store.
 
-The order that is meant is that of performance, at a hit or with the data that came, and not that of
-asking: a load may be performed before its own core's earlier store to the same word, if the core
-does not wait for the store.
+The history's order is that of performance, at a hit or with the data that came, and not that of
+asking: a load may be performed before a store to the same word that its core asked for earlier, if
+the core does not wait for the store.
 
 The prover of the Rattle toolchain has checked the theorem, and docs/PROVED.md says what is trusted.
 
@@ -98,44 +98,48 @@ The prover of the Rattle toolchain has checked the theorem, and docs/PROVED.md s
 {records}
 ```
 
-So it is about every list of steps that a machine takes from reset, in any order, and about the
+So it is about every list of steps put to a machine from reset, in any order, and about the
 situation where they lead; the first steps of a run are a run, so it is about each situation on the
 way too. Each step is taken or refused, an Order may take any block on which its core waits and that
 has no open transaction, and any step may be refused as out of memory. An Order is atomic: all
 caches and memory move at once, each by its row of the tables, and the block's transaction is open
 until its Respond.
 
-While a core's store to a block waits for its request to be ordered, or for data, a load of the
+While a core's store to a block in S waits for its request to be ordered, or for data, a load of the
 block may hit, and reads what was there before the store. To read its own store, a core must wait
-until it is performed; the machine does not enforce this. A core's hits stand in the order of their
-Asks, by `told`; those that it makes while another operation of its own waits, on this block or on
-another, stand before that one, if it is ever performed; and of two that wait on different blocks
-either may come first. Nothing is said of time, nor that a request is ever ordered or answered: an
-operation that is not lost may wait for ever. But there is no deadlock, out of memory aside: by
-`moves` and `queued` an open transaction can be answered, and once none is open the head of any
-queue can be ordered; an operation waits only where its request is in the queue (`waiting`,
-`queued`) or its transaction is open (`awaited`). By `stalls` an operation is stalled only while its
-core's own request for the block waits, or is open and no PutM.
+until it is performed. A core's hits stand in the order of their Asks, by `told`; those that it
+makes while another operation of its own waits, on this block or on another, stand before that one,
+if it is ever performed; and of two that wait on different blocks either may come first. Nothing is
+said of time, nor that a request is ever ordered or answered: an operation that is not lost may wait
+for ever. But there is no deadlock, out of memory aside: by `moves` an open transaction can be
+answered, and by `orders` any waiting request of a free block can be ordered; an operation waits
+only where its request is in the queue (`waiting`, `queued`) or its transaction is open (`awaited`).
+By `stalls` an operation is stalled only while its core's own request for the block waits, or is
+open and no PutM.
 
-A step is "not refused", in `moves`, where no cause of `Refuses` holds. Where one holds it may be
-refused; an Order of a core whose first block has an open transaction may be taken too, of another
-block on which the core waits.
+By `moves` each step for which no cause of `Refuses` holds has a move. Where a cause holds, the step
+may be refused; an Order of a core whose first block has an open transaction may be taken as well,
+of another free block on which the core waits.
 
-What only the tables and the moves below say, and no clause:
+A run is made of the moves below, so what they and the tables say of a step holds of each step of a
+run. No clause says again:
 
+- whether a load or store hits or is issued, and whether an eviction is answered Gone, Absent or by
+  a request;
 - which operations stall while their core's request waits or is open, and why else a step is
   refused;
-- whether a response performs an operation;
-- whether an eviction is answered Gone, Absent or by a request;
-- that E is ever reached;
-- in which order the blocks stand in a queue;
-- which block an Order is of in the history, and that the request, payload and sender which are
-  replied are those that waited or were open. `told` says that the history has what was replied,
-  that a response is of the block of its Respond, and that the operation which it performed is its
-  requestor's, on that block, and no hit. Which operation that is, and a load's value, follow from
-  `legal` and from `once`, of this run and of each of its beginnings;
-- who takes a message: the target that a row names is not looked at. Memory takes the message of
-  every PutM, and that of another request where its state waits for one (`takes_payload`);
+- to which states caches go, so how long a copy lasts, and that a state, as E, is ever reached;
+- that a step leaves other blocks as they were, and at an Ask other cores;
+- that an Order opens the transaction of the request that it took, and in which order the blocks
+  stand in a queue;
+- whether a response performs an operation, and that the requestor and request which it has in the
+  history are those of the open transaction. `told` says that the history has what was replied, that
+  a response is of the block of its Respond, and that the operation which it performed is, on that
+  block, of the requestor that the history has, and no hit. Which of that core's operations it is,
+  and a load's value, follow from `legal` and from `once`, of this run and of each of its
+  beginnings;
+- that the requestor takes the message of each GetS and GetM, and no cache that of a PutM. The
+  target that a row names is not looked at; of memory, `on_table` says its state;
 - that the lines of the table of senders are all reached.
 
 That the code takes such steps and no others is proved of `Machine::step` and `run_steps`
@@ -150,20 +154,22 @@ snake_case (`flat`), and `f a b` is `f` of a and b. A definition begins with the
 arguments and of what it is; `Type 0` says that it is a fact or a type. Below stands what it means,
 case by case, the first that fits, with `_` for any value. A record of facts holds where all of them
 do; a field that is no fact, as `done` of `IsSenderLine`, is a value that has to exist.
-`record s {{ .. }}` is s with these fields; with no `s` all of them stand there. `x.log` is a field.
+`record s {{ .. }}` is s with these fields; with no `s` all of them stand there. `x.log` is a field,
+and binds before `f a`. In a case a small letter or word fits any value, as `_` does.
 `{{A : Type 0}}` is a type that follows from the other arguments. `--` begins a comment, `where` the
 parts of a record or a type. `declared.` stands before a type as the code declares it. A member of a
 type may stand with a short name of its type before it, as `op.Load`, `state.ImAd`, `event.Data`,
 `action.Hit`, `mem.IorS`, `mem_event.GetS`, `payload.Data`, `item.Did` or `reply.Hit` (a capital
 after the dot; a field has none), and what it carries follows it in order, as in
-`Ask core block word op`; `Nothing`, or `mem_action.None`, is a controller's action `None`. `data`
-begins a type by its members. `∷` and `++` read from the right; they bind more strongly than `≡`,
-this than `×` and `⊎`, and these than `→`. In a test `==` and `<` bind more strongly than `&&`. Some
-words name several things, told apart by where they stand: `Data`, say, is the words of a block, a
-payload and an event, `I`, `S` and `M` are states of caches and of memory, `Load`, `Store` and
-`Evict` operations and events, `GetS`, `GetM` and `PutM` requests and events, `Hit` and `Came`
-several kinds of thing, `Requestor` and `Memory` senders and targets, `taken` a function and a
-field, and a line is a cache's, memory's or one of a table. From a row that is taken at an Order
+`Ask core block word asking`; `Nothing`, or `mem_action.None`, is a controller's action `None`.
+`data` begins a type by its members. `∷`, `++`, `×`, `⊎` and `→` read from the right. `∷` and `++`
+bind more strongly than `≡`, `≢`, `<` and `≤`, these than `×` and `⊎`, and these than `→`; `==`
+binds more strongly than `&&`. `(x : T) ×`, `(x : T) →` and `λ x.` reach to the end of their
+brackets. Some words name several things, told apart by where they stand: `Data`, say, is the words
+of a block, a payload and an event, `I`, `S` and `M` are states of caches and of memory, `Load`,
+`Store` and `Evict` operations and events, `GetS`, `GetM` and `PutM` requests and events, `Hit` and
+`Came` several kinds of thing, `Requestor` and `Memory` senders and targets, `taken` a function and
+a field, and a line is a cache's, memory's or one of a table. From a row that is taken at an Order
 only the next state and a Send are used, and from memory's row at a Respond only the next state and
 a Write. States are printed with underscores elsewhere: `ImAd` is IM_AD. A block is free where no
 transaction is open on it, a copy clean where memory has the same words, and what a PutM is for is a
@@ -173,12 +179,14 @@ about Orders of any waiting request. What the types' comments say of texts is in
 `(a, b)` is a pair, `(a, b, c)` three and so on. Between facts `A × B` is "A and B", between types
 it is their pairs; `(x : T) × P` "there is an x with P" (`(x y : T)` has two of one type),
 `(x : T) → P` "P for every x" (before one arrow there may be several such), `A → B` "if A then B",
-between types the functions from A to B, `¬ A` "not A", `⊥` what never holds, and `λ x. ..` a
-function of x.
+between types the functions from A to B; a fact may have a name, as in `(made : Orders ..) → ..`, by
+whose fields what it says exists can be spoken of; `¬ A` "not A", `⊥` what never holds, and
+`λ x. ..` a function of x.
 
 Look-ups have a default: outside a machine's shape a core holds nothing (state I), no transaction is
-open, and memory is in IorS with words of 0; the queue of such a core is empty. A block has up to 64
-words. How many bytes a block has is part of a shape, and no definition looks at it.
+open, and memory is in IorS with words of 0; the queue of such a core is empty. A block has 64
+places for words; an operation on a word past them is refused. How many bytes a block has is part of
+a shape, and no definition looks at it.
 
 | Written | Means |
 |---|---|
