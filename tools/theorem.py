@@ -117,6 +117,8 @@ only where its request is in the queue (`waiting`, `queued`) or its transaction 
 By `stalls` an operation is stalled only while its core's own request for the block waits, or is
 open and no PutM.
 
+`given_up` is about words alone: a core whose PutM is open may have asked for the block anew.
+
 By `moves` each step for which no cause of `Refuses` holds has a move. Where a cause holds, the step
 may be refused; an Order of a core whose first block has an open transaction may be taken as well,
 of another free block on which the core waits.
