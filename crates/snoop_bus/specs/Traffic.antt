@@ -1,4 +1,4 @@
--- What a bus holds: open transactions, and the requests that wait.
+-- What a bus holds: each core's queue of requests, and each block's open transaction.
 -- Source: "A Primer on Memory Consistency and Cache Coherence", 2nd edition, chapter 7, system model: requests of a core are ordered
 -- in the order of issue, and transactions are atomic, one at a time for each block.
 use Rattle.std.specs.Prelude.{◌≡◌, ℕ, ◌+◌, ◌<◌, List, [], drop, All, Option, Some, None, slice_get, slice_set, slice_index_or}

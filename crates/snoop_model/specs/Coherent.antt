@@ -1,15 +1,21 @@
 -- Coherence: what holds after any steps that a machine at reset takes or refuses, in any order.
 -- Source: chapters 2 and 7 of "A Primer on Memory Consistency and Cache Coherence", 2nd edition; the rest is this project's profile.
-use Rattle.std.specs.Prelude.{◌≡◌, ◌≢◌, ◌↔◌, ◌⊎◌, ◌<◌, ℕ, List, [], All, Some, None, Result, IfSome, IsSome, option_map}
+use Rattle.std.specs.Prelude.{◌≡◌, ◌≢◌, ◌↔◌, ◌⊎◌, ◌<◌, ⊤, ℕ, List, [], All, Some, None, Result, IfSome, IsSome, option_map}
 use Rattle.snoop_trace.specs.{Extent.Extent, Words.IsWord, declared.step.{Op.{Op, TheVariants.Evict}, Step.{Step, TheVariants.Ask}}}
 use Rattle.snoop_trace.specs.declared.protocol.Protocol.{Protocol}
 use Rattle.snoop_rules.specs.{declared.names.{CacheState.{CacheState, TheVariants.{E, EiA}}, Request.{Request, TheVariants.PutM}}, Possible.{MayLoad, MayStore}}
 use Rattle.snoop_history.specs.History.{flat_words, operations, Legal}
-use Rattle.snoop_model.specs.{declared.replies.{Reply.{Reply, TheVariants.{Gone, Absent}}, Refused.{Refused, TheVariants.Stalled}}, Pictures.InQueue.IsInQueue}
+use Rattle.snoop_model.specs.{declared.replies.{Reply.{Reply, TheVariants.{Gone, Absent, Hit, StoreHit}}, Refused.{Refused, TheVariants.Stalled}}, Pictures.InQueue.IsInQueue}
 use Rattle.snoop_model.specs.{Pictures.{Picture.{held_by, nothing_held, data_under_way}, OneWriter.OneWriter}, Moves.Move.{IsWithin, Orders, MoveOn, FirstMove}}
 use Rattle.snoop_model.specs.{Pictures.Situation.{Situation, IsShaped, picture_of, state_of, Waits, CanOrder, HasOpen}, Moves.{Refuses.Refuses, Replies.Tells}}
 use Rattle.snoop_model.specs.{Pictures.Proper.{missed_request, request_for, awaited_request}, Moves.SenderTable.{IsSenderLine, IsOpenByTable}, Runs.Run.RunBy}
 use Rattle.snoop_model.specs.Runs.Once.{Once}
+
+-- this reply to an Ask is a hit only where the core's state may load or store
+abbrev pub HitsWhereItMay : Protocol → CacheState → Reply → Type 0
+HitsWhereItMay protocol state (Hit value) = MayLoad protocol state
+HitsWhereItMay protocol state StoreHit = MayStore protocol state
+HitsWhereItMay protocol state _ = ⊤
 
 -- a coherent machine
 pub record IsCoherent (s : Situation) : Type 0 where
@@ -17,7 +23,7 @@ pub record IsCoherent (s : Situation) : Type 0 where
   pub shaped : IsShaped s
   -- each block has one writer alone, or only readers, or neither
   pub one_writer : (block : ℕ) → OneWriter s.protocol (picture_of s block)
-  -- in the history, which has operations in the order in which they were performed, each load has the value of the last store to its word before it, or 0 where there is none, and each core's operations are numbered in order
+  -- in the history each load has the value of the last store to its word before it, or 0 where there is none, and each core's operations are numbered in order
   pub legal : Legal s.log
   -- each operation of the history is by a core, of a block and of a word that the machine has
   pub logged : All (λ did. IsWithin s did.core did.block × IsWord s.shape did.word) (operations s.log)
@@ -33,25 +39,27 @@ pub record IsCoherent (s : Situation) : Type 0 where
   pub clean : (core block : ℕ) → (state_of s core block ≡ E) ⊎ (state_of s core block ≡ EiA) → (picture_of s block).memory.value ≡ flat_words s.log block
   -- a block's open transaction is of this block, and its requestor is a core of the machine; so is its sender, where that isn't memory
   pub opened : (block : ℕ) → IfSome (picture_of s block).transaction (λ transaction. (transaction.block ≡ block) × (transaction.core < s.shape.cores) × IfSome transaction.from (λ sender. sender < s.shape.cores))
-  -- an operation waits exactly where one was issued and is not yet performed: a load or a store, as the state says
+  -- a load waits exactly in IS_AD and IS_D, a store exactly in IM_AD, IM_D, SM_AD and SM_D, and nothing in another state
   pub waiting : (core block : ℕ) → option_map (λ access. request_for access.op) (held_by (picture_of s block) core).waiting ≡ missed_request (state_of s core block)
   -- a core is in IS_D exactly where it is the requestor of the block's open GetS, and in IM_D or SM_D exactly where it is that of the block's open GetM
   pub awaited : (core block : ℕ) (request : Request) → (awaited_request (state_of s core block) ≡ Some request) ↔ (HasOpen s core block request × (request ≢ PutM))
   -- each core's queue has the blocks for which its request is not yet ordered, each once
   pub queued : (core block : ℕ) → IsInQueue s core block
-  -- an operation is stalled only where its core's own request for the block waits, or is open and no PutM
+  -- an operation may be refused as stalled only where its core's own request for the block waits, or is open and no PutM
   pub stalls : (core block word : ℕ) (asking : Op) (state : CacheState) → Refuses s (Ask core block word asking) (Stalled state) → (request : Request) × (Waits s core block request ⊎ (HasOpen s core block request × (request ≢ PutM)))
-  -- an eviction that is answered Gone or Absent leaves the core with nothing of the block
+  -- a load hits only where the core may load the block, and a store only where it may store
+  pub hits : (core block word : ℕ) (asking : Op) (answer : Reply) (new : Situation) → MoveOn block s (Ask core block word asking) answer new → HitsWhereItMay s.protocol (state_of s core block) answer
+  -- an eviction that is answered Gone or Absent leaves the core in I, with no words kept and no operation waiting
   pub gone : (core block word : ℕ) (answer : Reply) (new : Situation) → (answer ≡ Gone) ⊎ (answer ≡ Absent) → MoveOn block s (Ask core block word Evict) answer new → held_by (picture_of new block) core ≡ nothing_held
-  -- a core whose PutM is open keeps nothing of the block
+  -- a core whose PutM is open keeps no words of the block
   pub given_up : (core block : ℕ) → HasOpen s core block PutM → (held_by (picture_of s block) core).kept ≡ None
   -- no step is stuck at an impossible cell: each that has no cause to be refused has a move, an Order on the first block of its core's queue
   pub moves : (step : Step) → ((cause : Refused) → ¬ Refuses s step cause) → (answer : Reply) × ((new : Situation) × FirstMove s step answer new)
   -- so has an Order of a waiting request of any free block: each controller takes its row for it, and exactly one sends
   pub orders : (core block : ℕ) (request : Request) → CanOrder s core block request → (new : Situation) × Orders s core block request new
-  -- each Order that is taken next, of any block, is a line of the table of senders, `lines_of`
+  -- each Order that is taken next, of any block, goes by a line of the table of senders, `lines_of`
   pub by_table : (core block : ℕ) (request : Request) (new : Situation) (made : Orders s core block request new) → IsSenderLine s.protocol (picture_of s block) core request made.from made.payload made.next.memory.state
-  -- an open transaction is one that such a line of some picture gives, and a Respond taken next closes it and leaves memory as the line says
+  -- for some picture such a line gives the open transaction; a Respond taken next closes it and leaves memory in that line's last state
   pub on_table : (block : ℕ) → IfSome (picture_of s block).transaction (IsOpenByTable s block)
 
 -- what holds where these steps, with these outcomes, have led a machine of this protocol and shape from reset to this situation
@@ -62,5 +70,5 @@ pub record IsCoherentRun (protocol : Protocol) (shape : Extent) (steps : List St
   pub coherent : IsCoherent s
   -- the loads and stores in the history and those that wait are exactly those whose Asks were taken, each as often
   pub once : Once steps outcomes s
-  -- each step adds to the history what its outcome tells, and its reply is one that it may have: that of a load that hits has the value that stands there
+  -- each step adds to the history what its outcome tells, and its reply is one that it may have: a load that hits replies the value that the history has for it
   pub told : RunBy Tells [] steps outcomes s.log

@@ -3,7 +3,7 @@ use Rattle.snoop_model.proofs.Common.{Absent, moves_to, PutM, ◌≢◌, ap, ari
 use Rattle.snoop_trace.specs.declared.step.Op.TheVariants as op
 use Rattle.snoop_rules.specs.declared.names.CacheState.TheVariants as state
 use Rattle.snoop_rules.specs.declared.names.CacheAction.TheVariants as action
-use Rattle.snoop_model.{specs.{Coherent.IsCoherent, Runs.Safe.IsSafe, Invariant.MachineKeeps.{AreOnSenderLines, MachineKeeps}}, proofs.Lists.Facts.if_some}
+use Rattle.snoop_model.{specs.{Coherent.{IsCoherent, HitsWhereItMay}, Runs.Safe.IsSafe, Invariant.MachineKeeps.{AreOnSenderLines, MachineKeeps}}, proofs.Lists.Facts.if_some}
 use Rattle.snoop_model.proofs.{Tables.{Rows.{action_rule, IsProper-drop}, SentBy.sends_is, RespondTests.settled_so}, Queues.Moves.{on_kept, starts_well}}
 use Rattle.snoop_model.proofs.{OneBlock.{AfterMoves.{ask_line, respond_here}, OfBlocks.{in_pictures, each_picture}}, Runs.{Along.kept_along, GoOn.moves_on}}
 use Rattle.snoop_model.proofs.Invariant.Coherence.{has_one_writer, kept_read, readers_current, data_current, memory_current, names_its_block, data_awaited, put_gives_up, each_line, held_within, finds_rows, orders_follow_sender_table}
@@ -44,6 +44,22 @@ module _ (s : Situation) (g : Invariant s) where
         | inl waits ↦ (waits.0, inl waits.1)
         | inr awaits ↦ (awaits.0, inr ((data_awaited s g kept core block awaits.0).0 awaits.1))
       ]
+
+  -- a hit is by a row that is one
+  pub hits_may : (core block word : ℕ) (asking : Op) (answer : Reply) (new : Situation) → MoveOn block s (Ask core block word asking) answer new → HitsWhereItMay s.protocol (state_of s core block) answer
+  hits_may core block word asking answer new m = elim m.moves [
+    | inl absent ↦ rw absent.2 tt
+    | inr a ↦ by_row a.row.action a.row.next asking a.is_row a.held answer a.entry a.taken
+  ]
+    where
+      by_row : (act : CacheAction) (next : CacheState) (asking : Op) → Cell s.protocol (state_of s core block) (asked asking) act next → (held : Line) (answer : Reply) (entry : Option Item)
+          → Takes act next s.log core block word asking (held_by (picture_of s block) core) held answer entry → HitsWhereItMay s.protocol (state_of s core block) answer
+      by_row action.Hit next op.Load row held answer entry t = rw t.1.1 (next, row)
+      by_row action.Hit next (op.Store value) row held answer entry t = rw t.1.1 (next, row)
+      by_row action.Hit next op.Evict row held answer entry t = absurd t.1.0.performed
+      by_row (action.Issue request) next asking row held answer entry t = rw t.1 tt
+      by_row action.Drop next asking row held answer entry t = rw t.1 tt
+      by_row _ next asking row held answer entry t = absurd t
 
   -- an eviction that is answered Gone or Absent leaves nothing
   pub gone_leaves : (core block word : ℕ) (answer : Reply) (new : Situation) → (answer ≡ Gone) ⊎ (answer ≡ Absent) → MoveOn block s (Ask core block word op.Evict) answer new
@@ -127,6 +143,7 @@ is_coherent s g on_lines well_kept = record {
   awaited = data_awaited s g well_kept;
   queued = well_kept.queued;
   stalls = stall_waits s g well_kept;
+  hits = hits_may s g;
   gone = gone_leaves s g;
   given_up = put_gives_up s g;
 }

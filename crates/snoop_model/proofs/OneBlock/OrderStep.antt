@@ -1,7 +1,7 @@
 -- An Order finds all its rows and one sender, and keeps the invariant.
 use Rattle.snoop_model.proofs.Common.{and_from, ap, at_memory, BlockInvariant, Bool, CacheCell, carries_value, cell_of, Claims, claims_of, cond, cond_both, cond_some, eq-eqb, eqb, false, fits, held_by, inl, inr, is_put_m, is_some, keeps, length, List, MemCell, memory_cell_of, ne_eqb, None, not, Open, Option, or_cases, Orders, own, own_open, owns, Payload, Picture, picture_of, Protocol, refl, Request, same_Some, seen_by, sender_of, Sends, Situation, Some, sym, true, value_sent, waiting_request, ℕ, ◌<◌, ◌∙◌, ◌≡◌}
 use Rattle.snoop_model.proofs.{Lists.Facts.of_choice, Lines.TheSender.{IsBelow, sends_below}, Tables.{Tested.Tested, StateTests.{carries, kept_reader}}}
-use Rattle.snoop_model.proofs.Tables.{OrderTests.{end_claims, order_rule, payload_of, sends_so}, Rows.IsProper-order, SenderLines.follows_sender_table}
+use Rattle.snoop_model.proofs.Tables.{OrderTests.{end_claims, sends_rule, payload_of, sends_so}, Rows.IsProper-order, SenderLines.follows_sender_table}
 use Rattle.snoop_model.proofs.Tables.SentBy.{payload_from, sends_is, sends_row, memory_sends_row}
 use Rattle.snoop_model.proofs.OneBlock.Facts.{LineFits, by_core, carried_line, is_it, it_is, line_of, OwnerIn, owns_owned, owns_apart}
 
@@ -21,7 +21,7 @@ pub look : {p : Protocol} {flat : List ℕ} {before : Picture} (good : BlockInva
     → (c : ℕ) (q : Request) → c < length before.caches → waiting_request (held_by before c).state ≡ Some q → Looked good c q
 look {p} {flat} {before} good calm c q c_in waits =
     let (memory, is_memory, (row, is_row, (next, is_next, ends))) =
-    order_rule p before.memory.state good.claims (rw calm at good.is_claims) _ _ (rw calm at (good.states c c_in)) (owns_owned good.owner c _ good.is_owned) q waits in
+    sends_rule p before.memory.state good.claims (rw calm at good.is_claims) _ _ (rw calm at (good.states c c_in)) (owns_owned good.owner c _ good.is_owned) q waits in
     record { requestor_in = c_in; calm = calm; memory = memory; is_memory = is_memory; row = row; is_row = is_row; next = next; is_next = is_next; ends = ends }
 
 -- what an Order finds of a picture that keeps its invariant

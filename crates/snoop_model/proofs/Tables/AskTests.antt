@@ -29,12 +29,12 @@ abbrev every_ask : Tested
 every_ask = each_protocol λ p. each_bool λ shared. each_option all_requests all_requests-at λ w. each_fitting p shared w λ s ow. each_of all_events all_events-at λ e.
     given (serving e) λ _. ask_claims p shared ow w s e
 
-every_rule : every_ask.claim
+every_ask_rule : every_ask.claim
 unfolding all_protocols all_states all_requests all_events fits is_owner is_sharer is_clean wait_fits in_protocol same
-every_rule = every_ask.sound refl
+every_ask_rule = every_ask.sound refl
 
 pub ask_rule : (p : Protocol) (shared ow : Bool) (w : Option Request) (s : CacheState) (o : Op) → fits p shared ow w s ≡ true → (ask_claims p shared ow w s (asked o)).claim
-ask_rule p shared ow w s o fit = every_rule p shared w s ow fit (asked o) (request_for o) (serving-asked o)
+ask_rule p shared ow w s o fit = every_ask_rule p shared w s ow fit (asked o) (request_for o) (serving-asked o)
 
 pub is_hit-true : (a : CacheAction) → is_hit a ≡ true → a ≡ action.Hit
 is_hit-true action.Hit h = refl

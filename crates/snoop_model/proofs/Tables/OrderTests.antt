@@ -37,6 +37,6 @@ every_order = each_protocol λ p. each_memory λ m. given (claims_of p m None) �
     given (waiting_request s) λ q. found (memory_cell_of p m (at_memory q)) λ memory. found (cell_of p s (own q)) λ row.
     found (claims_of p memory.next (Some (q, payload_of row memory))) λ after. end_claims p m st s owns q memory row after
 
-pub order_rule : every_order.claim
+pub sends_rule : every_order.claim
 unfolding all_protocols all_memories all_states claims_of fits is_owner is_sharer is_clean wait_fits in_protocol same
-order_rule = every_order.sound refl
+sends_rule = every_order.sound refl

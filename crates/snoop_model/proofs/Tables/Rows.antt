@@ -70,12 +70,12 @@ order_claims s mine q n =
 abbrev every_order : Tested
 every_order = each_protocol λ p. each_of all_states all_states-at λ s. each_bool λ mine. each_request λ q. given (cell_of p s (if mine then own q else other q)) λ row. order_claims s mine q row.next
 
-every_rule : every_order.claim
+every_order_rule : every_order.claim
 unfolding all_protocols all_states all_requests same
-every_rule = every_order.sound refl
+every_order_rule = every_order.sound refl
 
 pub order_rule : (p : Protocol) (s : CacheState) (k core : ℕ) (q : Request) (a : CacheAction) (n : CacheState) → Cell p s (seen_by k core q) a n → (order_claims s (k == core) q n).claim
-order_rule p s k core q a n row = every_rule p s (k == core) q (record { action = a; next = n }) row
+order_rule p s k core q a n row = every_order_rule p s (k == core) q (record { action = a; next = n }) row
 
 module _ (p : Protocol) (s : CacheState) (e : CacheEvent) (a : CacheAction) (n : CacheState) where
   -- a fill ends all waiting and keeps a value
