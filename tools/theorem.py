@@ -126,8 +126,8 @@ of another free block on which the core waits.
 A run is made of the moves below, so what they and the tables say of a step holds of each step of a
 run. No clause says again:
 
-- whether a load or store hits or is issued, and whether an eviction is answered Gone, Absent or by
-  a request;
+- whether an eviction is answered Gone, Absent or by a request (a load or store that is taken hits
+  where `hits` says so, and else, by `told`, is issued);
 - which operations stall while their core's request waits or is open, and why else a step is
   refused;
 - to which states caches go, so how long a copy lasts, and that a state, as E, is ever reached;

@@ -1,7 +1,7 @@
 -- Coherence: what holds after any steps that a machine at reset takes or refuses, in any order.
 -- Source: chapters 2 and 7 of "A Primer on Memory Consistency and Cache Coherence", 2nd edition; the rest is this project's profile.
 use Rattle.std.specs.Prelude.{◌≡◌, ◌≢◌, ◌↔◌, ◌⊎◌, ◌<◌, ⊤, ℕ, List, [], All, Some, None, Result, IfSome, IsSome, option_map}
-use Rattle.snoop_trace.specs.{Extent.Extent, Words.IsWord, declared.step.{Op.{Op, TheVariants.Evict}, Step.{Step, TheVariants.Ask}}}
+use Rattle.snoop_trace.specs.{Extent.Extent, Words.IsWord, declared.step.{Op.{Op, TheVariants.{Load, Store, Evict}}, Step.{Step, TheVariants.Ask}}}
 use Rattle.snoop_trace.specs.declared.protocol.Protocol.{Protocol}
 use Rattle.snoop_rules.specs.{declared.names.{CacheState.{CacheState, TheVariants.{E, EiA}}, Request.{Request, TheVariants.PutM}}, Possible.{MayLoad, MayStore}}
 use Rattle.snoop_history.specs.History.{flat_words, operations, Legal}
@@ -11,11 +11,17 @@ use Rattle.snoop_model.specs.{Pictures.Situation.{Situation, IsShaped, picture_o
 use Rattle.snoop_model.specs.{Pictures.Proper.{missed_request, request_for, awaited_request}, Moves.SenderTable.{IsSenderLine, IsOpenByTable}, Runs.Run.RunBy}
 use Rattle.snoop_model.specs.Runs.Once.{Once}
 
--- this reply to an Ask is a hit only where the core's state may load or store
-abbrev pub HitsWhereItMay : Protocol → CacheState → Reply → Type 0
-HitsWhereItMay protocol state (Hit value) = MayLoad protocol state
-HitsWhereItMay protocol state StoreHit = MayStore protocol state
-HitsWhereItMay protocol state _ = ⊤
+-- a core in this state may do this at once; an eviction never hits
+abbrev pub MayHit : Protocol → CacheState → Op → Type 0
+MayHit protocol state Load = MayLoad protocol state
+MayHit protocol state (Store value) = MayStore protocol state
+MayHit protocol state Evict = ⊥
+
+-- a reply that is a hit
+abbrev pub IsHit : Reply → Type 0
+IsHit (Hit value) = ⊤
+IsHit StoreHit = ⊤
+IsHit _ = ⊥
 
 -- a coherent machine
 pub record IsCoherent (s : Situation) : Type 0 where
@@ -47,8 +53,8 @@ pub record IsCoherent (s : Situation) : Type 0 where
   pub queued : (core block : ℕ) → IsInQueue s core block
   -- an operation may be refused as stalled only where its core's own request for the block waits, or is open and no PutM
   pub stalls : (core block word : ℕ) (asking : Op) (state : CacheState) → Refuses s (Ask core block word asking) (Stalled state) → (request : Request) × (Waits s core block request ⊎ (HasOpen s core block request × (request ≢ PutM)))
-  -- a load hits only where the core may load the block, and a store only where it may store
-  pub hits : (core block word : ℕ) (asking : Op) (answer : Reply) (new : Situation) → MoveOn block s (Ask core block word asking) answer new → HitsWhereItMay s.protocol (state_of s core block) answer
+  -- an Ask that is taken hits exactly where the core may do at once what it asks
+  pub hits : (core block word : ℕ) (asking : Op) (answer : Reply) (new : Situation) → MoveOn block s (Ask core block word asking) answer new → IsHit answer ↔ MayHit s.protocol (state_of s core block) asking
   -- an eviction that is answered Gone or Absent leaves the core in I, with no words kept and no operation waiting
   pub gone : (core block word : ℕ) (answer : Reply) (new : Situation) → (answer ≡ Gone) ⊎ (answer ≡ Absent) → MoveOn block s (Ask core block word Evict) answer new → held_by (picture_of new block) core ≡ nothing_held
   -- a core whose PutM is open keeps no words of the block

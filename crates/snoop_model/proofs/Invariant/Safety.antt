@@ -1,9 +1,9 @@
 -- What every machine keeps makes it safe, and its steps keep it.
-use Rattle.snoop_model.proofs.Common.{Absent, moves_to, PutM, ◌≢◌, ap, arith, arrival_at_memory, Ask, asked, CacheAction, CacheState, Cell, Extent, flat, flat_words, Goes, Gone, HasOpen, held_by, IfSome, inl, inr, Invariant, is_clean, is_some, IsOpenByTable, IsProper, IsSenderLine, IsWellKept, Item, keeps, Line, List, MemCell, MoveOn, None, nothing_held, Op, Option, option_map, Order, Orders, Picture, picture_of, Protocol, refl, Refused, Refuses, Reply, Request, reset, Respond, Result, RunBy, same_Some, Situation, Some, Stalled, state_of, Step, sym, Takes, takes_payload, true, Waits, with_line, with_picture, word_at, ℕ, ◌<◌, ◌∙◌, ◌≡◌, ◌≤◌, ◌⊎◌}
+use Rattle.snoop_model.proofs.Common.{Absent, moves_to, PutM, ◌≢◌, ap, arith, arrival_at_memory, Ask, asked, CacheAction, CacheCell, CacheState, Cell, Extent, flat, flat_words, Goes, Gone, HasOpen, held_by, IfSome, inl, inr, Invariant, is_clean, is_some, IsOpenByTable, IsProper, IsSenderLine, IsWellKept, Item, keeps, Line, List, MemCell, MoveOn, None, nothing_held, Op, Option, option_map, Order, Orders, Picture, picture_of, Protocol, refl, Refused, Refuses, Reply, Request, reset, Respond, Result, RunBy, same_Some, Situation, Some, Stalled, state_of, Step, sym, Takes, takes_payload, true, Waits, with_line, with_picture, word_at, ℕ, ◌<◌, ◌∙◌, ◌≡◌, ◌≤◌, ◌⊎◌, ◌↔◌}
 use Rattle.snoop_trace.specs.declared.step.Op.TheVariants as op
 use Rattle.snoop_rules.specs.declared.names.CacheState.TheVariants as state
 use Rattle.snoop_rules.specs.declared.names.CacheAction.TheVariants as action
-use Rattle.snoop_model.{specs.{Coherent.{IsCoherent, HitsWhereItMay}, Runs.Safe.IsSafe, Invariant.MachineKeeps.{AreOnSenderLines, MachineKeeps}}, proofs.Lists.Facts.if_some}
+use Rattle.snoop_model.{specs.{Coherent.{IsCoherent, IsHit, MayHit}, Runs.Safe.IsSafe, Invariant.MachineKeeps.{AreOnSenderLines, MachineKeeps}}, proofs.Lists.Facts.if_some}
 use Rattle.snoop_model.proofs.{Tables.{Rows.{action_rule, IsProper-drop}, SentBy.sends_is, RespondTests.settled_so}, Queues.Moves.{on_kept, starts_well}}
 use Rattle.snoop_model.proofs.{OneBlock.{AfterMoves.{ask_line, respond_here}, OfBlocks.{in_pictures, each_picture}}, Runs.{Along.kept_along, GoOn.moves_on}}
 use Rattle.snoop_model.proofs.Invariant.Coherence.{has_one_writer, kept_read, readers_current, data_current, memory_current, names_its_block, data_awaited, put_gives_up, each_line, held_within, finds_rows, orders_follow_sender_table}
@@ -45,20 +45,25 @@ module _ (s : Situation) (g : Invariant s) where
         | inr awaits ↦ (awaits.0, inr ((data_awaited s g kept core block awaits.0).0 awaits.1))
       ]
 
-  -- a hit is by a row that is one
-  pub hits_may : (core block word : ℕ) (asking : Op) (answer : Reply) (new : Situation) → MoveOn block s (Ask core block word asking) answer new → HitsWhereItMay s.protocol (state_of s core block) answer
+  -- a hit is by a row that is one, and such a row is taken by a hit
+  pub hits_may : (core block word : ℕ) (asking : Op) (answer : Reply) (new : Situation) → MoveOn block s (Ask core block word asking) answer new → IsHit answer ↔ MayHit s.protocol (state_of s core block) asking
   hits_may core block word asking answer new m = elim m.moves [
-    | inl absent ↦ rw absent.2 tt
+    | inl absent ↦ rw (absent.0, absent.2) ((λ hit. hit), (λ may. may))
     | inr a ↦ by_row a.row.action a.row.next asking a.is_row a.held answer a.entry a.taken
   ]
     where
+      no_hit : (act : CacheAction) (next : CacheState) (asking : Op) → Cell s.protocol (state_of s core block) (asked asking) act next → act ≢ action.Hit → ¬ MayHit s.protocol (state_of s core block) asking
+      no_hit act next op.Load row other may = other (ap (λ (cell : CacheCell). cell.action) (same_Some _ _ (sym row ∙ may.1)))
+      no_hit act next (op.Store value) row other may = other (ap (λ (cell : CacheCell). cell.action) (same_Some _ _ (sym row ∙ may.1)))
+      no_hit act next op.Evict row other may = may
+
       by_row : (act : CacheAction) (next : CacheState) (asking : Op) → Cell s.protocol (state_of s core block) (asked asking) act next → (held : Line) (answer : Reply) (entry : Option Item)
-          → Takes act next s.log core block word asking (held_by (picture_of s block) core) held answer entry → HitsWhereItMay s.protocol (state_of s core block) answer
-      by_row action.Hit next op.Load row held answer entry t = rw t.1.1 (next, row)
-      by_row action.Hit next (op.Store value) row held answer entry t = rw t.1.1 (next, row)
+          → Takes act next s.log core block word asking (held_by (picture_of s block) core) held answer entry → IsHit answer ↔ MayHit s.protocol (state_of s core block) asking
+      by_row action.Hit next op.Load row held answer entry t = rw t.1.1 ((λ _. (next, row)), (λ _. tt))
+      by_row action.Hit next (op.Store value) row held answer entry t = rw t.1.1 ((λ _. (next, row)), (λ _. tt))
       by_row action.Hit next op.Evict row held answer entry t = absurd t.1.0.performed
-      by_row (action.Issue request) next asking row held answer entry t = rw t.1 tt
-      by_row action.Drop next asking row held answer entry t = rw t.1 tt
+      by_row (action.Issue request) next asking row held answer entry t = rw t.1 ((λ hit. absurd hit), (λ may. no_hit (action.Issue request) next asking row (λ is. cc) may))
+      by_row action.Drop next asking row held answer entry t = rw t.1 ((λ hit. absurd hit), (λ may. no_hit action.Drop next asking row (λ is. cc) may))
       by_row _ next asking row held answer entry t = absurd t
 
   -- an eviction that is answered Gone or Absent leaves nothing
