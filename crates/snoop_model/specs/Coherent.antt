@@ -1,27 +1,15 @@
 -- Coherence: what holds after any steps that a machine at reset takes or refuses, in any order.
 -- Source: chapters 2 and 7 of "A Primer on Memory Consistency and Cache Coherence", 2nd edition; the rest is this project's profile.
-use Rattle.std.specs.Prelude.{◌≡◌, ◌≢◌, ◌↔◌, ◌⊎◌, ◌<◌, ⊤, ℕ, List, [], All, Some, None, Result, IfSome, IsSome, option_map}
-use Rattle.snoop_trace.specs.{Extent.Extent, Words.IsWord, declared.step.{Op.{Op, TheVariants.{Load, Store, Evict}}, Step.{Step, TheVariants.Ask}}}
+use Rattle.std.specs.Prelude.{◌≡◌, ◌≢◌, ◌↔◌, ◌⊎◌, ◌<◌, ℕ, List, [], All, Some, None, Result, IfSome, IsSome, option_map}
+use Rattle.snoop_trace.specs.{Extent.Extent, Words.IsWord, declared.step.{Op.{Op, TheVariants.Evict}, Step.{Step, TheVariants.Ask}}}
 use Rattle.snoop_trace.specs.declared.protocol.Protocol.{Protocol}
 use Rattle.snoop_rules.specs.{declared.names.{CacheState.{CacheState, TheVariants.{E, EiA}}, Request.{Request, TheVariants.PutM}}, Possible.{MayLoad, MayStore}}
 use Rattle.snoop_history.specs.History.{flat_words, operations, Legal}
-use Rattle.snoop_model.specs.{declared.replies.{Reply.{Reply, TheVariants.{Gone, Absent, Hit, StoreHit}}, Refused.{Refused, TheVariants.Stalled}}, Pictures.InQueue.IsInQueue}
+use Rattle.snoop_model.specs.{declared.replies.{Reply.{Reply, TheVariants.{Gone, Absent}}, Refused.{Refused, TheVariants.Stalled}}, Pictures.InQueue.IsInQueue}
 use Rattle.snoop_model.specs.{Pictures.{Picture.{held_by, nothing_held, data_under_way}, OneWriter.OneWriter}, Moves.Move.{IsWithin, Orders, MoveOn, FirstMove}}
-use Rattle.snoop_model.specs.{Pictures.Situation.{Situation, IsShaped, picture_of, state_of, Waits, CanOrder, HasOpen}, Moves.{Refuses.Refuses, Replies.Tells}}
+use Rattle.snoop_model.specs.{Pictures.Situation.{Situation, IsShaped, picture_of, state_of, Waits, CanOrder, HasOpen}, Moves.{Refuses.Refuses, Replies.{IsHit, MayHit, Tells}}}
 use Rattle.snoop_model.specs.{Pictures.Proper.{missed_request, request_for, awaited_request}, Moves.SenderTable.{IsSenderLine, IsOpenByTable}, Runs.Run.RunBy}
 use Rattle.snoop_model.specs.Runs.Once.{Once}
-
--- a core in this state may do this at once; an eviction never hits
-abbrev pub MayHit : Protocol → CacheState → Op → Type 0
-MayHit protocol state Load = MayLoad protocol state
-MayHit protocol state (Store value) = MayStore protocol state
-MayHit protocol state Evict = ⊥
-
--- a reply that is a hit
-abbrev pub IsHit : Reply → Type 0
-IsHit (Hit value) = ⊤
-IsHit StoreHit = ⊤
-IsHit _ = ⊥
 
 -- a coherent machine
 pub record IsCoherent (s : Situation) : Type 0 where

@@ -3,7 +3,7 @@ use Rattle.snoop_model.proofs.Common.{Absent, moves_to, PutM, ◌≢◌, ap, ari
 use Rattle.snoop_trace.specs.declared.step.Op.TheVariants as op
 use Rattle.snoop_rules.specs.declared.names.CacheState.TheVariants as state
 use Rattle.snoop_rules.specs.declared.names.CacheAction.TheVariants as action
-use Rattle.snoop_model.{specs.{Coherent.{IsCoherent, IsHit, MayHit}, Runs.Safe.IsSafe, Invariant.MachineKeeps.{AreOnSenderLines, MachineKeeps}}, proofs.Lists.Facts.if_some}
+use Rattle.snoop_model.{specs.{Coherent.IsCoherent, Moves.Replies.{IsHit, MayHit}, Runs.Safe.IsSafe, Invariant.MachineKeeps.{AreOnSenderLines, MachineKeeps}}, proofs.Lists.Facts.if_some}
 use Rattle.snoop_model.proofs.{Tables.{Rows.{action_rule, IsProper-drop}, SentBy.sends_is, RespondTests.settled_so}, Queues.Moves.{on_kept, starts_well}}
 use Rattle.snoop_model.proofs.{OneBlock.{AfterMoves.{ask_line, respond_here}, OfBlocks.{in_pictures, each_picture}}, Runs.{Along.kept_along, GoOn.moves_on}}
 use Rattle.snoop_model.proofs.Invariant.Coherence.{has_one_writer, kept_read, readers_current, data_current, memory_current, names_its_block, data_awaited, put_gives_up, each_line, held_within, finds_rows, orders_follow_sender_table}
