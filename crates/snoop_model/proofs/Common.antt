@@ -9,7 +9,7 @@ pub use Rattle.std.proofs.{lemmas.List.FromFn.{fill_by_all, get_or-map-range_wit
 pub use Rattle.std.proofs.lemmas.List.Sorted.{Contains-permutation, IsPermutation-append_comm, IsPermutation-append_left, IsPermutation-append_right, IsPermutation-refl, IsPermutation-sym, IsPermutation-trans}
 pub use Rattle.std.proofs.lemmas.List.Sums.{count_by-le-length, get_or-le-sum_by, length-filter, sum_by-cons, sum_by-set, sum_by_push}
 pub use Rattle.std.proofs.lemmas.Option.{cond_some, none-some, same_Some, IfSome_then, slice_get-get_or, option_and_then_some, get_or_from_slice_get, slice_get_within}
-pub use Rattle.snoop_trace.specs.{Extent.Extent, declared.{protocol.Protocol.Protocol, step.{Op.Op, Step.{Step, TheVariants.{Ask, Order, Respond}}}}}
+pub use Rattle.snoop_trace.specs.{Extent.Extent, declared.{protocol.Protocol.Protocol, step.{Op.{Op, TheVariants.{Evict, Load, Store}}, Step.{Step, TheVariants.{Ask, Order, Respond}}}}}
 pub use Rattle.snoop_rules.specs.declared.names.{CacheState.CacheState, CacheEvent.CacheEvent, CacheAction.CacheAction, CacheCell.CacheCell, MemState.MemState}
 pub use Rattle.snoop_rules.specs.declared.names.{MemEvent.MemEvent, MemAction.MemAction, MemCell.MemCell, Request.Request, Payload.Payload, Target.Target}
 pub use Rattle.snoop_rules.specs.{declared.names.Request.TheVariants.{GetM, GetS, PutM}, Cell.{Cell, cell_of}, MemoryCell.{MemoryCell, memory_cell_of}}
@@ -36,6 +36,6 @@ unfoldable pub use Rattle.snoop_rules.proofs.{Every.{all_events, all_memories, a
 pub use Rattle.snoop_rules.proofs.Every.{all_events-at, all_memories-at, all_payloads-at, all_protocols-at, all_requests-at, all_states-at}
 pub use Rattle.std.{proofs.lemmas.Bool.Decides.{Decides-and, Decides-ltb, eqb_tells}, specs.List.Sorted.IsPermutation}
 pub use denote.Enum.Bare.{Bare, same_true, sameb}
-pub use Rattle.snoop_rules.specs.declared.names.CacheState.TheVariants.{I, ImAd, IiA, IsD}
+pub use Rattle.snoop_rules.specs.declared.names.{CacheAction.TheVariants.{Drop, FillLoad, FillStore, Hit, Issue, Stall}, CacheState.TheVariants.{E, EiA, I, ImAd, IiA, IsD}, MemAction.TheVariants.Write}
 pub use Rattle.snoop_rules.specs.contracts.names.{CacheState.the_type as states, MemState.the_type as memories, Payload.the_type as payloads, Request.the_type as requests}
 pub use Rattle.snoop_model.specs.declared.replies.Refused.TheVariants.{BusTaken, NoBlock, NoCore, NoMemory, NothingWaiting, NoTransaction, Stalled}

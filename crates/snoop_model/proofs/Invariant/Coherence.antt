@@ -1,10 +1,7 @@
 -- What the invariant says of a situation: one writer, current copies and memory, all rows, one sender.
 use Rattle.snoop_model.{proofs.{Lists.Facts.{if_some, is_none}, Tables.Rows.hit_keeps}, specs.Moves.LookUps.{HasRow, HasMemRow, ConsultsCache, ConsultsMemory, FindsRows}}
-use Rattle.snoop_model.proofs.Common.{arith, arrival, arrival_at_memory, Ask, asked, awaited_request, BlockInvariant, both_ways, CacheEvent, CacheState, CanOrder, carries_value, Cell, cond_both, data_under_way, eq-eqb, false, false_from_ne_true, flat_words, FollowsSenderTable, ForSome, get_or_past, GetS, HasOpen, held_by, IfSome, Invariant, is_put_m, is_some, IsSome, IsSomeAnd, IsWellKept, IsWithin, keeps, length, Line, List, MemEvent, ne_eqb, None, none-some, nothing_held, nothing_there, Op, Open, Option, Order, OrdersFollowSenderTable, owns, Picture, picture_of, Protocol, PutM, refl, Request, Respond, seen_by, Situation, Some, state_of, Step, sym, talk_of, true, waiting_request, Waits, ℕ, ◌<◌, ◌↔◌, ◌∙◌, ◌≡◌, ◌≢◌, ◌≤◌}
-use Rattle.snoop_trace.specs.declared.step.Op.TheVariants as op
-use Rattle.snoop_rules.specs.declared.names.CacheState.TheVariants as state
+use Rattle.snoop_model.proofs.Common.{arith, arrival, arrival_at_memory, Ask, asked, awaited_request, BlockInvariant, both_ways, CacheEvent, CacheState, CanOrder, carries_value, Cell, cond_both, data_under_way, eq-eqb, Evict, false, false_from_ne_true, flat_words, FollowsSenderTable, ForSome, get_or_past, GetS, HasOpen, held_by, Hit, I, IfSome, Invariant, is_put_m, is_some, IsSome, IsSomeAnd, IsWellKept, IsWithin, keeps, length, Line, List, MemEvent, ne_eqb, None, none-some, nothing_held, nothing_there, Op, Open, Option, Order, OrdersFollowSenderTable, owns, Picture, picture_of, Protocol, PutM, refl, Request, Respond, seen_by, Situation, Some, state_of, Step, Store, sym, talk_of, true, waiting_request, Waits, ℕ, ◌<◌, ◌↔◌, ◌∙◌, ◌≡◌, ◌≢◌, ◌≤◌}
 use Rattle.snoop_rules.specs.declared.names.CacheEvent.TheVariants as event
-use Rattle.snoop_rules.specs.declared.names.CacheAction.TheVariants as action
 use Rattle.snoop_rules.specs.Possible.{MayLoad, MayStore}
 use Rattle.snoop_rules.specs.Takers.{other as another}
 use Rattle.snoop_model.{specs.Pictures.OneWriter.OneWriter, proofs.{Tables.StateTests.{some_of, brings_data, claims_rule}, OneBlock.Facts.owned_alone}}
@@ -27,15 +24,15 @@ data_is : (found : Option Open) (value : List ℕ) → ((o : Open) → found ≡
 data_is None value carried = tt
 data_is (Some o) value carried = cond_both (carries_value o.payload) _ _ (λ found. IfSome found (λ sent. sent ≡ value)) (carried o refl) (λ none. tt)
 
-pub idle_evict : (s : CacheState) (o : Op) → is_idle_evict s (asked o) ≡ true → (o ≡ op.Evict) × (s ≡ state.I)
-idle_evict state.I op.Evict h = (refl, refl)
+pub idle_evict : (s : CacheState) (o : Op) → is_idle_evict s (asked o) ≡ true → (o ≡ Evict) × (s ≡ I)
+idle_evict I Evict h = (refl, refl)
 idle_evict _ _ h = cc
 
-nothing_asked : (p : Protocol) (o : Op) → (¬ ((o ≡ op.Evict) × (state.I ≡ state.I))) → HasRow p state.I (asked o)
-nothing_asked p op.Evict busy = absurd (busy (refl, refl))
+nothing_asked : (p : Protocol) (o : Op) → (¬ ((o ≡ Evict) × (I ≡ I))) → HasRow p I (asked o)
+nothing_asked p Evict busy = absurd (busy (refl, refl))
 nothing_asked p _ busy = (_, refl)
 
-nothing_seen : (p : Protocol) (q : Request) → HasRow p state.I (another q)
+nothing_seen : (p : Protocol) (q : Request) → HasRow p I (another q)
 nothing_seen p GetS = (_, refl)
 nothing_seen p _ = (_, refl)
 
@@ -65,13 +62,13 @@ module _ (s : Situation) (g : Invariant s) where
   pub has_one_writer : (block : ℕ) → OneWriter s.protocol (picture_of s block)
   has_one_writer block core other writes apart = (blind event.Load, blind event.Store)
     where
-      blind : (e : CacheEvent) → (n : CacheState) × Cell s.protocol (state_of s other block) e action.Hit n → ⊥
+      blind : (e : CacheEvent) → (n : CacheState) × Cell s.protocol (state_of s other block) e Hit n → ⊥
       blind e hits =
           let keeping = (hit_keeps s.protocol (state_of s other block) e hits.0 hits.1).0 in
           let within = held_within core block (λ x. keeps x.state ≡ true) (λ h. cc) (hit_keeps s.protocol (state_of s core block) event.Store writes.0 writes.1).0 in
           let good = g.blocks block within.1 in
-          let (_, rule) = ask_rule _ _ _ _ _ (op.Store 0) (good.states core within.0) in
-          let (owning, _) = (rule (record { action = action.Hit; next = writes.0 }) writes.1).1.1 refl in
+          let (_, rule) = ask_rule _ _ _ _ _ (Store 0) (good.states core within.0) in
+          let (owning, _) = (rule (record { action = Hit; next = writes.0 }) writes.1).1.1 refl in
           both_ways _ ((owned_alone good core owning).2 other (held_within other block (λ x. keeps x.state ≡ true) (λ h. cc) keeping).0 apart) keeping
 
   -- each reader keeps flat memory's value
@@ -150,7 +147,7 @@ module _ (s : Situation) (g : Invariant s) where
 
   finds_cache : (step : Step) (core block : ℕ) (event : Option CacheEvent) → ConsultsCache s step core block event → IsSomeAnd event (HasRow s.protocol (state_of s core block))
   finds_cache (Ask asker on word asking) core block event looks =
-      rw looks.3 (each_line core block (λ x. (¬ ((asking ≡ op.Evict) × (x.state ≡ state.I))) → HasRow s.protocol x.state (asked asking))
+      rw looks.3 (each_line core block (λ x. (¬ ((asking ≡ Evict) × (x.state ≡ I))) → HasRow s.protocol x.state (asked asking))
       (λ within busy.
       let held = state_of s core block in
       let not_idle = false_from_ne_true (is_idle_evict held (asked asking)) (λ idle. busy (idle_evict held asking idle)) in

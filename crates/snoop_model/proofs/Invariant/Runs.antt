@@ -1,7 +1,5 @@
 -- The invariant holds at reset, and after each move: flat memory and the log first, then the block, and what waits.
-use Rattle.snoop_model.proofs.Common.{Data, is_some, keeps, missed_request, [], Access, after_order, All, All-append, All-cons, All-nil, ap, append-nil, arith, Ask, BlockInvariant, Bool, CacheAction, CacheState, came_of, claims_of, cond, Did, eqb_tells, Err, Extent, false, fill_by_all, first_memory, fits, flat, flat_words, get_or-map-range_with_len, get_or-replicate, get_or-set_other, get_or-set_same, get_or_past, Goes, HasWord, held_by, I, IfSome, IfSome_then, if◌then◌else◌, in_protocol, inl, inr, Invariant, is_clean, is_owner, is_sharer, is_store_to, IsNext, IsProper, IsShaped, IsWithin, IsWord, Item, as_access, Legal, length, length-map-range_with_len, length-replicate, length-set, Line, List, MoveOn, next_did, NoMemory, None, none-some, not, nothing_held, nothing_there, Ok, Op, Open, operation_of, operations, Option, option_map, option_map_or, option_to_list, Order, Picture, picture_of, Protocol, queues_after, refl, Refused, replicate, Reply, request_for, reset, Respond, Result, same, same_Some, Situation, slice_set, Some, Step, sym, Takes, true, untouched, wait_fits, with_line, word_at, ℕ, ◌&&◌, ◌++◌, ◌<◌, ◌==◌, ◌∙◌, ◌∷◌, ◌≡◌, ◌≢◌}
-use Rattle.snoop_trace.specs.declared.step.Op.TheVariants as op
-use Rattle.snoop_rules.specs.declared.names.CacheAction.TheVariants as action
+use Rattle.snoop_model.proofs.Common.{Data, Drop, Evict, Hit, is_some, Issue, keeps, missed_request, [], Access, after_order, All, All-append, All-cons, All-nil, ap, append-nil, arith, Ask, BlockInvariant, Bool, CacheAction, CacheState, came_of, claims_of, cond, Did, eqb_tells, Err, Extent, false, fill_by_all, first_memory, fits, flat, flat_words, get_or-map-range_with_len, get_or-replicate, get_or-set_other, get_or-set_same, get_or_past, Goes, HasWord, held_by, I, IfSome, IfSome_then, if◌then◌else◌, in_protocol, inl, inr, Invariant, is_clean, is_owner, is_sharer, is_store_to, IsNext, IsProper, IsShaped, IsWithin, IsWord, Item, as_access, Legal, length, length-map-range_with_len, length-replicate, length-set, Line, List, MoveOn, next_did, NoMemory, None, none-some, not, nothing_held, nothing_there, Ok, Op, Open, operation_of, operations, Option, option_map, option_map_or, option_to_list, Order, Picture, picture_of, Protocol, queues_after, refl, Refused, replicate, Reply, request_for, reset, Respond, Result, same, same_Some, Situation, slice_set, Some, Step, sym, Takes, true, untouched, wait_fits, with_line, word_at, ℕ, ◌&&◌, ◌++◌, ◌<◌, ◌==◌, ◌∙◌, ◌∷◌, ◌≡◌, ◌≢◌}
 use Rattle.snoop_history.specs.declared.items.Item.TheVariants as item
 use Rattle.snoop_history.proofs.Legal.{flat-grows, legal-grows}
 use Rattle.snoop_model.proofs.{Lists.{Writes.each_set, Facts.{replicated, is_none}}, OneBlock.OfBlocks.{changed, in_pictures, each_picture, shaped_after}}
@@ -93,22 +91,22 @@ kept old block next queues entry g k =
     }
 
 as_many_after : (a : CacheAction) (queues : List (List ℕ)) (core block : ℕ) → length (queues_after a queues core block) ≡ length queues
-as_many_after (action.Issue r) queues core block = length-set queues core _
+as_many_after (Issue r) queues core block = length-set queues core _
 as_many_after _ queues core block = refl
 
 issued_access : (s : Situation) (word : ℕ) (asking : Op) (access : Access) → HasWord s.shape word asking → as_access word asking ≡ Some access → IsWord s.shape access.word
-issued_access s word op.Evict access within e = cc
+issued_access s word Evict access within e = cc
 issued_access s word _ access within e = rw (← same_Some _ _ e) within
 
 -- what waits after an Ask, and its item
 module _ (s : Situation) (core block word : ℕ) (asking : Op) (next : CacheState) (old new : Line) (answer : Reply) (entry : Option Item) (there : HasWord s.shape word asking) where
   takes_so : (a : CacheAction) → Takes a next s.log core block word asking old new answer entry → AccessWithin s.shape old → IsWithin s core block → IsLawful (flat_words s.log block) (did_in entry)
       → AccessWithin s.shape new × IsNextOn s block entry
-  takes_so action.Hit t was within lawful =
+  takes_so Hit t was within lawful =
       let has = issued_access s word asking _ there (performed_so word asking t.1.0.before t.0 t.1.0.after s.log core block true t.1.0.performed).1 in
       (rw t.1.0.held was, rw t.1.2 (refl, next_lawful s.log core block word asking t.0 true has.1 (rw t.1.2 at lawful), (within, has)))
-  takes_so (action.Issue r) t was within lawful = (rw t.0 (λ access. issued_access s word asking access there), rw t.2 tt)
-  takes_so action.Drop t was within lawful = (rw t.0 was, rw t.2 tt)
+  takes_so (Issue r) t was within lawful = (rw t.0 (λ access. issued_access s word asking access there), rw t.2 tt)
+  takes_so Drop t was within lawful = (rw t.0 was, rw t.2 tt)
   takes_so _ t was within lawful = absurd t
 
 -- a move keeps the invariant

@@ -1,8 +1,5 @@
 -- What every machine keeps makes it safe, and its steps keep it.
-use Rattle.snoop_model.proofs.Common.{Absent, moves_to, PutM, ◌≢◌, ap, arith, arrival_at_memory, Ask, asked, CacheAction, CacheState, Cell, Extent, flat, flat_words, Goes, Gone, HasOpen, held_by, IfSome, inl, inr, Invariant, is_clean, is_some, IsOpenByTable, IsProper, IsSenderLine, IsWellKept, Item, keeps, Line, List, MemCell, MoveOn, None, nothing_held, Op, Option, option_map, Order, Orders, Picture, picture_of, Protocol, refl, Refused, Refuses, Reply, Request, reset, Respond, Result, RunBy, same_Some, Situation, Some, Stalled, state_of, Step, sym, Takes, takes_payload, true, Waits, with_line, with_picture, word_at, ℕ, ◌<◌, ◌∙◌, ◌≡◌, ◌≤◌, ◌⊎◌}
-use Rattle.snoop_trace.specs.declared.step.Op.TheVariants as op
-use Rattle.snoop_rules.specs.declared.names.CacheState.TheVariants as state
-use Rattle.snoop_rules.specs.declared.names.CacheAction.TheVariants as action
+use Rattle.snoop_model.proofs.Common.{Absent, Drop, E, EiA, Evict, Hit, I, Issue, Load, moves_to, PutM, Store, ◌≢◌, ap, arith, arrival_at_memory, Ask, asked, CacheAction, CacheState, Cell, Extent, flat, flat_words, Goes, Gone, HasOpen, held_by, IfSome, inl, inr, Invariant, is_clean, is_some, IsOpenByTable, IsProper, IsSenderLine, IsWellKept, Item, keeps, Line, List, MemCell, MoveOn, None, nothing_held, Op, Option, option_map, Order, Orders, Picture, picture_of, Protocol, refl, Refused, Refuses, Reply, Request, reset, Respond, Result, RunBy, same_Some, Situation, Some, Stalled, state_of, Step, sym, Takes, takes_payload, true, Waits, with_line, with_picture, word_at, ℕ, ◌<◌, ◌∙◌, ◌≡◌, ◌≤◌, ◌⊎◌}
 use Rattle.snoop_model.{specs.{Coherent.{IsCoherent, HitsWhereItMay}, Runs.Safe.IsSafe, Invariant.MachineKeeps.{AreOnSenderLines, MachineKeeps}}, proofs.Lists.Facts.if_some}
 use Rattle.snoop_model.proofs.{Tables.{Rows.{action_rule, IsProper-drop}, SentBy.sends_is, RespondTests.settled_so}, Queues.Moves.{on_kept, starts_well}}
 use Rattle.snoop_model.proofs.{OneBlock.{AfterMoves.{ask_line, respond_here}, OfBlocks.{in_pictures, each_picture}}, Runs.{Along.kept_along, GoOn.moves_on}}
@@ -29,7 +26,7 @@ module _ (s : Situation) (g : Invariant s) where
       same_Some _ _ (inside within.0 within.1 within.2 ∙ ap (λ o. option_map (λ (ws : List ℕ). word_at ws word) o) kept) ∙ word_flat s.log block word (omega (arith, few, within.2))
 
   -- of a clean copy memory has the words
-  pub clean_in_memory : (core block : ℕ) → (state_of s core block ≡ state.E) ⊎ (state_of s core block ≡ state.EiA) → (picture_of s block).memory.value ≡ flat_words s.log block
+  pub clean_in_memory : (core block : ℕ) → (state_of s core block ≡ E) ⊎ (state_of s core block ≡ EiA) → (picture_of s block).memory.value ≡ flat_words s.log block
   unfolding is_clean
   clean_in_memory core block clean =
       let is : is_clean (state_of s core block) ≡ true = elim clean [ inl e ↦ rw e refl | inr e ↦ rw e refl ] in
@@ -54,29 +51,29 @@ module _ (s : Situation) (g : Invariant s) where
     where
       by_row : (act : CacheAction) (next : CacheState) (asking : Op) → Cell s.protocol (state_of s core block) (asked asking) act next → (held : Line) (answer : Reply) (entry : Option Item)
           → Takes act next s.log core block word asking (held_by (picture_of s block) core) held answer entry → HitsWhereItMay s.protocol (state_of s core block) answer
-      by_row action.Hit next op.Load row held answer entry t = rw t.1.1 (next, row)
-      by_row action.Hit next (op.Store value) row held answer entry t = rw t.1.1 (next, row)
-      by_row action.Hit next op.Evict row held answer entry t = absurd t.1.0.performed
-      by_row (action.Issue request) next asking row held answer entry t = rw t.1 tt
-      by_row action.Drop next asking row held answer entry t = rw t.1 tt
+      by_row Hit next Load row held answer entry t = rw t.1.1 (next, row)
+      by_row Hit next (Store value) row held answer entry t = rw t.1.1 (next, row)
+      by_row Hit next Evict row held answer entry t = absurd t.1.0.performed
+      by_row (Issue request) next asking row held answer entry t = rw t.1 tt
+      by_row Drop next asking row held answer entry t = rw t.1 tt
       by_row _ next asking row held answer entry t = absurd t
 
   -- an eviction that is answered Gone or Absent leaves nothing
-  pub gone_leaves : (core block word : ℕ) (answer : Reply) (new : Situation) → (answer ≡ Gone) ⊎ (answer ≡ Absent) → MoveOn block s (Ask core block word op.Evict) answer new
+  pub gone_leaves : (core block word : ℕ) (answer : Reply) (new : Situation) → (answer ≡ Gone) ⊎ (answer ≡ Absent) → MoveOn block s (Ask core block word Evict) answer new
       → held_by (picture_of new block) core ≡ nothing_held
   gone_leaves core block word answer new leaves m = elim m.moves [
     | inl absent ↦ rw absent.3 (idle_line (held_by (picture_of s block) core) (all_proper core block) absent.1)
-    | inr a ↦ ask_line s core block word op.Evict answer new g m.within a ∙ left a.row.action a.row.next a.is_row a.held a.entry a.taken
+    | inr a ↦ ask_line s core block word Evict answer new g m.within a ∙ left a.row.action a.row.next a.is_row a.held a.entry a.taken
   ]
     where
-      left : (act : CacheAction) (next : CacheState) → Cell s.protocol (state_of s core block) (asked op.Evict) act next → (held : Line) (entry : Option Item)
-          → Takes act next s.log core block word op.Evict (held_by (picture_of s block) core) held answer entry → held ≡ nothing_held
-      left action.Hit next row held entry t = absurd t.1.0.performed
-      left (action.Issue request) next row held entry t = elim leaves [ inl is ↦ (let clash = sym t.1 ∙ is in cc) | inr is ↦ (let clash = sym t.1 ∙ is in cc) ]
-      left action.Drop next row held entry t =
+      left : (act : CacheAction) (next : CacheState) → Cell s.protocol (state_of s core block) (asked Evict) act next → (held : Line) (entry : Option Item)
+          → Takes act next s.log core block word Evict (held_by (picture_of s block) core) held answer entry → held ≡ nothing_held
+      left Hit next row held entry t = absurd t.1.0.performed
+      left (Issue request) next row held entry t = elim leaves [ inl is ↦ (let clash = sym t.1 ∙ is in cc) | inr is ↦ (let clash = sym t.1 ∙ is in cc) ]
+      left Drop next row held entry t =
           let old = held_by (picture_of s block) core in
-          let gone : next ≡ state.I = same_Some _ _ (action_rule s.protocol old.state (asked op.Evict) action.Drop next row).1.1.1.1 in
-          rw t.0 (idle_line (moves_to next old) (IsProper-drop s.protocol old (asked op.Evict) next (all_proper core block) row) gone)
+          let gone : next ≡ I = same_Some _ _ (action_rule s.protocol old.state (asked Evict) Drop next row).1.1.1.1 in
+          rw t.0 (idle_line (moves_to next old) (IsProper-drop s.protocol old (asked Evict) next (all_proper core block) row) gone)
       left _ next row held entry t = absurd t
 
   -- an Order is a line of the table

@@ -1,7 +1,6 @@
 -- Each load and store that a run asks is done once, or waits.
 use Rattle.snoop_model.proofs.{Lists.{Writes.each_set, Facts.either_way}, Tables.Rows.{issue-missed, drop_evicts}, OneBlock.Facts.{did_in, performed_so}}
-use Rattle.snoop_model.proofs.Common.{[], Access, accesses_in, after_order, ap, append-nil, append_assoc, arith, Ask, asked, asked_access, Bool, CacheAction, CacheState, came_of, Cell, cond, Did, did_access, eq-eqb, eqb, Err, Extent, false, filter, filter-append, filter_map, filter_map-append, Goes, held_at, held_by, IfSome, inl, inr, Invariant, IsPermutation, IsPermutation-append_comm, IsPermutation-append_left, IsPermutation-append_right, IsPermutation-refl, IsPermutation-trans, IsProper, Item, as_access, length, Line, List, map, map-append, MoveOn, ne_eqb, None, nothing_held, of_core, Ok, Once, OnceMore, Op, operation_of, Option, option_map, option_to_list, Order, Picture, picture_of, Protocol, queues_after, refl, Refused, Reply, reset, Respond, Result, RunBy, Situation, slice_set, Some, Step, sym, taken, Takes, true, waiting_at, with_line, ℕ, ◌&&◌, ◌++◌, ◌<◌, ◌==◌, ◌∙◌, ◌∷◌, ◌≡◌}
-use Rattle.snoop_rules.specs.declared.names.CacheAction.TheVariants as action
+use Rattle.snoop_model.proofs.Common.{[], Access, accesses_in, after_order, ap, append-nil, append_assoc, arith, Ask, asked, asked_access, Bool, CacheAction, CacheState, came_of, Cell, cond, Did, did_access, Drop, eq-eqb, eqb, Err, Extent, false, filter, filter-append, filter_map, filter_map-append, Goes, held_at, held_by, Hit, IfSome, inl, inr, Invariant, IsPermutation, IsPermutation-append_comm, IsPermutation-append_left, IsPermutation-append_right, IsPermutation-refl, IsPermutation-trans, IsProper, Issue, Item, as_access, length, Line, List, map, map-append, MoveOn, ne_eqb, None, nothing_held, of_core, Ok, Once, OnceMore, Op, operation_of, Option, option_map, option_to_list, Order, Picture, picture_of, Protocol, queues_after, refl, Refused, Reply, reset, Respond, Result, RunBy, Situation, slice_set, Some, Step, sym, taken, Takes, true, waiting_at, with_line, ℕ, ◌&&◌, ◌++◌, ◌<◌, ◌==◌, ◌∙◌, ◌∷◌, ◌≡◌}
 use Rattle.snoop_history.specs.declared.items.Item.TheVariants as item
 use Rattle.snoop_model.proofs.{OneBlock.OfBlocks.{changed, each_picture, in_pictures}, Lines.Answered.by_request, Queues.Moves.each_taken}
 use Rattle.snoop_model.proofs.{Once.Owed.{answers_are, cons_one}, Invariant.Runs.{nothing_waits, goes_keeps, refusal_same, reset_invariant, reset_line}}
@@ -30,13 +29,13 @@ unchanged waits = rw (append-nil waits) (IsPermutation-refl waits)
 module _ (p : Protocol) (next : CacheState) (log : List Item) (core block word : ℕ) (asking : Op) (old new : Line) (answer : Reply) (entry : Option Item) (proper : IsProper old) where
   line_once : (act : CacheAction) → Cell p old.state (asked asking) act next → Takes act next log core block word asking old new answer entry
       → IsBy core block (did_in entry) × IsPermutation (option_to_list old.waiting ++ option_to_list (as_access word asking)) (option_to_list (done (did_in entry)) ++ option_to_list new.waiting)
-  line_once action.Hit row t =
+  line_once Hit row t =
       let so = performed_so word asking t.1.0.before t.0 t.1.0.after log core block true t.1.0.performed in
       rw (t.1.0.held, t.1.2, so.0, so.1) ((refl, refl), IsPermutation-append_comm (option_to_list old.waiting) (record { word = word; op = asking } ∷ []))
-  line_once (action.Issue q) row t =
+  line_once (Issue q) row t =
       let none = nothing_waits old.waiting (proper.waiting ∙ (issue-missed p old.state (asked asking) q next row).0) in
       rw (t.0, t.2, none) (tt, IsPermutation-refl (option_to_list (as_access word asking)))
-  line_once action.Drop row t = rw (t.0, t.2, drop_evicts p old.state asking next row) (tt, unchanged (option_to_list old.waiting))
+  line_once Drop row t = rw (t.0, t.2, drop_evicts p old.state asking next row) (tt, unchanged (option_to_list old.waiting))
   line_once _ row t = absurd t
 
 module _ (old : Situation) (b c : ℕ) where

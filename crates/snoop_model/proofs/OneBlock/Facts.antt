@@ -1,6 +1,5 @@
 -- What follows from the invariant of one block.
-use Rattle.snoop_trace.specs.declared.step.Op.TheVariants as op
-use Rattle.snoop_model.proofs.Common.{append-nil, arith, BlockInvariant, Bool, cases_eq, cases_lt, cond, Did, did_access, eq-eqb, eqb, eqb-true, eqb_tells, false, fits, get_or_past, held_at, held_by, inl, inr, is_clean, is_some, IsProper, Item, keeps, as_access, length, Line, List, ne_eqb, next_did, None, not, nothing_held, Op, operation_of, operations, operations-push, Option, option_to_list, or_right, own_open, owns, Performs, Picture, Protocol, refl, Request, same, slice_set, Some, subst, sym, talk_of, true, word_at, ℕ, ⊤, ◌&&◌, ◌++◌, ◌<◌, ◌||◌, ◌∙◌, ◌≡◌, ◌≢◌}
+use Rattle.snoop_model.proofs.Common.{append-nil, arith, BlockInvariant, Bool, cases_eq, cases_lt, cond, Did, did_access, eq-eqb, eqb, eqb-true, eqb_tells, Evict, false, fits, get_or_past, held_at, held_by, inl, inr, is_clean, is_some, IsProper, Item, keeps, as_access, length, Line, List, Load, ne_eqb, next_did, None, not, nothing_held, Op, operation_of, operations, operations-push, Option, option_to_list, or_right, own_open, owns, Performs, Picture, Protocol, refl, Request, same, slice_set, Some, Store, subst, sym, talk_of, true, word_at, ℕ, ⊤, ◌&&◌, ◌++◌, ◌<◌, ◌||◌, ◌∙◌, ◌≡◌, ◌≢◌}
 use Rattle.snoop_model.proofs.{Lines.TheSender.IsBelow, Tables.{Tested.of_open, StateTests.{brings_data, carries, clean_reads, claims_rule}}}
 
 -- what holds of one core and of each other holds of each
@@ -96,6 +95,6 @@ operations_moved log (Some entry) = operations-push log entry
 -- the operation that was done is the one that was asked, and no eviction
 pub performed_so : (word : ℕ) (asking : Op) (before : List ℕ) (value : ℕ) (after : List ℕ) (log : List Item) (core block : ℕ) (hit : Bool) → Performs word asking before value after
     → (did_access (next_did log core block word asking value hit) ≡ record { word = word; op = asking }) × (as_access word asking ≡ Some (record { word = word; op = asking }))
-performed_so word op.Load before value after log core block hit h = (refl, refl)
-performed_so word (op.Store stored) before value after log core block hit h = rw h.0 (refl, refl)
-performed_so word op.Evict before value after log core block hit h = absurd h
+performed_so word Load before value after log core block hit h = (refl, refl)
+performed_so word (Store stored) before value after log core block hit h = rw h.0 (refl, refl)
+performed_so word Evict before value after log core block hit h = absurd h

@@ -1,6 +1,5 @@
 -- A machine is well kept at reset, and stays so at each kind of move; so a core waits on the blocks in its queue, and on no others.
-use Rattle.snoop_model.proofs.Common.{[], Access, after_issue, after_order, arith, ArrivesFor, Ask, asked, awaited_request, CacheAction, CacheState, Cell, Contains, Did, eq-eqb, eqb-true, get_or-set_other, get_or-set_same, get_or_from_slice_get, get_or_past, held_at, held_by, if◌then◌else◌, inl, inr, is_some, IsSome, IsWellKept, IsWithin, Item, KeepsWell, length, length-set, Line, List, missed_request, MoveOn, ne_eqb, None, none-some, nothing_held, Op, Open, Option, option_to_list, Order, Picture, picture_of, Protocol, queue_of, queues_after, refl, Reply, Request, reset, Respond, Responds, same_Some, Situation, slice_get, slice_get-get_or, slice_get_within, Some, StandsFirst, StartsWell, state_of, Step, sym, Takes, TakesRows, waiting_request, Waits, WaitsOnNone, with_line, ℕ, ◌++◌, ◌<◌, ◌==◌, ◌∙◌, ◌∷◌, ◌≡◌, ◌≢◌}
-use Rattle.snoop_rules.specs.declared.names.CacheAction.TheVariants as action
+use Rattle.snoop_model.proofs.Common.{[], Access, after_issue, after_order, arith, ArrivesFor, Ask, asked, awaited_request, CacheAction, CacheState, Cell, Contains, Did, Drop, eq-eqb, eqb-true, get_or-set_other, get_or-set_same, get_or_from_slice_get, get_or_past, held_at, held_by, Hit, if◌then◌else◌, inl, inr, is_some, IsSome, Issue, IsWellKept, IsWithin, Item, KeepsWell, length, length-set, Line, List, missed_request, MoveOn, ne_eqb, None, none-some, nothing_held, Op, Open, Option, option_to_list, Order, Picture, picture_of, Protocol, queue_of, queues_after, refl, Reply, Request, reset, Respond, Responds, same_Some, Situation, slice_get, slice_get-get_or, slice_get_within, Some, StandsFirst, StartsWell, state_of, Step, sym, Takes, TakesRows, waiting_request, Waits, WaitsOnNone, with_line, ℕ, ◌++◌, ◌<◌, ◌==◌, ◌∙◌, ◌∷◌, ◌≡◌, ◌≢◌}
 use Rattle.snoop_model.proofs.Lists.{Facts.{one_if, replicated}, Writes.{each_set, same_set, times_push, times_gone, times_left, times, counted_in, in_counted}}
 use Rattle.snoop_model.proofs.Tables.{Rows.{issue-waits, issue-missed, asked_missed, action_rule, order_rule, fill-waits, awaited-asked}, StateTests.some_of}
 use Rattle.snoop_model.{proofs.{Tables.RespondTests.{data_rule, awaited-get}, OneBlock.Facts.{by_core, each_held}}, specs.Pictures.InQueue.IsInQueue}
@@ -73,18 +72,18 @@ module _ (s : Situation) (kept : IsWellKept s) (core block word : ℕ) (asking :
 
   kept_taken : (act : CacheAction) → Cell s.protocol line.state (asked asking) act next → Takes act next s.log core block word asking line held answer entry
       → KeepsOn s block (with_line (picture_of s block) core held) (queues_after act s.queues core block)
-  kept_taken action.Hit row taken =
-      let (_, (missed, (waits, _))) = action_rule s.protocol line.state (asked asking) action.Hit next row in
-      still action.Hit row (rw taken.1.0.held refl) (rw taken.1.0.held refl) missed waits
-  kept_taken action.Drop row taken =
-      let (_, (missed, (waits, _))) = action_rule s.protocol line.state (asked asking) action.Drop next row in
-      still action.Drop row (rw taken.0 refl) (rw taken.0 refl) missed waits
-  kept_taken (action.Issue request) row taken =
+  kept_taken Hit row taken =
+      let (_, (missed, (waits, _))) = action_rule s.protocol line.state (asked asking) Hit next row in
+      still Hit row (rw taken.1.0.held refl) (rw taken.1.0.held refl) missed waits
+  kept_taken Drop row taken =
+      let (_, (missed, (waits, _))) = action_rule s.protocol line.state (asked asking) Drop next row in
+      still Drop row (rw taken.0 refl) (rw taken.0 refl) missed waits
+  kept_taken (Issue request) row taken =
       let (was, is) = issue-waits s.protocol line.state (asked asking) request next row in
       let queue = queue_of s.queues core in
       let own = get_or-set_same s.queues core (queue ++ block ∷ []) [] (rw kept.shaped.queues within.0) in
       let missed = (issue-missed s.protocol line.state (asked asking) request next row).1 in
-      one_line (action.Issue request) (after_issue s.queues core block) row (rw taken.0 refl) (length-set s.queues core _)
+      one_line (Issue request) (after_issue s.queues core block) row (rw taken.0 refl) (length-set s.queues core _)
       (rw (is, own, times_push block block queue, eq-eqb block block refl, kept.queued core block, was) refl)
       (λ k apart. get_or-set_other s.queues core k _ [] apart)
       (λ k b apart. same_set (times b) s.queues core _ [] (rw (times_push b block queue, ne_eqb block b (λ e. apart (sym e))) (omega arith)) k)

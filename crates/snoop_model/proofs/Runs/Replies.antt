@@ -1,7 +1,5 @@
 -- What the outcome of a step tells of the history.
-use Rattle.snoop_model.proofs.Common.{[], ap, append-nil, Ask, asked, CacheAction, CacheState, Cell, Err, false, FirstMove, Goes, held_by, IfSome, inl, inr, Invariant, Item, Line, List, Ok, Op, Option, option_to_list, Order, picture_of, Protocol, refl, Refused, Reply, Respond, Result, RunBy, same_Some, Situation, Step, subst, sym, Takes, ℕ, ◌++◌, ◌∙◌, ◌∷◌, ◌≡◌}
-use Rattle.snoop_trace.specs.declared.step.Op.TheVariants as op
-use Rattle.snoop_rules.specs.declared.names.CacheAction.TheVariants as action
+use Rattle.snoop_model.proofs.Common.{[], ap, append-nil, Ask, asked, CacheAction, CacheState, Cell, Drop, Err, Evict, false, FirstMove, Goes, held_by, Hit, IfSome, inl, inr, Invariant, Issue, Item, Line, List, Load, Ok, Op, Option, option_to_list, Order, picture_of, Protocol, refl, Refused, Reply, Respond, Result, RunBy, same_Some, Situation, Step, Store, subst, sym, Takes, ℕ, ◌++◌, ◌∙◌, ◌∷◌, ◌≡◌}
 use Rattle.snoop_model.{specs.Moves.Replies.Tells, proofs.{Lines.Answered.by_request, Tables.Rows.{action_rule, serving-asked, drop_evicts}}}
 use Rattle.snoop_model.proofs.Invariant.Runs.{refusal_same, goes_keeps}
 
@@ -9,17 +7,17 @@ use Rattle.snoop_model.proofs.Invariant.Runs.{refusal_same, goes_keeps}
 module _ (p : Protocol) (next : CacheState) (log : List Item) (core block word : ℕ) (old new : Line) (answer : Reply) (entry : Option Item) where
   taken_tells : (asking : Op) (a : CacheAction) → Cell p old.state (asked asking) a next → Takes a next log core block word asking old new answer entry
       → Tells log (Ask core block word asking) (Ok answer) (log ++ option_to_list entry)
-  taken_tells op.Load action.Hit row t = rw (t.1.1, t.1.2) refl
-  taken_tells (op.Store v) action.Hit row t = rw (t.1.1, t.1.2, t.1.0.performed.0) refl
-  taken_tells op.Evict action.Hit row t = absurd t.1.0.performed
-  taken_tells asking (action.Issue q) row t = rw (t.1, t.2) (same_Some _ _ ((action_rule p old.state (asked asking) (action.Issue q) next row).1.1.1 ∙ serving-asked asking), append-nil log)
-  taken_tells op.Evict action.Drop row t = rw (t.1, t.2) (append-nil log)
-  taken_tells asking action.Drop row t = let evicts = drop_evicts p old.state asking next row in cc
+  taken_tells Load Hit row t = rw (t.1.1, t.1.2) refl
+  taken_tells (Store v) Hit row t = rw (t.1.1, t.1.2, t.1.0.performed.0) refl
+  taken_tells Evict Hit row t = absurd t.1.0.performed
+  taken_tells asking (Issue q) row t = rw (t.1, t.2) (same_Some _ _ ((action_rule p old.state (asked asking) (Issue q) next row).1.1.1 ∙ serving-asked asking), append-nil log)
+  taken_tells Evict Drop row t = rw (t.1, t.2) (append-nil log)
+  taken_tells asking Drop row t = let evicts = drop_evicts p old.state asking next row in cc
   taken_tells asking _ row t = absurd t
 
 -- a refusal tells of nothing
 pub refusal_tells : {past log : List Item} (step : Step) (cause : Refused) → log ≡ past → Tells past step (Err cause) log
-refusal_tells (Ask core block word op.Evict) cause same = same
+refusal_tells (Ask core block word Evict) cause same = same
 refusal_tells _ cause same = same
 
 -- what a step adds to the log is what its outcome tells

@@ -1,7 +1,5 @@
 -- Tests of the rows of an Ask, computed over the whole tables.
-use Rattle.snoop_model.proofs.Common.{all_events, all_events-at, all_protocols, all_requests, all_requests-at, all_states, asked, awaited_request, Bool, CacheAction, CacheCell, CacheEvent, CacheState, cell_of, false, fits, in_protocol, is_clean, is_owner, is_put_m, is_sharer, keeps, Op, Option, Protocol, refl, Request, request_for, requests, same, Some, true, wait_fits, ◌&&◌, ◌≡◌}
-use Rattle.snoop_rules.specs.declared.names.CacheAction.TheVariants as action
-use Rattle.snoop_rules.specs.declared.names.CacheState.TheVariants as state
+use Rattle.snoop_model.proofs.Common.{all_events, all_events-at, all_protocols, all_requests, all_requests-at, all_states, asked, awaited_request, Bool, CacheAction, CacheCell, CacheEvent, CacheState, cell_of, false, fits, Hit, I, in_protocol, is_clean, is_owner, is_put_m, is_sharer, keeps, Op, Option, Protocol, refl, Request, request_for, requests, same, Some, true, wait_fits, ◌&&◌, ◌≡◌}
 use Rattle.snoop_rules.specs.declared.names.CacheEvent.TheVariants as event
 use Rattle.snoop_model.proofs.Tables.{Tested.◌also◌, StateTests.{is_hit, carries}, Rows.{serving, serving-asked}}
 use Rattle.snoop_model.proofs.Tables.Tested.{Tested, equal, each_bool, each_fitting, each_of, each_option, each_protocol, fails, found, given, holds, provided, unless}
@@ -12,7 +10,7 @@ is_store _ = false
 
 -- an Evict in I, which the machine answers with no row
 abbrev pub is_idle_evict : CacheState → CacheEvent → Bool
-is_idle_evict state.I event.Evict = true
+is_idle_evict I event.Evict = true
 is_idle_evict _ _ = false
 
 -- what is claimed of the row of an Ask: the state fits after it, and carries over, but at a store's hit, which is the owner's, and not clean then
@@ -36,8 +34,8 @@ every_ask_rule = every_ask.sound refl
 pub ask_rule : (p : Protocol) (shared ow : Bool) (w : Option Request) (s : CacheState) (o : Op) → fits p shared ow w s ≡ true → (ask_claims p shared ow w s (asked o)).claim
 ask_rule p shared ow w s o fit = every_ask_rule p shared w s ow fit (asked o) (request_for o) (serving-asked o)
 
-pub is_hit-true : (a : CacheAction) → is_hit a ≡ true → a ≡ action.Hit
-is_hit-true action.Hit h = refl
+pub is_hit-true : (a : CacheAction) → is_hit a ≡ true → a ≡ Hit
+is_hit-true Hit h = refl
 is_hit-true _ h = cc
 
 -- a core whose state fits may store where it owns the block, and load where it keeps words, and after its own GetS or GetM it awaits the data; after its own PutM it keeps nothing

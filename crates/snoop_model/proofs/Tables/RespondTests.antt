@@ -1,6 +1,5 @@
 -- A test of the rows of a Respond, computed over the whole tables.
-use Rattle.snoop_model.proofs.Common.{all_memories, all_payloads, all_protocols, all_requests, all_states, all_states-at, ap, arrival, arrival_at_memory, awaited_request, Bool, CacheAction, CacheCell, CacheEvent, CacheState, carries_value, cell_of, Claims, claims_of, cond, false, fits, GetM, GetS, in_protocol, is_clean, is_get_m, is_owner, is_put_m, is_sharer, IsD, IsSomeAnd, keeps, MatchBool, MemAction, MemCell, MemEvent, memory_cell_of, MemoryCell, MemState, missed_request, None, not, Option, option_and_then, Payload, Protocol, PutM, refl, Request, requests, same, same_Some, Some, sym, takes_payload, true, wait_fits, ◌&&◌, ◌||◌, ◌↔◌, ◌≡◌}
-use Rattle.snoop_rules.specs.declared.names.CacheAction.TheVariants as action
+use Rattle.snoop_model.proofs.Common.{all_memories, all_payloads, all_protocols, all_requests, all_states, all_states-at, ap, arrival, arrival_at_memory, awaited_request, Bool, CacheAction, CacheCell, CacheEvent, CacheState, carries_value, cell_of, Claims, claims_of, cond, false, FillLoad, FillStore, fits, GetM, GetS, in_protocol, is_clean, is_get_m, is_owner, is_put_m, is_sharer, IsD, IsSomeAnd, keeps, MatchBool, MemAction, MemCell, MemEvent, memory_cell_of, MemoryCell, MemState, missed_request, None, not, Option, option_and_then, Payload, Protocol, PutM, refl, Request, requests, same, same_Some, Some, sym, takes_payload, true, wait_fits, ◌&&◌, ◌||◌, ◌↔◌, ◌≡◌}
 use Rattle.snoop_rules.specs.declared.names.MemAction.TheVariants as mem_action
 use Rattle.snoop_model.proofs.Tables.Tested.{◌also◌, Tested, each_of, equal, alike, each_fitting, each_memory, each_open, each_payload, each_protocol, each_request, fails, found, given, holds, provided, unless}
 
@@ -31,7 +30,7 @@ writes mem_action.Write = true
 writes _ = false
 
 abbrev pub fills_store : CacheAction → Bool
-fills_store action.FillStore = true
+fills_store FillStore = true
 fills_store _ = false
 
 -- the requestor owns the block from then on
@@ -70,8 +69,8 @@ respond_rule = every_respond.sound refl
 
 -- data performs the operation that has missed
 abbrev pub fills : Option Request → CacheAction → Bool
-fills (Some GetS) action.FillLoad = true
-fills (Some GetM) action.FillStore = true
+fills (Some GetS) FillLoad = true
+fills (Some GetM) FillStore = true
 fills _ _ = false
 
 -- and is awaited no more

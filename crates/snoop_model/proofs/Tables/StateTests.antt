@@ -1,8 +1,6 @@
 -- What holds of the states and of the table of claims, computed over all of them.
-use Rattle.snoop_model.proofs.Common.{all_memories, all_payloads, all_payloads-at, all_protocols, all_requests, all_requests-at, all_states, Bool, CacheAction, CacheState, carries_value, claims_of, false, fits, in_protocol, is_clean, is_owner, is_sharer, is_some, keeps, kept_on, List, None, Option, refl, same, Some, Talk, true, wait_fits, ℕ, ◌≡◌}
+use Rattle.snoop_model.proofs.Common.{all_memories, all_payloads, all_payloads-at, all_protocols, all_requests, all_requests-at, all_states, Bool, CacheAction, CacheState, carries_value, claims_of, false, fits, Hit, I, IiA, ImAd, in_protocol, is_clean, is_owner, is_sharer, is_some, keeps, kept_on, List, None, Option, refl, same, Some, Talk, true, wait_fits, ℕ, ◌≡◌}
 use Rattle.snoop_model.proofs.Tables.Tested.{◌also◌, Tested, each_memory, each_open, each_option, each_protocol, fails, given, holds, provided, unless}
-use Rattle.snoop_rules.specs.declared.names.CacheState.TheVariants as state
-use Rattle.snoop_rules.specs.declared.names.CacheAction.TheVariants as action
 
 pub some_of : {A : Type 0} (o : Option A) → is_some o ≡ true → (a : A) × (o ≡ Some a)
 some_of None h = cc
@@ -15,14 +13,14 @@ carries s next = provided (keeps next) (λ _. holds (keeps s)) also provided (is
 -- a clean owner reads
 pub clean_reads : (s : CacheState) → is_clean s ≡ true → keeps s ≡ true
 unfolding is_clean
-clean_reads state.I h = cc
+clean_reads I h = cc
 clean_reads _ h = cc
 
 -- a state that may read keeps the value
 pub kept_reader : (s : CacheState) (kept : Option (List ℕ)) → keeps s ≡ true → kept_on s kept ≡ kept
-kept_reader state.I kept h = cc
-kept_reader state.ImAd kept h = cc
-kept_reader state.IiA kept h = cc
+kept_reader I kept h = cc
+kept_reader ImAd kept h = cc
+kept_reader IiA kept h = cc
 kept_reader _ kept h = refl
 
 -- the talk brings data
@@ -45,5 +43,5 @@ unfolding all_protocols all_memories all_states all_requests all_payloads claims
 claims_rule = every_claims.sound refl
 
 abbrev pub is_hit : CacheAction → Bool
-is_hit action.Hit = true
+is_hit Hit = true
 is_hit _ = false

@@ -1,13 +1,12 @@
 -- All laws of turns that follow the turn rule: what they keep, that they are never refused, what they cost, and when a work is over.
-use Rattle.snoop_model.proofs.Common.{[], Access, All, All-contains, All-filter, All-push, All-weaker, ap, arith, Ask, asked, awaited_request, BusTaken, CacheAction, CacheEvent, CacheState, Cell, ClosedIsLast, ComesToRest, cond_some, Contains-get_or, Ends, EndsAtOnce, eq-eqb, false, FirstMove, has_transaction, held_by, I, inl, inr, is_some, IsServing, Issued, IsWellKept, Item, length, Line, List, missed_request, ne_eqb, NeverRefused, None, none-some, not, nothing_there, NothingWaiting, Op, Open, Option, or_cases, Order, Pays, Picture, picture_of, Protocol, queue_of, queues_after, refl, Refused, Refuses, Reply, Request, Respond, same_Some, ServesOn, Situation, slice_index_or, slice_set, Some, Stalled, state_of, sum_by, sym, Takes, true, TurnLaws, waiting_request, Waits, with_line, ℕ, ◌+◌, ◌==◌, ◌∙◌, ◌≡◌, ◌≢◌, ◌≤◌, ◌⊎◌}
-use Rattle.snoop_rules.specs.declared.names.CacheAction.TheVariants as action
+use Rattle.snoop_model.proofs.Common.{[], Access, All, All-contains, All-filter, All-push, All-weaker, ap, arith, Ask, asked, awaited_request, BusTaken, CacheAction, CacheEvent, CacheState, Cell, ClosedIsLast, ComesToRest, cond_some, Contains-get_or, Ends, EndsAtOnce, eq-eqb, false, FirstMove, has_transaction, held_by, I, inl, inr, is_some, IsServing, Issue, Issued, IsWellKept, Item, length, Line, List, missed_request, ne_eqb, NeverRefused, None, none-some, not, nothing_there, NothingWaiting, Op, Open, Option, or_cases, Order, Pays, Picture, picture_of, Protocol, queue_of, queues_after, refl, Refused, Refuses, Reply, Request, Respond, same_Some, ServesOn, Situation, slice_index_or, slice_set, Some, Stall, Stalled, state_of, sum_by, sym, Takes, true, TurnLaws, waiting_request, Waits, with_line, ℕ, ◌+◌, ◌==◌, ◌∙◌, ◌≡◌, ◌≢◌, ◌≤◌, ◌⊎◌}
 use Rattle.snoop_model.{specs.Turns.Turn.{step_under_way, turn_of}, proofs.Lists.Writes.{all_first, each_still, sum_issued, sum_ordered, count_set}}
 use Rattle.snoop_model.proofs.{Queues.Moves.{none_there, starts_well, keeps_well, queued_waits, waits_queued}, Once.Owed.owed_after, Tables.StateTests.some_of}
 use Rattle.snoop_model.proofs.Tables.Rows.{action_rule, is_busy}
 
 -- a stall comes only where the core waits
-pub stall_busy : (p : Protocol) (s : CacheState) (e : CacheEvent) (n : CacheState) → Cell p s e action.Stall n → is_busy s ≡ true
-stall_busy p s e n h = action_rule p s e action.Stall n h
+pub stall_busy : (p : Protocol) (s : CacheState) (e : CacheEvent) (n : CacheState) → Cell p s e Stall n → is_busy s ≡ true
+stall_busy p s e n h = action_rule p s e Stall n h
 
 -- for one of the two, or the other
 pub busy_cases : (s : CacheState) → is_busy s ≡ true → ((request : Request) × (waiting_request s ≡ Some request)) ⊎ ((request : Request) × (awaited_request s ≡ Some request))
@@ -77,7 +76,7 @@ module _ {s : Situation} {under_way : ℕ → Option ℕ} (serving : IsServing u
     where
       queued : (act : CacheAction) (next : CacheState) (held : Line) (entry : Option Item) → Takes act next s.log core m.0 word asking (held_by (picture_of s m.0) core) held answer entry
           → (k : ℕ) → All (λ b. under_way k ≡ Some b) (queue_of (queues_after act s.queues core m.0) k)
-      queued (action.Issue request) next held entry taken = each_still s.queues core _ [] (λ k queue. All (λ b. under_way k ≡ Some b) queue) serving.waits
+      queued (Issue request) next held entry taken = each_still s.queues core _ [] (λ k queue. All (λ b. under_way k ≡ Some b) queue) serving.waits
           (All-push (λ b. under_way core ≡ Some b) (queue_of s.queues core) m.0 (serving.waits core) (its request taken.1))
       queued _ next held entry taken = serving.waits
 
@@ -129,7 +128,7 @@ comes_to_rest s serving kept = record {
 
 -- an Ask puts at most one request more into the queues
 sum_asked : (act : CacheAction) (lines : List (List ℕ)) (core block : ℕ) → sum_by length (queues_after act lines core block) ≤ sum_by length lines + 1
-sum_asked (action.Issue request) lines core block = sum_issued lines core block
+sum_asked (Issue request) lines core block = sum_issued lines core block
 sum_asked _ lines core block = omega arith
 
 pays : Pays
