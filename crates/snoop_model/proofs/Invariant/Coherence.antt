@@ -5,9 +5,9 @@ use Rattle.snoop_rules.specs.declared.names.CacheEvent.TheVariants as event
 use Rattle.snoop_rules.specs.Possible.{MayLoad, MayStore}
 use Rattle.snoop_rules.specs.Takers.{other as another}
 use Rattle.snoop_model.{specs.Pictures.OneWriter.OneWriter, proofs.{Tables.StateTests.{some_of, brings_data, claims_rule}, OneBlock.Facts.owned_alone}}
-use Rattle.snoop_model.proofs.Tables.{AskTests.{ask_rule, fit_rule, is_hit-true, is_idle_evict}, RespondTests.{memory_row_for, row_for, awaited-get}}
+use Rattle.snoop_model.proofs.Tables.{StateTests.{ask_rule, fit_rule, is_hit-true, is_idle_evict}, OrderTests.{memory_row_for, row_for, awaited-get}}
 use Rattle.snoop_model.proofs.OneBlock.{Facts.{below_owner, is_itself}, RespondStep.{Closing, close, answered}}
-use Rattle.snoop_model.proofs.{OneBlock.OrderStep.{each_row, look, meant, meant_in, sender_told, sends, sends_if_meant, sent}, Tables.SenderLines.led_line}
+use Rattle.snoop_model.proofs.{OneBlock.OrderStep.{each_row, look, meant, meant_in, sender_told, sends, sends_if_meant, sent}, Tables.OrderTests.led_line}
 
 -- where no core may write the block, none owns it
 pub nobody_owns : {p : Protocol} {n : ℕ} {value : List ℕ} {picture : Picture} (g : BlockInvariant p n value picture) → ((core : ℕ) → ¬ MayStore p (held_by picture core).state) → g.claims.owned ≡ false

@@ -1,11 +1,11 @@
 -- What every machine keeps makes it safe, and its steps keep it.
 use Rattle.snoop_model.proofs.Common.{CacheEvent, both_ways, IsSome, Stall, Absent, Drop, E, EiA, Evict, Hit, I, Issue, Load, moves_to, PutM, Store, ◌≢◌, ap, arith, arrival_at_memory, Ask, asked, CacheAction, CacheState, Cell, Extent, flat, flat_words, Goes, Gone, HasOpen, held_by, IfSome, inl, inr, Invariant, is_clean, is_some, IsOpenByTable, IsProper, IsSenderLine, IsWellKept, Item, keeps, Line, List, MemCell, MoveOn, None, nothing_held, Op, Option, option_map, Order, Orders, Picture, picture_of, Protocol, refl, Refused, Refuses, Reply, Request, reset, Respond, Result, RunBy, same_Some, Situation, Some, Stalled, state_of, Step, sym, Takes, takes_payload, true, Waits, with_line, with_picture, word_at, ℕ, ◌<◌, ◌∙◌, ◌≡◌, ◌≤◌, ◌⊎◌}
 use Rattle.snoop_model.{specs.{Coherent.{IsCoherent, HitsWhereItMay}, Runs.Safe.{IsSafe, RowsAreFound}, Invariant.MachineKeeps.{AreOnSenderLines, MachineKeeps}}, proofs.Lists.Facts.if_some}
-use Rattle.snoop_model.proofs.{Tables.{Rows.{action_rule, IsProper-drop}, SentBy.sends_is, RespondTests.settled_so}, Queues.Moves.{on_kept, starts_well}}
+use Rattle.snoop_model.proofs.{Tables.{Rows.{action_rule, IsProper-drop}, SentBy.sends_is, OrderTests.settled_so}, Queues.Moves.{on_kept, starts_well}}
 use Rattle.snoop_model.proofs.{OneBlock.{AfterMoves.{ask_line, respond_here}, OfBlocks.{in_pictures, each_picture}}, Runs.{Along.kept_along, GoOn.moves_on}}
 use Rattle.snoop_model.proofs.Invariant.Coherence.{data_awaited, data_is, each_line, finds_rows, held_within, hit_within, no_data, nobody_owns, opened_within, orders_follow_sender_table, requestor_fits, sender_within}
 use Rattle.snoop_model.proofs.Invariant.Runs.{reset_invariant, reset_open, nothing_proper, idle_line, goes_kept, word_flat, move_keeps}
-use Rattle.snoop_model.proofs.{Steps.GoesNext.order_made, Turns.Laws.busy_cases, OneBlock.Facts.owned_alone, Tables.AskTests.{ask_rule, fit_rule, is_hit-true}}
+use Rattle.snoop_model.proofs.{Steps.GoesNext.order_made, Turns.Laws.busy_cases, OneBlock.Facts.owned_alone, Tables.StateTests.{ask_rule, fit_rule, is_hit-true}}
 use Rattle.snoop_rules.specs.declared.names.CacheEvent.TheVariants as event
 use Rattle.snoop_model.proofs.{Tables.StateTests.claims_rule, Lists.Facts.is_none}
 

@@ -2,7 +2,7 @@
 use Rattle.snoop_model.proofs.Common.{asked, Asks, BlockInvariant, Bool, both_ways, CacheAction, Cell, Drop, Evict, false, held_by, Hit, inl, inr, Issue, length, Line, List, Load, nothing_held, Op, own_open, owns, Picture, picture_of, refl, Reply, same_Some, Situation, Store, sym, Takes, true, with_line, ℕ, ◌<◌, ◌∙◌, ◌≡◌, ◌⊎◌}
 use Rattle.snoop_rules.specs.declared.names.CacheEvent.TheVariants as event
 use Rattle.snoop_model.proofs.{OneBlock.Facts.{did_in, flat_after, IsLawful, LineFits, carried_line, line_of, owned_alone, still_fits}, Lists.Writes.each_set}
-use Rattle.snoop_model.proofs.Tables.{Rows.{hit_keeps, IsProper-issue, IsProper-hit, IsProper-drop}, AskTests.{ask_rule, asked_row}, StateTests.kept_reader}
+use Rattle.snoop_model.proofs.Tables.{Rows.{hit_keeps, IsProper-issue, IsProper-hit, IsProper-drop}, StateTests.{ask_rule, asked_row}, StateTests.kept_reader}
 
 module _ (s : Situation) (core block word : ℕ) (asking : Op) (answer : Reply) (new : Situation) (asks : Asks s core block word asking answer new)
     (n : ℕ) (flat : List ℕ) (g : BlockInvariant s.protocol n flat (picture_of s block)) (asker_in : core < n) (in_row : core < length (picture_of s block).caches) where

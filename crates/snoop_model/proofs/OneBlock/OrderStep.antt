@@ -1,7 +1,7 @@
 -- An Order finds all its rows and one sender, and keeps the invariant.
 use Rattle.snoop_model.proofs.Common.{and_from, ap, at_memory, BlockInvariant, Bool, CacheCell, carries_value, cell_of, Claims, claims_of, cond, cond_both, cond_some, eq-eqb, eqb, false, fits, held_by, inl, inr, is_put_m, is_some, keeps, length, List, MemCell, memory_cell_of, ne_eqb, None, not, Open, Option, or_cases, Orders, own, own_open, owns, Payload, Picture, picture_of, Protocol, refl, Request, same_Some, seen_by, sender_of, Sends, Situation, Some, sym, true, value_sent, waiting_request, ℕ, ◌<◌, ◌∙◌, ◌≡◌}
 use Rattle.snoop_model.proofs.{Lists.Facts.of_choice, Lines.TheSender.{IsBelow, sends_below}, Tables.{Tested.Tested, StateTests.{carries, kept_reader}}}
-use Rattle.snoop_model.proofs.Tables.{OrderTests.{end_claims, sends_rule, payload_of, sends_so}, Rows.IsProper-order, SenderLines.follows_sender_table}
+use Rattle.snoop_model.proofs.Tables.{OrderTests.{end_claims, sends_rule, payload_of, sends_so}, Rows.IsProper-order, OrderTests.follows_sender_table}
 use Rattle.snoop_model.proofs.Tables.SentBy.{payload_from, sends_is, sends_row, memory_sends_row}
 use Rattle.snoop_model.proofs.OneBlock.Facts.{LineFits, by_core, carried_line, is_it, it_is, line_of, OwnerIn, owns_owned, owns_apart}
 

@@ -2,7 +2,7 @@
 use Rattle.snoop_model.proofs.Common.{[], Access, after_issue, after_order, arith, ArrivesFor, Ask, asked, awaited_request, CacheAction, CacheState, Cell, Contains, Did, Drop, eq-eqb, eqb-true, get_or-set_other, get_or-set_same, get_or_from_slice_get, get_or_past, held_at, held_by, Hit, if◌then◌else◌, inl, inr, is_some, IsSome, Issue, IsWellKept, IsWithin, Item, KeepsWell, length, length-set, Line, List, missed_request, MoveOn, ne_eqb, None, none-some, nothing_held, Op, Open, Option, option_to_list, Order, Picture, picture_of, Protocol, queue_of, queues_after, refl, Reply, Request, reset, Respond, Responds, same_Some, Situation, slice_get, slice_get-get_or, slice_get_within, Some, StandsFirst, StartsWell, state_of, Step, sym, Takes, TakesRows, waiting_request, Waits, WaitsOnNone, with_line, ℕ, ◌++◌, ◌<◌, ◌==◌, ◌∙◌, ◌∷◌, ◌≡◌, ◌≢◌}
 use Rattle.snoop_model.proofs.Lists.{Facts.{one_if, replicated}, Writes.{each_set, same_set, times_push, times_gone, times_left, times, counted_in, in_counted}}
 use Rattle.snoop_model.proofs.Tables.{Rows.{issue-waits, issue-missed, asked_missed, action_rule, order_rule, fill-waits, awaited-asked}, StateTests.some_of}
-use Rattle.snoop_model.{proofs.{Tables.RespondTests.{data_rule, awaited-get}, OneBlock.Facts.{by_core, each_held}}, specs.Pictures.InQueue.IsInQueue}
+use Rattle.snoop_model.{proofs.{Tables.OrderTests.{data_rule, awaited-get}, OneBlock.Facts.{by_core, each_held}}, specs.Pictures.InQueue.IsInQueue}
 use Rattle.snoop_model.proofs.{OneBlock.OfBlocks.{changed, in_pictures, each_picture, shaped_after}, Invariant.Runs.{reset_line, reset_open, reset_shaped}}
 use Rattle.snoop_model.proofs.Lines.Answered.{by_request, filled_or_same, arrives_length, still_waiting}
 

@@ -4,7 +4,7 @@ use Rattle.snoop_rules.specs.declared.names.MemAction.TheVariants as mem_action
 use Rattle.snoop_rules.specs.declared.names.Payload.TheVariants as payload
 use Rattle.snoop_history.specs.declared.items.Item.TheVariants as item
 use Rattle.snoop_model.specs.declared.replies.Reply.TheVariants as reply
-use Rattle.snoop_model.proofs.{OneBlock.OfBlocks.changed, Tables.{RespondTests.{row_for, settled_row}, SentBy.payload_from}}
+use Rattle.snoop_model.proofs.{OneBlock.OfBlocks.changed, Tables.{OrderTests.{row_for, settled_row}, SentBy.payload_from}}
 
 -- what a step is answered, and where it leads
 abbrev pub Next : Type 0
