@@ -6,7 +6,7 @@ use Rattle.snoop_rules.specs.Possible.{MayLoad, MayStore}
 use Rattle.snoop_rules.specs.Takers.{other as another}
 use Rattle.snoop_model.{specs.Pictures.OneWriter.OneWriter, proofs.{Tables.StateTests.{some_of, brings_data, claims_rule}, OneBlock.Facts.owned_alone}}
 use Rattle.snoop_model.proofs.Tables.{StateTests.{ask_rule, fit_rule, is_hit-true, is_idle_evict}, OrderTests.{memory_row_for, row_for, awaited-get}}
-use Rattle.snoop_model.proofs.OneBlock.{Facts.{below_owner, is_itself}, RespondStep.{Closing, close, answered}}
+use Rattle.snoop_model.proofs.OneBlock.{Facts.it_is, RespondStep.{Closing, close, answered}}
 use Rattle.snoop_model.proofs.{OneBlock.OrderStep.{each_row, look, meant, meant_in, sender_told, sends, sends_if_meant, sent}, Tables.OrderTests.led_line}
 
 -- where no core may write the block, none owns it
@@ -102,8 +102,8 @@ module _ (s : Situation) (g : Invariant s) where
       let long = g.shaped.row block within.1 in
       let good : BlockInvariant s.protocol (length before.caches) (flat_words s.log block) before = rw long (g.blocks block within.1) in
       let l = look good ready.1 core q (rw long within.0) ready.0 in
-      let below = below_owner (length before.caches) (meant l) (meant_in l) in
-      let itself = is_itself (meant l) in
+      let below = if_some (meant l) (λ core. core < length before.caches) (meant_in l) in
+      let itself = (it_is (meant l) (meant l)).1 refl in
       let line : FollowsSenderTable s.protocol before core q = record {
         from = meant l;
         payload = sent l;

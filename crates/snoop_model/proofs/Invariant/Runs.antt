@@ -153,7 +153,7 @@ move_keeps block old (Respond on) answer new g m =
     let k = respond_keeps old block closing m.did new r old.shape.cores (flat_words old.log block) (g.blocks block m.within) (rw (g.shaped.row block m.within) its_core) in
     let logged : IsNextOn old block (Some (item.Came (came_of closing) m.did)) = elim arrived [
       | inl put ↦ rw put.2 tt
-      | inr f ↦
+      | inr (_, f) ↦
           (let has = g.accesses closing.core block f.asking f.fills.waited in
           let lawful = rw (f.logged, ← placed) at k.1 in
           rw f.logged (placed, next_lawful old.log closing.core closing.block f.asking.word f.asking.op f.value false has.1 lawful, ((its_core, rw placed m.within), has)))

@@ -1,10 +1,10 @@
 -- The lines after a response: the requestor's is filled, or none is changed.
-use Rattle.snoop_model.proofs.Common.{Access, arith, ArrivesFor, cases_eq, cases_lt, Did, FillsRequestor, get_or-set_other, get_or-set_same, get_or_past, held_at, inl, inr, Item, length, length-set, Line, List, None, nothing_held, Open, Option, Protocol, PutM, refl, Request, set_past, Some, ℕ, ◌≡◌, ◌⊎◌}
+use Rattle.snoop_model.proofs.Common.{Access, arith, ArrivesFor, cases_eq, cases_lt, Did, false, FillsRequestor, is_put_m, get_or-set_other, get_or-set_same, get_or_past, held_at, inl, inr, Item, length, length-set, Line, List, None, nothing_held, Open, Option, Protocol, PutM, refl, Request, set_past, Some, ℕ, ◌≡◌, ◌⊎◌}
 
 module _ {closing : Open} {p : Protocol} {log : List Item} {old new : List Line} {did : Option Did} where
-  pub by_request : (q : Request) → ArrivesFor q closing p log old new did → ((q ≡ PutM) × (new ≡ old) × (did ≡ None)) ⊎ FillsRequestor closing p log old new did
+  pub by_request : (q : Request) → ArrivesFor q closing p log old new did → ((q ≡ PutM) × (new ≡ old) × (did ≡ None)) ⊎ ((is_put_m q ≡ false) × FillsRequestor closing p log old new did)
   by_request PutM h = inl (refl, h.0, h.1)
-  by_request _ h = inr h
+  by_request _ h = inr (refl, h)
 
   -- the requestor's line, or one that is as it was: where that is the requestor's too, no line is in its place
   pub filled_or_same : (fills : FillsRequestor closing p log old new did) (k : ℕ)
@@ -18,7 +18,7 @@ module _ {closing : Open} {p : Protocol} {log : List Item} {old new : List Line}
   ]
 
 module _ {q : Request} {closing : Open} {p : Protocol} {log : List Item} {old new : List Line} {did : Option Did}
-    (arrived : ((q ≡ PutM) × (new ≡ old) × (did ≡ None)) ⊎ FillsRequestor closing p log old new did) where
+    (arrived : ((q ≡ PutM) × (new ≡ old) × (did ≡ None)) ⊎ ((is_put_m q ≡ false) × FillsRequestor closing p log old new did)) where
   pub arrives_length : length new ≡ length old
   arrives_length = grind (arith, length-set {A = Line})
 
@@ -26,5 +26,5 @@ module _ {q : Request} {closing : Open} {p : Protocol} {log : List Item} {old ne
   pub still_waiting : (k : ℕ) (access : Access) → (held_at new k).waiting ≡ Some access → held_at new k ≡ held_at old k
   still_waiting k access h = elim arrived [
     | inl put ↦ rw put.1 refl
-    | inr fills ↦ grind (arith, filled_or_same fills k, fills.fills.held, h)
+    | inr (_, fills) ↦ grind (arith, filled_or_same fills k, fills.fills.held, h)
   ]

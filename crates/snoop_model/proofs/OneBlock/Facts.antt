@@ -1,6 +1,6 @@
 -- What follows from the invariant of one block.
-use Rattle.snoop_model.proofs.Common.{append-nil, arith, BlockInvariant, Bool, cases_eq, cases_lt, cond, Did, did_access, eq-eqb, eqb, eqb-true, eqb_tells, Evict, false, fits, get_or_past, held_at, held_by, inl, inr, is_clean, is_some, IsProper, Item, keeps, as_access, length, Line, List, Load, ne_eqb, next_did, None, not, nothing_held, Op, operation_of, operations, operations-push, Option, option_to_list, or_right, own_open, owns, Performs, Picture, Protocol, refl, Request, same, slice_set, Some, Store, subst, sym, talk_of, true, word_at, ℕ, ⊤, ◌&&◌, ◌++◌, ◌<◌, ◌||◌, ◌∙◌, ◌≡◌, ◌≢◌}
-use Rattle.snoop_model.proofs.{Lines.TheSender.IsBelow, Tables.{Tested.of_open, StateTests.{brings_data, carries, clean_reads, claims_rule}}}
+use Rattle.snoop_model.proofs.Common.{append-nil, arith, BlockInvariant, Bool, cases_eq, cases_lt, cond, Did, did_access, eq-eqb, eqb, eqb-true, eqb_tells, Evict, false, fits, get_or_past, held_at, held_by, inl, inr, is_clean, is_some, IsProper, Item, keeps, as_access, length, Line, List, Load, ne_eqb, next_did, None, not, nothing_held, Op, operation_of, operations, operations-push, Option, option_to_list, or_right, own_open, owns, Performs, Picture, Protocol, refl, Request, same, slice_set, Some, Store, subst, sym, talk_of, true, word_at, ℕ, ⊤, ◌&&◌, ◌++◌, ◌<◌, ◌||◌, ◌∙◌, ◌≡◌, ◌≢◌, ◌↔◌}
+use Rattle.snoop_model.proofs.{Tables.{Tested.of_open, StateTests.{brings_data, carries, clean_reads, claims_rule}}}
 
 -- what holds of one core and of each other holds of each
 pub by_core : (c : ℕ) (P : ℕ → Type 0) → P c → ((d : ℕ) → d ≢ c → P d) → (d : ℕ) → P d
@@ -57,22 +57,14 @@ abbrev pub is_it : Option ℕ → Option ℕ → Bool
 is_it sender None = not (is_some sender)
 is_it sender (Some d) = owns sender d
 
-pub it_is : (sender from : Option ℕ) → is_it sender from ≡ true → from ≡ sender
-it_is None None h = refl
-it_is (Some o) None h = cc
-it_is sender (Some d) h = sym (owner_is sender d h)
-
-pub is_itself : (sender : Option ℕ) → is_it sender sender ≡ true
-is_itself None = refl
-is_itself (Some d) = eq-eqb d d refl
+pub it_is : (sender from : Option ℕ) → (is_it sender from ≡ true) ↔ (from ≡ sender)
+it_is None None = (λ h. refl, λ h. refl)
+it_is (Some o) None = (λ h. cc, λ h. cc)
+it_is sender (Some d) = (λ h. sym (owner_is sender d h), λ h. rw (← h) (eq-eqb d d refl))
 
 -- an owner is one of the cores below n
 abbrev pub OwnerIn : ℕ → Option ℕ → Type 0
 OwnerIn n owner = (o : ℕ) → owner ≡ Some o → o < n
-
-pub below_owner : (n : ℕ) (owner : Option ℕ) → OwnerIn n owner → IsBelow n owner
-below_owner n None was = tt
-below_owner n (Some o) was = was o refl
 
 abbrev pub did_in : Option Item → Option Did
 did_in None = None

@@ -1,7 +1,8 @@
 -- A Respond finds its rows and keeps the invariant, and a load that it performs gives the flat value.
-use Rattle.snoop_model.proofs.Common.{ap, arith, arrival, arrival_at_memory, ArrivesFor, BlockInvariant, Bool, CacheAction, CacheCell, Claims, claims_of, cond, cond_both, Did, eq-eqb, Evict, false, FillLoad, FillsRequestor, FillStore, held_at, held_by, if◌then◌else◌, is_get_m, is_load, is_put_m, Item, keeps, length, List, Load, MemAction, MemCell, ne_eqb, next_did, None, none-some, nothing_held, Op, Open, Option, owns, Performs, Picture, picture_of, Protocol, PutM, refl, Request, Responds, same_Some, Situation, Some, Store, sym, takes_payload, true, word_at, Write, written, ℕ, ◌<◌, ◌∙◌, ◌≡◌}
+use Rattle.snoop_model.proofs.Common.{ap, inl, inr, arith, arrival, arrival_at_memory, ArrivesFor, BlockInvariant, Bool, CacheAction, CacheCell, Claims, claims_of, cond, cond_both, Did, eq-eqb, Evict, false, FillLoad, FillsRequestor, FillStore, held_at, held_by, if◌then◌else◌, is_get_m, is_load, is_put_m, Item, keeps, length, List, Load, MemAction, MemCell, ne_eqb, next_did, None, none-some, nothing_held, Op, Open, Option, owns, Performs, Picture, picture_of, Protocol, PutM, refl, Request, Responds, same_Some, Situation, Some, Store, sym, takes_payload, true, word_at, Write, written, ℕ, ◌<◌, ◌∙◌, ◌≡◌}
 use Rattle.snoop_model.proofs.{Lists.{Facts.of_choice, Writes.each_set}, Tables.{Tested.of_open, Rows.IsProper-fill}}
 use Rattle.snoop_model.proofs.Tables.OrderTests.{answer_claims, fills_store, gains, respond_rule, respond_claims, row_for, settled_row, settled_so, stays_so, writes}
+use Rattle.snoop_model.proofs.Lines.Answered.{by_request}
 use Rattle.snoop_model.proofs.OneBlock.Facts.{LineFits, line_of, still_fits, OwnerIn, owns_owned, flat_after, IsLawful}
 
 -- all that a Respond looks up of a picture that keeps its invariant
@@ -126,11 +127,6 @@ module _ (s : Situation) (block : ℕ) (o : Open) (did : Option Did) (new : Situ
       closed flat (λ h. refl) (λ d d_in. simp same (rw no_gain (rw no_gain at (stays flat (λ h. refl) d d_in
       (of_open p _ (Some o) (stays_so p o.request g.claims found.next) (found.tests.1.1.1.1.1.1.1 put) d _ _ (rw r.opened at (g.states d d_in)))))))
 
-  by_request : (q : Request) → o.request ≡ q → ArrivesFor q o p s.log before.caches r.next.caches did
-      → BlockInvariant p n (flat_after flat did) r.next × IsLawful flat did
-  by_request PutM is arrives = rw arrives.1 (respond_put (ap is_put_m is) arrives.0, tt)
-  by_request _ is arrives = respond_get (ap is_put_m is) arrives
-
   -- a Respond keeps the invariant of a picture, and a load that it performs gives the flat value
   pub respond_keeps : BlockInvariant p n (flat_after flat did) r.next × IsLawful flat did
-  respond_keeps = by_request o.request refl r.requestor
+  respond_keeps = elim (by_request o.request r.requestor) [ inl put ↦ rw put.2 (respond_put (ap is_put_m put.0) put.1, tt) | inr (get, f) ↦ respond_get get f ]

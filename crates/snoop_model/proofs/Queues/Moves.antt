@@ -112,7 +112,7 @@ pub arrives_waits : (closing : Open) (p : Protocol) (log : List Item) (old new :
     → (k : ℕ) → waiting_request (held_at new k).state ≡ waiting_request (held_at old k).state
 arrives_waits closing p log old new did arrives k = elim (by_request closing.request arrives) [
   | inl put ↦ rw put.1 refl
-  | inr f ↦ elim (filled_or_same f k) [
+  | inr (_, f) ↦ elim (filled_or_same f k) [
     | inl e ↦ rw (e.1, f.fills.held, e.0) (fill-waits p (held_at old closing.core).state f.fills.event f.fills.row.action f.fills.row.next f.asking.op f.fills.fill f.fills.is_row)
     | inr e ↦ rw e.0 refl
   ]
@@ -123,7 +123,7 @@ none_awaits : (s : Situation) (kept : IsWellKept s) (block : ℕ) (closing : Ope
     → (k : ℕ) (q : Request) → awaited_request (held_by r.next k).state ≡ Some q → ⊥
 none_awaits s kept block closing did t r k q h = elim (by_request closing.request r.requestor) [
   | inl put ↦ let was = rw put.1 at h in awaited-get (state_of s k block) (cc (was, (its was).1, put.0))
-  | inr f ↦ elim (filled_or_same f k) [
+  | inr (_, f) ↦ elim (filled_or_same f k) [
     | inl e ↦ none-some q (sym (data_rule s.protocol (state_of s closing.core block) closing.payload f.fills.row (rw f.fills.arrives f.fills.is_row)).1 ∙ rw (e.1, f.fills.held) at h)
     | inr e ↦ let was = rw e.0 at h in none-some q (rw (e.1 (sym (its was).0)) at was)
   ]

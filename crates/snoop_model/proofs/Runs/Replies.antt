@@ -31,7 +31,7 @@ goes_tells old (Order core) (Ok answer) new g goes = rw goes.1.answered (goes.0,
 goes_tells old (Respond on) (Ok answer) new g goes =
     let m = goes.1 in
     let told : IfSome m.did (λ d. (d.core ≡ m.closing.core) × (d.block ≡ m.closing.block) × (d.hit ≡ false)) =
-    elim (by_request m.closing.request m.responds.requestor) [ inl put ↦ rw put.2 tt | inr fills ↦ rw fills.logged (refl, refl, refl) ] in
+    elim (by_request m.closing.request m.responds.requestor) [ inl put ↦ rw put.2 tt | inr (_, fills) ↦ rw fills.logged (refl, refl, refl) ] in
     rw (m.answered, m.on_block, ← g.opened goes.0 m.closing m.responds.opened) (m.closing.core, (m.closing.request, ap (λ (s : Situation). s.log) m.responds.after, told))
 goes_tells old step (Err cause) new g goes = refusal_tells step cause (ap (λ (s : Situation). s.log) (refusal_same old step cause new goes))
 
