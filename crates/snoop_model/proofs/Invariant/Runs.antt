@@ -2,9 +2,9 @@
 use Rattle.snoop_model.proofs.Common.{Data, Drop, Evict, Hit, is_some, Issue, keeps, missed_request, [], Access, after_order, All, All-append, All-cons, All-nil, ap, append-nil, arith, Ask, BlockInvariant, Bool, CacheAction, CacheState, came_of, claims_of, cond, Did, eqb_tells, Err, Extent, false, fill_by_all, first_memory, fits, flat, flat_words, get_or-map-range_with_len, get_or-replicate, get_or-set_other, get_or-set_same, get_or_past, Goes, HasWord, held_by, I, IfSome, IfSome_then, if◌then◌else◌, in_protocol, inl, inr, Invariant, is_clean, is_owner, is_sharer, is_store_to, IsNext, IsProper, IsShaped, IsWithin, IsWord, Item, as_access, Legal, length, length-map-range_with_len, length-replicate, length-set, Line, List, MoveOn, next_did, NoMemory, None, none-some, not, nothing_held, nothing_there, Ok, Op, Open, operation_of, operations, Option, option_map, option_map_or, option_to_list, Order, Picture, picture_of, Protocol, queues_after, refl, Refused, replicate, Reply, request_for, reset, Respond, Result, same, same_Some, Situation, slice_set, Some, Step, sym, Takes, true, untouched, wait_fits, with_line, word_at, ℕ, ◌&&◌, ◌++◌, ◌<◌, ◌==◌, ◌∙◌, ◌∷◌, ◌≡◌, ◌≢◌}
 use Rattle.snoop_history.specs.declared.items.Item.TheVariants as item
 use Rattle.snoop_history.proofs.Legal.{flat-grows, legal-grows}
-use Rattle.snoop_model.proofs.{Lists.{Writes.each_set, Facts.{replicated, is_none}}, OneBlock.OfBlocks.{changed, in_pictures, each_picture, shaped_after}}
+use Rattle.snoop_model.proofs.{Lists.{Writes.each_set, Facts.{replicated, is_none}}, OneBlock.OfBlocks.{changed, in_pictures, each_picture}}
 use Rattle.snoop_model.proofs.OneBlock.{Facts.{each_held, did_in, operations_moved, performed_so, flat_after, IsLawful}, AskStep.ask_keeps}
-use Rattle.snoop_model.proofs.{OneBlock.{OrderStep.order_keeps, RespondStep.respond_keeps}, Lines.Answered.{by_request, arrives_length, still_waiting}}
+use Rattle.snoop_model.proofs.{OneBlock.{OrderStep.order_keeps, RespondStep.respond_keeps}, OneBlock.AfterMoves.{by_request, still_shaped, still_waiting}}
 use Rattle.snoop_trace.specs.declared.protocol.Protocol.TheVariants as protocol
 
 -- a word of a block in flat memory
@@ -65,22 +65,21 @@ abbrev AccessWithin : Extent → Line → Type 0
 AccessWithin shape line = (access : Access) → line.waiting ≡ Some access → IsWord shape access.word
 
 -- what is to be shown of a move
-record Keeps (old : Situation) (block : ℕ) (next : Picture) (queues : List (List ℕ)) (entry : Option Item) : Type 0 where
+record Keeps (old : Situation) (block : ℕ) (next : Picture) (entry : Option Item) : Type 0 where
   within : block < old.shape.blocks
-  as_wide : length next.caches ≡ length (picture_of old block).caches
-  as_many_queues : length queues ≡ length old.queues
   opened : (o : Open) → next.transaction ≡ Some o → o.block ≡ block
   block_after : BlockInvariant old.protocol old.shape.cores (flat_after (flat_words old.log block) (did_in entry)) next
   accesses : (core : ℕ) → AccessWithin old.shape (held_by next core)
   item : IsNextOn old block entry
 
-kept : (old : Situation) (block : ℕ) (next : Picture) (queues : List (List ℕ)) (entry : Option Item) → Invariant old → Keeps old block next queues entry → Invariant (changed old block next queues (old.log ++ option_to_list entry))
-kept old block next queues entry g k =
+kept : (old new : Situation) (block : ℕ) (next : Picture) (queues : List (List ℕ)) (entry : Option Item) → new ≡ changed old block next queues (old.log ++ option_to_list entry) → IsShaped new
+    → Invariant old → Keeps old block next entry → Invariant new
+kept old new block next queues entry after shaped g k =
     let log = old.log ++ option_to_list entry in
     let within = in_pictures old block g.shaped k.within in
     let on = IfSome_then (did_in entry) k.item (λ did h. h.0) in
-    record {
-      shaped = shaped_after old block next queues log g.shaped k.as_wide k.as_many_queues;
+    rw after (record {
+      shaped = rw after at shaped;
       opened = each_picture old block next queues log (λ b x. (o : Open) → x.transaction ≡ Some o → o.block ≡ b) within (λ b apart. g.opened b) k.opened;
       blocks = each_picture old block next queues log (λ b x. b < old.shape.blocks → (BlockInvariant old.protocol old.shape.cores) (flat_words log b) x) within
           (λ b apart b_in. rw (flat_moved, (flat_split (flat_words old.log b) (did_in entry) block b on).0 apart) (g.blocks b b_in))
@@ -88,11 +87,7 @@ kept old block next queues entry g k =
       legal = legal_logged old.log entry g.legal (IfSome_then (did_in entry) k.item (λ did h. h.1));
       logged = all_logged (IsLogged old) old.log entry g.logged (IfSome_then (did_in entry) k.item (λ did h. h.2));
       accesses = λ core. each_picture old block next queues log (λ b x. AccessWithin old.shape (held_by x core)) within (λ b apart. g.accesses core b) (k.accesses core);
-    }
-
-as_many_after : (a : CacheAction) (queues : List (List ℕ)) (core block : ℕ) → length (queues_after a queues core block) ≡ length queues
-as_many_after (Issue r) queues core block = length-set queues core _
-as_many_after _ queues core block = refl
+    })
 
 issued_access : (s : Situation) (word : ℕ) (asking : Op) (access : Access) → HasWord s.shape word asking → as_access word asking ≡ Some access → IsWord s.shape access.word
 issued_access s word Evict access within e = cc
@@ -114,36 +109,33 @@ pub move_keeps : (block : ℕ) (old : Situation) (step : Step) (answer : Reply) 
 move_keeps block old (Ask core on word asking) answer new g m = elim m.moves [
   | inl idle ↦ rw idle.3 g
   | inr a ↦
-      (let before : Picture = picture_of old block in
+      (let shaped = still_shaped block old (Ask core on word asking) answer new g.shaped m in
+      let before : Picture = picture_of old block in
       let act = a.row.action in
       let in_row : core < length before.caches = rw (g.shaped.row block m.within.1) m.within.0 in
       let k = ask_keeps old core block word asking answer new a old.shape.cores (flat_words old.log block) (g.blocks block m.within.1) m.within.0 in_row in
       let so = takes_so old core block word asking a.row.next (held_by before core) a.held answer a.entry m.has_word act a.taken (g.accesses core block) m.within k.1 in
-      rw a.after (kept old block (with_line before core a.held) (queues_after act old.queues core block) a.entry g (record {
+      kept old new block (with_line before core a.held) (queues_after act old.queues core block) a.entry a.after shaped g (record {
         within = m.within.1;
-        as_wide = length-set before.caches core a.held;
-        as_many_queues = as_many_after act old.queues core block;
         opened = g.opened block;
         block_after = k.0;
         item = so.1;
         accesses = each_set before.caches core a.held nothing_held (λ c. AccessWithin old.shape) in_row so.0
             (λ c apart. g.accesses c block);
-      })))
+      }))
 ]
 move_keeps block old (Order core) answer new g m =
     let o = m.orders in
     let within = m.within in
     let cores : length (picture_of old block).caches ≡ old.shape.cores = g.shaped.row block within.1 in
-    rw o.after (kept old block o.next (after_order old.queues core block) (Some (item.Sent (record { core = core; request = m.request; block = block }))) g (record {
+    kept old new block o.next (after_order old.queues core block) (Some (item.Sent (record { core = core; request = m.request; block = block }))) o.after (still_shaped block old (Order core) answer new g.shaped m) g (record {
       within = within.1;
-      as_wide = o.taken.same_length;
-      as_many_queues = length-set old.queues core _;
       opened = λ t is_open. ap (λ (x : Open). x.block) (same_Some _ _ (sym is_open ∙ o.opened));
       block_after = rw (← cores) (order_keeps old core block m.request new (flat_words old.log block) (rw cores (g.blocks block within.1)) (rw cores within.0) o);
       item = tt;
       accesses = λ c. each_held o.next.caches c (AccessWithin old.shape)
           (λ below. rw (o.taken.rows c (rw (← o.taken.same_length) below)).2 (g.accesses c block)) (λ access waits. cc);
-    }))
+    })
 move_keeps block old (Respond on) answer new g m =
     let closing = m.closing in
     let r = m.responds in
@@ -158,15 +150,13 @@ move_keeps block old (Respond on) answer new g m =
           let lawful = rw (f.logged, ← placed) at k.1 in
           rw f.logged (placed, next_lawful old.log closing.core closing.block f.asking.word f.asking.op f.value false has.1 lawful, ((its_core, rw placed m.within), has)))
     ] in
-    rw r.after (kept old block r.next old.queues (Some (item.Came (came_of closing) m.did)) g (record {
+    kept old new block r.next old.queues (Some (item.Came (came_of closing) m.did)) r.after (still_shaped block old (Respond on) answer new g.shaped m) g (record {
       within = m.within;
-      as_wide = arrives_length arrived;
-      as_many_queues = refl;
       opened = λ t is_open. absurd (none-some t (sym r.closed ∙ is_open));
       block_after = k.0;
       item = logged;
       accesses = λ c access waits. let same = still_waiting arrived c access waits in g.accesses c block access (rw (← same) waits);
-    }))
+    })
 
 pub nothing_proper : IsProper nothing_held
 nothing_proper = record { kept = refl; waiting = refl }

@@ -1,10 +1,10 @@
 -- A machine is well kept at reset, and stays so at each kind of move; so a core waits on the blocks in its queue, and on no others.
-use Rattle.snoop_model.proofs.Common.{[], Access, after_issue, after_order, arith, ArrivesFor, Ask, asked, awaited_request, CacheAction, CacheState, Cell, Contains, Did, Drop, eq-eqb, eqb-true, get_or-set_other, get_or-set_same, get_or_from_slice_get, get_or_past, held_at, held_by, Hit, if◌then◌else◌, inl, inr, is_some, IsSome, Issue, IsWellKept, IsWithin, Item, KeepsWell, length, length-set, Line, List, missed_request, MoveOn, ne_eqb, None, none-some, nothing_held, Op, Open, Option, option_to_list, Order, Picture, picture_of, Protocol, queue_of, queues_after, refl, Reply, Request, reset, Respond, Responds, same_Some, Situation, slice_get, slice_get-get_or, slice_get_within, Some, StandsFirst, StartsWell, state_of, Step, sym, Takes, TakesRows, waiting_request, Waits, WaitsOnNone, with_line, ℕ, ◌++◌, ◌<◌, ◌==◌, ◌∙◌, ◌∷◌, ◌≡◌, ◌≢◌}
-use Rattle.snoop_model.proofs.Lists.{Facts.{one_if, replicated}, Writes.{each_set, same_set, times_push, times_gone, times_left, times, counted_in, in_counted}}
+use Rattle.snoop_model.proofs.Common.{[], Access, after_issue, after_order, arith, ArrivesFor, Ask, asked, awaited_request, CacheAction, CacheState, Cell, Contains, Did, Drop, eq-eqb, eqb-true, get_or-set_other, get_or-set_same, get_or_from_slice_get, get_or_past, held_at, held_by, Hit, if◌then◌else◌, inl, inr, is_some, IsSome, Issue, IsShaped, IsWellKept, IsWithin, Item, KeepsWell, length, length-set, Line, List, missed_request, MoveOn, ne_eqb, None, none-some, nothing_held, Op, Open, Option, option_to_list, Order, Picture, picture_of, Protocol, queue_of, queues_after, refl, Reply, Request, reset, Respond, Responds, same_Some, Situation, slice_get, slice_get-get_or, slice_get_within, Some, StandsFirst, StartsWell, state_of, Step, sym, Takes, TakesRows, waiting_request, Waits, WaitsOnNone, with_line, ℕ, ◌++◌, ◌<◌, ◌==◌, ◌∙◌, ◌∷◌, ◌≡◌, ◌≢◌}
+use Rattle.snoop_model.proofs.Lists.{Facts.{one_if, replicated}, Writes.{each_set, same_set, times_push, times_left, times, counted_in, in_counted}}
 use Rattle.snoop_model.proofs.Tables.{Rows.{issue-waits, issue-missed, asked_missed, action_rule, order_rule, fill-waits, awaited-asked}, StateTests.some_of}
 use Rattle.snoop_model.{proofs.{Tables.OrderTests.{data_rule, awaited-get}, OneBlock.Facts.{by_core, each_held}}, specs.Pictures.InQueue.IsInQueue}
-use Rattle.snoop_model.proofs.{OneBlock.OfBlocks.{changed, in_pictures, each_picture, shaped_after}, Invariant.Runs.{reset_line, reset_open, reset_shaped}}
-use Rattle.snoop_model.proofs.Lines.Answered.{by_request, filled_or_same, arrives_length, still_waiting}
+use Rattle.snoop_model.proofs.{OneBlock.OfBlocks.{changed, in_pictures, each_picture}, Invariant.Runs.{reset_line, reset_open, reset_shaped}}
+use Rattle.snoop_model.proofs.OneBlock.AfterMoves.{by_request, filled_or_same, still_shaped, still_waiting}
 
 -- how often a core that holds the block in this state has it in its queue
 abbrev waits : CacheState → ℕ
@@ -21,24 +21,22 @@ awaited_in s kept block core = record { awaits = kept.awaits core block; operati
 -- what is to be shown of a move
 record KeepsOn (s : Situation) (block : ℕ) (next : Picture) (queues : List (List ℕ)) : Type 0 where
   within : block < s.shape.blocks
-  as_wide : length next.caches ≡ length (picture_of s block).caches
-  as_many : length queues ≡ length s.queues
   here : (core : ℕ) → times block (queue_of queues core) ≡ waits (held_by next core).state
   elsewhere : (core b : ℕ) → b ≢ block → times b (queue_of queues core) ≡ times b (queue_of s.queues core)
   awaited : (core : ℕ) → IsAwaited next.transaction core (held_by next core)
 
-well_after : (s : Situation) → IsWellKept s → (block : ℕ) (next : Picture) (queues : List (List ℕ)) (log : List Item) → KeepsOn s block next queues
-    → IsWellKept (changed s block next queues log)
-well_after s kept block next queues log k =
+well_after : (s t : Situation) → IsWellKept s → (block : ℕ) (next : Picture) (queues : List (List ℕ)) (log : List Item) → t ≡ changed s block next queues log → IsShaped t
+    → KeepsOn s block next queues → IsWellKept t
+well_after s t kept block next queues log after shaped k =
     let within = in_pictures s block kept.shaped k.within in
     let awaited = λ (core : ℕ). each_picture s block next queues log (λ b x. IsAwaited x.transaction core (held_by x core)) within (λ b apart. awaited_in s kept b core) (k.awaited core) in
-    record {
-      shaped = shaped_after s block next queues log kept.shaped k.as_wide k.as_many;
+    rw after (record {
+      shaped = rw after at shaped;
       queued = λ core. each_picture s block next queues log (λ b x. times b (queue_of queues core) ≡ waits (held_by x core).state) within
           (λ b apart. k.elsewhere core b apart ∙ kept.queued core b) (k.here core);
       awaits = λ core b. (awaited core b).awaits;
       operations = λ core b. (awaited core b).operations;
-    }
+    })
 
 -- the line that an Ask leaves, by its row
 module _ (s : Situation) (kept : IsWellKept s) (core block word : ℕ) (asking : Op) (within : IsWithin s core block) (held : Line) (next : CacheState)
@@ -47,16 +45,14 @@ module _ (s : Situation) (kept : IsWellKept s) (core block word : ℕ) (asking :
   line = held_by (picture_of s block) core
 
   -- one line and its core's queue change, and what that line awaits it awaited before
-  one_line : (act : CacheAction) (queues : List (List ℕ)) → Cell s.protocol line.state (asked asking) act next → held.state ≡ next → length queues ≡ length s.queues
+  one_line : (act : CacheAction) (queues : List (List ℕ)) → Cell s.protocol line.state (asked asking) act next → held.state ≡ next
       → times block (queue_of queues core) ≡ waits next → ((k : ℕ) → k ≢ core → queue_of queues k ≡ queue_of s.queues k)
       → ((k b : ℕ) → b ≢ block → times b (queue_of queues k) ≡ times b (queue_of s.queues k)) → ((access : Access) → held.waiting ≡ Some access → IsSome (missed_request next))
       → KeepsOn s block (with_line (picture_of s block) core held) queues
-  one_line act queues row is as_many own others elsewhere missed =
+  one_line act queues row is own others elsewhere missed =
       let each = λ (P : ℕ → Line → Type 0). each_set (picture_of s block).caches core held nothing_held P (rw (kept.shaped.row block within.1) within.0) in
       record {
         within = within.1;
-        as_wide = length-set (picture_of s block).caches core held;
-        as_many = as_many;
         here = each (λ k x. times block (queue_of queues k) ≡ waits x.state) (rw is own) (λ k apart. rw (others k apart) (kept.queued k block));
         elsewhere = elsewhere;
         awaited = each (IsAwaited (picture_of s block).transaction)
@@ -67,7 +63,7 @@ module _ (s : Situation) (kept : IsWellKept s) (core block word : ℕ) (asking :
   -- what waits and what has missed are as before
   still : (act : CacheAction) → Cell s.protocol line.state (asked asking) act next → held.state ≡ next → held.waiting ≡ line.waiting
       → missed_request line.state ≡ missed_request next → waiting_request next ≡ waiting_request line.state → KeepsOn s block (with_line (picture_of s block) core held) s.queues
-  still act row is same missed waiting = one_line act s.queues row is refl (rw waiting (kept.queued core block)) (λ k apart. refl) (λ k b apart. refl)
+  still act row is same missed waiting = one_line act s.queues row is (rw waiting (kept.queued core block)) (λ k apart. refl) (λ k b apart. refl)
       (λ access h. rw (← missed) (kept.operations core block access (sym same ∙ h)))
 
   kept_taken : (act : CacheAction) → Cell s.protocol line.state (asked asking) act next → Takes act next s.log core block word asking line held answer entry
@@ -83,7 +79,7 @@ module _ (s : Situation) (kept : IsWellKept s) (core block word : ℕ) (asking :
       let queue = queue_of s.queues core in
       let own = get_or-set_same s.queues core (queue ++ block ∷ []) [] (rw kept.shaped.queues within.0) in
       let missed = (issue-missed s.protocol line.state (asked asking) request next row).1 in
-      one_line (Issue request) (after_issue s.queues core block) row (rw taken.0 refl) (length-set s.queues core _)
+      one_line (Issue request) (after_issue s.queues core block) row (rw taken.0 refl)
       (rw (is, own, times_push block block queue, eq-eqb block block refl, kept.queued core block, was) refl)
       (λ k apart. get_or-set_other s.queues core k _ [] apart)
       (λ k b apart. same_set (times b) s.queues core _ [] (rw (times_push b block queue, ne_eqb block b (λ e. apart (sym e))) (omega arith)) k)
@@ -139,21 +135,20 @@ none_awaits s kept block closing did t r k q h = elim (by_request closing.reques
 pub on_kept : (block : ℕ) (s t : Situation) (step : Step) (answer : Reply) → IsWellKept s → MoveOn block s step answer t → IsWellKept t
 on_kept block s t (Ask core on word asking) answer kept m = elim m.moves [
   | inl absent ↦ rw absent.3 kept
-  | inr asks ↦ rw asks.after (well_after s kept block (with_line (picture_of s block) core asks.held) (queues_after asks.row.action s.queues core block) (s.log ++ option_to_list asks.entry)
-      (kept_taken s kept core block word asking m.within asks.held asks.row.next answer asks.entry asks.row.action asks.is_row asks.taken))
+  | inr asks ↦ well_after s t kept block (with_line (picture_of s block) core asks.held) (queues_after asks.row.action s.queues core block) (s.log ++ option_to_list asks.entry) asks.after
+      (still_shaped block s (Ask core on word asking) answer t kept.shaped m)
+      (kept_taken s kept core block word asking m.within asks.held asks.row.next answer asks.entry asks.row.action asks.is_row asks.taken)
 ]
 on_kept block s t (Order core) answer kept m =
     let before : Picture = picture_of s block in
     let next : Picture = m.orders.next in
     let taken = m.orders.taken in
-    rw m.orders.after (well_after s kept block next (after_order s.queues core block) _ (record {
+    well_after s t kept block next (after_order s.queues core block) _ m.orders.after (still_shaped block s (Order core) answer t kept.shaped m) (record {
       within = m.within.1;
-      as_wide = taken.same_length;
-      as_many = length-set s.queues core _;
       here = by_core core (λ k. times block (queue_of (after_order s.queues core block) k) ≡ waits (held_by next k).state)
-          (rw (own_waits s.protocol core m.request before.caches next.caches taken (rw (kept.shaped.row block m.within.1) m.within.0), get_or-set_same s.queues core _ [] (rw kept.shaped.queues m.within.0)) (times_gone block (queue_of s.queues core)))
+          (rw (own_waits s.protocol core m.request before.caches next.caches taken (rw (kept.shaped.row block m.within.1) m.within.0), get_or-set_same s.queues core _ [] (rw kept.shaped.queues m.within.0)) (times_left block block (queue_of s.queues core) ∙ rw (eq-eqb block block refl) refl))
           (λ k apart. rw (get_or-set_other s.queues core k _ [] apart, others_wait s.protocol core m.request before.caches next.caches taken k apart) (kept.queued k block));
-      elsewhere = λ k b apart. same_set (times b) s.queues core _ [] (times_left b block (queue_of s.queues core) apart) k;
+      elsewhere = λ k b apart. same_set (times b) s.queues core _ [] (times_left b block (queue_of s.queues core) ∙ rw (ne_eqb b block apart) refl) k;
       awaited = λ k. each_held next.caches k (IsAwaited next.transaction k)
           (λ below.
           let (row, is_row, moved) = taken.rows k (rw (← taken.same_length) below) in
@@ -163,21 +158,19 @@ on_kept block s t (Order core) answer kept m =
             operations = λ access h. rw (← missed) (kept.operations k block access h);
           }))
           (record { awaits = λ q h. cc; operations = λ access h. cc });
-    }))
+    })
 on_kept block s t (Respond on) answer kept m =
     let r = m.responds in
     let arrived = by_request m.closing.request r.requestor in
-    rw r.after (well_after s kept block r.next s.queues _ (record {
+    well_after s t kept block r.next s.queues _ r.after (still_shaped block s (Respond on) answer t kept.shaped m) (record {
       within = m.within;
-      as_wide = arrives_length arrived;
-      as_many = refl;
       here = λ k. rw (arrives_waits m.closing s.protocol s.log (picture_of s block).caches r.next.caches m.did r.requestor k) (kept.queued k block);
       elsewhere = λ k b apart. refl;
       awaited = λ k. record {
         awaits = λ q h. absurd (none_awaits s kept block m.closing m.did t r k q h);
         operations = λ access h. let same = still_waiting arrived k access h in rw same (kept.operations k block access (rw same at h));
       };
-    }))
+    })
 
 pub keeps_well : KeepsWell
 keeps_well s t step answer kept move = on_kept move.0 s t step answer kept move.1.1

@@ -1,6 +1,6 @@
 -- What the outcome of a step tells of the history.
 use Rattle.snoop_model.proofs.Common.{[], ap, append-nil, Ask, asked, CacheAction, CacheState, Cell, Drop, Err, Evict, false, FirstMove, Goes, held_by, Hit, IfSome, inl, inr, Invariant, Issue, Item, Line, List, Load, Ok, Op, Option, option_to_list, Order, picture_of, Protocol, refl, Refused, Reply, Respond, Result, RunBy, same_Some, Situation, Step, Store, subst, sym, Takes, ℕ, ◌++◌, ◌∙◌, ◌∷◌, ◌≡◌}
-use Rattle.snoop_model.{specs.Moves.Replies.Tells, proofs.{Lines.Answered.by_request, Tables.Rows.{action_rule, serving-asked, drop_evicts}}}
+use Rattle.snoop_model.{specs.Moves.Replies.Tells, proofs.{OneBlock.AfterMoves.by_request, Tables.Rows.{action_rule, serving-asked, drop_evicts}}}
 use Rattle.snoop_model.proofs.Invariant.Runs.{refusal_same, goes_keeps}
 
 -- what an Ask's row adds is what its reply tells
