@@ -3,8 +3,8 @@ use Rattle.snoop_model.proofs.Common.{Data, Drop, Evict, Hit, is_some, Issue, ke
 use Rattle.snoop_history.specs.declared.items.Item.TheVariants as item
 use Rattle.snoop_history.proofs.Legal.{flat-grows, legal-grows}
 use Rattle.snoop_model.proofs.{Lists.{Writes.each_set, Facts.{replicated, is_none}}, OneBlock.OfBlocks.{changed, in_pictures, each_picture}}
-use Rattle.snoop_model.proofs.OneBlock.{Facts.{each_held, did_in, operations_moved, performed_so, flat_after, IsLawful}, AskStep.ask_keeps}
-use Rattle.snoop_model.proofs.{OneBlock.{OrderStep.order_keeps, RespondStep.respond_keeps}, OneBlock.AfterMoves.{by_request, still_shaped, still_waiting}}
+use Rattle.snoop_model.proofs.OneBlock.{Facts.{did_in, operations_moved, performed_so, flat_after, IsLawful}, AskStep.ask_keeps}
+use Rattle.snoop_model.proofs.{OneBlock.{OrderStep.order_keeps, RespondStep.respond_keeps}, OneBlock.AfterMoves.{by_request, each_taken, still_shaped, still_waiting}}
 use Rattle.snoop_trace.specs.declared.protocol.Protocol.TheVariants as protocol
 
 -- a word of a block in flat memory
@@ -133,8 +133,8 @@ move_keeps block old (Order core) answer new g m =
       opened = λ t is_open. ap (λ (x : Open). x.block) (same_Some _ _ (sym is_open ∙ o.opened));
       block_after = rw (← cores) (order_keeps old core block m.request new (flat_words old.log block) (rw cores (g.blocks block within.1)) (rw cores within.0) o);
       item = tt;
-      accesses = λ c. each_held o.next.caches c (AccessWithin old.shape)
-          (λ below. rw (o.taken.rows c (rw (← o.taken.same_length) below)).2 (g.accesses c block)) (λ access waits. cc);
+      accesses = λ c. each_taken o.taken c (λ x y. AccessWithin old.shape x → AccessWithin old.shape y)
+          (λ inside was. rw (o.taken.rows c inside).2 was) (λ was. was) (g.accesses c block);
     })
 move_keeps block old (Respond on) answer new g m =
     let closing = m.closing in

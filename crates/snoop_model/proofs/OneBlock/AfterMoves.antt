@@ -1,5 +1,5 @@
 -- The pictures after each kind of move, and the lines after a response: the requestor's is filled, or none is changed.
-use Rattle.snoop_model.proofs.Common.{Access, Ask, CacheAction, IsShaped, Issue, MoveOn, Order, queues_after, Respond, Step, arith, ArrivesFor, Asks, cases_eq, cases_lt, Did, false, FillsRequestor, get_or-set_other, get_or-set_same, get_or_past, held_at, held_by, inl, inr, Invariant, is_put_m, IsWithin, Item, length, length-set, Line, List, None, nothing_held, nothing_there, Op, Open, Option, Orders, picture_of, Protocol, PutM, refl, Reply, Request, Responds, set_past, Situation, Some, with_line, ℕ, ◌<◌, ◌≡◌, ◌⊎◌}
+use Rattle.snoop_model.proofs.Common.{Access, Ask, CacheAction, IsShaped, Issue, MoveOn, Order, queues_after, Respond, Step, arith, ArrivesFor, Asks, cases_eq, cases_lt, Did, false, FillsRequestor, get_or-set_other, get_or-set_same, get_or_past, held_at, held_by, inl, inr, Invariant, is_put_m, IsWithin, Item, length, length-set, Line, List, None, nothing_held, nothing_there, Op, Open, Option, Orders, picture_of, Protocol, PutM, refl, Reply, Request, Responds, set_past, Situation, Some, TakesRows, with_line, ℕ, ◌<◌, ◌≡◌, ◌⊎◌}
 use Rattle.snoop_model.proofs.OneBlock.OfBlocks.{in_pictures, shaped_after}
 
 module _ {closing : Open} {p : Protocol} {log : List Item} {old new : List Line} {did : Option Did} where
@@ -29,6 +29,12 @@ module _ {q : Request} {closing : Open} {p : Protocol} {log : List Item} {old ne
     | inl put ↦ rw put.1 refl
     | inr (_, fills) ↦ grind (arith, filled_or_same fills k, fills.fills.held, h)
   ]
+
+-- what holds of each line before and after its row, and of two that hold nothing, holds of each core's
+pub each_taken : {p : Protocol} {core : ℕ} {request : Request} {old new : List Line} → TakesRows p core request old new → (k : ℕ) (P : Line → Line → Type 0)
+    → (k < length old → P (held_at old k) (held_at new k)) → P nothing_held nothing_held → P (held_at old k) (held_at new k)
+each_taken {p} {core} {request} {old} {new} taken k P row nothing =
+    grind (arith, row, nothing, taken.same_length, get_or_past new k nothing_held, get_or_past old k nothing_held)
 
 pub ask_line : (old : Situation) (c b word : ℕ) (asking : Op) (answer : Reply) (new : Situation) → Invariant old → IsWithin old c b
     → (a : Asks old c b word asking answer new) → held_by (picture_of new b) c ≡ a.held

@@ -2,14 +2,6 @@
 use Rattle.snoop_model.proofs.Common.{append-nil, arith, BlockInvariant, Bool, cases_eq, cases_lt, cond, Did, did_access, eq-eqb, eqb, eqb-true, eqb_tells, Evict, false, fits, get_or_past, held_at, held_by, inl, inr, is_clean, is_some, IsProper, Item, keeps, as_access, length, Line, List, Load, ne_eqb, next_did, None, not, nothing_held, Op, operation_of, operations, operations-push, Option, option_to_list, or_right, own_open, owns, Performs, Picture, Protocol, refl, Request, same, slice_set, Some, Store, subst, sym, talk_of, true, word_at, ℕ, ⊤, ◌&&◌, ◌++◌, ◌<◌, ◌||◌, ◌∙◌, ◌≡◌, ◌≢◌, ◌↔◌}
 use Rattle.snoop_model.proofs.{Tables.{Tested.of_open, StateTests.{brings_data, carries, clean_reads, claims_rule}}}
 
--- what holds of one core and of each other holds of each
-pub by_core : (c : ℕ) (P : ℕ → Type 0) → P c → ((d : ℕ) → d ≢ c → P d) → (d : ℕ) → P d
-by_core c P here others d = elim (cases_eq d c) [ inl e ↦ subst P (sym e) here | inr apart ↦ others d apart ]
-
--- what holds of each line that there is, and of one that holds nothing, holds of any core's
-pub each_held : (lines : List Line) (k : ℕ) (P : Line → Type 0) → (k < length lines → P (held_at lines k)) → P nothing_held → P (held_at lines k)
-each_held lines k P inside nothing = elim (cases_lt k (length lines)) [ inl below ↦ inside below | inr past ↦ subst P (sym (get_or_past lines k nothing_held past)) nothing ]
-
 pub owns_owned : (owner : Option ℕ) (d : ℕ) (b : Bool) → is_some owner ≡ b → (not (owns owner d) || b) ≡ true
 owns_owned None d b e = refl
 owns_owned (Some o) d b e = rw (← e) (or_right (not (eqb d o)) true refl)

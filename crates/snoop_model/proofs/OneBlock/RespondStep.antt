@@ -120,13 +120,14 @@ module _ (s : Situation) (block : ℕ) (o : Open) (did : Option Did) (new : Situ
         words.1,
       )
 
-  -- a PutM's end changes no line
-  respond_put : is_put_m o.request ≡ true → r.next.caches ≡ before.caches → BlockInvariant p n flat r.next
-  respond_put put same =
-      let no_gain : gained ≡ false = found.tests.1.1.0 put in
-      closed flat (λ h. refl) (λ d d_in. simp same (rw no_gain (rw no_gain at (stays flat (λ h. refl) d d_in
-      (of_open p _ (Some o) (stays_so p o.request g.claims found.next) (found.tests.1.1.1.1.1.1.1 put) d _ _ (rw r.opened at (g.states d d_in)))))))
-
   -- a Respond keeps the invariant of a picture, and a load that it performs gives the flat value
   pub respond_keeps : BlockInvariant p n (flat_after flat did) r.next × IsLawful flat did
-  respond_keeps = elim (by_request o.request r.requestor) [ inl put ↦ rw put.2 (respond_put (ap is_put_m put.0) put.1, tt) | inr (get, f) ↦ respond_get get f ]
+  respond_keeps = elim (by_request o.request r.requestor) [
+    | inl (is_put, same, none) ↦
+        let put = ap is_put_m is_put in
+        let no_gain : gained ≡ false = found.tests.1.1.0 put in
+        let lines = λ (d : ℕ) (d_in : d < n). stays flat (λ h. refl) d d_in
+        (of_open p _ (Some o) (stays_so p o.request g.claims found.next) (found.tests.1.1.1.1.1.1.1 put) d _ _ (rw r.opened at (g.states d d_in))) in
+        rw none (closed flat (λ h. refl) (λ d d_in. simp same (rw no_gain (rw no_gain at (lines d d_in)))), tt)
+    | inr (get, f) ↦ respond_get get f
+  ]

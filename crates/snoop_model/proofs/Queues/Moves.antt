@@ -1,10 +1,10 @@
 -- A machine is well kept at reset, and stays so at each kind of move; so a core waits on the blocks in its queue, and on no others.
-use Rattle.snoop_model.proofs.Common.{[], Access, after_issue, after_order, arith, ArrivesFor, Ask, asked, awaited_request, CacheAction, CacheState, Cell, Contains, Did, Drop, eq-eqb, eqb-true, get_or-set_other, get_or-set_same, get_or_from_slice_get, get_or_past, held_at, held_by, Hit, if◌then◌else◌, inl, inr, is_some, IsSome, Issue, IsShaped, IsWellKept, IsWithin, Item, KeepsWell, length, length-set, Line, List, missed_request, MoveOn, ne_eqb, None, none-some, nothing_held, Op, Open, Option, option_to_list, Order, Picture, picture_of, Protocol, queue_of, queues_after, refl, Reply, Request, reset, Respond, Responds, same_Some, Situation, slice_get, slice_get-get_or, slice_get_within, Some, StandsFirst, StartsWell, state_of, Step, sym, Takes, TakesRows, waiting_request, Waits, WaitsOnNone, with_line, ℕ, ◌++◌, ◌<◌, ◌==◌, ◌∙◌, ◌∷◌, ◌≡◌, ◌≢◌}
+use Rattle.snoop_model.proofs.Common.{[], Access, after_issue, after_order, arith, ArrivesFor, Ask, asked, awaited_request, CacheAction, CacheState, Cell, Contains, Did, Drop, eq-eqb, eqb-true, filter, get_or-set_other, get_or-set_same, get_or_from_slice_get, get_or_past, held_at, held_by, Hit, if◌then◌else◌, inl, inr, is_some, IsSome, Issue, IsShaped, IsWellKept, IsWithin, Item, KeepsWell, length, length-set, Line, List, missed_request, MoveOn, ne_eqb, None, none-some, not, nothing_held, Op, Open, Option, option_to_list, Order, Picture, picture_of, Protocol, queue_of, queues_after, refl, Reply, Request, reset, Respond, Responds, same_Some, Situation, slice_get, slice_get-get_or, slice_get_within, Some, StandsFirst, StartsWell, state_of, Step, sym, Takes, TakesRows, waiting_request, Waits, WaitsOnNone, with_line, ℕ, ◌++◌, ◌<◌, ◌==◌, ◌∙◌, ◌∷◌, ◌≡◌, ◌≢◌}
 use Rattle.snoop_model.proofs.Lists.{Facts.{either_way, of_choice, one_if, replicated}, Writes.{each_set, same_set, times_push, times_left, times, counted_in, in_counted}}
 use Rattle.snoop_model.proofs.Tables.{Rows.{issue-waits, issue-missed, asked_missed, action_rule, order_rule, fill-waits, awaited-asked}, StateTests.some_of}
-use Rattle.snoop_model.{proofs.{Tables.OrderTests.{data_rule, awaited-get}, OneBlock.Facts.each_held}, specs.Pictures.InQueue.IsInQueue}
+use Rattle.snoop_model.{proofs.Tables.OrderTests.{data_rule, awaited-get}, specs.Pictures.InQueue.IsInQueue}
 use Rattle.snoop_model.proofs.{OneBlock.OfBlocks.{changed, in_pictures, each_picture}, Invariant.Runs.{reset_line, reset_open, reset_shaped}}
-use Rattle.snoop_model.proofs.OneBlock.AfterMoves.{by_request, filled_or_same, still_shaped, still_waiting}
+use Rattle.snoop_model.proofs.OneBlock.AfterMoves.{by_request, each_taken, filled_or_same, still_shaped, still_waiting}
 
 -- how often a core that holds the block in this state has it in its queue
 abbrev waits : CacheState → ℕ
@@ -82,10 +82,6 @@ module _ (s : Situation) (kept : IsWellKept s) (core block word : ℕ) (asking :
 
 -- who waits once each core has taken its row: the requestor no longer, each other core as before
 module _ (p : Protocol) (core : ℕ) (request : Request) (old new : List Line) (taken : TakesRows p core request old new) where
-  -- what holds of each line before and after its row, and of two that hold nothing, holds of each core's
-  pub each_taken : (k : ℕ) (P : Line → Line → Type 0) → (k < length old → P (held_at old k) (held_at new k)) → P nothing_held nothing_held → P (held_at old k) (held_at new k)
-  each_taken k P row nothing = grind (arith, row, nothing, taken.same_length, get_or_past new k nothing_held, get_or_past old k nothing_held)
-
   row_waits : (k : ℕ) → k < length old → waiting_request (held_at new k).state ≡ (if k == core then None else waiting_request (held_at old k).state)
   row_waits k inside =
       let (row, is_row, moved) = taken.rows k inside in
@@ -95,7 +91,7 @@ module _ (p : Protocol) (core : ℕ) (request : Request) (old new : List Line) (
   own_waits inside = row_waits core inside ∙ rw (eq-eqb core core refl) refl
 
   pub others_wait : (k : ℕ) → (k ≡ core → ⊥) → waiting_request (held_at new k).state ≡ waiting_request (held_at old k).state
-  others_wait k apart = each_taken k (λ x y. waiting_request y.state ≡ waiting_request x.state) (λ inside. row_waits k inside ∙ rw (ne_eqb k core apart) refl) refl
+  others_wait k apart = each_taken taken k (λ x y. waiting_request y.state ≡ waiting_request x.state) (λ inside. row_waits k inside ∙ rw (ne_eqb k core apart) refl) refl
 
 -- a response changes no wait
 pub arrives_waits : (closing : Open) (p : Protocol) (log : List Item) (old new : List Line) (did : Option Did) → ArrivesFor closing.request closing p log old new did
@@ -137,10 +133,10 @@ on_kept block s t (Order core) answer kept m =
     let before : Picture = picture_of s block in
     let next : Picture = m.orders.next in
     let taken = m.orders.taken in
-    let queued = each_set s.queues core _ [] (λ k queue. times block queue ≡ (if k == core then 0 else times block (queue_of s.queues k))) (rw kept.shaped.queues m.within.0)
+    let queued = each_set s.queues core (filter (λ b. not (b == block)) (queue_of s.queues core)) [] (λ k queue. times block queue ≡ (if k == core then 0 else times block (queue_of s.queues k))) (rw kept.shaped.queues m.within.0)
     (rw (eq-eqb core core refl) (times_left block block (queue_of s.queues core) ∙ rw (eq-eqb block block refl) refl)) (λ k apart. rw (ne_eqb k core apart) refl) in
     well_after s t kept block next (after_order s.queues core block) _ m.orders.after (still_shaped block s (Order core) answer t kept.shaped m) m.within.1 (record {
-      here = λ k. each_taken s.protocol core m.request before.caches next.caches taken k
+      here = λ k. each_taken taken k
           (λ x y. IsKeptAt (times block (queue_of s.queues k)) before.transaction block k x → IsKeptAt (times block (queue_of (after_order s.queues core block) k)) next.transaction block k y)
           (λ inside was.
           let (row, is_row, moved) = taken.rows k inside in
