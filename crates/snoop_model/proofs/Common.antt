@@ -31,7 +31,7 @@ pub use Rattle.snoop_model.specs.Runs.{Owed.{ClosedIsLast, EndsAtOnce, IsLast, I
 pub use Rattle.snoop_model.specs.{Turns.Serving.{IsServing, has_transaction}, declared.replies.Reply.TheVariants.{Absent, Gone, Issued}}
 pub use Rattle.snoop_model.specs.Turns.TurnLaws.{ComesToRest, Ends, KeepsWell, NeverRefused, Pays, ServesOn, StartsWell, TurnLaws}
 pub use Rattle.snoop_trace.specs.Words.{Data, HasWord, IsWord, word_at, word_places, zero_words}
-pub use Rattle.snoop_history.proofs.Pushed.{answers_of-push, last_or-append, of_core, operations-push}
+pub use Rattle.snoop_history.proofs.Pushed.{last_or-append, none_from_not_some, of_core, operations-push}
 unfoldable pub use Rattle.snoop_rules.proofs.{Every.{all_events, all_memories, all_payloads, all_protocols, all_requests, all_states}, Rows.each_row}
 pub use Rattle.snoop_rules.proofs.Every.{all_events-at, all_memories-at, all_payloads-at, all_protocols-at, all_requests-at, all_states-at}
 pub use Rattle.std.{proofs.lemmas.Bool.Decides.{Decides-and, Decides-ltb, eqb_tells}, specs.List.Sorted.IsPermutation}

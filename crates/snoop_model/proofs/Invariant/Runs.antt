@@ -1,9 +1,9 @@
 -- The invariant holds at reset, and after each move: flat memory and the log first, then the block, and what waits.
-use Rattle.snoop_model.proofs.Common.{Data, Drop, Evict, Hit, is_some, Issue, keeps, missed_request, [], Access, after_order, All, All-append, All-cons, All-nil, ap, append-nil, arith, Ask, BlockInvariant, Bool, CacheAction, CacheState, came_of, claims_of, cond, Did, eqb_tells, Err, Extent, false, fill_by_all, first_memory, fits, flat, flat_words, get_or-map-range_with_len, get_or-replicate, get_or-set_other, get_or-set_same, get_or_past, Goes, HasWord, held_by, I, IfSome, IfSome_then, if◌then◌else◌, in_protocol, inl, inr, Invariant, is_clean, is_owner, is_sharer, is_store_to, IsNext, IsProper, IsShaped, IsWithin, IsWord, Item, as_access, Legal, length, length-map-range_with_len, length-replicate, length-set, Line, List, MoveOn, next_did, NoMemory, None, none-some, not, nothing_held, nothing_there, Ok, Op, Open, operation_of, operations, Option, option_map, option_map_or, option_to_list, Order, Picture, picture_of, Protocol, queues_after, refl, Refused, replicate, Reply, request_for, reset, Respond, Result, same, same_Some, Situation, slice_set, Some, Step, sym, Takes, true, untouched, wait_fits, with_line, word_at, ℕ, ◌&&◌, ◌++◌, ◌<◌, ◌==◌, ◌∙◌, ◌∷◌, ◌≡◌, ◌≢◌}
+use Rattle.snoop_model.proofs.Common.{Data, Drop, Evict, Hit, is_some, Issue, keeps, missed_request, [], Access, after_order, All, All-append, All-cons, All-nil, ap, append-nil, arith, Ask, BlockInvariant, Bool, CacheAction, CacheState, came_of, claims_of, cond, Did, eqb_tells, Err, Extent, false, fill_by_all, first_memory, fits, flat, flat_words, get_or-map-range_with_len, get_or-replicate, get_or-set_other, get_or-set_same, get_or_past, Goes, HasWord, held_by, I, IfSome, IfSome_then, if◌then◌else◌, in_protocol, inl, inr, Invariant, is_clean, is_owner, is_sharer, is_store_to, IsNext, IsProper, IsShaped, IsWithin, IsWord, Item, as_access, Legal, length, length-map-range_with_len, length-replicate, length-set, Line, List, MoveOn, next_did, NoMemory, None, none-some, not, nothing_held, nothing_there, Ok, Op, Open, operation_of, operations, operations-push, Option, option_map, option_map_or, option_to_list, Order, Picture, picture_of, Protocol, queues_after, refl, Refused, replicate, Reply, request_for, reset, Respond, Result, same, same_Some, Situation, slice_set, Some, Step, sym, Takes, true, untouched, wait_fits, with_line, word_at, ℕ, ◌&&◌, ◌++◌, ◌<◌, ◌==◌, ◌∙◌, ◌∷◌, ◌≡◌, ◌≢◌}
 use Rattle.snoop_history.specs.declared.items.Item.TheVariants as item
 use Rattle.snoop_history.proofs.Legal.{flat-grows, legal-grows}
 use Rattle.snoop_model.proofs.{Lists.{Writes.each_set, Facts.{replicated, is_none}}, OneBlock.OfBlocks.{changed, in_pictures, each_picture}}
-use Rattle.snoop_model.proofs.OneBlock.{Facts.{did_in, operations_moved, performed_so, flat_after, IsLawful}, AskStep.ask_keeps}
+use Rattle.snoop_model.proofs.OneBlock.{Facts.{did_in, performed_so, flat_after, IsLawful}, AskStep.ask_keeps}
 use Rattle.snoop_model.proofs.{OneBlock.{OrderStep.order_keeps, RespondStep.respond_keeps}, OneBlock.AfterMoves.{by_request, each_taken, still_shaped, still_waiting}}
 use Rattle.snoop_trace.specs.declared.protocol.Protocol.TheVariants as protocol
 
@@ -35,11 +35,6 @@ flat_split : (ws : List ℕ) (did : Option Did) (block b : ℕ) → IfSome did (
 flat_split ws None block b on = (λ apart. refl, refl)
 flat_split ws (Some did) block b on = (λ apart. grind (arith, eqb_tells did.block b), grind (arith, eqb_tells did.block block))
 
--- a log stays legal where the item's operation, if it has one, may come next
-legal_logged : (log : List Item) (entry : Option Item) → Legal log → IfSome (did_in entry) (IsNext log) → Legal (log ++ option_to_list entry)
-legal_logged log None legal follows = rw append-nil legal
-legal_logged log (Some entry) legal follows = legal-grows log entry legal follows
-
 -- an operation on a word that there is, as it is performed, may come next, if its load gives the flat value
 next_lawful : (log : List Item) (core block word : ℕ) (asking : Op) (value : ℕ) (hit : Bool) → word < 64 → IsLawful (flat_words log block) (Some (next_did log core block word asking value hit)) → IsNext log (next_did log core block word asking value hit)
 next_lawful log core block word asking value hit inside lawful = record { numbered = refl; loaded = λ h. lawful h ∙ word_flat log block word inside }
@@ -48,13 +43,19 @@ next_lawful log core block word asking value hit inside lawful = record { number
 abbrev IsLogged : Situation → Did → Type 0
 IsLogged s did = IsWithin s did.core did.block × IsWord s.shape did.word
 
--- so are those of a log, with those of the move's item
-all_logged : (P : Did → Type 0) (log : List Item) (entry : Option Item) → All P (operations log) → IfSome (did_in entry) P → All P (operations (log ++ option_to_list entry))
-all_logged P log entry was now = rw operations_moved (All-append P (operations log) (option_to_list (did_in entry)) was (one (did_in entry) now))
-  where
-    one : (did : Option Did) → IfSome did P → All P (option_to_list did)
-    one None here = All-nil P
-    one (Some did) here = All-cons P did [] here (All-nil P)
+-- what holds of the value, if there is one, holds of the list of it
+all_one : {A : Type 0} (P : A → Type 0) (found : Option A) → IfSome found P → All P (option_to_list found)
+all_one P None here = All-nil P
+all_one P (Some a) here = All-cons P a [] here (All-nil P)
+
+-- a log stays legal and within the shape where the item's operation, if it has one, may come next and is within it
+logged_more : (s : Situation) (entry : Option Item) → Invariant s → IfSome (did_in entry) (λ did. IsNext s.log did × IsLogged s did)
+    → Legal (s.log ++ option_to_list entry) × All (IsLogged s) (operations (s.log ++ option_to_list entry))
+logged_more s None g next = rw append-nil (g.legal, g.logged)
+logged_more s (Some entry) g next = (
+  legal-grows s.log entry g.legal (IfSome_then (operation_of entry) next (λ did h. h.0)),
+  rw operations-push (All-append (IsLogged s) (operations s.log) _ g.logged (all_one (IsLogged s) (operation_of entry) (IfSome_then (operation_of entry) next (λ did h. h.1)))),
+)
 
 -- the item of a move on a block: its operation, if it has one, is on the block, may come next, and is of a core and a word that there are
 abbrev IsNextOn : Situation → ℕ → Option Item → Type 0
@@ -78,14 +79,15 @@ kept old new block next queues entry after shaped g k =
     let log = old.log ++ option_to_list entry in
     let within = in_pictures old block g.shaped k.within in
     let on = IfSome_then (did_in entry) k.item (λ did h. h.0) in
+    let more = logged_more old entry g (IfSome_then (did_in entry) k.item (λ did h. (h.1, h.2))) in
     rw after (record {
       shaped = rw after at shaped;
       opened = each_picture old block next queues log (λ b x. (o : Open) → x.transaction ≡ Some o → o.block ≡ b) within (λ b apart. g.opened b) k.opened;
       blocks = each_picture old block next queues log (λ b x. b < old.shape.blocks → (BlockInvariant old.protocol old.shape.cores) (flat_words log b) x) within
           (λ b apart b_in. rw (flat_moved, (flat_split (flat_words old.log b) (did_in entry) block b on).0 apart) (g.blocks b b_in))
           (λ b_in. rw (flat_moved, (flat_split (flat_words old.log block) (did_in entry) block block on).1) k.block_after);
-      legal = legal_logged old.log entry g.legal (IfSome_then (did_in entry) k.item (λ did h. h.1));
-      logged = all_logged (IsLogged old) old.log entry g.logged (IfSome_then (did_in entry) k.item (λ did h. h.2));
+      legal = more.0;
+      logged = more.1;
       accesses = λ core. each_picture old block next queues log (λ b x. AccessWithin old.shape (held_by x core)) within (λ b apart. g.accesses core b) (k.accesses core);
     })
 
@@ -141,9 +143,8 @@ move_keeps block old (Respond on) answer new g m =
     let r = m.responds in
     let placed : closing.block ≡ block = g.opened block closing r.opened in
     let its_core = (g.blocks block m.within).requestor_in closing r.opened in
-    let arrived = by_request closing.request r.requestor in
     let k = respond_keeps old block closing m.did new r old.shape.cores (flat_words old.log block) (g.blocks block m.within) (rw (g.shaped.row block m.within) its_core) in
-    let logged : IsNextOn old block (Some (item.Came (came_of closing) m.did)) = elim arrived [
+    let logged : IsNextOn old block (Some (item.Came (came_of closing) m.did)) = elim (by_request closing.request r.requestor) [
       | inl put ↦ rw put.2 tt
       | inr (_, f) ↦
           (let has = g.accesses closing.core block f.asking f.fills.waited in
@@ -155,7 +156,7 @@ move_keeps block old (Respond on) answer new g m =
       opened = λ t is_open. absurd (none-some t (sym r.closed ∙ is_open));
       block_after = k.0;
       item = logged;
-      accesses = λ c access waits. let same = still_waiting arrived c access waits in g.accesses c block access (rw (← same) waits);
+      accesses = λ c access waits. let same = still_waiting (by_request closing.request r.requestor) c access waits in g.accesses c block access (rw (← same) waits);
     })
 
 pub nothing_proper : IsProper nothing_held
@@ -238,6 +239,3 @@ pub goes_kept : (Q : Situation → Type 0) → ((block : ℕ) (s : Situation) (s
     → (old : Situation) (step : Step) (outcome : Result Reply Refused) (new : Situation) → Q old → Goes old step outcome new → Q new
 goes_kept Q keeps old step (Ok answer) new holds m = keeps m.0 old step answer new holds m.1
 goes_kept Q keeps old step (Err cause) new holds r = rw (refusal_same old step cause new r) holds
-
-pub goes_keeps : (old : Situation) (step : Step) (outcome : Result Reply Refused) (new : Situation) → Invariant old → Goes old step outcome new → Invariant new
-goes_keeps = goes_kept Invariant move_keeps

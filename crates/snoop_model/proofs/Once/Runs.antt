@@ -3,7 +3,7 @@ use Rattle.snoop_model.proofs.{Lists.{Writes.each_set, Facts.either_way}, Tables
 use Rattle.snoop_model.proofs.Common.{[], Access, accesses_in, after_order, ap, append-nil, append_assoc, arith, Ask, asked, asked_access, Bool, CacheAction, CacheState, came_of, Cell, cond, Did, did_access, Drop, eq-eqb, eqb, Err, Extent, false, filter, filter-append, filter_map, filter_map-append, Goes, held_at, held_by, Hit, IfSome, inl, inr, Invariant, IsPermutation, IsPermutation-append_comm, IsPermutation-append_left, IsPermutation-append_right, IsPermutation-refl, IsPermutation-trans, IsProper, Issue, Item, as_access, length, Line, List, map, map-append, MoveOn, ne_eqb, None, nothing_held, of_core, Ok, Once, OnceMore, Op, operation_of, Option, option_map, option_to_list, Order, Picture, picture_of, Protocol, queues_after, refl, Refused, Reply, reset, Respond, Result, RunBy, Situation, slice_set, Some, Step, sym, taken, Takes, true, waiting_at, with_line, ℕ, ◌&&◌, ◌++◌, ◌<◌, ◌==◌, ◌∙◌, ◌∷◌, ◌≡◌, ◌⊎◌}
 use Rattle.snoop_history.specs.declared.items.Item.TheVariants as item
 use Rattle.snoop_model.proofs.{OneBlock.OfBlocks.{changed, each_picture, in_pictures}, OneBlock.AfterMoves.{by_request, each_taken}}
-use Rattle.snoop_model.proofs.{Once.Owed.{answers_are, cons_one}, Invariant.Runs.{nothing_waits, goes_keeps, refusal_same, reset_invariant, reset_line}}
+use Rattle.snoop_model.proofs.{Once.Owed.{answers_are, cons_one}, Invariant.Runs.{nothing_waits, goes_kept, move_keeps, refusal_same, reset_invariant, reset_line}}
 
 -- the operation that was done, if any
 abbrev done : Option Did → Option Access
@@ -14,12 +14,10 @@ abbrev IsBy : ℕ → ℕ → Option Did → Type 0
 IsBy core block did = IfSome did (λ d. (d.core ≡ core) × (d.block ≡ block))
 
 -- what an item has of a core and block: its operation, if it is by this core on this block
-accesses_one : (core block c b : ℕ) (entry : Option Item) → IsBy c b (did_in entry) → accesses_in (option_to_list entry) core block ≡ option_to_list (cond (eqb b block && eqb c core) (done (did_in entry)) None)
-accesses_one core block c b entry by = rw (answers_are [] entry core) (of_one (did_in entry) by)
-  where
-    of_one : (did : Option Did) → IsBy c b did → map did_access (filter (λ d. d.block == block) (of_core core did)) ≡ option_to_list (cond (eqb b block && eqb c core) (done did) None)
-    of_one None by = ap option_to_list (either_way (eqb b block && eqb c core) None)
-    of_one (Some did) by = rw (← by.0, ← by.1) (grind arith)
+accesses_one : (core block c b : ℕ) (did : Option Did) → IsBy c b did
+    → map did_access (filter (λ d. d.block == block) (of_core core did)) ≡ option_to_list (cond (eqb b block && eqb c core) (done did) None)
+accesses_one core block c b None by = ap option_to_list (either_way (eqb b block && eqb c core) None)
+accesses_one core block c b (Some did) by = rw (← by.0, ← by.1) (grind arith)
 
 -- an operation waits on, and what is asked is done; or what waited is done, and what is asked begins to wait
 abbrev Evens : Option Access → Option Access → Option Access → Option Access → Type 0
@@ -64,7 +62,7 @@ module _ (old : Situation) (b c : ℕ) where
   grown next queues entry asked step answer within asks balance = record {
     since = option_to_list entry;
     log = refl;
-    once = λ core block. rw (cons_one (asked_access core block step), asks core block, accesses_one core block c b entry balance.0)
+    once = λ core block. rw (cons_one (asked_access core block step), asks core block, answers_are [] entry core, accesses_one core block c b (did_in entry) balance.0)
         (even _ _ _ _ (each_picture old b next queues (old.log ++ option_to_list entry)
         (λ x picture. Evens (held_by (picture_of old x) core).waiting (cond (eqb b x && eqb c core) asked None) (cond (eqb b x && eqb c core) (done (did_in entry)) None) (held_by picture core).waiting)
         within (λ x apart. rw (ne_eqb b x (λ e. apart (sym e))) (inl (refl, refl))) (rw (eq-eqb b b refl) (balance.1 core)) block));
@@ -111,7 +109,7 @@ run_once [] [] old new g r = rw r (record { since = []; log = sym (append-nil ol
 run_once (step ∷ steps) (Ok answer ∷ outcomes) old new g r =
     let middle = r.0 in
     let a = move_once r.1.0.0 old step answer middle g r.1.0.1 in
-    let b = run_once steps outcomes middle new (goes_keeps old step (Ok answer) middle g r.1.0) r.1.1 in
+    let b = run_once steps outcomes middle new (goes_kept Invariant move_keeps old step (Ok answer) middle g r.1.0) r.1.1 in
     record {
       since = a.since ++ b.since;
       log = b.log ∙ ap (λ (l : List Item). l ++ b.since) a.log ∙ append_assoc old.log a.since b.since;
@@ -124,7 +122,7 @@ run_once (step ∷ steps) (Ok answer ∷ outcomes) old new g r =
           (IsPermutation-append_right did _ _ (b.once core block)));
     }
 run_once (step ∷ steps) (Err cause ∷ outcomes) old new g r =
-    let rest = run_once steps outcomes r.0 new (goes_keeps old step (Err cause) r.0 g r.1.0) r.1.1 in
+    let rest = run_once steps outcomes r.0 new (goes_kept Invariant move_keeps old step (Err cause) r.0 g r.1.0) r.1.1 in
     rw (← refusal_same old step cause r.0 r.1.0) (record { since = rest.since; log = rest.log; once = rest.once })
 run_once _ _ old new g r = absurd r
 

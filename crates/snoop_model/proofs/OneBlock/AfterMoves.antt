@@ -18,14 +18,9 @@ module _ {closing : Open} {p : Protocol} {log : List Item} {old new : List Line}
     ]
   ]
 
-module _ {q : Request} {closing : Open} {p : Protocol} {log : List Item} {old new : List Line} {did : Option Did}
-    (arrived : ((q ≡ PutM) × (new ≡ old) × (did ≡ None)) ⊎ ((is_put_m q ≡ false) × FillsRequestor closing p log old new did)) where
-  pub arrives_length : length new ≡ length old
-  arrives_length = grind (arith, length-set {A = Line})
-
   -- a line in which an operation still waits is as it was
-  pub still_waiting : (k : ℕ) (access : Access) → (held_at new k).waiting ≡ Some access → held_at new k ≡ held_at old k
-  still_waiting k access h = elim arrived [
+  pub still_waiting : {q : Request} → ((q ≡ PutM) × (new ≡ old) × (did ≡ None)) ⊎ ((is_put_m q ≡ false) × FillsRequestor closing p log old new did) → (k : ℕ) (access : Access) → (held_at new k).waiting ≡ Some access → held_at new k ≡ held_at old k
+  still_waiting arrived k access h = elim arrived [
     | inl put ↦ rw put.1 refl
     | inr (_, fills) ↦ grind (arith, filled_or_same fills k, fills.fills.held, h)
   ]
@@ -61,4 +56,5 @@ still_shaped block old (Ask core on word asking) answer new shaped m = elim m.mo
 ]
 still_shaped block old (Order core) answer new shaped m = rw m.orders.after (shaped_after old block m.orders.next _ _ shaped m.orders.taken.same_length (length-set old.queues core _))
 still_shaped block old (Respond on) answer new shaped m =
-    rw m.responds.after (shaped_after old block m.responds.next _ _ shaped (arrives_length (by_request m.closing.request m.responds.requestor)) refl)
+    let arrived = by_request m.closing.request m.responds.requestor in
+    rw m.responds.after (shaped_after old block m.responds.next _ _ shaped (grind (arith, length-set {A = Line}, arrived)) refl)

@@ -151,12 +151,11 @@ on_kept block s t (Order core) answer kept m =
     })
 on_kept block s t (Respond on) answer kept m =
     let r = m.responds in
-    let arrived = by_request m.closing.request r.requestor in
     well_after s t kept block r.next s.queues _ r.after (still_shaped block s (Respond on) answer t kept.shaped m) m.within (record {
       here = λ k. record {
         queued = rw (arrives_waits m.closing s.protocol s.log (picture_of s block).caches r.next.caches m.did r.requestor k) (kept.queued k block);
         awaits = λ q h. absurd (none_awaits s kept block m.closing m.did t r k q h);
-        operations = λ access h. let same = still_waiting arrived k access h in rw same (kept.operations k block access (rw same at h));
+        operations = λ access h. let same = still_waiting (by_request m.closing.request r.requestor) k access h in rw same (kept.operations k block access (rw same at h));
       };
       elsewhere = λ k b apart. refl;
     })
@@ -191,11 +190,6 @@ module _ (s : Situation) (queued : AreQueued s) (core block : ℕ) where
 
   pub queued_waits : Contains (queue_of s.queues core) block → (request : Request) × Waits s core block request
   queued_waits there = some_of _ (grind (arith, queued core block, in_counted block (queue_of s.queues core) there))
-
--- what is none of its values is none
-pub none_there : {A : Type 0} (found : Option A) → ((a : A) → found ≡ Some a → ⊥) → found ≡ None
-none_there None h = refl
-none_there (Some a) h = absurd (h a refl)
 
 -- it waits on the block that stands first, and on none where none does
 pub first_waits : (s : Situation) → AreQueued s → (core block : ℕ) → StandsFirst s core block → (request : Request) × Waits s core block request

@@ -1,7 +1,7 @@
 -- What the outcome of a step tells of the history.
 use Rattle.snoop_model.proofs.Common.{[], ap, append-nil, Ask, asked, CacheAction, CacheState, Cell, Drop, Err, Evict, false, FirstMove, Goes, held_by, Hit, IfSome, inl, inr, Invariant, Issue, Item, Line, List, Load, Ok, Op, Option, option_to_list, Order, picture_of, Protocol, refl, Refused, Reply, Respond, Result, RunBy, same_Some, Situation, Step, Store, subst, sym, Takes, ℕ, ◌++◌, ◌∙◌, ◌∷◌, ◌≡◌}
 use Rattle.snoop_model.{specs.Moves.Replies.Tells, proofs.{OneBlock.AfterMoves.by_request, Tables.Rows.{action_rule, serving-asked, drop_evicts}}}
-use Rattle.snoop_model.proofs.Invariant.Runs.{refusal_same, goes_keeps}
+use Rattle.snoop_model.proofs.Invariant.Runs.{refusal_same, goes_kept, move_keeps}
 
 -- what an Ask's row adds is what its reply tells
 module _ (p : Protocol) (next : CacheState) (log : List Item) (core block word : ℕ) (old new : Line) (answer : Reply) (entry : Option Item) where
@@ -39,7 +39,7 @@ goes_tells old step (Err cause) new g goes = refusal_tells step cause (ap (λ (s
 pub run_tells : (steps : List Step) (outcomes : List (Result Reply Refused)) (old new : Situation) → Invariant old → RunBy Goes old steps outcomes new → RunBy Tells old.log steps outcomes new.log
 run_tells [] [] old new g run = ap (λ (s : Situation). s.log) run
 run_tells (step ∷ steps) (outcome ∷ outcomes) old new g run =
-    (run.0.log, (goes_tells old step outcome run.0 g run.1.0, run_tells steps outcomes run.0 new (goes_keeps old step outcome run.0 g run.1.0) run.1.1))
+    (run.0.log, (goes_tells old step outcome run.0 g run.1.0, run_tells steps outcomes run.0 new (goes_kept Invariant move_keeps old step outcome run.0 g run.1.0) run.1.1))
 run_tells _ _ old new g run = absurd run
 
 -- so does a move on the first block

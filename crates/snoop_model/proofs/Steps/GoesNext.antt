@@ -1,12 +1,12 @@
 -- Each step that goes comes to what is computed of it, and from every situation of a run each step goes so.
 use Rattle.std.specs.Bool.{Decides}
 use Rattle.snoop_model.proofs.{Lists.Facts.option_both, Lines.TheSender.{IsBelow, sends_below}, Tables.SentBy.{payload_from, sends_is, sends_row}}
-use Rattle.snoop_model.proofs.Common.{ap, arith, arrival, arrival_at_memory, ArrivesFor, Ask, asked, both_ways, BusTaken, CacheAction, CacheCell, CacheState, CanOrder, cases_Bool, cases_eq, cases_lt, Cell, cell_of, cond_both, Decides-and, Decides-ltb, Did, Drop, Err, Evict, Extent, false, false_from_ne_true, fill_by_all, FillLoad, FillsRequestor, FillStore, FirstMove, free_picture, get_or-map-range_with_len, GoesFirst, HasWord, held_at, held_by, Hit, Hits, if◌then◌else◌, inl, inr, Invariant, is_load, is_put_m, is_some, IsOnlySender, IsProper, Issue, IsWithin, Item, le-ltb, length, length-map-range_with_len, Line, List, Load, lt-ltb, ltb, ltb-false, ltb-true, MemLine, NoBlock, NoCore, None, none-some, nothing_held, NothingWaiting, NoTransaction, Ok, Op, Open, Option, option_and_then_some, option_map_or, Order, Orders, Payload, Performs, Picture, picture_of, Protocol, PutM, queue_of, refl, Refused, Refuses, Reply, Request, request_for, Respond, Responds, Result, seen_by, Situation, slice_get, Some, Stall, Stalled, state_of, Step, Store, suc, sym, Takes, takes_payload, true, unwrap_or, waiting_request, word_places, written, zero, zero_words, ℕ, ◌&&◌, ◌<◌, ◌∙◌, ◌≡◌, ◌≤◌, ◌⊎◌}
+use Rattle.snoop_model.proofs.Common.{ap, arith, arrival, arrival_at_memory, ArrivesFor, Ask, asked, both_ways, BusTaken, CacheAction, CacheCell, CacheState, CanOrder, cases_Bool, cases_eq, cases_lt, Cell, cell_of, cond_both, Decides-and, Decides-ltb, Did, Drop, Err, Evict, Extent, false, false_from_ne_true, fill_by_all, FillLoad, FillsRequestor, FillStore, FirstMove, free_picture, get_or-map-range_with_len, GoesFirst, HasWord, held_at, held_by, Hit, Hits, if◌then◌else◌, inl, inr, Invariant, is_load, is_put_m, is_some, IsOnlySender, IsProper, Issue, IsWithin, Item, le-ltb, length, length-map-range_with_len, Line, List, Load, lt-ltb, ltb, ltb-false, ltb-true, MemLine, NoBlock, NoCore, None, none_from_not_some, none-some, nothing_held, NothingWaiting, NoTransaction, Ok, Op, Open, Option, option_and_then_some, option_map_or, Order, Orders, Payload, Performs, Picture, picture_of, Protocol, PutM, queue_of, refl, Refused, Refuses, Reply, Request, request_for, Respond, Responds, Result, seen_by, Situation, slice_get, Some, Stall, Stalled, state_of, Step, Store, suc, sym, Takes, takes_payload, true, unwrap_or, waiting_request, word_places, written, zero, zero_words, ℕ, ◌&&◌, ◌<◌, ◌∙◌, ◌≡◌, ◌≤◌, ◌⊎◌}
 use Rattle.snoop_model.proofs.Tables.{OrderTests.{data_rule, fills, settled_so, row_for}, StateTests.some_of, StateTests.{ask_rule, is_idle_evict}}
 use Rattle.snoop_model.proofs.{Tables.Rows.{is_evict, action_rule, serving-asked, hit_keeps}, OneBlock.RespondStep.{close, answered}}
 use Rattle.snoop_model.proofs.Steps.Next.{Next, value_of, words_after, has_word, after_ask, by_row, next_asked, sender_below, line_after, next_picture, next_ordered, filled, brought, next_closed, next_of, next_first}
 use Rattle.snoop_model.proofs.Invariant.Coherence.{orders_follow_sender_table, finds_rows, idle_evict, waits_within}
-use Rattle.snoop_model.proofs.Queues.Moves.{none_there, AreQueued, first_waits, none_waits}
+use Rattle.snoop_model.proofs.Queues.Moves.{AreQueued, first_waits, none_waits}
 
 -- an operation does one thing
 performs_is : (word : ℕ) (asking : Op) (before : List ℕ) (value : ℕ) (after : List ℕ) → Performs word asking before value after
@@ -101,7 +101,7 @@ module _ (s : Situation) (queued : AreQueued s) where
       rw (lt-ltb core s.shape.cores h.0.0, (place s core block word asking).1 (h.0.1, h.3), h.1, h.2.1) refl
   refused_is (Order core) NoCore h = rw (le-ltb core s.shape.cores h) refl
   refused_is (Order core) NothingWaiting h =
-      let empty = none_there (slice_get (queue_of s.queues core) 0) (λ block is. let waits = first_waits s queued core block is in h.1 block waits.0 waits.1) in
+      let empty = none_from_not_some (slice_get (queue_of s.queues core) 0) (λ block is. let waits = first_waits s queued core block is in h.1 block waits.0 waits.1) in
       rw (lt-ltb core s.shape.cores h.0, empty) refl
   refused_is (Order core) (BusTaken block) h = rw (lt-ltb core s.shape.cores h.0, h.1, h.2) refl
   refused_is (Respond block) NoBlock h = rw (le-ltb block s.shape.blocks h) refl

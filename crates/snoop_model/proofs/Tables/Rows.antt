@@ -1,5 +1,5 @@
 -- What holds of every row, found by trying all.
-use Rattle.snoop_model.proofs.Common.{all_events, all_protocols, all_requests, all_states, all_states-at, and-false, and-true, asked, awaited_request, Bool, CacheAction, CacheEvent, CacheState, Cell, cell_of, Drop, each_row, Evict, false, FillLoad, FillStore, GetM, GetS, Hit, I, if◌then◌else◌, IiA, ImAd, is_load, is_some, IsProper, Issue, keeps, kept_on, as_access, Line, List, Load, missed_request, moves_to, None, not, Op, Option, option_map, other, own, Protocol, PutM, refl, Request, request_for, requests, same, seen_by, Some, Stall, states, sym, true, waiting_request, ℕ, ◌&&◌, ◌==◌, ◌||◌, ◌∙◌, ◌≡◌}
+use Rattle.snoop_model.proofs.Common.{[], all_events, all_protocols, all_requests, all_states, all_states-at, and-false, and-true, asked, awaited_request, Bool, CacheAction, CacheEvent, CacheState, Cell, cell_of, Drop, each_row, Evict, false, FillLoad, FillStore, GetM, GetS, Hit, I, if◌then◌else◌, IiA, ImAd, is_load, is_some, IsProper, Issue, keeps, kept_on, as_access, Line, List, Load, missed_request, moves_to, None, not, Op, Option, option_map, other, own, Protocol, PutM, refl, Request, request_for, requests, same, seen_by, Some, Stall, states, sym, true, waiting_request, ℕ, ◌&&◌, ◌==◌, ◌||◌, ◌∙◌, ◌≡◌}
 use Rattle.snoop_rules.specs.declared.names.CacheEvent.TheVariants as event
 use Rattle.snoop_model.proofs.Tables.Tested.{◌also◌, Tested, alike, each_bool, each_cell, each_of, each_protocol, each_request, equal, fails, given, holds}
 
@@ -9,10 +9,7 @@ same_request = equal requests tt
 
 -- kept words are given up in this state
 abbrev given_up : CacheState → Bool
-given_up I = true
-given_up ImAd = true
-given_up IiA = true
-given_up _ = false
+given_up s = not (is_some (kept_on s (Some [])))
 
 abbrev pub is_evict : CacheEvent → Bool
 is_evict event.Evict = true

@@ -1,7 +1,7 @@
 -- All laws of turns that follow the turn rule: what they keep, that they are never refused, what they cost, and when a work is over.
-use Rattle.snoop_model.proofs.Common.{[], Access, All, All-contains, All-filter, All-push, All-weaker, ap, arith, Ask, asked, awaited_request, BusTaken, CacheAction, CacheEvent, CacheState, Cell, ClosedIsLast, ComesToRest, cond_some, Contains-get_or, Ends, EndsAtOnce, eq-eqb, false, FirstMove, has_transaction, held_by, I, inl, inr, is_some, IsServing, Issue, Issued, IsWellKept, Item, length, Line, List, missed_request, ne_eqb, NeverRefused, None, none-some, not, nothing_there, NothingWaiting, Op, Open, Option, or_cases, Order, Pays, Picture, picture_of, Protocol, queue_of, queues_after, refl, Refused, Refuses, Reply, Request, Respond, same_Some, ServesOn, Situation, slice_index_or, slice_set, Some, Stall, Stalled, state_of, sum_by, sym, Takes, true, TurnLaws, waiting_request, Waits, with_line, ℕ, ◌+◌, ◌==◌, ◌∙◌, ◌≡◌, ◌≢◌, ◌≤◌, ◌↔◌, ◌⊎◌}
+use Rattle.snoop_model.proofs.Common.{[], Access, All, All-contains, All-filter, All-push, All-weaker, ap, arith, Ask, asked, awaited_request, BusTaken, CacheAction, CacheEvent, CacheState, Cell, ClosedIsLast, ComesToRest, cond_some, Contains-get_or, Ends, EndsAtOnce, eq-eqb, false, FirstMove, has_transaction, held_by, I, inl, inr, is_some, IsServing, Issue, Issued, IsWellKept, Item, length, Line, List, missed_request, ne_eqb, NeverRefused, None, none_from_not_some, none-some, not, nothing_there, NothingWaiting, Op, Open, Option, or_cases, Order, Pays, Picture, picture_of, Protocol, queue_of, queues_after, refl, Refused, Refuses, Reply, Request, Respond, same_Some, ServesOn, Situation, slice_index_or, slice_set, Some, Stall, Stalled, state_of, sum_by, sym, Takes, true, TurnLaws, waiting_request, Waits, with_line, ℕ, ◌+◌, ◌==◌, ◌∙◌, ◌≡◌, ◌≢◌, ◌≤◌, ◌↔◌, ◌⊎◌}
 use Rattle.snoop_model.{specs.Turns.Turn.{step_under_way, turn_of}, proofs.Lists.Writes.{all_first, each_still, sum_asked, sum_ordered, count_set}}
-use Rattle.snoop_model.proofs.{Queues.Moves.{none_there, starts_well, keeps_well, queued_waits, waits_queued}, Once.Owed.owed_after, Tables.StateTests.some_of}
+use Rattle.snoop_model.proofs.{Queues.Moves.{starts_well, keeps_well, queued_waits, waits_queued}, Once.Owed.owed_after, Tables.StateTests.some_of}
 use Rattle.snoop_model.proofs.Tables.Rows.{action_rule, is_busy}
 
 -- for one of the two, or the other
@@ -141,8 +141,8 @@ turn_rule = record {
   comes_to_rest = λ s serving kept. record {
     ordered = λ core block request waits. none-some block (All-contains (λ b. ◌≡◌ {A = Option ℕ} None (Some b)) (queue_of s.queues core) block
         (serving.waits core) (waits_queued s kept.queued core block request waits));
-    closed = λ block. none_there (picture_of s block).transaction (λ o is. none-some block (serving.opened block o is));
-    performed = λ core block. none_there (held_by (picture_of s block) core).waiting
+    closed = λ block. none_from_not_some (picture_of s block).transaction (λ o is. none-some block (serving.opened block o is));
+    performed = λ core block. none_from_not_some (held_by (picture_of s block) core).waiting
         (λ o is. none-some block (busy_under_way s (λ _. None) serving kept core block (missed_busy _ (kept.operations core block o is))));
   };
   pays = pays;
@@ -154,5 +154,5 @@ turn_rule = record {
       let queued = λ (r : Request) (w : Waits t core block r).
       none-some block (sym idle ∙ All-contains (λ b. under_way core ≡ Some b) (queue_of t.queues core) block (now.waits core) (waits_queued t kept.queued core block r w)) in
       (no_step (waiting_request (state_of t core block)) (picture_of t block).transaction core block).1
-      (none_there (waiting_request (state_of t core block)) queued, λ o is c. none-some block (sym (ap under_way c ∙ idle) ∙ now.opened block o is));
+      (none_from_not_some (waiting_request (state_of t core block)) queued, λ o is c. none-some block (sym (ap under_way c ∙ idle) ∙ now.opened block o is));
 }
