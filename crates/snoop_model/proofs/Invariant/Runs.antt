@@ -13,8 +13,7 @@ word_flat log block word h = get_or-map-range_with_len (flat log block) 0 64 wor
 
 -- the words of block b after an operation, if there is one
 abbrev flat_on : ℕ → List ℕ → Option Did → List ℕ
-flat_on b ws None = ws
-flat_on b ws (Some did) = cond (not did.load && did.block == b) (slice_set ws did.word did.value) ws
+flat_on b ws did = option_map_or (λ d. cond (not d.load && d.block == b) (slice_set ws d.word d.value) ws) did ws
 
 -- after a move they are those after its operation
 flat_moved : (log : List Item) (entry : Option Item) (b : ℕ) → flat_words (log ++ option_to_list entry) b ≡ flat_on b (flat_words log b) (did_in entry)

@@ -1,5 +1,5 @@
 -- What follows from the invariant of one block.
-use Rattle.snoop_model.proofs.Common.{append-nil, arith, BlockInvariant, Bool, cases_eq, cases_lt, cond, Did, did_access, eq-eqb, eqb, eqb-true, eqb_tells, Evict, false, fits, get_or_past, held_at, held_by, inl, inr, is_clean, is_some, IsProper, Item, keeps, as_access, length, Line, List, Load, ne_eqb, next_did, None, not, nothing_held, Op, operation_of, operations, operations-push, Option, option_to_list, or_right, own_open, owns, Performs, Picture, Protocol, refl, Request, same, slice_set, Some, Store, subst, sym, talk_of, true, word_at, ℕ, ⊤, ◌&&◌, ◌++◌, ◌<◌, ◌||◌, ◌∙◌, ◌≡◌, ◌≢◌, ◌↔◌}
+use Rattle.snoop_model.proofs.Common.{append-nil, arith, BlockInvariant, Bool, cases_eq, cases_lt, cond, Did, did_access, eq-eqb, eqb, eqb-true, eqb_tells, Evict, false, fits, get_or_past, held_at, held_by, IfSome, inl, inr, is_clean, is_some, IsProper, Item, keeps, as_access, length, Line, List, Load, ne_eqb, next_did, None, not, nothing_held, Op, operation_of, operations, operations-push, Option, option_and_then, option_map_or, option_to_list, or_right, own_open, owns, Performs, Picture, Protocol, refl, Request, same, slice_set, Some, Store, subst, sym, talk_of, true, word_at, ℕ, ⊤, ◌&&◌, ◌++◌, ◌<◌, ◌||◌, ◌∙◌, ◌≡◌, ◌≢◌, ◌↔◌}
 use Rattle.snoop_model.proofs.{Tables.{Tested.of_open, StateTests.{brings_data, carries, clean_reads, claims_rule}}}
 
 pub owns_owned : (owner : Option ℕ) (d : ℕ) (b : Bool) → is_some owner ≡ b → (not (owns owner d) || b) ≡ true
@@ -59,17 +59,14 @@ abbrev pub OwnerIn : ℕ → Option ℕ → Type 0
 OwnerIn n owner = (o : ℕ) → owner ≡ Some o → o < n
 
 abbrev pub did_in : Option Item → Option Did
-did_in None = None
-did_in (Some entry) = operation_of entry
+did_in entry = option_and_then operation_of entry
 
 abbrev pub flat_after : List ℕ → Option Did → List ℕ
-flat_after flat None = flat
-flat_after flat (Some did) = cond did.load flat (slice_set flat did.word did.value)
+flat_after flat did = option_map_or (λ d. cond d.load flat (slice_set flat d.word d.value)) did flat
 
 -- a load gives flat memory's value
 abbrev pub IsLawful : List ℕ → Option Did → Type 0
-IsLawful flat None = ⊤
-IsLawful flat (Some did) = did.load ≡ true → did.value ≡ word_at flat did.word
+IsLawful flat did = IfSome did (λ d. d.load ≡ true → d.value ≡ word_at flat d.word)
 
 -- the operations with one item more
 pub operations_moved : (log : List Item) (entry : Option Item) → operations (log ++ option_to_list entry) ≡ operations log ++ option_to_list (did_in entry)
