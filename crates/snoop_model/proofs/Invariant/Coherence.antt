@@ -80,7 +80,7 @@ module _ (s : Situation) (g : Invariant s) where
       let within = opened_within block o is.0 in
       let good = g.blocks block within in
       let there : core < s.shape.cores = rw (← is.1) (good.requestor_in o is.0) in
-      ((there, within), (fit_rule _ _ _ _ _ (good.states core there)).1.1 q (rw (is.0, is.1, eq-eqb core core refl, is.2) refl))
+      ((there, within), (fit_rule _ _ _ _ _ (good.states core there)).1.1.0 q (rw (is.0, is.1, eq-eqb core core refl, is.2) refl))
 
   -- a core waits for data exactly where the block's open transaction is its GetS or GetM
   pub data_awaited : IsWellKept s → (core block : ℕ) (q : Request) → (awaited_request (state_of s core block) ≡ Some q) ↔ (HasOpen s core block q × (q ≢ PutM))

@@ -66,28 +66,21 @@ asked_row p shared ow w s e r =
 abbrev pub ask_claims : Protocol → Bool → Bool → Option Request → CacheState → CacheEvent → Tested
 ask_claims p shared ow w s e = unless (is_idle_evict s e) (λ _. found (cell_of p s e) (λ r. holds true)) also given (cell_of p s e) (asked_row p shared ow w s e)
 
-abbrev every_ask : Tested
-every_ask = each_protocol λ p. each_bool λ shared. each_option all_requests all_requests-at λ w. each_fitting p shared w λ s ow. each_of all_events all_events-at λ e.
-    given (serving e) λ _. ask_claims p shared ow w s e
-
-every_ask_rule : every_ask.claim
-unfolding all_protocols all_states all_requests all_events fits is_owner is_sharer is_clean wait_fits in_protocol same
-every_ask_rule = every_ask.sound refl
-
-pub ask_rule : (p : Protocol) (shared ow : Bool) (w : Option Request) (s : CacheState) (o : Op) → fits p shared ow w s ≡ true → (ask_claims p shared ow w s (asked o)).claim
-ask_rule p shared ow w s o fit = every_ask_rule p shared w s ow fit (asked o) (request_for o) (serving-asked o)
-
 pub is_hit-true : (a : CacheAction) → is_hit a ≡ true → a ≡ Hit
 is_hit-true Hit h = refl
 is_hit-true _ h = cc
 
--- a core whose state fits may store where it owns the block, and load where it keeps words, and after its own GetS or GetM it awaits the data; after its own PutM it keeps nothing
+-- a core whose state fits may store where it owns the block, and load where it keeps words; after its own GetS or GetM it awaits the data, and after its own PutM it keeps nothing; and its row for what is asked is as claimed
 abbrev every_fit : Tested
 every_fit = each_protocol λ p. each_bool λ shared. each_option all_requests all_requests-at λ w. each_fitting p shared w λ s owns.
     provided owns (λ _. found (cell_of p s event.Store) (λ row. holds (is_hit row.action)))
     also provided (keeps s) (λ _. found (cell_of p s event.Load) (λ row. holds (is_hit row.action)))
     also given w (λ q. unless (is_put_m q) (λ _. equal requests tt (awaited_request s) (Some q)) also provided (is_put_m q) (λ _. fails (keeps s)))
+    also each_of all_events all_events-at (λ e. given (serving e) (λ _. ask_claims p shared owns w s e))
 
 pub fit_rule : every_fit.claim
-unfolding all_protocols all_states all_requests fits is_owner is_sharer is_clean wait_fits in_protocol same
+unfolding all_protocols all_states all_requests all_events fits is_owner is_sharer is_clean wait_fits in_protocol same
 fit_rule = every_fit.sound refl
+
+pub ask_rule : (p : Protocol) (shared ow : Bool) (w : Option Request) (s : CacheState) (o : Op) → fits p shared ow w s ≡ true → (ask_claims p shared ow w s (asked o)).claim
+ask_rule p shared ow w s o fit = (fit_rule p shared w s ow fit).1.1.1 (asked o) (request_for o) (serving-asked o)
