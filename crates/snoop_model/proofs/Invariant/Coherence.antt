@@ -1,13 +1,11 @@
 -- What the invariant says of a situation: one writer, current copies and memory, all rows, one sender.
-use Rattle.snoop_model.{proofs.{Lists.Facts.{if_some, is_none}, Tables.Rows.hit_keeps}, specs.Moves.LookUps.{HasRow, HasMemRow, ConsultsCache, ConsultsMemory, FindsRows}}
-use Rattle.snoop_model.proofs.Common.{arith, arrival, arrival_at_memory, Ask, asked, awaited_request, BlockInvariant, both_ways, CacheEvent, CacheState, CanOrder, carries_value, Cell, cond_both, data_under_way, eq-eqb, Evict, false, false_from_ne_true, flat_words, FollowsSenderTable, ForSome, get_or_past, GetS, HasOpen, held_by, Hit, I, IfSome, Invariant, is_put_m, is_some, IsSome, IsSomeAnd, IsWellKept, IsWithin, keeps, length, Line, List, MemEvent, ne_eqb, None, none-some, nothing_held, nothing_there, Op, Open, Option, Order, OrdersFollowSenderTable, owns, Picture, picture_of, Protocol, PutM, refl, Request, Respond, seen_by, Situation, Some, state_of, Step, Store, sym, talk_of, true, waiting_request, Waits, ℕ, ◌<◌, ◌↔◌, ◌∙◌, ◌≡◌, ◌≢◌, ◌≤◌}
-use Rattle.snoop_rules.specs.declared.names.CacheEvent.TheVariants as event
-use Rattle.snoop_rules.specs.Possible.{MayLoad, MayStore}
+use Rattle.snoop_model.proofs.{OneBlock.OrderStep.{each_row, look, meant, meant_in, sender_told, sends, sends_if_meant, sent}, Tables.Rows.hit_keeps}
+use Rattle.snoop_model.proofs.{OneBlock.Facts.it_is, Tables.StateTests.{ask_rule, brings_data, fit_rule, is_hit-true, is_idle_evict, some_of}}
+use Rattle.snoop_model.proofs.{OneBlock.RespondStep.{answered, close, Closing}, Tables.OrderTests.{awaited-get, led_line, memory_row_for, row_for}}
+use Rattle.snoop_model.{proofs.Lists.Facts.if_some, specs.Moves.LookUps.{ConsultsCache, ConsultsMemory, FindsRows, HasMemRow, HasRow}}
+use Rattle.snoop_rules.specs.Possible.{MayStore}
+use Rattle.snoop_model.proofs.Common.{arith, arrival, arrival_at_memory, Ask, asked, awaited_request, BlockInvariant, CacheEvent, CacheState, CanOrder, carries_value, Cell, cond_both, data_under_way, eq-eqb, Evict, false, false_from_ne_true, flat_words, FollowsSenderTable, ForSome, get_or_past, GetS, HasOpen, held_by, Hit, I, IfSome, Invariant, is_put_m, is_some, IsSomeAnd, IsWellKept, IsWithin, keeps, length, Line, List, MemEvent, ne_eqb, None, none-some, nothing_held, nothing_there, Op, Open, Option, Order, OrdersFollowSenderTable, owns, Picture, picture_of, Protocol, PutM, refl, Request, Respond, seen_by, Situation, Some, state_of, Step, sym, talk_of, true, waiting_request, Waits, ℕ, ◌<◌, ◌↔◌, ◌∙◌, ◌≡◌, ◌≢◌, ◌≤◌}
 use Rattle.snoop_rules.specs.Takers.{other as another}
-use Rattle.snoop_model.{specs.Pictures.OneWriter.OneWriter, proofs.{Tables.StateTests.{some_of, brings_data, claims_rule}, OneBlock.Facts.owned_alone}}
-use Rattle.snoop_model.proofs.Tables.{StateTests.{ask_rule, fit_rule, is_hit-true, is_idle_evict}, OrderTests.{memory_row_for, row_for, awaited-get}}
-use Rattle.snoop_model.proofs.OneBlock.{Facts.it_is, RespondStep.{Closing, close, answered}}
-use Rattle.snoop_model.proofs.{OneBlock.OrderStep.{each_row, look, meant, meant_in, sender_told, sends, sends_if_meant, sent}, Tables.OrderTests.led_line}
 
 -- where no core may write the block, none owns it
 pub nobody_owns : {p : Protocol} {n : ℕ} {value : List ℕ} {picture : Picture} (g : BlockInvariant p n value picture) → ((core : ℕ) → ¬ MayStore p (held_by picture core).state) → g.claims.owned ≡ false

@@ -1,5 +1,5 @@
 -- The invariant holds at reset, and after each move: flat memory and the log first, then the block, and what waits.
-use Rattle.snoop_model.proofs.Common.{Data, Drop, Evict, Hit, is_some, Issue, keeps, missed_request, [], Access, after_order, All, All-append, All-cons, All-nil, ap, append-nil, arith, Ask, BlockInvariant, Bool, CacheAction, CacheState, came_of, claims_of, cond, Did, eqb_tells, Err, Extent, false, fill_by_all, first_memory, fits, flat, flat_words, get_or-map-range_with_len, get_or-replicate, get_or-set_other, get_or-set_same, get_or_past, Goes, HasWord, held_by, I, IfSome, IfSome_then, if◌then◌else◌, in_protocol, inl, inr, Invariant, is_clean, is_owner, is_sharer, is_store_to, IsNext, IsProper, IsShaped, IsWithin, IsWord, Item, as_access, Legal, length, length-map-range_with_len, length-replicate, length-set, Line, List, MoveOn, next_did, NoMemory, None, none-some, not, nothing_held, nothing_there, Ok, Op, Open, operation_of, operations, operations-push, Option, option_map, option_map_or, option_to_list, Order, Picture, picture_of, Protocol, queues_after, refl, Refused, replicate, Reply, request_for, reset, Respond, Result, same, same_Some, Situation, slice_set, Some, Step, sym, Takes, true, untouched, wait_fits, with_line, word_at, ℕ, ◌&&◌, ◌++◌, ◌<◌, ◌==◌, ◌∙◌, ◌∷◌, ◌≡◌, ◌≢◌}
+use Rattle.snoop_model.proofs.Common.{Drop, Evict, Hit, Issue, keeps, missed_request, [], Access, after_order, All, All-append, All-cons, All-nil, ap, append-nil, arith, Ask, BlockInvariant, Bool, CacheAction, CacheState, came_of, claims_of, cond, Did, eqb_tells, Err, Extent, false, fill_by_all, first_memory, fits, flat, flat_words, get_or-map-range_with_len, get_or-replicate, get_or-set_other, get_or-set_same, get_or_past, Goes, HasWord, held_by, I, IfSome, IfSome_then, if◌then◌else◌, in_protocol, inl, inr, Invariant, is_clean, is_owner, is_sharer, is_store_to, IsNext, IsProper, IsShaped, IsWithin, IsWord, Item, as_access, Legal, length, length-map-range_with_len, length-replicate, length-set, Line, List, MoveOn, next_did, NoMemory, None, none-some, not, nothing_held, nothing_there, Ok, Op, Open, operation_of, operations, operations-push, Option, option_map, option_map_or, option_to_list, Order, Picture, picture_of, Protocol, queues_after, refl, Refused, replicate, Reply, request_for, reset, Respond, Result, same, same_Some, Situation, slice_set, Some, Step, sym, Takes, true, untouched, wait_fits, with_line, word_at, ℕ, ◌&&◌, ◌++◌, ◌<◌, ◌==◌, ◌∙◌, ◌∷◌, ◌≡◌, ◌≢◌}
 use Rattle.snoop_history.specs.declared.items.Item.TheVariants as item
 use Rattle.snoop_history.proofs.Legal.{flat-grows, legal-grows}
 use Rattle.snoop_model.proofs.{Lists.{Writes.each_set, Facts.{replicated, is_none}}, OneBlock.OfBlocks.{changed, in_pictures, each_picture}}

@@ -1,5 +1,5 @@
 -- What every machine keeps makes it safe, and its steps keep it.
-use Rattle.snoop_model.proofs.Common.{CacheEvent, both_ways, IsSome, Stall, Absent, Drop, E, EiA, Evict, Hit, I, Issue, Load, moves_to, PutM, Store, ◌≢◌, ap, arith, arrival_at_memory, Ask, asked, CacheAction, CacheState, Cell, Extent, flat, flat_words, Goes, Gone, HasOpen, held_by, IfSome, inl, inr, Invariant, is_clean, is_some, IsOpenByTable, IsProper, IsSenderLine, IsWellKept, Item, keeps, Line, List, MemCell, MoveOn, None, nothing_held, Op, Option, option_map, Order, Orders, Picture, picture_of, Protocol, refl, Refused, Refuses, Reply, Request, reset, Respond, Result, RunBy, same_Some, Situation, Some, Stalled, state_of, Step, sym, Takes, takes_payload, true, Waits, with_line, with_picture, word_at, ℕ, ◌<◌, ◌∙◌, ◌≡◌, ◌≤◌, ◌⊎◌}
+use Rattle.snoop_model.proofs.Common.{CacheEvent, both_ways, IsSome, Stall, Absent, Drop, E, EiA, Evict, Hit, I, Issue, Load, moves_to, PutM, Store, ap, arith, arrival_at_memory, Ask, asked, CacheAction, CacheState, Cell, Extent, flat, flat_words, Goes, Gone, held_by, IfSome, inl, inr, Invariant, is_clean, is_some, IsOpenByTable, IsProper, IsSenderLine, IsWellKept, Item, keeps, Line, List, MemCell, MoveOn, None, nothing_held, Op, Option, option_map, Order, Orders, Picture, picture_of, Protocol, refl, Refused, Reply, Request, reset, Respond, Result, RunBy, same_Some, Situation, Some, state_of, Step, sym, Takes, takes_payload, true, with_line, with_picture, word_at, ℕ, ◌<◌, ◌∙◌, ◌≡◌, ◌≤◌, ◌⊎◌}
 use Rattle.snoop_model.{specs.{Coherent.{IsCoherent, HitsWhereItMay}, Runs.Safe.{IsSafe, RowsAreFound}, Invariant.MachineKeeps.{AreOnSenderLines, MachineKeeps}}, proofs.Lists.Facts.if_some}
 use Rattle.snoop_model.proofs.{Tables.{Rows.{action_rule, IsProper-drop}, SentBy.sends_is, OrderTests.settled_so}, Queues.Moves.{on_kept, starts_well}}
 use Rattle.snoop_model.proofs.{OneBlock.{AfterMoves.{ask_line, respond_here}, OfBlocks.{in_pictures, each_picture}}, Runs.{Along.kept_along, GoOn.moves_on}}

@@ -1,5 +1,5 @@
 -- The loop that looks for the one sender.
-use Rattle.snoop_model.proofs.Common.{arith, at_memory, CacheAction, CacheState, Cell, FollowsSenderTable, held_by, IfSome, length, MemAction, MemoryCell, MemState, None, Option, Payload, Picture, Protocol, Request, seen_by, Sends, Some, Target, ℕ, ⊤, ◌+◌, ◌<◌, ◌≡◌, ◌≢◌, ◌≤◌}
+use Rattle.snoop_model.proofs.Common.{arith, at_memory, CacheAction, CacheState, Cell, FollowsSenderTable, held_by, IfSome, length, MemAction, MemoryCell, MemState, None, Option, Payload, Picture, Protocol, Request, seen_by, Sends, Some, Target, ℕ, ◌+◌, ◌<◌, ◌≡◌, ◌≢◌, ◌≤◌}
 use Rattle.snoop_rules.specs.declared.names.CacheAction.TheVariants as action
 use Rattle.snoop_rules.specs.declared.names.MemAction.TheVariants as mem_action
 use Rattle.snoop_model.proofs.Tables.SentBy.{sending, sending_memory, sends_is}

@@ -1,6 +1,6 @@
 -- Each load and store that a run asks is done once, or waits.
 use Rattle.snoop_model.proofs.{Lists.{Writes.each_set, Facts.either_way}, Tables.Rows.{issue-missed, drop_evicts}, OneBlock.Facts.{did_in, performed_so}}
-use Rattle.snoop_model.proofs.Common.{[], Access, accesses_in, after_order, ap, append-nil, append_assoc, arith, Ask, asked, asked_access, Bool, CacheAction, CacheState, came_of, Cell, cond, Did, did_access, Drop, eq-eqb, eqb, Err, Extent, false, filter, filter-append, filter_map, filter_map-append, Goes, held_at, held_by, Hit, IfSome, inl, inr, Invariant, IsPermutation, IsPermutation-append_comm, IsPermutation-append_left, IsPermutation-append_right, IsPermutation-refl, IsPermutation-trans, IsProper, Issue, Item, as_access, length, Line, List, map, map-append, MoveOn, ne_eqb, None, nothing_held, of_core, Ok, Once, OnceMore, Op, operation_of, Option, option_map, option_to_list, Order, Picture, picture_of, Protocol, queues_after, refl, Refused, Reply, reset, Respond, Result, RunBy, Situation, slice_set, Some, Step, sym, taken, Takes, true, waiting_at, with_line, ℕ, ◌&&◌, ◌++◌, ◌<◌, ◌==◌, ◌∙◌, ◌∷◌, ◌≡◌, ◌⊎◌}
+use Rattle.snoop_model.proofs.Common.{[], Access, accesses_in, after_order, ap, append-nil, append_assoc, arith, Ask, asked, asked_access, CacheAction, CacheState, came_of, Cell, cond, Did, did_access, Drop, eq-eqb, eqb, Err, Extent, false, filter, filter-append, filter_map, filter_map-append, Goes, held_at, held_by, Hit, IfSome, inl, inr, Invariant, IsPermutation, IsPermutation-append_comm, IsPermutation-append_left, IsPermutation-append_right, IsPermutation-refl, IsPermutation-trans, IsProper, Issue, Item, as_access, length, Line, List, map, map-append, MoveOn, ne_eqb, None, nothing_held, of_core, Ok, Once, OnceMore, Op, operation_of, Option, option_map, option_to_list, Order, Picture, picture_of, Protocol, queues_after, refl, Refused, Reply, reset, Respond, Result, RunBy, Situation, slice_set, Some, Step, sym, taken, Takes, true, waiting_at, with_line, ℕ, ◌&&◌, ◌++◌, ◌<◌, ◌==◌, ◌∙◌, ◌∷◌, ◌≡◌, ◌⊎◌}
 use Rattle.snoop_history.specs.declared.items.Item.TheVariants as item
 use Rattle.snoop_model.proofs.{OneBlock.OfBlocks.{changed, each_picture, in_pictures}, OneBlock.AfterMoves.{by_request, each_taken}}
 use Rattle.snoop_model.proofs.{Once.Owed.{answers_are, cons_one}, Invariant.Runs.{nothing_waits, goes_kept, move_keeps, refusal_same, reset_invariant, reset_line}}

@@ -1,5 +1,5 @@
 -- What follows from the invariant of one block.
-use Rattle.snoop_model.proofs.Common.{append-nil, arith, BlockInvariant, Bool, cases_eq, cases_lt, cond, Did, did_access, eq-eqb, eqb, eqb-true, eqb_tells, Evict, false, fits, get_or_past, held_at, held_by, IfSome, inl, inr, is_clean, is_some, IsProper, Item, keeps, as_access, length, Line, List, Load, ne_eqb, next_did, None, not, nothing_held, Op, operation_of, operations, operations-push, Option, option_and_then, option_map_or, option_to_list, or_right, own_open, owns, Performs, Picture, Protocol, refl, Request, same, slice_set, Some, Store, subst, sym, talk_of, true, word_at, ℕ, ⊤, ◌&&◌, ◌++◌, ◌<◌, ◌||◌, ◌∙◌, ◌≡◌, ◌≢◌, ◌↔◌}
+use Rattle.snoop_model.proofs.Common.{append-nil, arith, BlockInvariant, Bool, cond, Did, did_access, eq-eqb, eqb, eqb-true, eqb_tells, Evict, false, fits, held_by, IfSome, is_clean, is_some, IsProper, Item, keeps, as_access, Line, List, Load, ne_eqb, next_did, None, not, Op, operation_of, operations, operations-push, Option, option_and_then, option_map_or, option_to_list, or_right, own_open, owns, Performs, Picture, Protocol, refl, Request, same, slice_set, Some, Store, sym, talk_of, true, word_at, ℕ, ◌&&◌, ◌++◌, ◌<◌, ◌||◌, ◌∙◌, ◌≡◌, ◌≢◌, ◌↔◌}
 use Rattle.snoop_model.proofs.{Tables.{Tested.of_open, StateTests.{brings_data, carries, clean_reads, claims_rule}}}
 
 pub owns_owned : (owner : Option ℕ) (d : ℕ) (b : Bool) → is_some owner ≡ b → (not (owns owner d) || b) ≡ true

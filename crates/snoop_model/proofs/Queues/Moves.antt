@@ -1,5 +1,5 @@
 -- A machine is well kept at reset, and stays so at each kind of move; so a core waits on the blocks in its queue, and on no others.
-use Rattle.snoop_model.proofs.Common.{[], Access, after_issue, after_order, arith, ArrivesFor, Ask, asked, awaited_request, CacheAction, CacheState, Cell, Contains, Did, Drop, eq-eqb, eqb-true, filter, get_or-set_other, get_or-set_same, get_or_from_slice_get, get_or_past, held_at, held_by, Hit, if◌then◌else◌, inl, inr, is_some, IsSome, Issue, IsShaped, IsWellKept, IsWithin, Item, KeepsWell, length, length-set, Line, List, missed_request, MoveOn, ne_eqb, None, none-some, not, nothing_held, Op, Open, Option, option_to_list, Order, Picture, picture_of, Protocol, queue_of, queues_after, refl, Reply, Request, reset, Respond, Responds, same_Some, Situation, slice_get, slice_get-get_or, slice_get_within, Some, StandsFirst, StartsWell, state_of, Step, sym, Takes, TakesRows, waiting_request, Waits, WaitsOnNone, with_line, ℕ, ◌++◌, ◌<◌, ◌==◌, ◌∙◌, ◌∷◌, ◌≡◌, ◌≢◌}
+use Rattle.snoop_model.proofs.Common.{[], Access, after_issue, after_order, arith, ArrivesFor, Ask, asked, awaited_request, CacheAction, CacheState, Cell, Contains, Did, Drop, eq-eqb, eqb-true, filter, get_or-set_other, get_or-set_same, get_or_from_slice_get, held_at, held_by, Hit, if◌then◌else◌, inl, inr, is_some, IsSome, Issue, IsShaped, IsWellKept, IsWithin, Item, KeepsWell, length, Line, List, missed_request, MoveOn, ne_eqb, None, none-some, not, nothing_held, Op, Open, Option, option_to_list, Order, Picture, picture_of, Protocol, queue_of, queues_after, refl, Reply, Request, reset, Respond, Responds, same_Some, Situation, slice_get, slice_get-get_or, slice_get_within, Some, StandsFirst, StartsWell, state_of, Step, sym, Takes, TakesRows, waiting_request, Waits, WaitsOnNone, with_line, ℕ, ◌++◌, ◌<◌, ◌==◌, ◌∙◌, ◌∷◌, ◌≡◌, ◌≢◌}
 use Rattle.snoop_model.proofs.Lists.{Facts.{either_way, of_choice, one_if, replicated}, Writes.{each_set, same_set, times_push, times_left, times, counted_in, in_counted}}
 use Rattle.snoop_model.proofs.Tables.{Rows.{issue-waits, issue-missed, asked_missed, action_rule, order_rule, fill-waits, awaited-asked}, StateTests.some_of}
 use Rattle.snoop_model.{proofs.Tables.OrderTests.{data_rule, awaited-get}, specs.Pictures.InQueue.IsInQueue}

@@ -1,12 +1,11 @@
 -- Each step that goes comes to what is computed of it, and from every situation of a run each step goes so.
 use Rattle.std.specs.Bool.{Decides}
-use Rattle.snoop_model.proofs.{Lists.Facts.{if_some, option_both}, Lines.TheSender.{IsBelow, sends_below}, Tables.SentBy.{payload_from, sends_is, sends_row}}
+use Rattle.snoop_model.proofs.Steps.Next.{after_ask, brought, by_row, filled, has_word, line_after, Next, next_asked, next_closed, next_first, next_of, next_ordered, next_picture, sender_below, value_of, words_after}
+use Rattle.snoop_model.proofs.{Invariant.Coherence.{finds_rows, idle_evict, orders_follow_sender_table, waits_within}, Lines.TheSender.{IsBelow, sends_below}}
+use Rattle.snoop_model.proofs.Tables.{OrderTests.{data_rule, fills, row_for, settled_so}, Rows.{action_rule, hit_keeps, is_evict, serving-asked}}
+use Rattle.snoop_model.proofs.Tables.{SentBy.{payload_from, sends_is, sends_row}, StateTests.{ask_rule, is_idle_evict, some_of}}
+use Rattle.snoop_model.proofs.{Lists.Facts.{if_some, option_both}, OneBlock.RespondStep.{answered, close}, Queues.Moves.{AreQueued, first_waits, none_waits}}
 use Rattle.snoop_model.proofs.Common.{ap, arith, arrival, arrival_at_memory, ArrivesFor, Ask, asked, both_ways, BusTaken, CacheAction, CacheCell, CacheState, CanOrder, cases_Bool, cases_eq, cases_lt, Cell, cell_of, cond_both, Decides-and, Decides-ltb, Did, Drop, Err, Evict, Extent, false, false_from_ne_true, fill_by_all, FillLoad, FillsRequestor, FillStore, FirstMove, free_picture, get_or-map-range_with_len, GoesFirst, HasWord, held_at, held_by, Hit, Hits, if◌then◌else◌, inl, inr, Invariant, is_load, is_put_m, is_some, IsOnlySender, IsProper, Issue, IsWithin, Item, le-ltb, length, length-map-range_with_len, Line, List, Load, lt-ltb, ltb, ltb-false, ltb-true, MemLine, NoBlock, NoCore, None, none_from_not_some, none-some, nothing_held, NothingWaiting, NoTransaction, Ok, Op, Open, Option, option_and_then_some, option_map_or, Order, Orders, Payload, Performs, Picture, picture_of, Protocol, PutM, queue_of, refl, Refused, Refuses, Reply, Request, request_for, Respond, Responds, Result, seen_by, Situation, slice_get, Some, Stall, Stalled, state_of, Step, Store, suc, sym, Takes, takes_payload, true, unwrap_or, waiting_request, word_places, written, zero, zero_words, ℕ, ◌&&◌, ◌<◌, ◌∙◌, ◌≡◌, ◌≤◌, ◌↔◌, ◌⊎◌}
-use Rattle.snoop_model.proofs.Tables.{OrderTests.{data_rule, fills, settled_so, row_for}, StateTests.some_of, StateTests.{ask_rule, is_idle_evict}}
-use Rattle.snoop_model.proofs.{Tables.Rows.{is_evict, action_rule, serving-asked, hit_keeps}, OneBlock.RespondStep.{close, answered}}
-use Rattle.snoop_model.proofs.Steps.Next.{Next, value_of, words_after, has_word, after_ask, by_row, next_asked, sender_below, line_after, next_picture, next_ordered, filled, brought, next_closed, next_of, next_first}
-use Rattle.snoop_model.proofs.Invariant.Coherence.{orders_follow_sender_table, finds_rows, idle_evict, waits_within}
-use Rattle.snoop_model.proofs.Queues.Moves.{AreQueued, first_waits, none_waits}
 
 -- a load or a store does one thing
 performs_is : (word : ℕ) (asking : Op) (before : List ℕ) (value : ℕ) (after : List ℕ)
