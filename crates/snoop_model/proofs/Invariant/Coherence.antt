@@ -58,7 +58,8 @@ module _ (s : Situation) (g : Invariant s) where
   held_within core block P none = each_line core block (λ x. P x → IsWithin s core block) (λ within h. within) (λ h. absurd (none h))
 
   -- a core whose row is a hit keeps words, so it is there, and so is the block
-  pub hit_within : (core block : ℕ) (e : CacheEvent) → (n : CacheState) × Cell s.protocol (state_of s core block) e Hit n → (keeps (state_of s core block) ≡ true) × IsWithin s core block
+  pub hit_within : (core block : ℕ) (e : CacheEvent) → (n : CacheState) × Cell s.protocol (state_of s core block) e Hit n
+      → (keeps (state_of s core block) ≡ true) × IsWithin s core block
   hit_within core block e hits =
       let keeping = (hit_keeps s.protocol (state_of s core block) e hits.0 hits.1).0 in
       (keeping, held_within core block (λ x. keeps x.state ≡ true) (λ h. cc) keeping)
@@ -73,7 +74,8 @@ module _ (s : Situation) (g : Invariant s) where
 
   -- the requestor of an open transaction is there, and awaits its data, or keeps nothing where it is a PutM
   pub requestor_fits : (core block : ℕ) (q : Request) → HasOpen s core block q
-      → IsWithin s core block × ((is_put_m q ≡ false → awaited_request (state_of s core block) ≡ Some q) × (is_put_m q ≡ true → keeps (state_of s core block) ≡ false))
+      → IsWithin s core block × ((is_put_m q ≡ false → awaited_request (state_of s core block) ≡ Some q) ×
+      (is_put_m q ≡ true → keeps (state_of s core block) ≡ false))
   requestor_fits core block q (o, is) =
       let within = opened_within block o is.0 in
       let good = g.blocks block within in

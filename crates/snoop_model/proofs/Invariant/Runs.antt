@@ -53,7 +53,8 @@ logged_more : (s : Situation) (entry : Option Item) → Invariant s → IfSome (
 logged_more s None g next = rw append-nil (g.legal, g.logged)
 logged_more s (Some entry) g next = (
   legal-grows s.log entry g.legal (IfSome_then (operation_of entry) next (λ did h. h.0)),
-  rw operations-push (All-append (IsLogged s) (operations s.log) _ g.logged (all_one (IsLogged s) (operation_of entry) (IfSome_then (operation_of entry) next (λ did h. h.1)))),
+  rw operations-push (All-append (IsLogged s) (operations s.log) _ g.logged
+      (all_one (IsLogged s) (operation_of entry) (IfSome_then (operation_of entry) next (λ did h. h.1)))),
 )
 
 -- the item of a move on a block: its operation, if it has one, is on the block, may come next, and is of a core and a word that there are
@@ -72,7 +73,8 @@ record Keeps (old : Situation) (block : ℕ) (next : Picture) (entry : Option It
   accesses : (core : ℕ) → AccessWithin old.shape (held_by next core)
   item : IsNextOn old block entry
 
-kept : (old new : Situation) (block : ℕ) (next : Picture) (queues : List (List ℕ)) (entry : Option Item) → new ≡ changed old block next queues (old.log ++ option_to_list entry) → IsShaped new
+kept : (old new : Situation) (block : ℕ) (next : Picture) (queues : List (List ℕ)) (entry : Option Item)
+    → new ≡ changed old block next queues (old.log ++ option_to_list entry) → IsShaped new
     → Invariant old → Keeps old block next entry → Invariant new
 kept old new block next queues entry after shaped g k =
     let log = old.log ++ option_to_list entry in
@@ -129,7 +131,8 @@ move_keeps block old (Order core) answer new g m =
     let o = m.orders in
     let within = m.within in
     let cores : length (picture_of old block).caches ≡ old.shape.cores = g.shaped.row block within.1 in
-    kept old new block o.next (after_order old.queues core block) (Some (item.Sent (record { core = core; request = m.request; block = block }))) o.after (still_shaped block old (Order core) answer new g.shaped m) g (record {
+    kept old new block o.next (after_order old.queues core block) (Some (item.Sent (record { core = core; request = m.request; block = block })))
+    o.after (still_shaped block old (Order core) answer new g.shaped m) g (record {
       within = within.1;
       opened = λ t is_open. ap (λ (x : Open). x.block) (same_Some _ _ (sym is_open ∙ o.opened));
       block_after = rw (← cores) (order_keeps old core block m.request new (flat_words old.log block) (rw cores (g.blocks block within.1)) (rw cores within.0) o);
@@ -150,7 +153,8 @@ move_keeps block old (Respond on) answer new g m =
           let lawful = rw (f.logged, ← placed) at k.1 in
           rw f.logged (placed, next_lawful old.log closing.core closing.block f.asking.word f.asking.op f.value false has.1 lawful, ((its_core, rw placed m.within), has)))
     ] in
-    kept old new block r.next old.queues (Some (item.Came (came_of closing) m.did)) r.after (still_shaped block old (Respond on) answer new g.shaped m) g (record {
+    kept old new block r.next old.queues (Some (item.Came (came_of closing) m.did))
+    r.after (still_shaped block old (Respond on) answer new g.shaped m) g (record {
       within = m.within;
       opened = λ t is_open. absurd (none-some t (sym r.closed ∙ is_open));
       block_after = k.0;

@@ -9,7 +9,6 @@ use Rattle.snoop_model.proofs.{Steps.GoesNext.order_made, Turns.Laws.busy_cases,
 use Rattle.snoop_rules.specs.declared.names.CacheEvent.TheVariants as event
 use Rattle.snoop_model.proofs.{Tables.StateTests.claims_rule, Lists.Facts.is_none}
 
-
 -- each open transaction is on a line
 abbrev OnLine : Protocol → Picture → Type 0
 OnLine p picture = IfSome picture.transaction (λ o. (before : Picture) × IsSenderLine p before o.core o.request o.from o.payload picture.memory.state)
@@ -37,7 +36,8 @@ module _ (s : Situation) (g : Invariant s) where
       (g.blocks block within.1).clean core within.0 is
 
   -- a hit is by a row that is one
-  hits_may : (core block word : ℕ) (act : CacheAction) (next : CacheState) (asking : Op) → Cell s.protocol (state_of s core block) (asked asking) act next → (held : Line) (answer : Reply) (entry : Option Item)
+  hits_may : (core block word : ℕ) (act : CacheAction) (next : CacheState) (asking : Op)
+      → Cell s.protocol (state_of s core block) (asked asking) act next → (held : Line) (answer : Reply) (entry : Option Item)
       → Takes act next s.log core block word asking (held_by (picture_of s block) core) held answer entry → HitsWhereItMay s.protocol (state_of s core block) answer
   hits_may core block word Hit next Load row held answer entry t = rw t.1.1 (next, row)
   hits_may core block word Hit next (Store value) row held answer entry t = rw t.1.1 (next, row)
@@ -47,7 +47,8 @@ module _ (s : Situation) (g : Invariant s) where
   hits_may core block word _ next asking row held answer entry t = absurd t
 
   -- an eviction that is answered Gone or Absent leaves nothing
-  gone_leaves : (core block word : ℕ) (answer : Reply) → (answer ≡ Gone) ⊎ (answer ≡ Absent) → (act : CacheAction) (next : CacheState) → Cell s.protocol (state_of s core block) (asked Evict) act next → (held : Line) (entry : Option Item)
+  gone_leaves : (core block word : ℕ) (answer : Reply) → (answer ≡ Gone) ⊎ (answer ≡ Absent)
+      → (act : CacheAction) (next : CacheState) → Cell s.protocol (state_of s core block) (asked Evict) act next → (held : Line) (entry : Option Item)
       → Takes act next s.log core block word Evict (held_by (picture_of s block) core) held answer entry → held ≡ nothing_held
   gone_leaves core block word answer leaves Hit next row held entry t = absurd t.1.0.performed
   gone_leaves core block word answer leaves (Issue request) next row held entry t = elim leaves [ inl is ↦ (let clash = sym t.1 ∙ is in cc) | inr is ↦ (let clash = sym t.1 ∙ is in cc) ]
@@ -125,7 +126,8 @@ is_coherent s g on_lines well_kept = record {
   ];
   gone = λ core block word answer new leaves m. elim m.moves [
     | inl absent ↦ rw absent.3 (idle_line (held_by (picture_of s block) core) (all_proper s g core block) absent.1)
-    | inr a ↦ ask_line s core block word Evict answer new g m.within a ∙ gone_leaves s g core block word answer leaves a.row.action a.row.next a.is_row a.held a.entry a.taken
+    | inr a ↦ ask_line s core block word Evict answer new g m.within a
+        ∙ gone_leaves s g core block word answer leaves a.row.action a.row.next a.is_row a.held a.entry a.taken
   ];
   given_up = λ core block opened. is_none _ ((all_proper s g core block).kept ∙ (requestor_fits s g core block PutM opened).1.1 refl);
   moves = moves_on s g well_kept.queued;
@@ -183,4 +185,5 @@ pub run_keeps_all : (steps : List Step) (outcomes : List (Result Reply Refused))
 run_keeps_all = kept_along Goes MachineKeeps (goes_kept MachineKeeps (λ block s step answer t. move_keeps_all block s t step answer))
 
 pub rows_are_found : RowsAreFound
-rows_are_found protocol shape steps outcomes new run = finds_rows new (run_keeps_all steps outcomes (reset protocol shape) new (reset_keeps protocol shape) run).inductive
+rows_are_found protocol shape steps outcomes new run =
+    finds_rows new (run_keeps_all steps outcomes (reset protocol shape) new (reset_keeps protocol shape) run).inductive

@@ -78,4 +78,5 @@ in_counted block queue (k, below, is) = rw (is, eq-eqb block block refl) at (get
 pub times_left : (block taken : ℕ) (queue : List ℕ) → times block (filter (λ b. not (eqb b taken)) queue) ≡ (if block == taken then 0 else times block queue)
 times_left block taken [] = either_way (eqb block taken) 0
 times_left block taken (x ∷ queue) =
-    grind (arith, times_cons block x queue, times_cons block x (filter (λ b. not (eqb b taken)) queue), eqb_tells x taken, eqb_tells x block, eqb_tells block taken, times_left block taken queue)
+    let more = times_cons block x (filter (λ b. not (eqb b taken)) queue) in
+    grind (arith, times_cons block x queue, more, eqb_tells x taken, eqb_tells x block, eqb_tells block taken, times_left block taken queue)

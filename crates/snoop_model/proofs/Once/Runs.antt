@@ -51,9 +51,11 @@ module _ (old : Situation) (b c : ℕ) where
   -- so it is where the one line that changes balances
   balances : (held : Line) (asked : Option Access) (did : Option Did) → c < length (picture_of old b).caches
       → IsBy c b did × Evens (held_by (picture_of old b) c).waiting asked (done did) held.waiting → Balances asked did (slice_set (picture_of old b).caches c held)
-  balances held asked did inside here = (here.0, each_set (picture_of old b).caches c held nothing_held
+  balances held asked did inside here =
+      let lines = each_set (picture_of old b).caches c held nothing_held
       (λ k line. Evens (held_by (picture_of old b) k).waiting (cond (eqb c k) asked None) (cond (eqb c k) (done did) None) line.waiting) inside
-      (rw (eq-eqb c c refl) here.1) (λ k apart. rw (ne_eqb c k (λ e. apart (sym e))) (inl (refl, refl))))
+      (rw (eq-eqb c c refl) here.1) (λ k apart. rw (ne_eqb c k (λ e. apart (sym e))) (inl (refl, refl))) in
+      (here.0, lines)
 
   -- a move that asks this, and whose lines balance, does each load and store once
   grown : (next : Picture) (queues : List (List ℕ)) (entry : Option Item) (asked : Option Access) (step : Step) (answer : Reply) → b < length old.pictures
@@ -62,9 +64,10 @@ module _ (old : Situation) (b c : ℕ) where
   grown next queues entry asked step answer within asks balance = record {
     since = option_to_list entry;
     log = refl;
-    once = λ core block. rw (cons_one (asked_access core block step), asks core block, answers_are [] entry core, accesses_one core block c b (did_in entry) balance.0)
+    once = λ core block. rw (cons_one, asks core block, answers_are [] entry core, accesses_one core block c b (did_in entry) balance.0)
         (even _ _ _ _ (each_picture old b next queues (old.log ++ option_to_list entry)
-        (λ x picture. Evens (held_by (picture_of old x) core).waiting (cond (eqb b x && eqb c core) asked None) (cond (eqb b x && eqb c core) (done (did_in entry)) None) (held_by picture core).waiting)
+        (λ x picture. Evens (held_by (picture_of old x) core).waiting (cond (eqb b x && eqb c core) asked None)
+        (cond (eqb b x && eqb c core) (done (did_in entry)) None) (held_by picture core).waiting)
         within (λ x apart. rw (ne_eqb b x (λ e. apart (sym e))) (inl (refl, refl))) (rw (eq-eqb b b refl) (balance.1 core)) block));
   }
 
@@ -97,7 +100,8 @@ move_once b old (Respond on) answer new g m =
       | inl put ↦ rw (put.2, put.1) (tt, λ k. inl (refl, refl))
       | inr (_, f) ↦
           (let so = performed_so f.asking.word f.asking.op m.closing.value f.value f.fills.after old.log c m.closing.block false f.fills.performed in
-          let done_once : Evens (held_by (picture_of old b) c).waiting None (done m.did) f.line.waiting = rw (f.fills.held, f.fills.waited, f.logged, so.0) (inr (refl, refl)) in
+          let done_once : Evens (held_by (picture_of old b) c).waiting None (done m.did) f.line.waiting =
+          rw (f.fills.held, f.fills.waited, f.logged, so.0) (inr (refl, refl)) in
           rw f.held (balances old b c f.line None m.did in_row (rw f.logged (refl, g.opened b m.closing r.opened), done_once)))
     ] in
     rw r.after (grown old b c r.next old.queues (Some (item.Came (came_of m.closing) m.did)) None (Respond on) answer

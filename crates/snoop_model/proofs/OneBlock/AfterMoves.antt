@@ -3,7 +3,8 @@ use Rattle.snoop_model.proofs.Common.{Access, Ask, CacheAction, IsShaped, Issue,
 use Rattle.snoop_model.proofs.OneBlock.OfBlocks.{in_pictures, shaped_after}
 
 module _ {closing : Open} {p : Protocol} {log : List Item} {old new : List Line} {did : Option Did} where
-  pub by_request : (q : Request) → ArrivesFor q closing p log old new did → ((q ≡ PutM) × (new ≡ old) × (did ≡ None)) ⊎ ((is_put_m q ≡ false) × FillsRequestor closing p log old new did)
+  pub by_request : (q : Request) → ArrivesFor q closing p log old new did
+      → ((q ≡ PutM) × (new ≡ old) × (did ≡ None)) ⊎ ((is_put_m q ≡ false) × FillsRequestor closing p log old new did)
   by_request PutM h = inl (refl, h.0, h.1)
   by_request _ h = inr (refl, h)
 
@@ -19,7 +20,8 @@ module _ {closing : Open} {p : Protocol} {log : List Item} {old new : List Line}
   ]
 
   -- a line in which an operation still waits is as it was
-  pub still_waiting : {q : Request} → ((q ≡ PutM) × (new ≡ old) × (did ≡ None)) ⊎ ((is_put_m q ≡ false) × FillsRequestor closing p log old new did) → (k : ℕ) (access : Access) → (held_at new k).waiting ≡ Some access → held_at new k ≡ held_at old k
+  pub still_waiting : {q : Request} → ((q ≡ PutM) × (new ≡ old) × (did ≡ None)) ⊎ ((is_put_m q ≡ false) × FillsRequestor closing p log old new did)
+      → (k : ℕ) (access : Access) → (held_at new k).waiting ≡ Some access → held_at new k ≡ held_at old k
   still_waiting arrived k access h = elim arrived [
     | inl put ↦ rw put.1 refl
     | inr (_, fills) ↦ grind (arith, filled_or_same fills k, fills.fills.held, h)
@@ -52,9 +54,11 @@ as_many_after _ queues core block = refl
 pub still_shaped : (block : ℕ) (old : Situation) (step : Step) (answer : Reply) (new : Situation) → IsShaped old → MoveOn block old step answer new → IsShaped new
 still_shaped block old (Ask core on word asking) answer new shaped m = elim m.moves [
   | inl absent ↦ rw absent.3 shaped
-  | inr a ↦ rw a.after (shaped_after old block (with_line (picture_of old block) core a.held) _ _ shaped (length-set _ core a.held) (as_many_after a.row.action old.queues core block))
+  | inr a ↦ rw a.after (shaped_after old block (with_line (picture_of old block) core a.held) _ _
+      shaped (length-set _ core a.held) (as_many_after a.row.action old.queues core block))
 ]
-still_shaped block old (Order core) answer new shaped m = rw m.orders.after (shaped_after old block m.orders.next _ _ shaped m.orders.taken.same_length (length-set old.queues core _))
+still_shaped block old (Order core) answer new shaped m =
+    rw m.orders.after (shaped_after old block m.orders.next _ _ shaped m.orders.taken.same_length (length-set old.queues core _))
 still_shaped block old (Respond on) answer new shaped m =
     let arrived = by_request m.closing.request m.responds.requestor in
     rw m.responds.after (shaped_after old block m.responds.next _ _ shaped (grind (arith, length-set {A = Line}, arrived)) refl)

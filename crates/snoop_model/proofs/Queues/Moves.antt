@@ -10,13 +10,15 @@ use Rattle.snoop_model.proofs.OneBlock.AfterMoves.{by_request, each_taken, fille
 abbrev waits : CacheState → ℕ
 waits s = one_if (is_some (waiting_request s))
 
--- a core's queue, with the block this often in it, and its line are as the line's state and the block's open transaction say: the block is queued where the core waits, data that it awaits are of its own, and an operation waits only where one has missed
+-- a core's queue, with the block this often in it, and its line are as the line's state and the block's open transaction say: the block is queued where the core waits,
+-- data that it awaits are of its own, and an operation waits only where one has missed
 record IsKeptAt (often : ℕ) (now : Option Open) (block core : ℕ) (line : Line) : Type 0 where
   queued : often ≡ waits line.state
   awaits : (q : Request) → awaited_request line.state ≡ Some q → (o : Open) × ((now ≡ Some o) × (o.core ≡ core) × (o.request ≡ q))
   operations : (access : Access) → line.waiting ≡ Some access → IsSome (missed_request line.state)
 
-kept_at : (s : Situation) → IsWellKept s → (block core : ℕ) → IsKeptAt (times block (queue_of s.queues core)) (picture_of s block).transaction block core (held_by (picture_of s block) core)
+kept_at : (s : Situation) → IsWellKept s → (block core : ℕ)
+    → IsKeptAt (times block (queue_of s.queues core)) (picture_of s block).transaction block core (held_by (picture_of s block) core)
 kept_at s kept block core = record { queued = kept.queued core block; awaits = kept.awaits core block; operations = kept.operations core block }
 
 -- what is to be shown of a move
@@ -24,10 +26,12 @@ record KeepsOn (s : Situation) (block : ℕ) (next : Picture) (queues : List (Li
   here : (core : ℕ) → IsKeptAt (times block (queue_of queues core)) next.transaction block core (held_by next core)
   elsewhere : (core b : ℕ) → b ≢ block → times b (queue_of queues core) ≡ times b (queue_of s.queues core)
 
-well_after : (s t : Situation) → IsWellKept s → (block : ℕ) (next : Picture) (queues : List (List ℕ)) (log : List Item) → t ≡ changed s block next queues log → IsShaped t
+well_after : (s t : Situation) → IsWellKept s → (block : ℕ) (next : Picture) (queues : List (List ℕ)) (log : List Item)
+    → t ≡ changed s block next queues log → IsShaped t
     → block < s.shape.blocks → KeepsOn s block next queues → IsWellKept t
 well_after s t kept block next queues log after shaped within k =
-    let each = λ (core : ℕ). each_picture s block next queues log (λ b x. IsKeptAt (times b (queue_of queues core)) x.transaction b core (held_by x core)) (in_pictures s block kept.shaped within)
+    let each = λ (core : ℕ). each_picture s block next queues log (λ b x. IsKeptAt (times b (queue_of queues core)) x.transaction b core (held_by x core))
+    (in_pictures s block kept.shaped within)
     (λ b apart. rw (k.elsewhere core b apart) (kept_at s kept b core)) (k.here core) in
     rw after (record {
       shaped = rw after at shaped;
@@ -48,8 +52,13 @@ module _ (s : Situation) (kept : IsWellKept s) (core block word : ℕ) (asking :
       → ((k b : ℕ) → b ≢ block → times b (queue_of queues k) ≡ times b (queue_of s.queues k)) → ((access : Access) → held.waiting ≡ Some access → IsSome (missed_request next))
       → KeepsOn s block (with_line (picture_of s block) core held) queues
   one_line act queues row is own others elsewhere missed = record {
-    here = each_set (picture_of s block).caches core held nothing_held (λ k. IsKeptAt (times block (queue_of queues k)) (picture_of s block).transaction block k) (rw (kept.shaped.row block within.1) within.0)
-        (record { queued = rw is own; awaits = rw is (λ q h. kept.awaits core block q (awaited-asked s.protocol line.state asking act next row q h)); operations = rw is missed })
+    here = each_set (picture_of s block).caches core held nothing_held (λ k. IsKeptAt (times block (queue_of queues k)) (picture_of s block).transaction block k)
+        (rw (kept.shaped.row block within.1) within.0)
+        (record {
+          queued = rw is own;
+          awaits = rw is (λ q h. kept.awaits core block q (awaited-asked s.protocol line.state asking act next row q h));
+          operations = rw is missed;
+        })
         (λ k apart. rw (others k apart) (kept_at s kept block k));
     elsewhere = elsewhere;
   }
@@ -125,7 +134,8 @@ none_awaits s kept block closing did t r k q h = elim (by_request closing.reques
 pub on_kept : (block : ℕ) (s t : Situation) (step : Step) (answer : Reply) → IsWellKept s → MoveOn block s step answer t → IsWellKept t
 on_kept block s t (Ask core on word asking) answer kept m = elim m.moves [
   | inl absent ↦ rw absent.3 kept
-  | inr asks ↦ well_after s t kept block (with_line (picture_of s block) core asks.held) (queues_after asks.row.action s.queues core block) (s.log ++ option_to_list asks.entry) asks.after
+  | inr asks ↦ well_after s t kept block (with_line (picture_of s block) core asks.held) (queues_after asks.row.action s.queues core block)
+      (s.log ++ option_to_list asks.entry) asks.after
       (still_shaped block s (Ask core on word asking) answer t kept.shaped m) m.within.1
       (kept_taken s kept core block word asking m.within asks.held asks.row.next answer asks.entry asks.row.action asks.is_row asks.taken)
 ]
@@ -133,11 +143,14 @@ on_kept block s t (Order core) answer kept m =
     let before : Picture = picture_of s block in
     let next : Picture = m.orders.next in
     let taken = m.orders.taken in
-    let queued = each_set s.queues core (filter (λ b. not (b == block)) (queue_of s.queues core)) [] (λ k queue. times block queue ≡ (if k == core then 0 else times block (queue_of s.queues k))) (rw kept.shaped.queues m.within.0)
+    let queued = each_set s.queues core (filter (λ b. not (b == block)) (queue_of s.queues core)) []
+    (λ k queue. times block queue ≡ (if k == core then 0 else times block (queue_of s.queues k))) (rw kept.shaped.queues m.within.0)
     (rw (eq-eqb core core refl) (times_left block block (queue_of s.queues core) ∙ rw (eq-eqb block block refl) refl)) (λ k apart. rw (ne_eqb k core apart) refl) in
-    well_after s t kept block next (after_order s.queues core block) _ m.orders.after (still_shaped block s (Order core) answer t kept.shaped m) m.within.1 (record {
+    well_after s t kept block next (after_order s.queues core block) _ m.orders.after
+    (still_shaped block s (Order core) answer t kept.shaped m) m.within.1 (record {
       here = λ k. each_taken taken k
-          (λ x y. IsKeptAt (times block (queue_of s.queues k)) before.transaction block k x → IsKeptAt (times block (queue_of (after_order s.queues core block) k)) next.transaction block k y)
+          (λ x y. IsKeptAt (times block (queue_of s.queues k)) before.transaction block k x →
+          IsKeptAt (times block (queue_of (after_order s.queues core block) k)) next.transaction block k y)
           (λ inside was.
           let (row, is_row, moved) = taken.rows k inside in
           let (_, (missed, (waiting, awaits))) = order_rule s.protocol ((held_by before k).state) k core m.request row.action row.next is_row in
@@ -146,7 +159,8 @@ on_kept block s t (Order core) answer kept m =
             awaits = λ q h. let (mine, same) = awaits q h in (_, (m.orders.opened, sym (eqb-true k core mine), same_Some _ _ same));
             operations = λ access h. rw (← missed) (was.operations access h);
           }))
-          (λ was. record { queued = queued k ∙ rw was.queued (sym (either_way (k == core) 0)); awaits = λ q h. cc; operations = λ access h. cc }) (kept_at s kept block k);
+          (λ was. record { queued = queued k ∙ rw was.queued (sym (either_way (k == core) 0)); awaits = λ q h. cc; operations = λ access h. cc })
+          (kept_at s kept block k);
       elsewhere = λ k b apart. same_set (times b) s.queues core _ [] (times_left b block (queue_of s.queues core) ∙ rw (ne_eqb b block apart) refl) k;
     })
 on_kept block s t (Respond on) answer kept m =
@@ -155,7 +169,8 @@ on_kept block s t (Respond on) answer kept m =
       here = λ k. record {
         queued = rw (arrives_waits m.closing s.protocol s.log (picture_of s block).caches r.next.caches m.did r.requestor k) (kept.queued k block);
         awaits = λ q h. absurd (none_awaits s kept block m.closing m.did t r k q h);
-        operations = λ access h. let same = still_waiting (by_request m.closing.request r.requestor) k access h in rw same (kept.operations k block access (rw same at h));
+        operations = λ access h. let same = still_waiting (by_request m.closing.request r.requestor) k access h in
+            rw same (kept.operations k block access (rw same at h));
       };
       elsewhere = λ k b apart. refl;
     })

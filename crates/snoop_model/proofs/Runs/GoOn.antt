@@ -50,4 +50,5 @@ run_one (step ∷ steps) (outcome ∷ outcomes) (outcome' ∷ outcomes') old new
 run_one _ _ _ old new new' steady a b = search rules
 
 pub runs_are_one : RunsAreOne
-runs_are_one protocol shape steps outcomes others final end run other = run_one steps outcomes others (reset protocol shape) final end (reset_steady protocol shape) run other
+runs_are_one protocol shape steps outcomes others final end run other =
+    run_one steps outcomes others (reset protocol shape) final end (reset_steady protocol shape) run other

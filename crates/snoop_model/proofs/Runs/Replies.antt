@@ -39,7 +39,8 @@ goes_tells old step (Err cause) new g goes = refusal_tells step cause (ap (λ (s
 pub run_tells : (steps : List Step) (outcomes : List (Result Reply Refused)) (old new : Situation) → Invariant old → RunBy Goes old steps outcomes new → RunBy Tells old.log steps outcomes new.log
 run_tells [] [] old new g run = ap (λ (s : Situation). s.log) run
 run_tells (step ∷ steps) (outcome ∷ outcomes) old new g run =
-    (run.0.log, (goes_tells old step outcome run.0 g run.1.0, run_tells steps outcomes run.0 new (goes_kept Invariant move_keeps old step outcome run.0 g run.1.0) run.1.1))
+    let rest = run_tells steps outcomes run.0 new (goes_kept Invariant move_keeps old step outcome run.0 g run.1.0) run.1.1 in
+    (run.0.log, (goes_tells old step outcome run.0 g run.1.0, rest))
 run_tells _ _ old new g run = absurd run
 
 -- so does a move on the first block

@@ -9,7 +9,8 @@ use Rattle.snoop_model.proofs.Common.{ap, arith, arrival, arrival_at_memory, Arr
 
 -- a load or a store does one thing
 performs_is : (word : ℕ) (asking : Op) (before : List ℕ) (value : ℕ) (after : List ℕ)
-    → Performs word asking before value after ↔ ((is_evict (asked asking) ≡ false) × (value ≡ value_of word asking before) × (after ≡ words_after word asking before))
+    → Performs word asking before value after
+    ↔ ((is_evict (asked asking) ≡ false) × (value ≡ value_of word asking before) × (after ≡ words_after word asking before))
 performs_is word Evict before value after = (λ h. absurd h, λ h. let no = h.0 in cc)
 performs_is word _ before value after = (λ h. (refl, h.0, h.1), λ h. (h.1, h.2))
 
@@ -99,7 +100,8 @@ module _ (s : Situation) (queued : AreQueued s) where
       rw (lt-ltb core s.shape.cores h.0.0, (place s core block word asking).1 (h.0.1, h.3), h.1, h.2.1) refl
   refused_is (Order core) NoCore h = rw (le-ltb core s.shape.cores h) refl
   refused_is (Order core) NothingWaiting h =
-      let empty = none_from_not_some (slice_get (queue_of s.queues core) 0) (λ block is. let waits = first_waits s queued core block is in h.1 block waits.0 waits.1) in
+      let empty = none_from_not_some (slice_get (queue_of s.queues core) 0)
+      (λ block is. let waits = first_waits s queued core block is in h.1 block waits.0 waits.1) in
       rw (lt-ltb core s.shape.cores h.0, empty) refl
   refused_is (Order core) (BusTaken block) h = rw (lt-ltb core s.shape.cores h.0, h.1, h.2) refl
   refused_is (Respond block) NoBlock h = rw (le-ltb block s.shape.blocks h) refl

@@ -70,7 +70,8 @@ pub is_hit-true : (a : CacheAction) → is_hit a ≡ true → a ≡ Hit
 is_hit-true Hit h = refl
 is_hit-true _ h = cc
 
--- a core whose state fits may store where it owns the block, and load where it keeps words; after its own GetS or GetM it awaits the data, and after its own PutM it keeps nothing; and its row for what is asked is as claimed
+-- a core whose state fits may store where it owns the block, and load where it keeps words;
+-- after its own GetS or GetM it awaits the data, and after its own PutM it keeps nothing; and its row for what is asked is as claimed
 abbrev every_fit : Tested
 every_fit = each_protocol λ p. each_bool λ shared. each_option all_requests all_requests-at λ w. each_fitting p shared w λ s owns.
     provided owns (λ _. found (cell_of p s event.Store) (λ row. holds (is_hit row.action)))

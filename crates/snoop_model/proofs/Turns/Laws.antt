@@ -19,7 +19,8 @@ missed_busy I h = cc
 missed_busy _ h = cc
 
 -- a work under way takes no step exactly where nothing of its core waits or is open
-no_step : (w : Option Request) (t : Option Open) (core block : ℕ) → (step_under_way w t core block ≡ None) ↔ ((w ≡ None) × ((o : Open) → t ≡ Some o → o.core ≢ core))
+no_step : (w : Option Request) (t : Option Open) (core block : ℕ)
+    → (step_under_way w t core block ≡ None) ↔ ((w ≡ None) × ((o : Open) → t ≡ Some o → o.core ≢ core))
 no_step (Some q) None core block = (λ h. cc, λ idle. cc)
 no_step (Some q) (Some o) core block = (λ h. cc, λ idle. cc)
 no_step None None core block = (λ h. (refl, λ o e. cc), λ idle. refl)
@@ -152,7 +153,8 @@ turn_rule = record {
   ends_at_once = λ s t under_way core block word asking answer serving idle kept m other.
       let now = asked_serves serving core block word asking answer t m (λ request is. absurd (other request is)) in
       let queued = λ (r : Request) (w : Waits t core block r).
-      none-some block (sym idle ∙ All-contains (λ b. under_way core ≡ Some b) (queue_of t.queues core) block (now.waits core) (waits_queued t kept.queued core block r w)) in
+      none-some block (sym idle ∙ All-contains (λ b. under_way core ≡ Some b) (queue_of t.queues core) block (now.waits core)
+      (waits_queued t kept.queued core block r w)) in
       (no_step (waiting_request (state_of t core block)) (picture_of t block).transaction core block).1
       (none_from_not_some (waiting_request (state_of t core block)) queued, λ o is c. none-some block (sym (ap under_way c ∙ idle) ∙ now.opened block o is));
 }
