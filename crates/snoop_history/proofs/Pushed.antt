@@ -80,6 +80,7 @@ next_number-few items core few = capped-few (next_number items core) (omega (ari
 pub totals-few : (items : List Item) → length items < 2 ^ 64 → capped_totals (totals_of items) ≡ totals_of items
 totals-few items few = λ i. counts_by (λ test. capped-few (how_many test items) (omega (arith, length-filter-le test items)) i)
 
-pub none_from_not_some : (op : Option Did) → ((did : Did) → op ≡ Some did → ⊥) → op ≡ None
+-- what is none of its values is none
+pub none_from_not_some : {A : Type 0} (found : Option A) → ((a : A) → found ≡ Some a → ⊥) → found ≡ None
 none_from_not_some None h = refl
-none_from_not_some (Some did) h = absurd (h did refl)
+none_from_not_some (Some a) h = absurd (h a refl)

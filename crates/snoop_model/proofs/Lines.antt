@@ -1,4 +1,3 @@
 -- The lines of one block.
 pub mod EachRow
 pub mod TheSender
-pub mod Answered

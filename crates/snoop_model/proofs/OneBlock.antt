@@ -5,4 +5,3 @@ pub mod OfBlocks
 pub mod AskStep
 pub mod OrderStep
 pub mod RespondStep
-pub mod Possible

@@ -2,9 +2,6 @@
 pub mod Rows
 pub mod Tested
 pub mod StateTests
-pub mod AskTests
 pub mod OrderTests
-pub mod RespondTests
-pub mod SenderLines
 pub mod EvictInI
 pub mod SentBy

@@ -15,6 +15,7 @@ pub fn coherent()
 
 /// No step of a run meets an impossible cell, row by row: each that a controller looks up at the step is there. So it is for
 /// an Order of any free block on which its core waits.
+#[tactic(auto, using(crate::proofs::Invariant::Safety::rows_are_found))]
 pub fn rows_are_found()
     ensures { RowsAreFound }
 {}
@@ -28,6 +29,7 @@ pub fn runs_go_on()
 
 /// The run of some steps is the only one: steps that are taken in order from reset, with ample memory, have one list of
 /// outcomes and lead to one situation.
+#[tactic(auto, using(crate::proofs::Runs::GoOn::runs_are_one))]
 pub fn runs_are_one()
     ensures { RunsAreOne }
 {}

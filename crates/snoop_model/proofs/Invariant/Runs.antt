@@ -1,12 +1,10 @@
 -- The invariant holds at reset, and after each move: flat memory and the log first, then the block, and what waits.
-use Rattle.snoop_model.proofs.Common.{Data, is_some, keeps, missed_request, [], Access, after_order, All, All-append, All-cons, All-nil, ap, append-nil, arith, Ask, BlockInvariant, Bool, CacheAction, CacheState, came_of, claims_of, cond, Did, eqb_tells, Err, Extent, false, fill_by_all, first_memory, fits, flat, flat_words, get_or-map-range_with_len, get_or-replicate, get_or-set_other, get_or-set_same, get_or_past, Goes, HasWord, held_by, I, IfSome, IfSome_then, if◌then◌else◌, in_protocol, inl, inr, Invariant, is_clean, is_owner, is_sharer, is_store_to, IsNext, IsProper, IsShaped, IsWithin, IsWord, Item, as_access, Legal, length, length-map-range_with_len, length-replicate, length-set, Line, List, MoveOn, next_did, NoMemory, None, none-some, not, nothing_held, nothing_there, Ok, Op, Open, operation_of, operations, Option, option_map, option_map_or, option_to_list, Order, Picture, picture_of, Protocol, queues_after, refl, Refused, replicate, Reply, request_for, reset, Respond, Result, same, same_Some, Situation, slice_set, Some, Step, sym, Takes, true, untouched, wait_fits, with_line, word_at, ℕ, ◌&&◌, ◌++◌, ◌<◌, ◌==◌, ◌∙◌, ◌∷◌, ◌≡◌, ◌≢◌}
-use Rattle.snoop_trace.specs.declared.step.Op.TheVariants as op
-use Rattle.snoop_rules.specs.declared.names.CacheAction.TheVariants as action
+use Rattle.snoop_model.proofs.Common.{Drop, Evict, Hit, Issue, keeps, missed_request, [], Access, after_order, All, All-append, All-cons, All-nil, ap, append-nil, arith, Ask, BlockInvariant, Bool, CacheAction, CacheState, came_of, claims_of, cond, Did, eqb_tells, Err, Extent, false, fill_by_all, first_memory, fits, flat, flat_words, get_or-map-range_with_len, get_or-replicate, get_or-set_other, get_or-set_same, get_or_past, Goes, HasWord, held_by, I, IfSome, IfSome_then, if◌then◌else◌, in_protocol, inl, inr, Invariant, is_clean, is_owner, is_sharer, is_store_to, IsNext, IsProper, IsShaped, IsWithin, IsWord, Item, as_access, Legal, length, length-map-range_with_len, length-replicate, length-set, Line, List, MoveOn, next_did, NoMemory, None, none-some, not, nothing_held, nothing_there, Ok, Op, Open, operation_of, operations, operations-push, Option, option_map, option_map_or, option_to_list, Order, Picture, picture_of, Protocol, queues_after, refl, Refused, replicate, Reply, request_for, reset, Respond, Result, same, same_Some, Situation, slice_set, Some, Step, sym, Takes, true, untouched, wait_fits, with_line, word_at, ℕ, ◌&&◌, ◌++◌, ◌<◌, ◌==◌, ◌∙◌, ◌∷◌, ◌≡◌, ◌≢◌}
 use Rattle.snoop_history.specs.declared.items.Item.TheVariants as item
 use Rattle.snoop_history.proofs.Legal.{flat-grows, legal-grows}
-use Rattle.snoop_model.proofs.{Lists.{Writes.each_set, Facts.{replicated, is_none}}, OneBlock.OfBlocks.{changed, in_pictures, each_picture, shaped_after}}
-use Rattle.snoop_model.proofs.OneBlock.{Facts.{each_held, did_in, operations_moved, performed_so, flat_after, IsLawful}, AskStep.ask_keeps}
-use Rattle.snoop_model.proofs.{OneBlock.{OrderStep.order_keeps, RespondStep.respond_keeps}, Lines.Answered.{by_request, arrives_length, still_waiting}}
+use Rattle.snoop_model.proofs.{Lists.{Writes.each_set, Facts.{replicated, is_none}}, OneBlock.OfBlocks.{changed, in_pictures, each_picture}}
+use Rattle.snoop_model.proofs.OneBlock.{Facts.{did_in, performed_so, flat_after, IsLawful}, AskStep.ask_keeps}
+use Rattle.snoop_model.proofs.{OneBlock.{OrderStep.order_keeps, RespondStep.respond_keeps}, OneBlock.AfterMoves.{by_request, each_taken, still_shaped, still_waiting}}
 use Rattle.snoop_trace.specs.declared.protocol.Protocol.TheVariants as protocol
 
 -- a word of a block in flat memory
@@ -15,8 +13,7 @@ word_flat log block word h = get_or-map-range_with_len (flat log block) 0 64 wor
 
 -- the words of block b after an operation, if there is one
 abbrev flat_on : ℕ → List ℕ → Option Did → List ℕ
-flat_on b ws None = ws
-flat_on b ws (Some did) = cond (not did.load && did.block == b) (slice_set ws did.word did.value) ws
+flat_on b ws did = option_map_or (λ d. cond (not d.load && d.block == b) (slice_set ws d.word d.value) ws) did ws
 
 -- after a move they are those after its operation
 flat_moved : (log : List Item) (entry : Option Item) (b : ℕ) → flat_words (log ++ option_to_list entry) b ≡ flat_on b (flat_words log b) (did_in entry)
@@ -37,11 +34,6 @@ flat_split : (ws : List ℕ) (did : Option Did) (block b : ℕ) → IfSome did (
 flat_split ws None block b on = (λ apart. refl, refl)
 flat_split ws (Some did) block b on = (λ apart. grind (arith, eqb_tells did.block b), grind (arith, eqb_tells did.block block))
 
--- a log stays legal where the item's operation, if it has one, may come next
-legal_logged : (log : List Item) (entry : Option Item) → Legal log → IfSome (did_in entry) (IsNext log) → Legal (log ++ option_to_list entry)
-legal_logged log None legal follows = rw append-nil legal
-legal_logged log (Some entry) legal follows = legal-grows log entry legal follows
-
 -- an operation on a word that there is, as it is performed, may come next, if its load gives the flat value
 next_lawful : (log : List Item) (core block word : ℕ) (asking : Op) (value : ℕ) (hit : Bool) → word < 64 → IsLawful (flat_words log block) (Some (next_did log core block word asking value hit)) → IsNext log (next_did log core block word asking value hit)
 next_lawful log core block word asking value hit inside lawful = record { numbered = refl; loaded = λ h. lawful h ∙ word_flat log block word inside }
@@ -50,13 +42,20 @@ next_lawful log core block word asking value hit inside lawful = record { number
 abbrev IsLogged : Situation → Did → Type 0
 IsLogged s did = IsWithin s did.core did.block × IsWord s.shape did.word
 
--- so are those of a log, with those of the move's item
-all_logged : (P : Did → Type 0) (log : List Item) (entry : Option Item) → All P (operations log) → IfSome (did_in entry) P → All P (operations (log ++ option_to_list entry))
-all_logged P log entry was now = rw operations_moved (All-append P (operations log) (option_to_list (did_in entry)) was (one (did_in entry) now))
-  where
-    one : (did : Option Did) → IfSome did P → All P (option_to_list did)
-    one None here = All-nil P
-    one (Some did) here = All-cons P did [] here (All-nil P)
+-- what holds of the value, if there is one, holds of the list of it
+all_one : {A : Type 0} (P : A → Type 0) (found : Option A) → IfSome found P → All P (option_to_list found)
+all_one P None here = All-nil P
+all_one P (Some a) here = All-cons P a [] here (All-nil P)
+
+-- a log stays legal and within the shape where the item's operation, if it has one, may come next and is within it
+logged_more : (s : Situation) (entry : Option Item) → Invariant s → IfSome (did_in entry) (λ did. IsNext s.log did × IsLogged s did)
+    → Legal (s.log ++ option_to_list entry) × All (IsLogged s) (operations (s.log ++ option_to_list entry))
+logged_more s None g next = rw append-nil (g.legal, g.logged)
+logged_more s (Some entry) g next = (
+  legal-grows s.log entry g.legal (IfSome_then (operation_of entry) next (λ did h. h.0)),
+  rw operations-push (All-append (IsLogged s) (operations s.log) _ g.logged
+      (all_one (IsLogged s) (operation_of entry) (IfSome_then (operation_of entry) next (λ did h. h.1)))),
+)
 
 -- the item of a move on a block: its operation, if it has one, is on the block, may come next, and is of a core and a word that there are
 abbrev IsNextOn : Situation → ℕ → Option Item → Type 0
@@ -67,48 +66,45 @@ abbrev AccessWithin : Extent → Line → Type 0
 AccessWithin shape line = (access : Access) → line.waiting ≡ Some access → IsWord shape access.word
 
 -- what is to be shown of a move
-record Keeps (old : Situation) (block : ℕ) (next : Picture) (queues : List (List ℕ)) (entry : Option Item) : Type 0 where
+record Keeps (old : Situation) (block : ℕ) (next : Picture) (entry : Option Item) : Type 0 where
   within : block < old.shape.blocks
-  as_wide : length next.caches ≡ length (picture_of old block).caches
-  as_many_queues : length queues ≡ length old.queues
   opened : (o : Open) → next.transaction ≡ Some o → o.block ≡ block
   block_after : BlockInvariant old.protocol old.shape.cores (flat_after (flat_words old.log block) (did_in entry)) next
   accesses : (core : ℕ) → AccessWithin old.shape (held_by next core)
   item : IsNextOn old block entry
 
-kept : (old : Situation) (block : ℕ) (next : Picture) (queues : List (List ℕ)) (entry : Option Item) → Invariant old → Keeps old block next queues entry → Invariant (changed old block next queues (old.log ++ option_to_list entry))
-kept old block next queues entry g k =
+kept : (old new : Situation) (block : ℕ) (next : Picture) (queues : List (List ℕ)) (entry : Option Item)
+    → new ≡ changed old block next queues (old.log ++ option_to_list entry) → IsShaped new
+    → Invariant old → Keeps old block next entry → Invariant new
+kept old new block next queues entry after shaped g k =
     let log = old.log ++ option_to_list entry in
     let within = in_pictures old block g.shaped k.within in
     let on = IfSome_then (did_in entry) k.item (λ did h. h.0) in
-    record {
-      shaped = shaped_after old block next queues log g.shaped k.as_wide k.as_many_queues;
+    let more = logged_more old entry g (IfSome_then (did_in entry) k.item (λ did h. (h.1, h.2))) in
+    rw after (record {
+      shaped = rw after at shaped;
       opened = each_picture old block next queues log (λ b x. (o : Open) → x.transaction ≡ Some o → o.block ≡ b) within (λ b apart. g.opened b) k.opened;
       blocks = each_picture old block next queues log (λ b x. b < old.shape.blocks → (BlockInvariant old.protocol old.shape.cores) (flat_words log b) x) within
           (λ b apart b_in. rw (flat_moved, (flat_split (flat_words old.log b) (did_in entry) block b on).0 apart) (g.blocks b b_in))
           (λ b_in. rw (flat_moved, (flat_split (flat_words old.log block) (did_in entry) block block on).1) k.block_after);
-      legal = legal_logged old.log entry g.legal (IfSome_then (did_in entry) k.item (λ did h. h.1));
-      logged = all_logged (IsLogged old) old.log entry g.logged (IfSome_then (did_in entry) k.item (λ did h. h.2));
+      legal = more.0;
+      logged = more.1;
       accesses = λ core. each_picture old block next queues log (λ b x. AccessWithin old.shape (held_by x core)) within (λ b apart. g.accesses core b) (k.accesses core);
-    }
-
-as_many_after : (a : CacheAction) (queues : List (List ℕ)) (core block : ℕ) → length (queues_after a queues core block) ≡ length queues
-as_many_after (action.Issue r) queues core block = length-set queues core _
-as_many_after _ queues core block = refl
+    })
 
 issued_access : (s : Situation) (word : ℕ) (asking : Op) (access : Access) → HasWord s.shape word asking → as_access word asking ≡ Some access → IsWord s.shape access.word
-issued_access s word op.Evict access within e = cc
+issued_access s word Evict access within e = cc
 issued_access s word _ access within e = rw (← same_Some _ _ e) within
 
 -- what waits after an Ask, and its item
 module _ (s : Situation) (core block word : ℕ) (asking : Op) (next : CacheState) (old new : Line) (answer : Reply) (entry : Option Item) (there : HasWord s.shape word asking) where
   takes_so : (a : CacheAction) → Takes a next s.log core block word asking old new answer entry → AccessWithin s.shape old → IsWithin s core block → IsLawful (flat_words s.log block) (did_in entry)
       → AccessWithin s.shape new × IsNextOn s block entry
-  takes_so action.Hit t was within lawful =
+  takes_so Hit t was within lawful =
       let has = issued_access s word asking _ there (performed_so word asking t.1.0.before t.0 t.1.0.after s.log core block true t.1.0.performed).1 in
       (rw t.1.0.held was, rw t.1.2 (refl, next_lawful s.log core block word asking t.0 true has.1 (rw t.1.2 at lawful), (within, has)))
-  takes_so (action.Issue r) t was within lawful = (rw t.0 (λ access. issued_access s word asking access there), rw t.2 tt)
-  takes_so action.Drop t was within lawful = (rw t.0 was, rw t.2 tt)
+  takes_so (Issue r) t was within lawful = (rw t.0 (λ access. issued_access s word asking access there), rw t.2 tt)
+  takes_so Drop t was within lawful = (rw t.0 was, rw t.2 tt)
   takes_so _ t was within lawful = absurd t
 
 -- a move keeps the invariant
@@ -116,59 +112,55 @@ pub move_keeps : (block : ℕ) (old : Situation) (step : Step) (answer : Reply) 
 move_keeps block old (Ask core on word asking) answer new g m = elim m.moves [
   | inl idle ↦ rw idle.3 g
   | inr a ↦
-      (let before : Picture = picture_of old block in
+      (let shaped = still_shaped block old (Ask core on word asking) answer new g.shaped m in
+      let before : Picture = picture_of old block in
       let act = a.row.action in
       let in_row : core < length before.caches = rw (g.shaped.row block m.within.1) m.within.0 in
       let k = ask_keeps old core block word asking answer new a old.shape.cores (flat_words old.log block) (g.blocks block m.within.1) m.within.0 in_row in
       let so = takes_so old core block word asking a.row.next (held_by before core) a.held answer a.entry m.has_word act a.taken (g.accesses core block) m.within k.1 in
-      rw a.after (kept old block (with_line before core a.held) (queues_after act old.queues core block) a.entry g (record {
+      kept old new block (with_line before core a.held) (queues_after act old.queues core block) a.entry a.after shaped g (record {
         within = m.within.1;
-        as_wide = length-set before.caches core a.held;
-        as_many_queues = as_many_after act old.queues core block;
         opened = g.opened block;
         block_after = k.0;
         item = so.1;
         accesses = each_set before.caches core a.held nothing_held (λ c. AccessWithin old.shape) in_row so.0
             (λ c apart. g.accesses c block);
-      })))
+      }))
 ]
 move_keeps block old (Order core) answer new g m =
     let o = m.orders in
     let within = m.within in
     let cores : length (picture_of old block).caches ≡ old.shape.cores = g.shaped.row block within.1 in
-    rw o.after (kept old block o.next (after_order old.queues core block) (Some (item.Sent (record { core = core; request = m.request; block = block }))) g (record {
+    kept old new block o.next (after_order old.queues core block) (Some (item.Sent (record { core = core; request = m.request; block = block })))
+    o.after (still_shaped block old (Order core) answer new g.shaped m) g (record {
       within = within.1;
-      as_wide = o.taken.same_length;
-      as_many_queues = length-set old.queues core _;
       opened = λ t is_open. ap (λ (x : Open). x.block) (same_Some _ _ (sym is_open ∙ o.opened));
       block_after = rw (← cores) (order_keeps old core block m.request new (flat_words old.log block) (rw cores (g.blocks block within.1)) (rw cores within.0) o);
       item = tt;
-      accesses = λ c. each_held o.next.caches c (AccessWithin old.shape)
-          (λ below. rw (o.taken.rows c (rw (← o.taken.same_length) below)).2 (g.accesses c block)) (λ access waits. cc);
-    }))
+      accesses = λ c. each_taken o.taken c (λ x y. AccessWithin old.shape x → AccessWithin old.shape y)
+          (λ inside was. rw (o.taken.rows c inside).2 was) (λ was. was) (g.accesses c block);
+    })
 move_keeps block old (Respond on) answer new g m =
     let closing = m.closing in
     let r = m.responds in
     let placed : closing.block ≡ block = g.opened block closing r.opened in
     let its_core = (g.blocks block m.within).requestor_in closing r.opened in
-    let arrived = by_request closing.request r.requestor in
     let k = respond_keeps old block closing m.did new r old.shape.cores (flat_words old.log block) (g.blocks block m.within) (rw (g.shaped.row block m.within) its_core) in
-    let logged : IsNextOn old block (Some (item.Came (came_of closing) m.did)) = elim arrived [
+    let logged : IsNextOn old block (Some (item.Came (came_of closing) m.did)) = elim (by_request closing.request r.requestor) [
       | inl put ↦ rw put.2 tt
-      | inr f ↦
+      | inr (_, f) ↦
           (let has = g.accesses closing.core block f.asking f.fills.waited in
           let lawful = rw (f.logged, ← placed) at k.1 in
           rw f.logged (placed, next_lawful old.log closing.core closing.block f.asking.word f.asking.op f.value false has.1 lawful, ((its_core, rw placed m.within), has)))
     ] in
-    rw r.after (kept old block r.next old.queues (Some (item.Came (came_of closing) m.did)) g (record {
+    kept old new block r.next old.queues (Some (item.Came (came_of closing) m.did))
+    r.after (still_shaped block old (Respond on) answer new g.shaped m) g (record {
       within = m.within;
-      as_wide = arrives_length arrived;
-      as_many_queues = refl;
       opened = λ t is_open. absurd (none-some t (sym r.closed ∙ is_open));
       block_after = k.0;
       item = logged;
-      accesses = λ c access waits. let same = still_waiting arrived c access waits in g.accesses c block access (rw (← same) waits);
-    }))
+      accesses = λ c access waits. let same = still_waiting (by_request closing.request r.requestor) c access waits in g.accesses c block access (rw (← same) waits);
+    })
 
 pub nothing_proper : IsProper nothing_held
 nothing_proper = record { kept = refl; waiting = refl }
@@ -250,6 +242,3 @@ pub goes_kept : (Q : Situation → Type 0) → ((block : ℕ) (s : Situation) (s
     → (old : Situation) (step : Step) (outcome : Result Reply Refused) (new : Situation) → Q old → Goes old step outcome new → Q new
 goes_kept Q keeps old step (Ok answer) new holds m = keeps m.0 old step answer new holds m.1
 goes_kept Q keeps old step (Err cause) new holds r = rw (refusal_same old step cause new r) holds
-
-pub goes_keeps : (old : Situation) (step : Step) (outcome : Result Reply Refused) (new : Situation) → Invariant old → Goes old step outcome new → Invariant new
-goes_keeps = goes_kept Invariant move_keeps

@@ -1,14 +1,13 @@
 -- What every machine keeps makes it safe, and its steps keep it.
-use Rattle.snoop_model.proofs.Common.{Absent, moves_to, PutM, ◌≢◌, ap, arith, arrival_at_memory, Ask, asked, CacheAction, CacheCell, CacheState, Cell, Extent, flat, flat_words, Goes, Gone, HasOpen, held_by, IfSome, inl, inr, Invariant, is_clean, is_some, IsOpenByTable, IsProper, IsSenderLine, IsWellKept, Item, keeps, Line, List, MemCell, MoveOn, None, nothing_held, Op, Option, option_map, Order, Orders, Picture, picture_of, Protocol, refl, Refused, Refuses, Reply, Request, reset, Respond, Result, RunBy, same_Some, Situation, Some, Stalled, state_of, Step, sym, Takes, takes_payload, true, Waits, with_line, with_picture, word_at, ℕ, ◌<◌, ◌∙◌, ◌≡◌, ◌≤◌, ◌⊎◌, ◌↔◌}
-use Rattle.snoop_trace.specs.declared.step.Op.TheVariants as op
-use Rattle.snoop_rules.specs.declared.names.CacheState.TheVariants as state
-use Rattle.snoop_rules.specs.declared.names.CacheAction.TheVariants as action
-use Rattle.snoop_model.{specs.{Coherent.IsCoherent, Moves.Replies.{IsHit, MayHit}, Runs.Safe.IsSafe, Invariant.MachineKeeps.{AreOnSenderLines, MachineKeeps}}, proofs.Lists.Facts.if_some}
-use Rattle.snoop_model.proofs.{Tables.{Rows.{action_rule, IsProper-drop}, SentBy.sends_is, RespondTests.settled_so}, Queues.Moves.{on_kept, starts_well}}
+use Rattle.snoop_model.proofs.Common.{CacheEvent, both_ways, IsSome, Stall, Absent, Drop, E, EiA, Evict, Hit, I, Issue, Load, moves_to, PutM, Store, ap, arith, arrival_at_memory, Ask, asked, CacheAction, CacheCell, CacheState, Cell, Extent, flat, flat_words, Goes, Gone, held_by, IfSome, inl, inr, Invariant, is_clean, is_some, IsOpenByTable, IsProper, IsSenderLine, IsWellKept, Item, keeps, Line, List, MemCell, MoveOn, None, nothing_held, Op, Option, option_map, Order, Orders, Picture, picture_of, Protocol, refl, Refused, Reply, Request, reset, Respond, Result, RunBy, same_Some, Situation, Some, state_of, Step, sym, Takes, takes_payload, true, with_line, with_picture, word_at, ℕ, ◌<◌, ◌∙◌, ◌≡◌, ◌≤◌, ◌⊎◌, ◌↔◌, ◌≢◌}
+use Rattle.snoop_model.{specs.{Coherent.IsCoherent, Moves.Replies.{IsHit, MayHit}, Runs.Safe.{IsSafe, RowsAreFound}, Invariant.MachineKeeps.{AreOnSenderLines, MachineKeeps}}, proofs.Lists.Facts.if_some}
+use Rattle.snoop_model.proofs.{Tables.{Rows.{action_rule, IsProper-drop}, SentBy.sends_is, OrderTests.settled_so}, Queues.Moves.{on_kept, starts_well}}
 use Rattle.snoop_model.proofs.{OneBlock.{AfterMoves.{ask_line, respond_here}, OfBlocks.{in_pictures, each_picture}}, Runs.{Along.kept_along, GoOn.moves_on}}
-use Rattle.snoop_model.proofs.Invariant.Coherence.{has_one_writer, kept_read, readers_current, data_current, memory_current, names_its_block, data_awaited, put_gives_up, each_line, held_within, finds_rows, orders_follow_sender_table}
+use Rattle.snoop_model.proofs.Invariant.Coherence.{data_awaited, data_is, each_line, finds_rows, held_within, hit_within, no_data, nobody_owns, opened_within, orders_follow_sender_table, requestor_fits, sender_within}
 use Rattle.snoop_model.proofs.Invariant.Runs.{reset_invariant, reset_open, nothing_proper, idle_line, goes_kept, word_flat, move_keeps}
-use Rattle.snoop_model.proofs.{Steps.GoesNext.order_made, Turns.Laws.{stall_busy, busy_cases}}
+use Rattle.snoop_model.proofs.{Steps.GoesNext.order_made, Turns.Laws.busy_cases, OneBlock.Facts.owned_alone, Tables.StateTests.{ask_rule, fit_rule, is_hit-true}}
+use Rattle.snoop_rules.specs.declared.names.CacheEvent.TheVariants as event
+use Rattle.snoop_model.proofs.{Tables.StateTests.claims_rule, Lists.Facts.is_none}
 
 -- each open transaction is on a line
 abbrev OnLine : Protocol → Picture → Type 0
@@ -29,60 +28,42 @@ module _ (s : Situation) (g : Invariant s) where
       same_Some _ _ (inside within.0 within.1 within.2 ∙ ap (λ o. option_map (λ (ws : List ℕ). word_at ws word) o) kept) ∙ word_flat s.log block word (omega (arith, few, within.2))
 
   -- of a clean copy memory has the words
-  pub clean_in_memory : (core block : ℕ) → (state_of s core block ≡ state.E) ⊎ (state_of s core block ≡ state.EiA) → (picture_of s block).memory.value ≡ flat_words s.log block
+  pub clean_in_memory : (core block : ℕ) → (state_of s core block ≡ E) ⊎ (state_of s core block ≡ EiA) → (picture_of s block).memory.value ≡ flat_words s.log block
   unfolding is_clean
   clean_in_memory core block clean =
       let is : is_clean (state_of s core block) ≡ true = elim clean [ inl e ↦ rw e refl | inr e ↦ rw e refl ] in
       let within = held_within s g core block (λ x. is_clean x.state ≡ true) (λ h. cc) is in
       (g.blocks block within.1).clean core within.0 is
 
-  -- an operation is stalled only where the core's request for the block waits, or is open and no PutM
-  pub stall_waits : IsWellKept s → (core block word : ℕ) (asking : Op) (state : CacheState) → Refuses s (Ask core block word asking) (Stalled state)
-      → (request : Request) × (Waits s core block request ⊎ (HasOpen s core block request × (request ≢ PutM)))
-  stall_waits kept core block word asking state stalled =
-      elim (busy_cases (state_of s core block) (stall_busy s.protocol (state_of s core block) (asked asking) stalled.2.0 stalled.2.1)) [
-        | inl waits ↦ (waits.0, inl waits.1)
-        | inr awaits ↦ (awaits.0, inr ((data_awaited s g kept core block awaits.0).0 awaits.1))
-      ]
+  -- a row that is no hit stands where the core may not hit
+  no_hit : (core block : ℕ) (act : CacheAction) (next : CacheState) (asking : Op) → Cell s.protocol (state_of s core block) (asked asking) act next → act ≢ Hit
+      → ¬ MayHit s.protocol (state_of s core block) asking
+  no_hit core block act next Load row other may = other (ap (λ (cell : CacheCell). cell.action) (same_Some _ _ (sym row ∙ may.1)))
+  no_hit core block act next (Store value) row other may = other (ap (λ (cell : CacheCell). cell.action) (same_Some _ _ (sym row ∙ may.1)))
+  no_hit core block act next Evict row other may = may
 
   -- a hit is by a row that is one, and such a row is taken by a hit
-  pub hits_may : (core block word : ℕ) (asking : Op) (answer : Reply) (new : Situation) → MoveOn block s (Ask core block word asking) answer new → IsHit answer ↔ MayHit s.protocol (state_of s core block) asking
-  hits_may core block word asking answer new m = elim m.moves [
-    | inl absent ↦ rw (absent.0, absent.2) ((λ hit. hit), (λ may. may))
-    | inr a ↦ by_row a.row.action a.row.next asking a.is_row a.held answer a.entry a.taken
-  ]
-    where
-      no_hit : (act : CacheAction) (next : CacheState) (asking : Op) → Cell s.protocol (state_of s core block) (asked asking) act next → act ≢ action.Hit → ¬ MayHit s.protocol (state_of s core block) asking
-      no_hit act next op.Load row other may = other (ap (λ (cell : CacheCell). cell.action) (same_Some _ _ (sym row ∙ may.1)))
-      no_hit act next (op.Store value) row other may = other (ap (λ (cell : CacheCell). cell.action) (same_Some _ _ (sym row ∙ may.1)))
-      no_hit act next op.Evict row other may = may
-
-      by_row : (act : CacheAction) (next : CacheState) (asking : Op) → Cell s.protocol (state_of s core block) (asked asking) act next → (held : Line) (answer : Reply) (entry : Option Item)
-          → Takes act next s.log core block word asking (held_by (picture_of s block) core) held answer entry → IsHit answer ↔ MayHit s.protocol (state_of s core block) asking
-      by_row action.Hit next op.Load row held answer entry t = rw t.1.1 ((λ _. (next, row)), (λ _. tt))
-      by_row action.Hit next (op.Store value) row held answer entry t = rw t.1.1 ((λ _. (next, row)), (λ _. tt))
-      by_row action.Hit next op.Evict row held answer entry t = absurd t.1.0.performed
-      by_row (action.Issue request) next asking row held answer entry t = rw t.1 ((λ hit. absurd hit), (λ may. no_hit (action.Issue request) next asking row (λ is. cc) may))
-      by_row action.Drop next asking row held answer entry t = rw t.1 ((λ hit. absurd hit), (λ may. no_hit action.Drop next asking row (λ is. cc) may))
-      by_row _ next asking row held answer entry t = absurd t
+  hits_may : (core block word : ℕ) (act : CacheAction) (next : CacheState) (asking : Op)
+      → Cell s.protocol (state_of s core block) (asked asking) act next → (held : Line) (answer : Reply) (entry : Option Item)
+      → Takes act next s.log core block word asking (held_by (picture_of s block) core) held answer entry → IsHit answer ↔ MayHit s.protocol (state_of s core block) asking
+  hits_may core block word Hit next Load row held answer entry t = rw t.1.1 ((λ _. (next, row)), (λ _. tt))
+  hits_may core block word Hit next (Store value) row held answer entry t = rw t.1.1 ((λ _. (next, row)), (λ _. tt))
+  hits_may core block word Hit next Evict row held answer entry t = absurd t.1.0.performed
+  hits_may core block word (Issue request) next asking row held answer entry t = rw t.1 ((λ hit. absurd hit), no_hit core block (Issue request) next asking row (λ is. cc))
+  hits_may core block word Drop next asking row held answer entry t = rw t.1 ((λ hit. absurd hit), no_hit core block Drop next asking row (λ is. cc))
+  hits_may core block word _ next asking row held answer entry t = absurd t
 
   -- an eviction that is answered Gone or Absent leaves nothing
-  pub gone_leaves : (core block word : ℕ) (answer : Reply) (new : Situation) → (answer ≡ Gone) ⊎ (answer ≡ Absent) → MoveOn block s (Ask core block word op.Evict) answer new
-      → held_by (picture_of new block) core ≡ nothing_held
-  gone_leaves core block word answer new leaves m = elim m.moves [
-    | inl absent ↦ rw absent.3 (idle_line (held_by (picture_of s block) core) (all_proper core block) absent.1)
-    | inr a ↦ ask_line s core block word op.Evict answer new g m.within a ∙ left a.row.action a.row.next a.is_row a.held a.entry a.taken
-  ]
-    where
-      left : (act : CacheAction) (next : CacheState) → Cell s.protocol (state_of s core block) (asked op.Evict) act next → (held : Line) (entry : Option Item)
-          → Takes act next s.log core block word op.Evict (held_by (picture_of s block) core) held answer entry → held ≡ nothing_held
-      left action.Hit next row held entry t = absurd t.1.0.performed
-      left (action.Issue request) next row held entry t = elim leaves [ inl is ↦ (let clash = sym t.1 ∙ is in cc) | inr is ↦ (let clash = sym t.1 ∙ is in cc) ]
-      left action.Drop next row held entry t =
-          let old = held_by (picture_of s block) core in
-          let gone : next ≡ state.I = same_Some _ _ (action_rule s.protocol old.state (asked op.Evict) action.Drop next row).1.1.1.1 in
-          rw t.0 (idle_line (moves_to next old) (IsProper-drop s.protocol old (asked op.Evict) next (all_proper core block) row) gone)
-      left _ next row held entry t = absurd t
+  gone_leaves : (core block word : ℕ) (answer : Reply) → (answer ≡ Gone) ⊎ (answer ≡ Absent)
+      → (act : CacheAction) (next : CacheState) → Cell s.protocol (state_of s core block) (asked Evict) act next → (held : Line) (entry : Option Item)
+      → Takes act next s.log core block word Evict (held_by (picture_of s block) core) held answer entry → held ≡ nothing_held
+  gone_leaves core block word answer leaves Hit next row held entry t = absurd t.1.0.performed
+  gone_leaves core block word answer leaves (Issue request) next row held entry t = elim leaves [ inl is ↦ (let clash = sym t.1 ∙ is in cc) | inr is ↦ (let clash = sym t.1 ∙ is in cc) ]
+  gone_leaves core block word answer leaves Drop next row held entry t =
+      let old = held_by (picture_of s block) core in
+      let gone : next ≡ I = same_Some _ _ (action_rule s.protocol old.state (asked Evict) Drop next row).1.1.1.1 in
+      rw t.0 (idle_line (moves_to next old) (IsProper-drop s.protocol old (asked Evict) next (all_proper core block) row) gone)
+  gone_leaves core block word answer leaves _ next row held entry t = absurd t
 
   -- an Order is a line of the table
   pub order_is_line : (core block : ℕ) (q : Request) (new : Situation) (made : Orders s core block q new) → IsSenderLine s.protocol (picture_of s block) core q made.from made.payload made.next.memory.state
@@ -93,22 +74,6 @@ module _ (s : Situation) (g : Invariant s) where
       let same : f.payload ≡ o.payload = cc (sends, sends_is s.protocol (picture_of s block) core q o.from o.payload o.sent.sends) in
       let memory : f.next ≡ o.next.memory.state = cc (f.ordered.1, f.ordered.2, o.memory.1, o.memory.2) in
       rw (← from, ← same, ← memory) f.is_line
-
-  -- a Respond taken next closes the transaction and leaves memory in the last state of its line
-  pub open_is_by_table : AreOnSenderLines s → (block : ℕ) → IfSome (picture_of s block).transaction (IsOpenByTable s block)
-  open_is_by_table lines block = if_some (picture_of s block).transaction (IsOpenByTable s block) (λ o is.
-      let line = rw is at (lines block) in
-      record {
-        before = line.0;
-        on_line = line.1;
-        settled = λ answer new m.
-            let r = m.responds in
-            let there : picture_of new block ≡ r.next = respond_here s block m.closing m.did new g m.within r in
-            let settles = rw (same_Some _ _ (sym r.opened ∙ is)) at r.memory.settled in
-            let settled = settled_so (takes_payload o.request (picture_of s block).memory.state) s.protocol (arrival_at_memory o.payload) (picture_of s block).memory.state in
-            let done = same_Some _ _ (sym ((settled r.memory.act r.next.memory.state).0 settles) ∙ (settled line.1.act line.1.done).0 line.1.settled) in
-            rw there (r.closed, ap (λ (row : MemCell). row.next) done);
-      })
 
   on_lines : AreOnSenderLines s → (block : ℕ) → block < s.shape.blocks → (next : Picture) → OnLine s.protocol next → AreOnSenderLines (with_picture s block next)
   on_lines lines block within next here =
@@ -131,26 +96,63 @@ move_on_lines block old (Respond on) answer new g lines m =
 pub is_coherent : (s : Situation) → Invariant s → AreOnSenderLines s → IsWellKept s → IsCoherent s
 is_coherent s g on_lines well_kept = record {
   shaped = g.shaped;
-  one_writer = has_one_writer s g;
+  one_writer = λ block core other writes apart.
+      let (_, within) = hit_within s g core block event.Store writes in
+      let good = g.blocks block within.1 in
+      let (owning, _) = ((ask_rule _ _ _ _ _ (Store 0) (good.states core within.0)).1 (record { action = Hit; next = writes.0 }) writes.1).1.1 refl in
+      let blind = λ (e : CacheEvent) (hits : (n : CacheState) × Cell s.protocol (state_of s other block) e Hit n).
+      let (keeping, there) = hit_within s g other block e hits in
+      both_ways _ ((owned_alone good core owning).2 other there.0 apart) keeping in
+      (blind event.Load, blind event.Store);
   legal = g.legal;
   logged = g.logged;
-  current = readers_current s g;
-  carried = data_current s g;
-  memory = memory_current s g;
-  opened = names_its_block s g;
-  moves = moves_on s g well_kept.queued;
-  orders = λ core block q ready. (_, order_made s g core block q ready);
-  by_table = order_is_line s g;
-  on_table = open_is_by_table s g on_lines;
-  kept = kept_read s g;
+  kept = λ core block is.
+      let within = held_within s g core block (λ x. IsSome x.kept) (λ h. cc) is in
+      let good = g.blocks block within.1 in
+      let (row, is_row, hit) = (fit_rule _ _ _ _ _ (good.states core within.0)).1.0 (sym (good.proper core within.0).kept ∙ is) in
+      (row.next, rw (← is_hit-true row.action hit) is_row);
+  current = λ core block reads. let (keeping, within) = hit_within s g core block event.Load reads in (g.blocks block within.1).kept core within.0 keeping;
+  carried = λ block within. data_is (picture_of s block).transaction (flat_words s.log block) (g.blocks block within).carried;
+  memory = λ block within idle none.
+      let it = g.blocks block within in
+      it.fresh ((claims_rule s.protocol _ _ it.claims it.is_claims).1 (nobody_owns it idle) (no_data _ none));
   clean = clean_in_memory s g;
+  opened = λ block. if_some (picture_of s block).transaction _ (λ o is.
+      (g.opened block o is, (g.blocks block (opened_within s g block o is)).requestor_in o is, if_some o.from _ (sender_within s g block o is)));
   waiting = λ core block. (all_proper s g core block).waiting;
   awaited = data_awaited s g well_kept;
   queued = well_kept.queued;
-  stalls = stall_waits s g well_kept;
-  hits = hits_may s g;
-  gone = gone_leaves s g;
-  given_up = put_gives_up s g;
+  stalls = λ core block word asking state stalled.
+      elim (busy_cases (state_of s core block) (action_rule s.protocol (state_of s core block) (asked asking) Stall stalled.2.0 stalled.2.1)) [
+        | inl waits ↦ (waits.0, inl waits.1)
+        | inr awaits ↦ (awaits.0, inr ((data_awaited s g well_kept core block awaits.0).0 awaits.1))
+      ];
+  hits = λ core block word asking answer new m. elim m.moves [
+    | inl absent ↦ rw (absent.0, absent.2) ((λ hit. hit), (λ may. may))
+    | inr a ↦ hits_may s g core block word a.row.action a.row.next asking a.is_row a.held answer a.entry a.taken
+  ];
+  gone = λ core block word answer new leaves m. elim m.moves [
+    | inl absent ↦ rw absent.3 (idle_line (held_by (picture_of s block) core) (all_proper s g core block) absent.1)
+    | inr a ↦ ask_line s core block word Evict answer new g m.within a
+        ∙ gone_leaves s g core block word answer leaves a.row.action a.row.next a.is_row a.held a.entry a.taken
+  ];
+  given_up = λ core block opened. is_none _ ((all_proper s g core block).kept ∙ (requestor_fits s g core block PutM opened).1.1 refl);
+  moves = moves_on s g well_kept.queued;
+  orders = λ core block q ready. (_, order_made s g core block q ready);
+  by_table = order_is_line s g;
+  on_table = λ block. if_some (picture_of s block).transaction (IsOpenByTable s block) (λ o is.
+      let line = rw is at (on_lines block) in
+      record {
+        before = line.0;
+        on_line = line.1;
+        settled = λ answer new m.
+            let r = m.responds in
+            let there : picture_of new block ≡ r.next = respond_here s block m.closing m.did new g m.within r in
+            let settles = rw (same_Some _ _ (sym r.opened ∙ is)) at r.memory.settled in
+            let settled = settled_so (takes_payload o.request (picture_of s block).memory.state) s.protocol (arrival_at_memory o.payload) (picture_of s block).memory.state in
+            let done = same_Some _ _ (sym ((settled r.memory.act r.next.memory.state).0 settles) ∙ (settled line.1.act line.1.done).0 line.1.settled) in
+            rw there (r.closed, ap (λ (row : MemCell). row.next) done);
+      });
 }
 
 pub is_safe : (s : Situation) → MachineKeeps s → IsSafe s
@@ -188,3 +190,7 @@ move_keeps_all block old new step answer keeps move = record {
 pub run_keeps_all : (steps : List Step) (outcomes : List (Result Reply Refused)) (old new : Situation) → MachineKeeps old → RunBy Goes old steps outcomes new
     → MachineKeeps new
 run_keeps_all = kept_along Goes MachineKeeps (goes_kept MachineKeeps (λ block s step answer t. move_keeps_all block s t step answer))
+
+pub rows_are_found : RowsAreFound
+rows_are_found protocol shape steps outcomes new run =
+    finds_rows new (run_keeps_all steps outcomes (reset protocol shape) new (reset_keeps protocol shape) run).inductive

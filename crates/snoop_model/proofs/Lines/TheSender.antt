@@ -1,13 +1,12 @@
 -- The loop that looks for the one sender.
-use Rattle.snoop_model.proofs.Common.{arith, at_memory, CacheAction, CacheState, Cell, FollowsSenderTable, held_by, length, MemAction, MemoryCell, MemState, None, Option, Payload, Picture, Protocol, Request, seen_by, Sends, Some, Target, ℕ, ⊤, ◌+◌, ◌<◌, ◌≡◌, ◌≢◌, ◌≤◌}
+use Rattle.snoop_model.proofs.Common.{arith, at_memory, CacheAction, CacheState, Cell, FollowsSenderTable, held_by, IfSome, length, MemAction, MemoryCell, MemState, None, Option, Payload, Picture, Protocol, Request, seen_by, Sends, Some, Target, ℕ, ◌+◌, ◌<◌, ◌≡◌, ◌≢◌, ◌≤◌}
 use Rattle.snoop_rules.specs.declared.names.CacheAction.TheVariants as action
 use Rattle.snoop_rules.specs.declared.names.MemAction.TheVariants as mem_action
 use Rattle.snoop_model.proofs.Tables.SentBy.{sending, sending_memory, sends_is}
 
 -- memory, or a core below n
 abbrev pub IsBelow : ℕ → Option ℕ → Type 0
-IsBelow n None = ⊤
-IsBelow n (Some core) = core < n
+IsBelow n other = IfSome other (λ core. core < n)
 
 -- neither memory nor a core below n sends
 abbrev pub SilentBelow : Protocol → Picture → ℕ → Request → ℕ → Type 0

@@ -1,6 +1,6 @@
 -- What a write in one place does to a list of lists, and to sums over it, and how often a block stands in a queue.
-use Rattle.snoop_model.proofs.Common.{[], after_issue, after_order, All, ap, arith, Bool, cond, Contains, count_by, count_by-le-length, eq-eqb, eqb, eqb_tells, false, filter, get_or-le-sum_by, get_or-set_other, get_or-set_same, get_or_from_slice_get, get_or_past, inl, inr, length, length-filter, length_push, List, not, queue_of, refl, set_past, slice_get, slice_get_within, slice_index_or, slice_set, Some, suc, sum_by, sum_by-cons, sum_by-set, sum_by_push, zero, zero-add, ℕ, ◌++◌, ◌+◌, ◌<◌, ◌==◌, ◌∷◌, ◌≡◌, ◌≢◌, ◌≤◌, ◌⊎◌}
-use Rattle.snoop_model.proofs.Lists.Facts.{one_if}
+use Rattle.snoop_model.proofs.Common.{[], CacheAction, Issue, queues_after, after_order, All, ap, arith, Bool, cond, Contains, count_by, count_by-le-length, eq-eqb, eqb, eqb_tells, false, filter, if◌then◌else◌, get_or-le-sum_by, get_or-set_other, get_or-set_same, get_or_from_slice_get, get_or_past, inl, inr, length, length-filter, length_push, List, not, queue_of, refl, set_past, slice_get, slice_get_within, slice_index_or, slice_set, Some, suc, sum_by, sum_by-cons, sum_by-set, sum_by_push, zero, zero-add, ℕ, ◌++◌, ◌+◌, ◌<◌, ◌==◌, ◌∷◌, ◌≡◌, ◌≢◌, ◌≤◌, ◌⊎◌}
+use Rattle.snoop_model.proofs.Lists.Facts.{either_way, one_if}
 
 -- what stands in a place after a write
 pub set_cases : {A : Type 0} (xs : List A) (i k : ℕ) (a d : A) → ((k ≡ i) × (slice_index_or (slice_set xs i a) k d ≡ a)) ⊎ (slice_index_or (slice_set xs i a) k d ≡ slice_index_or xs k d)
@@ -31,10 +31,11 @@ all_first P xs x all h = rw (get_or_from_slice_get xs 0 x x h) at (all 0 x (slic
 sum_set : {A : Type 0} (f : A → ℕ) (xs : List A) (i : ℕ) (a d : A) → f d ≡ 0 → sum_by f (slice_set xs i a) + f (slice_index_or xs i d) ≤ sum_by f xs + f a
 sum_set f xs i a d none = grind (arith, sum_by-set f xs i a d, set_past xs i a, get_or_past xs i d)
 
--- an issue adds one to the requests that wait, and an Order takes one away
-pub sum_issued : (lines : List (List ℕ)) (core block : ℕ) → sum_by length (after_issue lines core block) ≤ sum_by length lines + 1
-sum_issued lines core block =
+-- an Ask puts at most one request more into the queues, and an Order takes one away
+pub sum_asked : (act : CacheAction) (lines : List (List ℕ)) (core block : ℕ) → sum_by length (queues_after act lines core block) ≤ sum_by length lines + 1
+sum_asked (Issue request) lines core block =
     omega (arith, sum_set (λ (line : List ℕ). length line) lines core (queue_of lines core ++ block ∷ []) [] refl, length_push (queue_of lines core) block)
+sum_asked _ lines core block = omega arith
 
 left_shorter : (line : List ℕ) (block : ℕ) → slice_get line 0 ≡ Some block → length (filter (λ b. not (b == block)) line) + 1 ≤ length line
 left_shorter [] block h = cc
@@ -74,11 +75,8 @@ pub in_counted : (block : ℕ) (queue : List ℕ) → Contains queue block → 1
 in_counted block queue (k, below, is) = rw (is, eq-eqb block block refl) at (get_or-le-sum_by (λ b. one_if (eqb b block)) queue k block below)
 
 -- a block is taken out of a queue, and the others stay
-pub times_gone : (taken : ℕ) (queue : List ℕ) → times taken (filter (λ b. not (eqb b taken)) queue) ≡ 0
-times_gone taken [] = refl
-times_gone taken (x ∷ queue) = grind (arith, times_cons, times_gone taken queue)
-
-pub times_left : (block taken : ℕ) (queue : List ℕ) → block ≢ taken → times block (filter (λ b. not (eqb b taken)) queue) ≡ times block queue
-times_left block taken [] apart = refl
-times_left block taken (x ∷ queue) apart =
-    grind (arith, times_cons block x queue, times_cons block x (filter (λ b. not (eqb b taken)) queue), eqb_tells x taken, eqb_tells x block, times_left block taken queue apart)
+pub times_left : (block taken : ℕ) (queue : List ℕ) → times block (filter (λ b. not (eqb b taken)) queue) ≡ (if block == taken then 0 else times block queue)
+times_left block taken [] = either_way (eqb block taken) 0
+times_left block taken (x ∷ queue) =
+    let more = times_cons block x (filter (λ b. not (eqb b taken)) queue) in
+    grind (arith, times_cons block x queue, more, eqb_tells x taken, eqb_tells x block, eqb_tells block taken, times_left block taken queue)

@@ -1,5 +1,5 @@
 -- What waited, or was asked, waits or is its core's last operation: by `once` alone.
-use Rattle.snoop_model.proofs.Common.{[], Access, answers_of, ap, append_cancel_left, arith, asked_access, cases_Bool, cons_option, Contains, Contains-append_cases, Contains-append_left, Contains-append_right, Contains-permutation, Did, did_access, eqb-true, filter, filter-append, FirstMove, held_by, inl, inr, IsLast, IsOwed, IsPermutation, IsPermutation-sym, Item, last_or-append, List, map, map-append, None, of_core, Ok, OnceMore, operations, Option, option_to_list, picture_of, refl, Reply, same_Some, Situation, Some, Step, sym, waiting_at, zero, ℕ, ◌++◌, ◌==◌, ◌∙◌, ◌∷◌, ◌≡◌, ◌⊎◌}
+use Rattle.snoop_model.proofs.Common.{[], Access, answers_of, ap, append_cancel_left, arith, asked_access, cases_Bool, cons_option, Contains, Contains-append_cases, Contains-append_left, Contains-append_right, Contains-permutation, Did, did_access, eqb-true, filter, filter-append, FirstMove, held_by, inl, inr, IsLast, IsOwed, IsPermutation, IsPermutation-sym, Item, last_or-append, List, map, map-append, None, of_core, Ok, OnceMore, operations, Option, option_to_list, picture_of, refl, Reply, same_Some, Situation, Some, Step, sym, waiting_at, zero, ℕ, ◌++◌, ◌==◌, ◌∙◌, ◌∷◌, ◌≡◌, ◌↔◌, ◌⊎◌}
 use Rattle.snoop_model.proofs.{Runs.Shape.on_stays, OneBlock.Facts.{did_in, operations_moved}}
 
 -- a core's operations with one item more
@@ -10,12 +10,9 @@ pub one_or_none : (core : ℕ) (o : Option Did) → (of_core core o ≡ []) ⊎ 
 one_or_none core None = inl refl
 one_or_none core (Some d) = elim (cases_Bool (d.core == core)) [ inl e ↦ inr (d, rw e refl) | inr e ↦ inl (rw e refl) ]
 
-one_in : (o : Option Access) (wanted : Access) → o ≡ Some wanted → Contains (option_to_list o) wanted
-one_in o wanted is = rw is (zero, omega arith, refl)
-
-in_one : (o : Option Access) (wanted : Access) → Contains (option_to_list o) wanted → o ≡ Some wanted
-in_one None wanted h = absurd (omega (arith, h.1))
-in_one (Some x) wanted h = grind (arith, h)
+in_one : (o : Option Access) (wanted : Access) → Contains (option_to_list o) wanted ↔ (o ≡ Some wanted)
+in_one None wanted = (λ h. absurd (omega (arith, h.1)), λ is. cc)
+in_one (Some x) wanted = (λ h. grind (arith, h), λ is. (zero, omega arith, same_Some x wanted is))
 
 pub cons_one : (o : Option Access) → cons_option o [] ≡ option_to_list o
 cons_one None = refl
@@ -50,24 +47,26 @@ module _ (s t : Situation) (step : Step) (answer : Reply) (move : FirstMove s st
   -- an operation that the move performs, or that waits after it, waited before it or is asked by it
   pub waited_or_asked : Contains done_here wanted ⊎ ((held_by (picture_of t block) core).waiting ≡ Some wanted)
       → ((held_by (picture_of s block) core).waiting ≡ Some wanted) ⊎ (asked_access core block step ≡ Some wanted)
-  waited_or_asked now = elim (either_side _ _ _ _ wanted (IsPermutation-sym _ _ balance) (elim now [ inl did ↦ inl did | inr waits ↦ inr (one_in _ wanted waits) ])) [
-    | inl waited ↦ inl (in_one _ wanted waited)
-    | inr asked ↦ inr (in_one _ wanted asked)
-  ]
+  waited_or_asked now = elim (either_side _ _ _ _ wanted (IsPermutation-sym _ _ balance)
+      (elim now [ inl did ↦ inl did | inr waits ↦ inr ((in_one _ wanted).1 waits) ])) [
+        | inl waited ↦ inl ((in_one _ wanted).0 waited)
+        | inr asked ↦ inr ((in_one _ wanted).0 asked)
+      ]
 
   -- what the move performs is then the core's last operation
   is_last : Contains done_here wanted → IsLast t core block wanted
   is_last here = elim (one_or_none core (performed_by s t step answer move)) [
     | inl none ↦ absurd (omega (arith, (rw none at here).1))
     | inr (d, is) ↦ elim (cases_Bool (d.block == block)) [
-      | inl on ↦ (d, rw (answers_after, is, map-append, last_or-append) refl, eqb-true d.block block on, same_Some _ _ (in_one (Some (did_access d)) wanted (rw (is, on) at here)))
+      | inl on ↦ (d, rw (answers_after, is, map-append, last_or-append) refl, eqb-true d.block block on, same_Some _ _ ((in_one (Some (did_access d)) wanted).0 (rw (is, on) at here)))
       | inr off ↦ absurd (omega (arith, (rw (is, off) at here).1))
     ]
   ]
 
   -- and what waited before it, or is asked by it, is performed by it or waits
   pub owed_after : ((held_by (picture_of s block) core).waiting ≡ Some wanted) ⊎ (asked_access core block step ≡ Some wanted) → IsOwed t core block wanted
-  owed_after was = elim (either_side _ _ _ _ wanted balance (elim was [ inl waited ↦ inl (one_in _ wanted waited) | inr asked ↦ inr (one_in _ wanted asked) ])) [
-    | inl here ↦ inr (is_last here)
-    | inr waits ↦ inl (in_one _ wanted waits)
-  ]
+  owed_after was = elim (either_side _ _ _ _ wanted balance
+      (elim was [ inl waited ↦ inl ((in_one _ wanted).1 waited) | inr asked ↦ inr ((in_one _ wanted).1 asked) ])) [
+        | inl here ↦ inr (is_last here)
+        | inr waits ↦ inl ((in_one _ wanted).0 waits)
+      ]

@@ -1,10 +1,9 @@
 -- Each load and store that a run asks is done once, or waits.
 use Rattle.snoop_model.proofs.{Lists.{Writes.each_set, Facts.either_way}, Tables.Rows.{issue-missed, drop_evicts}, OneBlock.Facts.{did_in, performed_so}}
-use Rattle.snoop_model.proofs.Common.{[], Access, accesses_in, after_order, ap, append-nil, append_assoc, arith, Ask, asked, asked_access, Bool, CacheAction, CacheState, came_of, Cell, cond, Did, did_access, eq-eqb, eqb, Err, Extent, false, filter, filter-append, filter_map, filter_map-append, Goes, held_at, held_by, IfSome, inl, inr, Invariant, IsPermutation, IsPermutation-append_comm, IsPermutation-append_left, IsPermutation-append_right, IsPermutation-refl, IsPermutation-trans, IsProper, Item, as_access, length, Line, List, map, map-append, MoveOn, ne_eqb, None, nothing_held, of_core, Ok, Once, OnceMore, Op, operation_of, Option, option_map, option_to_list, Order, Picture, picture_of, Protocol, queues_after, refl, Refused, Reply, reset, Respond, Result, RunBy, Situation, slice_set, Some, Step, sym, taken, Takes, true, waiting_at, with_line, ℕ, ◌&&◌, ◌++◌, ◌<◌, ◌==◌, ◌∙◌, ◌∷◌, ◌≡◌}
-use Rattle.snoop_rules.specs.declared.names.CacheAction.TheVariants as action
+use Rattle.snoop_model.proofs.Common.{[], Access, accesses_in, after_order, ap, append-nil, append_assoc, arith, Ask, asked, asked_access, CacheAction, CacheState, came_of, Cell, cond, Did, did_access, Drop, eq-eqb, eqb, Err, Extent, false, filter, filter-append, filter_map, filter_map-append, Goes, held_at, held_by, Hit, IfSome, inl, inr, Invariant, IsPermutation, IsPermutation-append_comm, IsPermutation-append_left, IsPermutation-append_right, IsPermutation-refl, IsPermutation-trans, IsProper, Issue, Item, as_access, length, Line, List, map, map-append, MoveOn, ne_eqb, None, nothing_held, of_core, Ok, Once, OnceMore, Op, operation_of, Option, option_map, option_to_list, Order, Picture, picture_of, Protocol, queues_after, refl, Refused, Reply, reset, Respond, Result, RunBy, Situation, slice_set, Some, Step, sym, taken, Takes, true, waiting_at, with_line, ℕ, ◌&&◌, ◌++◌, ◌<◌, ◌==◌, ◌∙◌, ◌∷◌, ◌≡◌, ◌⊎◌}
 use Rattle.snoop_history.specs.declared.items.Item.TheVariants as item
-use Rattle.snoop_model.proofs.{OneBlock.OfBlocks.{changed, each_picture, in_pictures}, Lines.Answered.by_request, Queues.Moves.each_taken}
-use Rattle.snoop_model.proofs.{Once.Owed.{answers_are, cons_one}, Invariant.Runs.{nothing_waits, goes_keeps, refusal_same, reset_invariant, reset_line}}
+use Rattle.snoop_model.proofs.{OneBlock.OfBlocks.{changed, each_picture, in_pictures}, OneBlock.AfterMoves.{by_request, each_taken}}
+use Rattle.snoop_model.proofs.{Once.Owed.{answers_are, cons_one}, Invariant.Runs.{nothing_waits, goes_kept, move_keeps, refusal_same, reset_invariant, reset_line}}
 
 -- the operation that was done, if any
 abbrev done : Option Did → Option Access
@@ -15,51 +14,48 @@ abbrev IsBy : ℕ → ℕ → Option Did → Type 0
 IsBy core block did = IfSome did (λ d. (d.core ≡ core) × (d.block ≡ block))
 
 -- what an item has of a core and block: its operation, if it is by this core on this block
-accesses_one : (core block c b : ℕ) (entry : Option Item) → IsBy c b (did_in entry) → accesses_in (option_to_list entry) core block ≡ option_to_list (cond (eqb b block && eqb c core) (done (did_in entry)) None)
-accesses_one core block c b entry by = rw (answers_are [] entry core) (of_one (did_in entry) by)
-  where
-    of_one : (did : Option Did) → IsBy c b did → map did_access (filter (λ d. d.block == block) (of_core core did)) ≡ option_to_list (cond (eqb b block && eqb c core) (done did) None)
-    of_one None by = ap option_to_list (either_way (eqb b block && eqb c core) None)
-    of_one (Some did) by = rw (← by.0, ← by.1) (grind arith)
+accesses_one : (core block c b : ℕ) (did : Option Did) → IsBy c b did
+    → map did_access (filter (λ d. d.block == block) (of_core core did)) ≡ option_to_list (cond (eqb b block && eqb c core) (done did) None)
+accesses_one core block c b None by = ap option_to_list (either_way (eqb b block && eqb c core) None)
+accesses_one core block c b (Some did) by = rw (← by.0, ← by.1) (grind arith)
 
--- where nothing is done, asked or changed, what waited waits
-unchanged : (waits : List Access) → IsPermutation (waits ++ []) waits
-unchanged waits = rw (append-nil waits) (IsPermutation-refl waits)
+-- an operation waits on, and what is asked is done; or what waited is done, and what is asked begins to wait
+abbrev Evens : Option Access → Option Access → Option Access → Option Access → Type 0
+Evens waited asked does waits = ((waits ≡ waited) × (does ≡ asked)) ⊎ ((does ≡ waited) × (waits ≡ asked))
+
+-- then what waited and what is asked is what is done and what waits
+even : (waited asked does waits : Option Access) → Evens waited asked does waits
+    → IsPermutation (option_to_list waited ++ option_to_list asked) (option_to_list does ++ option_to_list waits)
+even waited asked does waits (inl on) = rw (on.0, on.1) (IsPermutation-append_comm (option_to_list waited) (option_to_list asked))
+even waited asked does waits (inr now) = rw (now.0, now.1) (IsPermutation-refl (option_to_list waited ++ option_to_list asked))
 
 -- an Ask of one line
 module _ (p : Protocol) (next : CacheState) (log : List Item) (core block word : ℕ) (asking : Op) (old new : Line) (answer : Reply) (entry : Option Item) (proper : IsProper old) where
   line_once : (act : CacheAction) → Cell p old.state (asked asking) act next → Takes act next log core block word asking old new answer entry
-      → IsBy core block (did_in entry) × IsPermutation (option_to_list old.waiting ++ option_to_list (as_access word asking)) (option_to_list (done (did_in entry)) ++ option_to_list new.waiting)
-  line_once action.Hit row t =
+      → IsBy core block (did_in entry) × Evens old.waiting (as_access word asking) (done (did_in entry)) new.waiting
+  line_once Hit row t =
       let so = performed_so word asking t.1.0.before t.0 t.1.0.after log core block true t.1.0.performed in
-      rw (t.1.0.held, t.1.2, so.0, so.1) ((refl, refl), IsPermutation-append_comm (option_to_list old.waiting) (record { word = word; op = asking } ∷ []))
-  line_once (action.Issue q) row t =
+      rw (t.1.0.held, t.1.2, so.0, so.1) ((refl, refl), inl (refl, refl))
+  line_once (Issue q) row t =
       let none = nothing_waits old.waiting (proper.waiting ∙ (issue-missed p old.state (asked asking) q next row).0) in
-      rw (t.0, t.2, none) (tt, IsPermutation-refl (option_to_list (as_access word asking)))
-  line_once action.Drop row t = rw (t.0, t.2, drop_evicts p old.state asking next row) (tt, unchanged (option_to_list old.waiting))
+      rw (t.0, t.2, none) (tt, inr (refl, refl))
+  line_once Drop row t = rw (t.0, t.2, drop_evicts p old.state asking next row) (tt, inl (refl, refl))
   line_once _ row t = absurd t
 
 module _ (old : Situation) (b c : ℕ) where
-  -- in a line, the core's own or not, what waited and what is asked is what is done and what waits
-  abbrev Evens : Option Access → Option Did → ℕ → ℕ → Bool → Line → Type 0
-  Evens asked did core block own line = IsPermutation (waiting_at old core block ++ option_to_list (cond own asked None)) (option_to_list (cond own (done did) None) ++ option_to_list line.waiting)
-
-  -- the core's operation on the block is done, and in each of its lines what waited and what is asked is what is done and what waits
+  -- the core's operation on the block is done, and so it is in each of its lines, the core's own or not
   abbrev Balances : Option Access → Option Did → List Line → Type 0
-  Balances asked did lines = IsBy c b did × ((k : ℕ) → Evens asked did k b (eqb c k) (held_at lines k))
+  Balances asked did lines =
+      IsBy c b did × ((k : ℕ) → Evens (held_by (picture_of old b) k).waiting (cond (eqb c k) asked None) (cond (eqb c k) (done did) None) (held_at lines k).waiting)
 
   -- so it is where the one line that changes balances
-  balances : (held : Line) (asked : Option Access) (did : Option Did) → c < length (picture_of old b).caches → IsBy c b did
-      → IsPermutation (option_to_list (held_by (picture_of old b) c).waiting ++ option_to_list asked) (option_to_list (done did) ++ option_to_list held.waiting)
-      → Balances asked did (slice_set (picture_of old b).caches c held)
-  balances held asked did inside by here =
-      let lines = each_set (picture_of old b).caches c held nothing_held (λ k. Evens asked did k b (eqb c k)) inside
-      (rw (eq-eqb c c refl) here) (λ k apart. rw (ne_eqb c k (λ e. apart (sym e))) (unchanged (waiting_at old k b))) in
-      (by, lines)
-
-  -- where nothing is asked or done, and each line's operation waits as before
-  rests : (lines : List Line) → ((k : ℕ) → (held_at lines k).waiting ≡ (held_by (picture_of old b) k).waiting) → Balances None None lines
-  rests lines same = (tt, λ k. rw (same k, ← either_way {A = Option Access} (eqb c k) None) (unchanged (waiting_at old k b)))
+  balances : (held : Line) (asked : Option Access) (did : Option Did) → c < length (picture_of old b).caches
+      → IsBy c b did × Evens (held_by (picture_of old b) c).waiting asked (done did) held.waiting → Balances asked did (slice_set (picture_of old b).caches c held)
+  balances held asked did inside here =
+      let lines = each_set (picture_of old b).caches c held nothing_held
+      (λ k line. Evens (held_by (picture_of old b) k).waiting (cond (eqb c k) asked None) (cond (eqb c k) (done did) None) line.waiting) inside
+      (rw (eq-eqb c c refl) here.1) (λ k apart. rw (ne_eqb c k (λ e. apart (sym e))) (inl (refl, refl))) in
+      (here.0, lines)
 
   -- a move that asks this, and whose lines balance, does each load and store once
   grown : (next : Picture) (queues : List (List ℕ)) (entry : Option Item) (asked : Option Access) (step : Step) (answer : Reply) → b < length old.pictures
@@ -68,10 +64,11 @@ module _ (old : Situation) (b c : ℕ) where
   grown next queues entry asked step answer within asks balance = record {
     since = option_to_list entry;
     log = refl;
-    once = λ core block. rw (cons_one (asked_access core block step), asks core block, accesses_one core block c b entry balance.0)
-        (each_picture old b next queues (old.log ++ option_to_list entry)
-        (λ x picture. Evens asked (did_in entry) core x (eqb b x && eqb c core) (held_by picture core))
-        within (λ x apart. rw (ne_eqb b x (λ e. apart (sym e))) (unchanged (waiting_at old core x))) (rw (eq-eqb b b refl) (balance.1 core)) block);
+    once = λ core block. rw (cons_one, asks core block, answers_are [] entry core, accesses_one core block c b (did_in entry) balance.0)
+        (even _ _ _ _ (each_picture old b next queues (old.log ++ option_to_list entry)
+        (λ x picture. Evens (held_by (picture_of old x) core).waiting (cond (eqb b x && eqb c core) asked None)
+        (cond (eqb b x && eqb c core) (done (did_in entry)) None) (held_by picture core).waiting)
+        within (λ x apart. rw (ne_eqb b x (λ e. apart (sym e))) (inl (refl, refl))) (rw (eq-eqb b b refl) (balance.1 core)) block));
   }
 
 -- a move does each load and store once
@@ -80,43 +77,43 @@ move_once b old (Ask c on word asking) answer new g m = elim m.moves [
   | inl idle ↦ rw idle.3 (record {
     since = [];
     log = sym (append-nil old.log);
-    once = λ core block. rw (idle.0, ← either_way {A = Option Access} (eqb on block && eqb c core) None) (unchanged (waiting_at old core block));
+    once = λ core block. rw (idle.0, ← either_way {A = Option Access} (eqb on block && eqb c core) None) (even _ None None _ (inl (refl, refl)));
   })
   | inr a ↦
       (let before : Picture = picture_of old b in
       let once = line_once old.protocol a.row.next old.log c b word asking (held_by before c) a.held answer a.entry ((g.blocks b m.within.1).proper c m.within.0) a.row.action a.is_row a.taken in
       rw (m.on_block, a.after) (grown old b c (with_line before c a.held) (queues_after a.row.action old.queues c b) a.entry (as_access word asking) (Ask c b word asking) answer
       (in_pictures old b g.shaped m.within.1) (λ core block. refl)
-      (balances old b c a.held _ (did_in a.entry) (rw (g.shaped.row b m.within.1) m.within.0) once.0 once.1)))
+      (balances old b c a.held _ (did_in a.entry) (rw (g.shaped.row b m.within.1) m.within.0) once)))
 ]
 move_once b old (Order c) answer new g m =
     let o = m.orders in
-    let waiting = λ (k : ℕ). each_taken old.protocol c m.request (picture_of old b).caches o.next.caches o.taken k (λ x y. y.waiting ≡ x.waiting)
+    let waiting = λ (k : ℕ). each_taken o.taken k (λ x y. y.waiting ≡ x.waiting)
     (λ inside. rw (o.taken.rows k inside).2 refl) refl in
     rw o.after (grown old b c o.next (after_order old.queues c b) (Some (item.Sent (record { core = c; request = m.request; block = b }))) None (Order c) answer
-    (in_pictures old b g.shaped m.within.1) (λ core block. either_way (eqb b block && eqb c core) None) (rests old b c o.next.caches waiting))
+    (in_pictures old b g.shaped m.within.1) (λ core block. either_way (eqb b block && eqb c core) None) (tt, λ k. inl (waiting k, refl)))
 move_once b old (Respond on) answer new g m =
     let r = m.responds in
     let c = m.closing.core in
     let in_row : c < length (picture_of old b).caches = rw (g.shaped.row b m.within) ((g.blocks b m.within).requestor_in m.closing r.opened) in
     let balanced : Balances old b c None m.did r.next.caches = elim (by_request m.closing.request r.requestor) [
-      | inl put ↦ rw (put.2, put.1) (rests old b c (picture_of old b).caches (λ k. refl))
-      | inr f ↦
+      | inl put ↦ rw (put.2, put.1) (tt, λ k. inl (refl, refl))
+      | inr (_, f) ↦
           (let so = performed_so f.asking.word f.asking.op m.closing.value f.value f.fills.after old.log c m.closing.block false f.fills.performed in
-          let done_once : IsPermutation (waiting_at old c b ++ []) (option_to_list (done m.did) ++ option_to_list f.line.waiting) =
-          rw (f.fills.held, f.fills.waited, f.logged, so.0) (IsPermutation-refl (f.asking ∷ [])) in
-          rw f.held (balances old b c f.line None m.did in_row (rw f.logged (refl, g.opened b m.closing r.opened)) done_once))
+          let done_once : Evens (held_by (picture_of old b) c).waiting None (done m.did) f.line.waiting =
+          rw (f.fills.held, f.fills.waited, f.logged, so.0) (inr (refl, refl)) in
+          rw f.held (balances old b c f.line None m.did in_row (rw f.logged (refl, g.opened b m.closing r.opened), done_once)))
     ] in
     rw r.after (grown old b c r.next old.queues (Some (item.Came (came_of m.closing) m.did)) None (Respond on) answer
     (in_pictures old b g.shaped m.within) (λ core block. either_way (eqb b block && eqb c core) None) balanced)
 
 -- a run, from any situation that keeps the invariant
 pub run_once : (steps : List Step) (outcomes : List (Result Reply Refused)) (old new : Situation) → Invariant old → RunBy Goes old steps outcomes new → OnceMore old steps outcomes new
-run_once [] [] old new g r = rw r (record { since = []; log = sym (append-nil old.log); once = λ core block. unchanged (waiting_at old core block) })
+run_once [] [] old new g r = rw r (record { since = []; log = sym (append-nil old.log); once = λ core block. even _ None None _ (inl (refl, refl)) })
 run_once (step ∷ steps) (Ok answer ∷ outcomes) old new g r =
     let middle = r.0 in
     let a = move_once r.1.0.0 old step answer middle g r.1.0.1 in
-    let b = run_once steps outcomes middle new (goes_keeps old step (Ok answer) middle g r.1.0) r.1.1 in
+    let b = run_once steps outcomes middle new (goes_kept Invariant move_keeps old step (Ok answer) middle g r.1.0) r.1.1 in
     record {
       since = a.since ++ b.since;
       log = b.log ∙ ap (λ (l : List Item). l ++ b.since) a.log ∙ append_assoc old.log a.since b.since;
@@ -129,7 +126,7 @@ run_once (step ∷ steps) (Ok answer ∷ outcomes) old new g r =
           (IsPermutation-append_right did _ _ (b.once core block)));
     }
 run_once (step ∷ steps) (Err cause ∷ outcomes) old new g r =
-    let rest = run_once steps outcomes r.0 new (goes_keeps old step (Err cause) r.0 g r.1.0) r.1.1 in
+    let rest = run_once steps outcomes r.0 new (goes_kept Invariant move_keeps old step (Err cause) r.0 g r.1.0) r.1.1 in
     rw (← refusal_same old step cause r.0 r.1.0) (record { since = rest.since; log = rest.log; once = rest.once })
 run_once _ _ old new g r = absurd r
 

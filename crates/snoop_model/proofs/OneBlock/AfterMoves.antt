@@ -1,6 +1,37 @@
--- The pictures after each kind of move.
-use Rattle.snoop_model.proofs.Common.{Asks, Did, get_or-set_same, held_by, Invariant, IsWithin, nothing_held, nothing_there, Op, Open, Option, Orders, picture_of, Reply, Request, Responds, Situation, with_line, ℕ, ◌<◌, ◌≡◌}
-use Rattle.snoop_model.proofs.OneBlock.OfBlocks.{in_pictures}
+-- The pictures after each kind of move, and the lines after a response: the requestor's is filled, or none is changed.
+use Rattle.snoop_model.proofs.Common.{Access, Ask, CacheAction, IsShaped, Issue, MoveOn, Order, queues_after, Respond, Step, arith, ArrivesFor, Asks, cases_eq, cases_lt, Did, false, FillsRequestor, get_or-set_other, get_or-set_same, get_or_past, held_at, held_by, inl, inr, Invariant, is_put_m, IsWithin, Item, length, length-set, Line, List, None, nothing_held, nothing_there, Op, Open, Option, Orders, picture_of, Protocol, PutM, refl, Reply, Request, Responds, set_past, Situation, Some, TakesRows, with_line, ℕ, ◌<◌, ◌≡◌, ◌⊎◌}
+use Rattle.snoop_model.proofs.OneBlock.OfBlocks.{in_pictures, shaped_after}
+
+module _ {closing : Open} {p : Protocol} {log : List Item} {old new : List Line} {did : Option Did} where
+  pub by_request : (q : Request) → ArrivesFor q closing p log old new did
+      → ((q ≡ PutM) × (new ≡ old) × (did ≡ None)) ⊎ ((is_put_m q ≡ false) × FillsRequestor closing p log old new did)
+  by_request PutM h = inl (refl, h.0, h.1)
+  by_request _ h = inr (refl, h)
+
+  -- the requestor's line, or one that is as it was: where that is the requestor's too, no line is in its place
+  pub filled_or_same : (fills : FillsRequestor closing p log old new did) (k : ℕ)
+      → ((k ≡ closing.core) × (held_at new k ≡ fills.line)) ⊎ ((held_at new k ≡ held_at old k) × (k ≡ closing.core → held_at old k ≡ nothing_held))
+  filled_or_same fills k = elim (cases_eq k closing.core) [
+    | inr apart ↦ inr (rw fills.held (get_or-set_other old closing.core k fills.line nothing_held apart), λ e. absurd (apart e))
+    | inl own ↦ elim (cases_lt k (length old)) [
+      | inl below ↦ inl (own, rw (fills.held, own) (get_or-set_same old closing.core fills.line nothing_held (rw own at below)))
+      | inr past ↦ inr (rw (fills.held, set_past old closing.core fills.line (rw own at past)) refl, λ e. get_or_past old k nothing_held past)
+    ]
+  ]
+
+  -- a line in which an operation still waits is as it was
+  pub still_waiting : {q : Request} → ((q ≡ PutM) × (new ≡ old) × (did ≡ None)) ⊎ ((is_put_m q ≡ false) × FillsRequestor closing p log old new did)
+      → (k : ℕ) (access : Access) → (held_at new k).waiting ≡ Some access → held_at new k ≡ held_at old k
+  still_waiting arrived k access h = elim arrived [
+    | inl put ↦ rw put.1 refl
+    | inr (_, fills) ↦ grind (arith, filled_or_same fills k, fills.fills.held, h)
+  ]
+
+-- what holds of each line before and after its row, and of two that hold nothing, holds of each core's
+pub each_taken : {p : Protocol} {core : ℕ} {request : Request} {old new : List Line} → TakesRows p core request old new → (k : ℕ) (P : Line → Line → Type 0)
+    → (k < length old → P (held_at old k) (held_at new k)) → P nothing_held nothing_held → P (held_at old k) (held_at new k)
+each_taken {p} {core} {request} {old} {new} taken k P row nothing =
+    grind (arith, row, nothing, taken.same_length, get_or_past new k nothing_held, get_or_past old k nothing_held)
 
 pub ask_line : (old : Situation) (c b word : ℕ) (asking : Op) (answer : Reply) (new : Situation) → Invariant old → IsWithin old c b
     → (a : Asks old c b word asking answer new) → held_by (picture_of new b) c ≡ a.held
@@ -14,3 +45,20 @@ order_here old c b q new g within o = rw o.after (get_or-set_same old.pictures b
 pub respond_here : (old : Situation) (b : ℕ) (closing : Open) (did : Option Did) (new : Situation) → Invariant old → b < old.shape.blocks
     → (r : Responds old b closing did new) → picture_of new b ≡ r.next
 respond_here old b closing did new g within r = rw r.after (get_or-set_same old.pictures b r.next nothing_there (in_pictures old b g.shaped within))
+
+as_many_after : (a : CacheAction) (queues : List (List ℕ)) (core block : ℕ) → length (queues_after a queues core block) ≡ length queues
+as_many_after (Issue r) queues core block = length-set queues core _
+as_many_after _ queues core block = refl
+
+-- a move leaves all lists as long as they are
+pub still_shaped : (block : ℕ) (old : Situation) (step : Step) (answer : Reply) (new : Situation) → IsShaped old → MoveOn block old step answer new → IsShaped new
+still_shaped block old (Ask core on word asking) answer new shaped m = elim m.moves [
+  | inl absent ↦ rw absent.3 shaped
+  | inr a ↦ rw a.after (shaped_after old block (with_line (picture_of old block) core a.held) _ _
+      shaped (length-set _ core a.held) (as_many_after a.row.action old.queues core block))
+]
+still_shaped block old (Order core) answer new shaped m =
+    rw m.orders.after (shaped_after old block m.orders.next _ _ shaped m.orders.taken.same_length (length-set old.queues core _))
+still_shaped block old (Respond on) answer new shaped m =
+    let arrived = by_request m.closing.request m.responds.requestor in
+    rw m.responds.after (shaped_after old block m.responds.next _ _ shaped (grind (arith, length-set {A = Line}, arrived)) refl)

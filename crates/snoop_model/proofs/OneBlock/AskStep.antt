@@ -1,10 +1,8 @@
 -- An Ask keeps the invariant, and a load that it performs gives the flat value.
-use Rattle.snoop_model.proofs.Common.{asked, Asks, BlockInvariant, Bool, both_ways, CacheAction, Cell, false, held_by, inl, inr, length, Line, List, nothing_held, Op, own_open, owns, Picture, picture_of, refl, Reply, same_Some, Situation, sym, Takes, true, with_line, ℕ, ◌<◌, ◌∙◌, ◌≡◌, ◌⊎◌}
-use Rattle.snoop_trace.specs.declared.step.Op.TheVariants as op
+use Rattle.snoop_model.proofs.Common.{asked, Asks, BlockInvariant, Bool, both_ways, CacheAction, Cell, Drop, Evict, false, held_by, Hit, inl, inr, Issue, length, Line, List, Load, nothing_held, Op, own_open, owns, Picture, picture_of, refl, Reply, same_Some, Situation, Store, sym, Takes, true, with_line, ℕ, ◌<◌, ◌∙◌, ◌≡◌, ◌⊎◌}
 use Rattle.snoop_rules.specs.declared.names.CacheEvent.TheVariants as event
-use Rattle.snoop_rules.specs.declared.names.CacheAction.TheVariants as action
 use Rattle.snoop_model.proofs.{OneBlock.Facts.{did_in, flat_after, IsLawful, LineFits, carried_line, line_of, owned_alone, still_fits}, Lists.Writes.each_set}
-use Rattle.snoop_model.proofs.Tables.{Rows.{hit_keeps, IsProper-issue, IsProper-hit, IsProper-drop}, AskTests.{ask_rule, asked_row}, StateTests.kept_reader}
+use Rattle.snoop_model.proofs.Tables.{Rows.{hit_keeps, IsProper-issue, IsProper-hit, IsProper-drop}, StateTests.{ask_rule, asked_row}, StateTests.kept_reader}
 
 module _ (s : Situation) (core block word : ℕ) (asking : Op) (answer : Reply) (new : Situation) (asks : Asks s core block word asking answer new)
     (n : ℕ) (flat : List ℕ) (g : BlockInvariant s.protocol n flat (picture_of s block)) (asker_in : core < n) (in_row : core < length (picture_of s block).caches) where
@@ -20,22 +18,22 @@ module _ (s : Situation) (core block word : ℕ) (asking : Op) (answer : Reply) 
       → Takes a asks.row.next s.log core block word o old asks.held answer asks.entry
       → LineFits s.protocol g.claims.shared (owns g.owner core) (own_open before.transaction core) (flat_after flat (did_in asks.entry)) before.memory.value asks.held
       × ((flat_after flat (did_in asks.entry) ≡ flat) ⊎ (owns g.owner core ≡ true)) × IsLawful flat (did_in asks.entry)
-  asker action.Hit op.Load row (fit, (carry, _)) (value, (hit, _, entry)) =
+  asker Hit Load row (fit, (carry, _)) (value, (hit, _, entry)) =
       let same = same_Some _ _ (sym hit.kept ∙ g.kept core asker_in (hit_keeps _ _ _ _ row).0) in
       let performed = hit.performed in
       let proper = IsProper-hit s.protocol old event.Load asks.row.next hit.after (g.proper core asker_in) row in
       rw (hit.held, entry) (carried_line old (line_of g core asker_in) _ (λ h. cc) fit (carry refl) proper, inl refl, λ e. cc)
-  asker action.Hit (op.Store v) row (fit, (_, stores)) (value, (hit, _, entry)) =
+  asker Hit (Store v) row (fit, (_, stores)) (value, (hit, _, entry)) =
       let same = same_Some _ _ (sym hit.kept ∙ g.kept core asker_in (hit_keeps _ _ _ _ row).0) in
       let performed = hit.performed in
       let (owning, unclean) = stores refl in
       let proper = IsProper-hit s.protocol old event.Store asks.row.next hit.after (g.proper core asker_in) row in
       rw (hit.held, entry) (record { fit = fit; kept = λ h. cc; clean = λ h. absurd (both_ways _ unclean h); proper = proper }, inr owning, λ e. cc)
-  asker action.Hit op.Evict row so took = absurd took.1.0.performed
-  asker (action.Issue r) o row (fit, (carry, _)) (held, _, entry) =
+  asker Hit Evict row so took = absurd took.1.0.performed
+  asker (Issue r) o row (fit, (carry, _)) (held, _, entry) =
       let proper = IsProper-issue s.protocol old word o r asks.row.next (g.proper core asker_in) row in
       rw (held, entry) (carried_line old (line_of g core asker_in) _ (kept_reader asks.row.next old.kept) fit (carry refl) proper, inl refl, tt)
-  asker action.Drop o row (fit, (carry, _)) (held, _, entry) =
+  asker Drop o row (fit, (carry, _)) (held, _, entry) =
       let proper = IsProper-drop s.protocol old (asked o) asks.row.next (g.proper core asker_in) row in
       rw (held, entry) (carried_line old (line_of g core asker_in) _ (kept_reader asks.row.next old.kept) fit (carry refl) proper, inl refl, tt)
   asker _ o row so took = absurd took

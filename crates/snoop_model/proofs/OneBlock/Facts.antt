@@ -1,15 +1,6 @@
 -- What follows from the invariant of one block.
-use Rattle.snoop_trace.specs.declared.step.Op.TheVariants as op
-use Rattle.snoop_model.proofs.Common.{append-nil, arith, BlockInvariant, Bool, cases_eq, cases_lt, cond, Did, did_access, eq-eqb, eqb, eqb-true, eqb_tells, false, fits, get_or_past, held_at, held_by, inl, inr, is_clean, is_some, IsProper, Item, keeps, as_access, length, Line, List, ne_eqb, next_did, None, not, nothing_held, Op, operation_of, operations, operations-push, Option, option_to_list, or_right, own_open, owns, Performs, Picture, Protocol, refl, Request, same, slice_set, Some, subst, sym, talk_of, true, word_at, ℕ, ⊤, ◌&&◌, ◌++◌, ◌<◌, ◌||◌, ◌∙◌, ◌≡◌, ◌≢◌}
-use Rattle.snoop_model.proofs.{Lines.TheSender.IsBelow, Tables.{Tested.of_open, StateTests.{brings_data, carries, clean_reads, claims_rule}}}
-
--- what holds of one core and of each other holds of each
-pub by_core : (c : ℕ) (P : ℕ → Type 0) → P c → ((d : ℕ) → d ≢ c → P d) → (d : ℕ) → P d
-by_core c P here others d = elim (cases_eq d c) [ inl e ↦ subst P (sym e) here | inr apart ↦ others d apart ]
-
--- what holds of each line that there is, and of one that holds nothing, holds of any core's
-pub each_held : (lines : List Line) (k : ℕ) (P : Line → Type 0) → (k < length lines → P (held_at lines k)) → P nothing_held → P (held_at lines k)
-each_held lines k P inside nothing = elim (cases_lt k (length lines)) [ inl below ↦ inside below | inr past ↦ subst P (sym (get_or_past lines k nothing_held past)) nothing ]
+use Rattle.snoop_model.proofs.Common.{append-nil, arith, BlockInvariant, Bool, cond, Did, did_access, eq-eqb, eqb, eqb-true, eqb_tells, Evict, false, fits, held_by, IfSome, is_clean, is_some, IsProper, Item, keeps, as_access, Line, List, Load, ne_eqb, next_did, None, not, Op, operation_of, operations, operations-push, Option, option_and_then, option_map_or, option_to_list, or_right, own_open, owns, Performs, Picture, Protocol, refl, Request, same, slice_set, Some, Store, sym, talk_of, true, word_at, ℕ, ◌&&◌, ◌++◌, ◌<◌, ◌||◌, ◌∙◌, ◌≡◌, ◌≢◌, ◌↔◌}
+use Rattle.snoop_model.proofs.{Tables.{Tested.of_open, StateTests.{brings_data, carries, clean_reads, claims_rule}}}
 
 pub owns_owned : (owner : Option ℕ) (d : ℕ) (b : Bool) → is_some owner ≡ b → (not (owns owner d) || b) ≡ true
 owns_owned None d b e = refl
@@ -58,35 +49,24 @@ abbrev pub is_it : Option ℕ → Option ℕ → Bool
 is_it sender None = not (is_some sender)
 is_it sender (Some d) = owns sender d
 
-pub it_is : (sender from : Option ℕ) → is_it sender from ≡ true → from ≡ sender
-it_is None None h = refl
-it_is (Some o) None h = cc
-it_is sender (Some d) h = sym (owner_is sender d h)
-
-pub is_itself : (sender : Option ℕ) → is_it sender sender ≡ true
-is_itself None = refl
-is_itself (Some d) = eq-eqb d d refl
+pub it_is : (sender from : Option ℕ) → (is_it sender from ≡ true) ↔ (from ≡ sender)
+it_is None None = (λ h. refl, λ h. refl)
+it_is (Some o) None = (λ h. cc, λ h. cc)
+it_is sender (Some d) = (λ h. sym (owner_is sender d h), λ h. rw (← h) (eq-eqb d d refl))
 
 -- an owner is one of the cores below n
 abbrev pub OwnerIn : ℕ → Option ℕ → Type 0
 OwnerIn n owner = (o : ℕ) → owner ≡ Some o → o < n
 
-pub below_owner : (n : ℕ) (owner : Option ℕ) → OwnerIn n owner → IsBelow n owner
-below_owner n None was = tt
-below_owner n (Some o) was = was o refl
-
 abbrev pub did_in : Option Item → Option Did
-did_in None = None
-did_in (Some entry) = operation_of entry
+did_in entry = option_and_then operation_of entry
 
 abbrev pub flat_after : List ℕ → Option Did → List ℕ
-flat_after flat None = flat
-flat_after flat (Some did) = cond did.load flat (slice_set flat did.word did.value)
+flat_after flat did = option_map_or (λ d. cond d.load flat (slice_set flat d.word d.value)) did flat
 
 -- a load gives flat memory's value
 abbrev pub IsLawful : List ℕ → Option Did → Type 0
-IsLawful flat None = ⊤
-IsLawful flat (Some did) = did.load ≡ true → did.value ≡ word_at flat did.word
+IsLawful flat did = IfSome did (λ d. d.load ≡ true → d.value ≡ word_at flat d.word)
 
 -- the operations with one item more
 pub operations_moved : (log : List Item) (entry : Option Item) → operations (log ++ option_to_list entry) ≡ operations log ++ option_to_list (did_in entry)
@@ -96,6 +76,6 @@ operations_moved log (Some entry) = operations-push log entry
 -- the operation that was done is the one that was asked, and no eviction
 pub performed_so : (word : ℕ) (asking : Op) (before : List ℕ) (value : ℕ) (after : List ℕ) (log : List Item) (core block : ℕ) (hit : Bool) → Performs word asking before value after
     → (did_access (next_did log core block word asking value hit) ≡ record { word = word; op = asking }) × (as_access word asking ≡ Some (record { word = word; op = asking }))
-performed_so word op.Load before value after log core block hit h = (refl, refl)
-performed_so word (op.Store stored) before value after log core block hit h = rw h.0 (refl, refl)
-performed_so word op.Evict before value after log core block hit h = absurd h
+performed_so word Load before value after log core block hit h = (refl, refl)
+performed_so word (Store stored) before value after log core block hit h = rw h.0 (refl, refl)
+performed_so word Evict before value after log core block hit h = absurd h

@@ -1,9 +1,9 @@
 -- An Order finds all its rows and one sender, and keeps the invariant.
-use Rattle.snoop_model.proofs.Common.{and_from, ap, at_memory, BlockInvariant, Bool, CacheCell, carries_value, cell_of, Claims, claims_of, cond, cond_both, cond_some, eq-eqb, eqb, false, fits, held_by, inl, inr, is_put_m, is_some, keeps, length, List, MemCell, memory_cell_of, ne_eqb, None, not, Open, Option, or_cases, Orders, own, own_open, owns, Payload, Picture, picture_of, Protocol, refl, Request, same_Some, seen_by, sender_of, Sends, Situation, Some, sym, true, value_sent, waiting_request, ℕ, ◌<◌, ◌∙◌, ◌≡◌}
+use Rattle.snoop_model.proofs.Common.{and_from, ap, at_memory, BlockInvariant, Bool, CacheCell, carries_value, cases_eq, cell_of, Claims, claims_of, cond, cond_both, cond_some, eq-eqb, eqb, false, fits, held_by, inl, inr, is_put_m, is_some, keeps, length, List, MemCell, memory_cell_of, ne_eqb, None, not, Open, Option, or_cases, Orders, own, own_open, owns, Payload, Picture, picture_of, Protocol, refl, Request, same_Some, seen_by, sender_of, Sends, Situation, Some, sym, true, value_sent, waiting_request, ℕ, ◌<◌, ◌∙◌, ◌≡◌}
 use Rattle.snoop_model.proofs.{Lists.Facts.of_choice, Lines.TheSender.{IsBelow, sends_below}, Tables.{Tested.Tested, StateTests.{carries, kept_reader}}}
-use Rattle.snoop_model.proofs.Tables.{OrderTests.{end_claims, sends_rule, payload_of, sends_so}, Rows.IsProper-order, SenderLines.follows_sender_table}
+use Rattle.snoop_model.proofs.Tables.{OrderTests.{end_claims, sends_rule, payload_of, sends_so}, Rows.IsProper-order, OrderTests.follows_sender_table}
 use Rattle.snoop_model.proofs.Tables.SentBy.{payload_from, sends_is, sends_row, memory_sends_row}
-use Rattle.snoop_model.proofs.OneBlock.Facts.{LineFits, by_core, carried_line, is_it, it_is, line_of, OwnerIn, owns_owned, owns_apart}
+use Rattle.snoop_model.proofs.OneBlock.Facts.{LineFits, carried_line, is_it, it_is, line_of, OwnerIn, owns_owned, owns_apart}
 
 -- all that an Order looks up of a picture that keeps its invariant
 pub record Looked {p : Protocol} {flat : List ℕ} {before : Picture} (good : BlockInvariant p (length before.caches) flat before) (c : ℕ) (q : Request) : Type 0 where
@@ -54,12 +54,13 @@ module _ {p : Protocol} {flat : List ℕ} {before : Picture} {good : BlockInvari
   pub each_row : (d : ℕ) → d < length before.caches → HasRow d
   each_row =
       let (_, (fit, (carry, (_, (_, (sends, others)))))) = l.ends in
-      by_core c (λ d. d < length before.caches → HasRow d)
-      (λ c_in. rw (of_choice (λ x. owns x c) (is_put_m q) (Some c) good.owner, eq-eqb c c refl) (l.row, l.is_row, fit, carry, rw l.is_row sends))
-      (λ d apart d_in.
-      let apart_owned = and_from _ _ (owns_apart good.owner c d apart) (owns_owned good.owner d _ good.is_owned) in
-      let (row, is_row, (fit, (carry, sends))) = others _ _ (rw l.calm at (good.states d d_in)) apart_owned in
-      rw (of_choice (λ x. owns x d) (is_put_m q) (Some c) good.owner, ne_eqb d c apart) (row, is_row, fit, carry, rw is_row sends))
+      λ d d_in. elim (cases_eq d c) [
+        | inl own ↦ rw (own, of_choice (λ x. owns x c) (is_put_m q) (Some c) good.owner, eq-eqb c c refl) (l.row, l.is_row, fit, carry, rw l.is_row sends)
+        | inr apart ↦
+            let apart_owned = and_from _ _ (owns_apart good.owner c d apart) (owns_owned good.owner d _ good.is_owned) in
+            let (row, is_row, (fit, (carry, sends))) = others _ _ (rw l.calm at (good.states d d_in)) apart_owned in
+            rw (of_choice (λ x. owns x d) (is_put_m q) (Some c) good.owner, ne_eqb d c apart) (row, is_row, fit, carry, rw is_row sends)
+      ]
 
   pub sends : (from : Option ℕ) → IsBelow (length before.caches) from → (sends_so (payload_from p before c q from) (is_it meant from) sent (on_line from) (has_words from)).claim
   sends None below = rw (l.is_memory, of_choice (λ x. not (is_some x)) (is_put_m q) (Some c) good.owner, good.is_owned) l.ends.1.1.1.1.0
@@ -75,7 +76,7 @@ module _ {p : Protocol} {flat : List ℕ} {before : Picture} {good : BlockInvari
   sender_told from payload does =
       let so = sends from (sends_below p before c q from payload does) in
       let (is, same) = cond_some _ sent payload (sym so.0 ∙ sends_is p before c q from payload does) in
-      (it_is meant from is, sym same, λ carrying. words from carrying ((so.1 is).1 (rw same carrying)) does)
+      ((it_is meant from).0 is, sym same, λ carrying. words from carrying ((so.1 is).1 (rw same carrying)) does)
     where
       words : (from : Option ℕ) → carries_value payload ≡ true → has_words from ≡ true → Sends p before c q from payload → value_sent before from payload ≡ flat
       words None carrying has does = rw carrying (good.fresh has)

@@ -1,11 +1,8 @@
 -- A Respond finds its rows and keeps the invariant, and a load that it performs gives the flat value.
-use Rattle.snoop_model.proofs.Common.{ap, arith, arrival, arrival_at_memory, ArrivesFor, BlockInvariant, Bool, CacheAction, CacheCell, Claims, claims_of, cond, cond_both, Did, eq-eqb, false, FillsRequestor, held_at, held_by, if◌then◌else◌, is_get_m, is_load, is_put_m, Item, keeps, length, List, MemAction, MemCell, ne_eqb, next_did, None, none-some, nothing_held, Op, Open, Option, owns, Performs, Picture, picture_of, Protocol, PutM, refl, Request, Responds, same_Some, Situation, Some, sym, takes_payload, true, word_at, written, ℕ, ◌<◌, ◌∙◌, ◌≡◌}
-use Rattle.snoop_trace.specs.declared.step.Op.TheVariants as op
-use Rattle.snoop_rules.specs.declared.names.CacheAction.TheVariants as action
-use Rattle.snoop_rules.specs.declared.names.MemAction.TheVariants as mem_action
-use Rattle.snoop_model.proofs.{Lists.{Facts.of_choice, Writes.each_set}, Tables.{Tested.of_open, Rows.IsProper-fill}}
-use Rattle.snoop_model.proofs.Tables.RespondTests.{answer_claims, fills_store, gains, respond_rule, respond_claims, row_for, settled_row, settled_so, stays_so, writes}
-use Rattle.snoop_model.proofs.OneBlock.Facts.{LineFits, line_of, still_fits, OwnerIn, owns_owned, flat_after, IsLawful}
+use Rattle.snoop_model.proofs.Common.{ap, inl, inr, arith, arrival, arrival_at_memory, BlockInvariant, Bool, CacheAction, CacheCell, Claims, claims_of, cond, cond_both, Did, eq-eqb, Evict, false, FillLoad, FillsRequestor, FillStore, held_at, held_by, if◌then◌else◌, is_get_m, is_load, is_put_m, Item, keeps, length, List, Load, MemAction, MemCell, ne_eqb, next_did, None, none-some, nothing_held, Op, Open, Option, owns, Performs, Picture, picture_of, Protocol, refl, Responds, same_Some, Situation, Some, Store, sym, takes_payload, true, word_at, Write, written, ℕ, ◌<◌, ◌∙◌, ◌≡◌}
+use Rattle.snoop_model.proofs.Tables.OrderTests.{answer_claims, fills_store, gains, respond_claims, respond_rule, row_for, settled_row, settled_so, stays_so, writes}
+use Rattle.snoop_model.proofs.OneBlock.{AfterMoves.by_request, Facts.{flat_after, IsLawful, line_of, LineFits, OwnerIn, owns_owned, still_fits}}
+use Rattle.snoop_model.proofs.{Lists.{Facts.of_choice, Writes.each_set}, Tables.{Rows.IsProper-fill, Tested.of_open}}
 
 -- all that a Respond looks up of a picture that keeps its invariant
 pub record Closing {p : Protocol} {n : ℕ} {flat : List ℕ} {before : Picture} (good : BlockInvariant p n flat before) (o : Open) : Type 0 where
@@ -29,7 +26,7 @@ answered {p} {n} {flat} {before} {good} {o} found get =
     found.tests.1.1.1.1.1.0 get _ _ (rw (found.opened, eq-eqb o.core o.core refl) at (good.states o.core (good.requestor_in o found.opened)))
 
 written_flat : (a : MemAction) (v old flat : List ℕ) → (writes a ≡ true → v ≡ flat) → (writes a ≡ false → old ≡ flat) → written a v old ≡ flat
-written_flat mem_action.Write v old flat new stays = new refl
+written_flat Write v old flat new stays = new refl
 written_flat _ v old flat new stays = stays refl
 
 -- the words that the operation leaves are those in flat memory after it
@@ -37,10 +34,10 @@ module _ (flat : List ℕ) (log : List Item) (core block word value : ℕ) (came
   abbrev done : Op → Option Did
   done asking = Some (next_did log core block word asking value false)
 
-  filled_words : (a : CacheAction) (asking : Op) → came ≡ flat → a ≡ (if is_load asking then action.FillLoad else action.FillStore) → Performs word asking came value after → (after ≡ flat_after flat (done asking)) × IsLawful flat (done asking) × (fills_store a ≡ false → flat_after flat (done asking) ≡ flat)
-  filled_words a op.Load same fill did = (did.1 ∙ same, λ h. did.0 ∙ ap (λ (ws : List ℕ). word_at ws word) same, λ h. refl)
-  filled_words a (op.Store stored) same fill did = (did.1 ∙ rw (same, did.0) refl, λ h. cc, λ h. let stores : fills_store a ≡ true = ap fills_store fill in cc)
-  filled_words a op.Evict same fill did = absurd did
+  filled_words : (a : CacheAction) (asking : Op) → came ≡ flat → a ≡ (if is_load asking then FillLoad else FillStore) → Performs word asking came value after → (after ≡ flat_after flat (done asking)) × IsLawful flat (done asking) × (fills_store a ≡ false → flat_after flat (done asking) ≡ flat)
+  filled_words a Load same fill did = (did.1 ∙ same, λ h. did.0 ∙ ap (λ (ws : List ℕ). word_at ws word) same, λ h. refl)
+  filled_words a (Store stored) same fill did = (did.1 ∙ rw (same, did.0) refl, λ h. cc, λ h. let stores : fills_store a ≡ true = ap fills_store fill in cc)
+  filled_words a Evict same fill did = absurd did
 
 -- a Respond of a picture that keeps its invariant
 module _ (s : Situation) (block : ℕ) (o : Open) (did : Option Did) (new : Situation) (r : Responds s block o did new) (n : ℕ) (flat : List ℕ) (g : BlockInvariant s.protocol n flat (picture_of s block)) (in_row : o.core < length (picture_of s block).caches) where
@@ -122,18 +119,14 @@ module _ (s : Situation) (block : ℕ) (o : Open) (did : Option Did) (new : Situ
         words.1,
       )
 
-  -- a PutM's end changes no line
-  respond_put : is_put_m o.request ≡ true → r.next.caches ≡ before.caches → BlockInvariant p n flat r.next
-  respond_put put same =
-      let no_gain : gained ≡ false = found.tests.1.1.0 put in
-      closed flat (λ h. refl) (λ d d_in. simp same (rw no_gain (rw no_gain at (stays flat (λ h. refl) d d_in
-      (of_open p _ (Some o) (stays_so p o.request g.claims found.next) (found.tests.1.1.1.1.1.1.1 put) d _ _ (rw r.opened at (g.states d d_in)))))))
-
-  by_request : (q : Request) → o.request ≡ q → ArrivesFor q o p s.log before.caches r.next.caches did
-      → BlockInvariant p n (flat_after flat did) r.next × IsLawful flat did
-  by_request PutM is arrives = rw arrives.1 (respond_put (ap is_put_m is) arrives.0, tt)
-  by_request _ is arrives = respond_get (ap is_put_m is) arrives
-
   -- a Respond keeps the invariant of a picture, and a load that it performs gives the flat value
   pub respond_keeps : BlockInvariant p n (flat_after flat did) r.next × IsLawful flat did
-  respond_keeps = by_request o.request refl r.requestor
+  respond_keeps = elim (by_request o.request r.requestor) [
+    | inl (is_put, same, none) ↦
+        let put = ap is_put_m is_put in
+        let no_gain : gained ≡ false = found.tests.1.1.0 put in
+        let lines = λ (d : ℕ) (d_in : d < n). stays flat (λ h. refl) d d_in
+        (of_open p _ (Some o) (stays_so p o.request g.claims found.next) (found.tests.1.1.1.1.1.1.1 put) d _ _ (rw r.opened at (g.states d d_in))) in
+        rw none (closed flat (λ h. refl) (λ d d_in. simp same (rw no_gain (rw no_gain at (lines d d_in)))), tt)
+    | inr (get, f) ↦ respond_get get f
+  ]

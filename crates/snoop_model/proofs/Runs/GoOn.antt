@@ -1,7 +1,7 @@
 -- From every situation of a run each step leads on, in one way: it is a move, or refused for a cause.
 use Rattle.snoop_model.proofs.Common.{[], ap, Err, Extent, FirstMove, FirstRunFrom, GoesFirst, Invariant, IsWellKept, KeepsWell, List, None, Ok, Protocol, refl, Refused, Refuses, Reply, reset, Result, rules, Situation, Step, sym, ◌∙◌, ◌∷◌, ◌≡◌}
 use Rattle.snoop_model.proofs.{Invariant.Runs.{reset_invariant, move_keeps}, Queues.Moves.{keeps_well, starts_well, AreQueued}, Steps.Next.next_of}
-use Rattle.snoop_model.proofs.{Steps.GoesNext.{goes_is, goes_next}, Runs.Along.kept_along}
+use Rattle.snoop_model.{specs.Runs.Run.RunsAreOne, proofs.{Steps.GoesNext.{goes_is, goes_next}, Runs.Along.kept_along}}
 
 -- a step that is not refused is a move, an Order's on the first block of its core's queue
 pub moves_on : (s : Situation) → Invariant s → AreQueued s → (step : Step) → ((cause : Refused) → ¬ Refuses s step cause)
@@ -48,3 +48,7 @@ run_one (step ∷ steps) (outcome ∷ outcomes) (outcome' ∷ outcomes') old new
     let on = run_one steps outcomes outcomes' a.0 new new' (steady_on keeps_well old step outcome a.0 steady a.1.0) a.1.1 rest in
     (ap (λ x. x.0 ∷ outcomes) here ∙ ap (λ l. outcome' ∷ l) on.0, on.1)
 run_one _ _ _ old new new' steady a b = search rules
+
+pub runs_are_one : RunsAreOne
+runs_are_one protocol shape steps outcomes others final end run other =
+    run_one steps outcomes others (reset protocol shape) final end (reset_steady protocol shape) run other

@@ -1,25 +1,23 @@
 -- What the outcome of a step tells of the history.
-use Rattle.snoop_model.proofs.Common.{[], ap, append-nil, Ask, asked, CacheAction, CacheState, Cell, Err, false, FirstMove, Goes, held_by, IfSome, inl, inr, Invariant, Item, Line, List, Ok, Op, Option, option_to_list, Order, picture_of, Protocol, refl, Refused, Reply, Respond, Result, RunBy, same_Some, Situation, Step, subst, sym, Takes, ℕ, ◌++◌, ◌∙◌, ◌∷◌, ◌≡◌}
-use Rattle.snoop_trace.specs.declared.step.Op.TheVariants as op
-use Rattle.snoop_rules.specs.declared.names.CacheAction.TheVariants as action
-use Rattle.snoop_model.{specs.Moves.Replies.Tells, proofs.{Lines.Answered.by_request, Tables.Rows.{action_rule, serving-asked, drop_evicts}}}
-use Rattle.snoop_model.proofs.Invariant.Runs.{refusal_same, goes_keeps}
+use Rattle.snoop_model.proofs.Common.{[], ap, append-nil, Ask, asked, CacheAction, CacheState, Cell, Drop, Err, Evict, false, FirstMove, Goes, held_by, Hit, IfSome, inl, inr, Invariant, Issue, Item, Line, List, Load, Ok, Op, Option, option_to_list, Order, picture_of, Protocol, refl, Refused, Reply, Respond, Result, RunBy, same_Some, Situation, Step, Store, subst, sym, Takes, ℕ, ◌++◌, ◌∙◌, ◌∷◌, ◌≡◌}
+use Rattle.snoop_model.{specs.Moves.Replies.Tells, proofs.{OneBlock.AfterMoves.by_request, Tables.Rows.{action_rule, serving-asked, drop_evicts}}}
+use Rattle.snoop_model.proofs.Invariant.Runs.{refusal_same, goes_kept, move_keeps}
 
 -- what an Ask's row adds is what its reply tells
 module _ (p : Protocol) (next : CacheState) (log : List Item) (core block word : ℕ) (old new : Line) (answer : Reply) (entry : Option Item) where
   taken_tells : (asking : Op) (a : CacheAction) → Cell p old.state (asked asking) a next → Takes a next log core block word asking old new answer entry
       → Tells log (Ask core block word asking) (Ok answer) (log ++ option_to_list entry)
-  taken_tells op.Load action.Hit row t = rw (t.1.1, t.1.2) refl
-  taken_tells (op.Store v) action.Hit row t = rw (t.1.1, t.1.2, t.1.0.performed.0) refl
-  taken_tells op.Evict action.Hit row t = absurd t.1.0.performed
-  taken_tells asking (action.Issue q) row t = rw (t.1, t.2) (same_Some _ _ ((action_rule p old.state (asked asking) (action.Issue q) next row).1.1.1 ∙ serving-asked asking), append-nil log)
-  taken_tells op.Evict action.Drop row t = rw (t.1, t.2) (append-nil log)
-  taken_tells asking action.Drop row t = let evicts = drop_evicts p old.state asking next row in cc
+  taken_tells Load Hit row t = rw (t.1.1, t.1.2) refl
+  taken_tells (Store v) Hit row t = rw (t.1.1, t.1.2, t.1.0.performed.0) refl
+  taken_tells Evict Hit row t = absurd t.1.0.performed
+  taken_tells asking (Issue q) row t = rw (t.1, t.2) (same_Some _ _ ((action_rule p old.state (asked asking) (Issue q) next row).1.1.1 ∙ serving-asked asking), append-nil log)
+  taken_tells Evict Drop row t = rw (t.1, t.2) (append-nil log)
+  taken_tells asking Drop row t = let evicts = drop_evicts p old.state asking next row in cc
   taken_tells asking _ row t = absurd t
 
 -- a refusal tells of nothing
 pub refusal_tells : {past log : List Item} (step : Step) (cause : Refused) → log ≡ past → Tells past step (Err cause) log
-refusal_tells (Ask core block word op.Evict) cause same = same
+refusal_tells (Ask core block word Evict) cause same = same
 refusal_tells _ cause same = same
 
 -- what a step adds to the log is what its outcome tells
@@ -33,7 +31,7 @@ goes_tells old (Order core) (Ok answer) new g goes = rw goes.1.answered (goes.0,
 goes_tells old (Respond on) (Ok answer) new g goes =
     let m = goes.1 in
     let told : IfSome m.did (λ d. (d.core ≡ m.closing.core) × (d.block ≡ m.closing.block) × (d.hit ≡ false)) =
-    elim (by_request m.closing.request m.responds.requestor) [ inl put ↦ rw put.2 tt | inr fills ↦ rw fills.logged (refl, refl, refl) ] in
+    elim (by_request m.closing.request m.responds.requestor) [ inl put ↦ rw put.2 tt | inr (_, fills) ↦ rw fills.logged (refl, refl, refl) ] in
     rw (m.answered, m.on_block, ← g.opened goes.0 m.closing m.responds.opened) (m.closing.core, (m.closing.request, ap (λ (s : Situation). s.log) m.responds.after, told))
 goes_tells old step (Err cause) new g goes = refusal_tells step cause (ap (λ (s : Situation). s.log) (refusal_same old step cause new goes))
 
@@ -41,7 +39,8 @@ goes_tells old step (Err cause) new g goes = refusal_tells step cause (ap (λ (s
 pub run_tells : (steps : List Step) (outcomes : List (Result Reply Refused)) (old new : Situation) → Invariant old → RunBy Goes old steps outcomes new → RunBy Tells old.log steps outcomes new.log
 run_tells [] [] old new g run = ap (λ (s : Situation). s.log) run
 run_tells (step ∷ steps) (outcome ∷ outcomes) old new g run =
-    (run.0.log, (goes_tells old step outcome run.0 g run.1.0, run_tells steps outcomes run.0 new (goes_keeps old step outcome run.0 g run.1.0) run.1.1))
+    let rest = run_tells steps outcomes run.0 new (goes_kept Invariant move_keeps old step outcome run.0 g run.1.0) run.1.1 in
+    (run.0.log, (goes_tells old step outcome run.0 g run.1.0, rest))
 run_tells _ _ old new g run = absurd run
 
 -- so does a move on the first block

@@ -1,23 +1,21 @@
 -- Each step that goes comes to what is computed of it, and from every situation of a run each step goes so.
 use Rattle.std.specs.Bool.{Decides}
-use Rattle.snoop_model.proofs.{Lists.Facts.option_both, Lines.TheSender.{IsBelow, sends_below}, Tables.SentBy.{payload_from, sends_is, sends_row}}
-use Rattle.snoop_model.proofs.Common.{ap, arith, arrival, arrival_at_memory, ArrivesFor, Ask, asked, both_ways, BusTaken, CacheAction, CacheCell, CacheState, CanOrder, cases_Bool, cases_eq, cases_lt, Cell, cell_of, cond_both, Decides-and, Decides-ltb, Did, Err, Extent, false, false_from_ne_true, fill_by_all, FillsRequestor, FirstMove, free_picture, get_or-map-range_with_len, GoesFirst, HasWord, held_at, held_by, Hits, if◌then◌else◌, inl, inr, Invariant, is_load, is_put_m, is_some, IsOnlySender, IsProper, IsWithin, Item, le-ltb, length, length-map-range_with_len, Line, List, lt-ltb, ltb, ltb-false, ltb-true, MemLine, NoBlock, NoCore, None, none-some, nothing_held, NothingWaiting, NoTransaction, Ok, Op, Open, Option, option_and_then_some, option_map_or, Order, Orders, Payload, Performs, Picture, picture_of, Protocol, PutM, queue_of, refl, Refused, Refuses, Reply, Request, request_for, Respond, Responds, Result, seen_by, Situation, slice_get, Some, Stalled, state_of, Step, suc, sym, Takes, takes_payload, true, unwrap_or, waiting_request, word_places, written, zero, zero_words, ℕ, ◌&&◌, ◌<◌, ◌∙◌, ◌≡◌, ◌≤◌, ◌⊎◌}
-use Rattle.snoop_trace.specs.declared.step.Op.TheVariants as op
-use Rattle.snoop_rules.specs.declared.names.CacheAction.TheVariants as action
-use Rattle.snoop_model.proofs.Tables.{RespondTests.{data_rule, fills, settled_so, row_for}, StateTests.some_of, AskTests.{ask_rule, is_idle_evict}}
-use Rattle.snoop_model.proofs.{Tables.Rows.{is_evict, action_rule, serving-asked, hit_keeps}, OneBlock.RespondStep.{close, answered}}
-use Rattle.snoop_model.proofs.Steps.Next.{Next, value_of, words_after, has_word, after_ask, by_row, next_asked, sender_below, line_after, next_picture, next_ordered, filled, brought, next_closed, next_of, next_first}
-use Rattle.snoop_model.proofs.Invariant.Coherence.{orders_follow_sender_table, finds_rows, idle_evict, waits_within}
-use Rattle.snoop_model.proofs.Queues.Moves.{none_there, AreQueued, first_waits, none_waits}
+use Rattle.snoop_model.proofs.Steps.Next.{after_ask, brought, by_row, filled, has_word, line_after, Next, next_asked, next_closed, next_first, next_of, next_ordered, next_picture, sender_below, value_of, words_after}
+use Rattle.snoop_model.proofs.{Invariant.Coherence.{finds_rows, idle_evict, orders_follow_sender_table, waits_within}, Lines.TheSender.{IsBelow, sends_below}}
+use Rattle.snoop_model.proofs.Tables.{OrderTests.{data_rule, fills, row_for, settled_so}, Rows.{action_rule, hit_keeps, is_evict, serving-asked}}
+use Rattle.snoop_model.proofs.Tables.{SentBy.{payload_from, sends_is, sends_row}, StateTests.{ask_rule, is_idle_evict, some_of}}
+use Rattle.snoop_model.proofs.{Lists.Facts.{if_some, option_both}, OneBlock.RespondStep.{answered, close}, Queues.Moves.{AreQueued, first_waits, none_waits}}
+use Rattle.snoop_model.proofs.Common.{ap, arith, arrival, arrival_at_memory, ArrivesFor, Ask, asked, both_ways, BusTaken, CacheAction, CacheCell, CacheState, CanOrder, cases_Bool, cases_eq, cases_lt, Cell, cell_of, cond_both, Decides-and, Decides-ltb, Did, Drop, Err, Evict, Extent, false, false_from_ne_true, fill_by_all, FillLoad, FillsRequestor, FillStore, FirstMove, free_picture, get_or-map-range_with_len, GoesFirst, HasWord, held_at, held_by, Hit, Hits, if◌then◌else◌, inl, inr, Invariant, is_load, is_put_m, is_some, IsOnlySender, IsProper, Issue, IsWithin, Item, le-ltb, length, length-map-range_with_len, Line, List, Load, lt-ltb, ltb, ltb-false, ltb-true, MemLine, NoBlock, NoCore, None, none_from_not_some, none-some, nothing_held, NothingWaiting, NoTransaction, Ok, Op, Open, Option, option_and_then_some, option_map_or, Order, Orders, Payload, Performs, Picture, picture_of, Protocol, PutM, queue_of, refl, Refused, Refuses, Reply, Request, request_for, Respond, Responds, Result, seen_by, Situation, slice_get, Some, Stall, Stalled, state_of, Step, Store, suc, sym, Takes, takes_payload, true, unwrap_or, waiting_request, word_places, written, zero, zero_words, ℕ, ◌&&◌, ◌<◌, ◌∙◌, ◌≡◌, ◌≤◌, ◌↔◌, ◌⊎◌}
 
--- an operation does one thing
-performs_is : (word : ℕ) (asking : Op) (before : List ℕ) (value : ℕ) (after : List ℕ) → Performs word asking before value after
-    → (value ≡ value_of word asking before) × (after ≡ words_after word asking before)
-performs_is word op.Evict before value after h = absurd h
-performs_is word _ before value after h = h
+-- a load or a store does one thing
+performs_is : (word : ℕ) (asking : Op) (before : List ℕ) (value : ℕ) (after : List ℕ)
+    → Performs word asking before value after
+    ↔ ((is_evict (asked asking) ≡ false) × (value ≡ value_of word asking before) × (after ≡ words_after word asking before))
+performs_is word Evict before value after = (λ h. absurd h, λ h. let no = h.0 in cc)
+performs_is word _ before value after = (λ h. (refl, h.0, h.1), λ h. (h.1, h.2))
 
 word_decides : (shape : Extent) (word : ℕ) (asking : Op) → Decides (has_word shape word asking) (HasWord shape word asking)
-word_decides shape word op.Evict = (λ h. tt, λ h. refl)
+word_decides shape word Evict = (λ h. tt, λ h. refl)
 word_decides shape word _ = Decides-and _ _ (Decides-ltb word shape.words) (Decides-ltb word word_places)
 
 -- An Ask.
@@ -25,11 +23,11 @@ module _ (s : Situation) (core block word : ℕ) (asking : Op) where
   takes_is : (act : CacheAction) (next : CacheState) (held : Line) (answer : Reply) (entry : Option Item)
       → Takes act next s.log core block word asking (held_by (picture_of s block) core) held answer entry
       → ◌≡◌ {A = Next} (Ok answer, after_ask s core block word asking act held entry) (by_row s core block word asking act next)
-  takes_is action.Hit next held answer entry t =
-      let does = performs_is word asking t.1.0.before t.0 t.1.0.after t.1.0.performed in
-      rw (t.1.0.held, t.1.1, t.1.2, t.1.0.kept, does.0, does.1) refl
-  takes_is (action.Issue r) next held answer entry t = rw (t.0, t.1, t.2) refl
-  takes_is action.Drop next held answer entry t = rw (t.0, t.1, t.2) refl
+  takes_is Hit next held answer entry t =
+      let does = (performs_is word asking t.1.0.before t.0 t.1.0.after).0 t.1.0.performed in
+      rw (t.1.0.held, t.1.1, t.1.2, t.1.0.kept, does.1, does.2) refl
+  takes_is (Issue r) next held answer entry t = rw (t.0, t.1, t.2) refl
+  takes_is Drop next held answer entry t = rw (t.0, t.1, t.2) refl
   takes_is _ next held answer entry t = absurd t
 
   place : Decides (ltb block s.shape.blocks && has_word s.shape word asking) ((block < s.shape.blocks) × HasWord s.shape word asking)
@@ -44,20 +42,19 @@ module _ (p : Protocol) (before : Picture) (core : ℕ) (q : Request) where
   sender_is zero few (Some k) payload sent below = absurd (omega arith)
   sender_is (suc n) few from payload sent below = elim (cases_Bool (is_some (payload_from p before core q (Some n)))) [
     | inl is ↦ let x = some_of _ is in rw is (sent.alone (Some n) x.0 (omega arith, sends_row _ x.0 x.1))
-    | inr none ↦ rw none (sender_is n (omega arith) from payload sent (lower none from below (sends_is p before core q from payload sent.sends)))
+    | inr none ↦ rw none (sender_is n (omega arith) from payload sent (if_some from (λ k. k < n) (λ k its.
+        let under : k < suc n = rw its at below in
+        let sends : payload_from p before core q (Some k) ≡ Some payload = rw its at (sends_is p before core q from payload sent.sends) in
+        elim (cases_eq k n) [ inl e ↦ (let clash = rw (← e, sends) at none in cc) | inr apart ↦ omega arith ])))
   ]
-    where
-      lower : is_some (payload_from p before core q (Some n)) ≡ false → (other : Option ℕ) → IsBelow (suc n) other → payload_from p before core q other ≡ Some payload → IsBelow n other
-      lower none None below sends = tt
-      lower none (Some k) below sends = elim (cases_eq k n) [ inl e ↦ (let clash = rw (← e, sends) at none in cc) | inr ne ↦ omega arith ]
 
 -- A Respond.
 module _ (closing : Open) (p : Protocol) (log : List Item) (old new : List Line) (did : Option Did) where
   arrives_is : (q : Request) → ArrivesFor q closing p log old new did → (new, did) ≡ brought closing p log old q
   arrives_is PutM a = rw (a.0, a.1) refl
   arrives_is _ f =
-      let does = performs_is f.asking.word f.asking.op closing.value f.value f.fills.after f.fills.performed in
-      rw (f.held, f.logged, f.fills.held, f.fills.waited, f.fills.arrives, f.fills.is_row, does.0, does.1) refl
+      let does = (performs_is f.asking.word f.asking.op closing.value f.value f.fills.after).0 f.fills.performed in
+      rw (f.held, f.logged, f.fills.held, f.fills.waited, f.fills.arrives, f.fills.is_row, does.1, does.2) refl
 
 -- a move comes to what is computed
 move_is : (s : Situation) (step : Step) (answer : Reply) (new : Situation) → FirstMove s step answer new
@@ -103,7 +100,8 @@ module _ (s : Situation) (queued : AreQueued s) where
       rw (lt-ltb core s.shape.cores h.0.0, (place s core block word asking).1 (h.0.1, h.3), h.1, h.2.1) refl
   refused_is (Order core) NoCore h = rw (le-ltb core s.shape.cores h) refl
   refused_is (Order core) NothingWaiting h =
-      let empty = none_there (slice_get (queue_of s.queues core) 0) (λ block is. let waits = first_waits s queued core block is in h.1 block waits.0 waits.1) in
+      let empty = none_from_not_some (slice_get (queue_of s.queues core) 0)
+      (λ block is. let waits = first_waits s queued core block is in h.1 block waits.0 waits.1) in
       rw (lt-ltb core s.shape.cores h.0, empty) refl
   refused_is (Order core) (BusTaken block) h = rw (lt-ltb core s.shape.cores h.0, h.1, h.2) refl
   refused_is (Respond block) NoBlock h = rw (le-ltb block s.shape.blocks h) refl
@@ -113,16 +111,6 @@ module _ (s : Situation) (queued : AreQueued s) where
   pub goes_is : (step : Step) (outcome : Result Reply Refused) (new : Situation) → GoesFirst s step outcome new → (outcome, new) ≡ next_of s step
   goes_is step (Ok answer) new goes = move_is s step answer new goes
   goes_is step (Err cause) new goes = rw goes.1 (refused_is step cause goes.0)
-
-some_kept : (kept : Option (List ℕ)) → is_some kept ≡ true → kept ≡ Some (unwrap_or kept zero_words)
-some_kept None h = cc
-some_kept (Some v) h = refl
-
--- a load or a store performs its operation
-performs : (asking : Op) → is_evict (asked asking) ≡ false → (word : ℕ) (ws : List ℕ)
-    → Performs word asking ws (value_of word asking ws) (words_after word asking ws)
-performs op.Evict asks word ws = cc
-performs _ asks word ws = (refl, refl)
 
 module _ (s : Situation) (core block word : ℕ) (asking : Op) (within : IsWithin s core block) (has : HasWord s.shape word asking) where
   taken : (act : CacheAction) (next : CacheState) → Cell s.protocol (state_of s core block) (asked asking) act next
@@ -135,21 +123,21 @@ module _ (s : Situation) (core block word : ℕ) (asking : Op) (within : IsWithi
   goes_by : (act : CacheAction) (next : CacheState) → Cell s.protocol (state_of s core block) (asked asking) act next
       → IsProper (held_by (picture_of s block) core)
       → (let n = by_row s core block word asking act next in GoesFirst s (Ask core block word asking) n.0 n.1)
-  goes_by action.Hit next row proper =
+  goes_by Hit next row proper =
       let line = held_by (picture_of s block) core in
       let ws = unwrap_or line.kept zero_words in
       let asks = hit_keeps s.protocol line.state (asked asking) next row in
       let hits : Hits next line _ word asking (value_of word asking ws) = record {
         before = ws;
         after = words_after word asking ws;
-        kept = some_kept line.kept (proper.kept ∙ asks.0);
-        performed = performs asking asks.1 word ws;
+        kept = rw (some_of line.kept (proper.kept ∙ asks.0)).1;
+        performed = (performs_is word asking ws _ _).1 (asks.1, refl, refl);
         held = refl;
       } in
-      taken action.Hit next row _ _ _ (value_of word asking ws, (hits, refl, refl))
-  goes_by action.Stall next row proper = ((within, refl, (next, row), has), refl)
-  goes_by (action.Issue r) next row proper = taken (action.Issue r) next row _ _ None (refl, refl, refl)
-  goes_by action.Drop next row proper = taken action.Drop next row _ _ None (refl, refl, refl)
+      taken Hit next row _ _ _ (value_of word asking ws, (hits, refl, refl))
+  goes_by Stall next row proper = ((within, refl, (next, row), has), refl)
+  goes_by (Issue r) next row proper = taken (Issue r) next row _ _ None (refl, refl, refl)
+  goes_by Drop next row proper = taken Drop next row _ _ None (refl, refl, refl)
   goes_by _ next row proper = absurd (none-some _ (sym (action_rule s.protocol (state_of s core block) (asked asking) _ next row).0 ∙ serving-asked asking))
 
   goes_within : Invariant s → (let n = next_asked s core block word asking in GoesFirst s (Ask core block word asking) n.0 n.1)
@@ -194,9 +182,9 @@ module _ (s : Situation) (g : Invariant s) where
 
 -- an action that fills for the operation's request is the fill for the operation, which is no eviction
 fill_is : (asking : Op) (act : CacheAction) → fills (Some (request_for asking)) act ≡ true
-    → (act ≡ (if is_load asking then action.FillLoad else action.FillStore)) × (is_evict (asked asking) ≡ false)
-fill_is op.Load action.FillLoad h = (refl, refl)
-fill_is (op.Store v) action.FillStore h = (refl, refl)
+    → (act ≡ (if is_load asking then FillLoad else FillStore)) × (is_evict (asked asking) ≡ false)
+fill_is Load FillLoad h = (refl, refl)
+fill_is (Store v) FillStore h = (refl, refl)
 fill_is _ _ h = cc
 
 -- what the response brings to the caches
@@ -212,7 +200,7 @@ module _ (p : Protocol) (log : List Item) (old : List Line) (o : Open) where
       (λ none. let clash = rw (← proper.waiting, none) at fit in cc)
       (λ access waits.
       let so = fill_is access.op row.action (rw (← proper.waiting, waits) at fit) in
-      let performed = performs access.op so.1 access.word o.value in
+      let performed = (performs_is access.word access.op o.value _ _).1 (so.1, refl, refl) in
       rw found (record {
         line = _;
         asking = access;

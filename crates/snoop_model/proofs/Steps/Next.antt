@@ -1,12 +1,10 @@
 -- What a step comes to, computed: what it is answered, and where it leads. Where a table has no row, which no run meets, the state stays.
-use Rattle.snoop_model.proofs.Common.{[], Access, after_order, arrival, Ask, asked, at_memory, Bool, BusTaken, CacheAction, CacheState, came_of, cell_of, Data, Did, Err, Extent, false, free_picture, held_at, held_by, if◌then◌else◌, is_load, is_some, Item, as_access, length, Line, List, ltb, map, memory_cell_of, moves_to, next_did, NoBlock, NoCore, None, NothingWaiting, NoTransaction, Ok, Op, Open, Option, option_map_or, option_to_list, Order, Picture, picture_of, Protocol, PutM, queue_of, queues_after, range_with_len, Refused, Reply, Request, Respond, Result, seen_by, Situation, slice_get, slice_set, Some, Stalled, state_of, Step, suc, true, unwrap_or, value_sent, waiting_request, with_line, with_picture, word_at, word_places, written, zero, zero_words, ℕ, ◌&&◌, ◌++◌, ◌∷◌}
-use Rattle.snoop_trace.specs.declared.step.Op.TheVariants as op
-use Rattle.snoop_rules.specs.declared.names.CacheAction.TheVariants as action
+use Rattle.snoop_model.proofs.Common.{[], Access, after_order, arrival, Ask, asked, at_memory, Bool, BusTaken, CacheAction, CacheState, came_of, cell_of, Data, Did, Drop, Err, Evict, Extent, false, free_picture, held_at, held_by, Hit, if◌then◌else◌, is_load, is_some, Issue, Item, as_access, length, Line, List, ltb, map, memory_cell_of, moves_to, next_did, NoBlock, NoCore, None, NothingWaiting, NoTransaction, Ok, Op, Open, Option, option_map_or, option_to_list, Order, Picture, picture_of, Protocol, PutM, queue_of, queues_after, range_with_len, Refused, Reply, Request, Respond, Result, seen_by, Situation, slice_get, slice_set, Some, Stalled, state_of, Step, Store, suc, true, unwrap_or, value_sent, waiting_request, with_line, with_picture, word_at, word_places, written, zero, zero_words, ℕ, ◌&&◌, ◌++◌, ◌∷◌}
 use Rattle.snoop_rules.specs.declared.names.MemAction.TheVariants as mem_action
 use Rattle.snoop_rules.specs.declared.names.Payload.TheVariants as payload
 use Rattle.snoop_history.specs.declared.items.Item.TheVariants as item
 use Rattle.snoop_model.specs.declared.replies.Reply.TheVariants as reply
-use Rattle.snoop_model.proofs.{OneBlock.OfBlocks.changed, Tables.{RespondTests.{row_for, settled_row}, SentBy.payload_from}}
+use Rattle.snoop_model.proofs.{OneBlock.OfBlocks.changed, Tables.{OrderTests.{row_for, settled_row}, SentBy.payload_from}}
 
 -- what a step is answered, and where it leads
 abbrev pub Next : Type 0
@@ -14,16 +12,16 @@ Next = Result Reply Refused × Situation
 
 -- the value that an operation on a word loads or stores, and the block's words after it
 abbrev pub value_of : ℕ → Op → Data → ℕ
-value_of word (op.Store stored) before = stored
+value_of word (Store stored) before = stored
 value_of word _ before = word_at before word
 
 abbrev pub words_after : ℕ → Op → Data → Data
-words_after word (op.Store stored) before = slice_set before word stored
+words_after word (Store stored) before = slice_set before word stored
 words_after word _ before = before
 
 -- the operation may be of this word
 abbrev pub has_word : Extent → ℕ → Op → Bool
-has_word shape word op.Evict = true
+has_word shape word Evict = true
 has_word shape word _ = ltb word shape.words && ltb word word_places
 
 -- An Ask by a row, and one within the shape: only an Evict in I has no row.
@@ -36,16 +34,16 @@ module _ (s : Situation) (core block word : ℕ) (asking : Op) where
       changed s block (with_line (picture_of s block) core held) (queues_after act s.queues core block) (s.log ++ option_to_list entry)
 
   abbrev pub by_row : CacheAction → CacheState → Next
-  by_row action.Hit next =
+  by_row Hit next =
       let before = unwrap_or asker.kept zero_words in
       let value = value_of word asking before in
       let held : Line = record { state = next; kept = Some (words_after word asking before); waiting = asker.waiting } in
       let did : Item = item.Did (next_did s.log core block word asking value true) in
-      (Ok (if is_load asking then reply.Hit value else reply.StoreHit), after_ask action.Hit held (Some did))
-  by_row (action.Issue request) next =
+      (Ok (if is_load asking then reply.Hit value else reply.StoreHit), after_ask Hit held (Some did))
+  by_row (Issue request) next =
       let held : Line = record (moves_to next asker) { waiting = as_access word asking } in
-      (Ok (reply.Issued request), after_ask (action.Issue request) held None)
-  by_row action.Drop next = (Ok reply.Gone, after_ask action.Drop (moves_to next asker) None)
+      (Ok (reply.Issued request), after_ask (Issue request) held None)
+  by_row Drop next = (Ok reply.Gone, after_ask Drop (moves_to next asker) None)
   by_row _ next = (Err (Stalled asker.state), s)
 
   abbrev pub next_asked : Next

@@ -1,8 +1,6 @@
 -- What holds of every row, found by trying all.
-use Rattle.snoop_model.proofs.Common.{all_events, all_protocols, all_requests, all_states, all_states-at, and-false, and-true, asked, awaited_request, Bool, CacheAction, CacheEvent, CacheState, Cell, cell_of, each_row, false, GetM, GetS, I, if◌then◌else◌, IiA, ImAd, is_load, is_some, IsProper, keeps, kept_on, as_access, Line, List, missed_request, moves_to, None, not, Op, Option, option_map, other, own, Protocol, PutM, refl, Request, request_for, requests, same, seen_by, Some, states, sym, true, waiting_request, ℕ, ◌&&◌, ◌==◌, ◌||◌, ◌∙◌, ◌≡◌}
-use Rattle.snoop_trace.specs.declared.step.Op.TheVariants as op
+use Rattle.snoop_model.proofs.Common.{[], all_events, all_protocols, all_requests, all_states, all_states-at, and-false, and-true, asked, awaited_request, Bool, CacheAction, CacheEvent, CacheState, Cell, cell_of, Drop, each_row, Evict, false, FillLoad, FillStore, GetM, GetS, Hit, I, if◌then◌else◌, IiA, ImAd, is_load, is_some, IsProper, Issue, keeps, kept_on, as_access, Line, List, Load, missed_request, moves_to, None, not, Op, Option, option_map, other, own, Protocol, PutM, refl, Request, request_for, requests, same, seen_by, Some, Stall, states, sym, true, waiting_request, ℕ, ◌&&◌, ◌==◌, ◌||◌, ◌∙◌, ◌≡◌}
 use Rattle.snoop_rules.specs.declared.names.CacheEvent.TheVariants as event
-use Rattle.snoop_rules.specs.declared.names.CacheAction.TheVariants as action
 use Rattle.snoop_model.proofs.Tables.Tested.{◌also◌, Tested, alike, each_bool, each_cell, each_of, each_protocol, each_request, equal, fails, given, holds}
 
 -- the same requests, or none
@@ -11,10 +9,7 @@ same_request = equal requests tt
 
 -- kept words are given up in this state
 abbrev given_up : CacheState → Bool
-given_up I = true
-given_up ImAd = true
-given_up IiA = true
-given_up _ = false
+given_up s = not (is_some (kept_on s (Some [])))
 
 abbrev pub is_evict : CacheEvent → Bool
 is_evict event.Evict = true
@@ -37,17 +32,17 @@ is_busy state = is_some (waiting_request state) || is_some (awaited_request stat
 
 -- what an action does to what is kept, to what has missed and to what waits: an issue, of the request that serves, begins to wait where nothing did; a fill ends what has missed; a hit, of kept words, and an Evict's drop, to I, leave both; a stall comes only where the core waits; nothing else answers what is asked
 abbrev pub action_claims : CacheState → CacheEvent → CacheState → CacheAction → Tested
-action_claims s e n (action.Issue q) =
+action_claims s e n (Issue q) =
     alike (keeps n) (keeps s && not (given_up n)) also (same_request (waiting_request s) None also same_request (waiting_request n) (Some q))
     also (same_request (missed_request s) None also same_request (missed_request n) (missed_at e)) also same_request (Some q) (serving e)
-action_claims s e n action.Hit =
+action_claims s e n Hit =
     holds (keeps n) also same_request (missed_request s) (missed_request n) also same_request (waiting_request n) (waiting_request s) also holds (keeps s) also fails (is_evict e)
-action_claims s e n action.Drop =
+action_claims s e n Drop =
     alike (keeps n) (keeps s && not (given_up n)) also same_request (missed_request s) (missed_request n) also same_request (waiting_request n) (waiting_request s)
     also (holds (is_evict e) also equal states tt (Some n) (Some I))
-action_claims s e n action.Stall = holds (is_busy s)
-action_claims s e n action.FillLoad = same_request (serving e) None also holds (keeps n) also same_request (missed_request n) None also same_request (waiting_request n) (waiting_request s)
-action_claims s e n action.FillStore = same_request (serving e) None also holds (keeps n) also same_request (missed_request n) None also same_request (waiting_request n) (waiting_request s)
+action_claims s e n Stall = holds (is_busy s)
+action_claims s e n FillLoad = same_request (serving e) None also holds (keeps n) also same_request (missed_request n) None also same_request (waiting_request n) (waiting_request s)
+action_claims s e n FillStore = same_request (serving e) None also holds (keeps n) also same_request (missed_request n) None also same_request (waiting_request n) (waiting_request s)
 action_claims s e n _ = same_request (serving e) None also holds true
 
 -- what is claimed of a row: what its action does, and that after what is asked the core awaits what it awaited
@@ -80,10 +75,10 @@ order_rule p s k core q a n row = every_order_rule p s (k == core) q (record { a
 module _ (p : Protocol) (s : CacheState) (e : CacheEvent) (a : CacheAction) (n : CacheState) where
   -- a fill ends all waiting and keeps a value
   abbrev IsFill : Op → Type 0
-  IsFill asking = a ≡ (if is_load asking then action.FillLoad else action.FillStore)
+  IsFill asking = a ≡ (if is_load asking then FillLoad else FillStore)
 
-  fill_facts : (asking : Op) → IsFill asking → Cell p s e a n → (action_claims s e n action.FillLoad).claim
-  fill_facts op.Load fill row = rw fill at (action_rule p s e a n row)
+  fill_facts : (asking : Op) → IsFill asking → Cell p s e a n → (action_claims s e n FillLoad).claim
+  fill_facts Load fill row = rw fill at (action_rule p s e a n row)
   fill_facts _ fill row = rw fill at (action_rule p s e a n row)
 
   pub fill-waits : (asking : Op) → IsFill asking → Cell p s e a n → waiting_request n ≡ waiting_request s
@@ -93,7 +88,7 @@ module _ (p : Protocol) (s : CacheState) (e : CacheEvent) (a : CacheAction) (n :
   IsProper-fill asking after fill row = let f = fill_facts asking fill row in record { kept = sym f.1.0; waiting = sym f.1.1.0 }
 
 pub serving-asked : (asking : Op) → serving (asked asking) ≡ Some (request_for asking)
-serving-asked op.Evict = refl
+serving-asked Evict = refl
 serving-asked _ = refl
 
 -- an Ask leaves what its core awaits
@@ -111,46 +106,46 @@ IsProper-move : (old : Line) (n : CacheState) → IsProper old → keeps n ≡ (
     → IsProper (moves_to n old)
 IsProper-move old n proper kept missed = record { kept = is_some-kept_on n old.kept (keeps old.state) proper.kept ∙ sym kept; waiting = proper.waiting ∙ missed }
 
-module _ (p : Protocol) (s : CacheState) (e : CacheEvent) (q : Request) (n : CacheState) (row : Cell p s e (action.Issue q) n) where
+module _ (p : Protocol) (s : CacheState) (e : CacheEvent) (q : Request) (n : CacheState) (row : Cell p s e (Issue q) n) where
   -- an issue makes a core wait that did not
   pub issue-waits : (waiting_request s ≡ None) × (waiting_request n ≡ Some q)
-  issue-waits = (action_rule p s e (action.Issue q) n row).1.0
+  issue-waits = (action_rule p s e (Issue q) n row).1.0
 
   -- where a request is issued no operation had missed, and then the one that is asked has
   pub issue-missed : (missed_request s ≡ None) × (missed_request n ≡ missed_at e)
-  issue-missed = (action_rule p s e (action.Issue q) n row).1.1.0
+  issue-missed = (action_rule p s e (Issue q) n row).1.1.0
 
 pub asked_missed : (word : ℕ) (asking : Op) → option_map (λ access. request_for access.op) (as_access word asking) ≡ missed_at (asked asking)
-asked_missed word op.Evict = refl
+asked_missed word Evict = refl
 asked_missed word _ = refl
 
-pub IsProper-issue : (p : Protocol) (old : Line) (word : ℕ) (asking : Op) (q : Request) (n : CacheState) → IsProper old → Cell p old.state (asked asking) (action.Issue q) n
+pub IsProper-issue : (p : Protocol) (old : Line) (word : ℕ) (asking : Op) (q : Request) (n : CacheState) → IsProper old → Cell p old.state (asked asking) (Issue q) n
     → IsProper (record { state = n; kept = kept_on n old.kept; waiting = as_access word asking })
 IsProper-issue p old word asking q n proper row = record {
-  kept = is_some-kept_on n old.kept (keeps old.state) proper.kept ∙ sym (action_rule p old.state (asked asking) (action.Issue q) n row).0;
+  kept = is_some-kept_on n old.kept (keeps old.state) proper.kept ∙ sym (action_rule p old.state (asked asking) (Issue q) n row).0;
   waiting = asked_missed word asking ∙ sym (issue-missed p old.state (asked asking) q n row).1;
 }
 
 -- a hit is no Evict, of words that are kept
-pub hit_keeps : (p : Protocol) (s : CacheState) (e : CacheEvent) (n : CacheState) → Cell p s e action.Hit n → (keeps s ≡ true) × (is_evict e ≡ false)
-hit_keeps p s e n row = (action_rule p s e action.Hit n row).1.1.1
+pub hit_keeps : (p : Protocol) (s : CacheState) (e : CacheEvent) (n : CacheState) → Cell p s e Hit n → (keeps s ≡ true) × (is_evict e ≡ false)
+hit_keeps p s e n row = (action_rule p s e Hit n row).1.1.1
 
-pub drop-waits : (p : Protocol) (s : CacheState) (e : CacheEvent) (n : CacheState) → Cell p s e action.Drop n → waiting_request n ≡ waiting_request s
-drop-waits p s e n row = (action_rule p s e action.Drop n row).1.1.0
+pub drop-waits : (p : Protocol) (s : CacheState) (e : CacheEvent) (n : CacheState) → Cell p s e Drop n → waiting_request n ≡ waiting_request s
+drop-waits p s e n row = (action_rule p s e Drop n row).1.1.0
 
-pub IsProper-hit : (p : Protocol) (old : Line) (e : CacheEvent) (n : CacheState) (after : List ℕ) → IsProper old → Cell p old.state e action.Hit n
+pub IsProper-hit : (p : Protocol) (old : Line) (e : CacheEvent) (n : CacheState) (after : List ℕ) → IsProper old → Cell p old.state e Hit n
     → IsProper (record { state = n; kept = Some after; waiting = old.waiting })
 IsProper-hit p old e n after proper row =
-    let (kept, (missed, _)) = action_rule p old.state e action.Hit n row in
+    let (kept, (missed, _)) = action_rule p old.state e Hit n row in
     record { kept = sym kept; waiting = proper.waiting ∙ missed }
 
 -- only an Evict drops a line
-pub drop_evicts : (p : Protocol) (s : CacheState) (asking : Op) (n : CacheState) → Cell p s (asked asking) action.Drop n → asking ≡ op.Evict
-drop_evicts p s op.Evict n row = refl
-drop_evicts p s _ n row = let evicts = (action_rule p s _ action.Drop n row).1.1.1.0 in cc
+pub drop_evicts : (p : Protocol) (s : CacheState) (asking : Op) (n : CacheState) → Cell p s (asked asking) Drop n → asking ≡ Evict
+drop_evicts p s Evict n row = refl
+drop_evicts p s _ n row = let evicts = (action_rule p s _ Drop n row).1.1.1.0 in cc
 
-pub IsProper-drop : (p : Protocol) (old : Line) (e : CacheEvent) (n : CacheState) → IsProper old → Cell p old.state e action.Drop n → IsProper (moves_to n old)
-IsProper-drop p old e n proper row = let (kept, (missed, _)) = action_rule p old.state e action.Drop n row in IsProper-move old n proper kept missed
+pub IsProper-drop : (p : Protocol) (old : Line) (e : CacheEvent) (n : CacheState) → IsProper old → Cell p old.state e Drop n → IsProper (moves_to n old)
+IsProper-drop p old e n proper row = let (kept, (missed, _)) = action_rule p old.state e Drop n row in IsProper-move old n proper kept missed
 
 pub IsProper-order : (p : Protocol) (old : Line) (k core : ℕ) (q : Request) (a : CacheAction) (n : CacheState) → IsProper old → Cell p old.state (seen_by k core q) a n → IsProper (moves_to n old)
 IsProper-order p old k core q a n proper row = let (kept, (missed, _)) = order_rule p old.state k core q a n row in IsProper-move old n proper kept missed

@@ -1,5 +1,5 @@
 -- What a row sends, as a test.
-use Rattle.snoop_model.proofs.Common.{ap, at_memory, CacheAction, CacheCell, CacheState, cell_of, held_by, MemAction, MemCell, memory_cell_of, MemState, None, Option, Payload, Picture, Protocol, Request, same_Some, seen_by, Sends, Some, Target, ℕ, ◌≡◌}
+use Rattle.snoop_model.proofs.Common.{ap, at_memory, CacheAction, CacheCell, CacheState, cell_of, held_by, MemAction, MemCell, memory_cell_of, MemState, None, Option, option_and_then, Payload, Picture, Protocol, Request, same_Some, seen_by, Sends, Some, Target, ℕ, ◌≡◌}
 use Rattle.snoop_rules.specs.declared.names.CacheAction.TheVariants as action
 use Rattle.snoop_rules.specs.declared.names.MemAction.TheVariants as mem_action
 
@@ -20,8 +20,7 @@ sent_by (Some row) = payload_sent row.action
 
 -- the payload that memory's row sends, if there is a row and it sends
 abbrev pub sent_by_memory : Option MemCell → Option Payload
-sent_by_memory None = None
-sent_by_memory (Some row) = memory_payload row.action
+sent_by_memory found = option_and_then (λ row. memory_payload row.action) found
 
 -- an action that sends
 pub sending : (act : CacheAction) (payload : Payload) → payload_sent act ≡ Some payload → (target : Target) × (act ≡ action.Send payload target)

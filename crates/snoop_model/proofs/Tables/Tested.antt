@@ -1,5 +1,5 @@
 -- Claims with a test each: where the test passes the claim holds, so a claim of all values of the tables is proved by computing its test.
-use Rattle.snoop_model.proofs.Common.{all_memories, all_memories-at, all_payloads, all_payloads-at, all_protocols, all_protocols-at, all_requests, all_requests-at, all_states, all_states-at, and_parts, ap, arith, Bare, Bool, CacheAction, CacheEvent, CacheState, cases_Bool, Cell, each_row, each_row-at, eqb, false, fits, inl, inr, MemState, None, not, not-true, Open, Option, own_open, Payload, Protocol, refl, Request, same, same_true, sameb, Some, Talk, talk_of, true, ℕ, ◌&&◌, ◌≡◌}
+use Rattle.snoop_model.proofs.Common.{all_memories, all_memories-at, all_payloads, all_payloads-at, all_protocols, all_protocols-at, all_requests, all_requests-at, all_states, all_states-at, and_parts, ap, arith, Bare, Bool, CacheAction, CacheEvent, CacheState, cases_Bool, Cell, each_row, each_row-at, eqb, false, fits, inl, inr, MemState, None, not, not-true, Open, Option, option_map_or, own_open, Payload, Protocol, refl, Request, same, same_true, sameb, Some, Talk, talk_of, true, ℕ, ◌&&◌, ◌≡◌}
 use denote.Enum.Declared.{Declared}
 
 infixr 20 ◌also◌
@@ -50,22 +50,18 @@ abbrev pub unless : Bool → (Bool → Tested) → Tested
 unless b c = record { claim = b ≡ false → (c true).claim; test = when (not b) (λ x. (c x).test); sound = λ h e. (c true).sound (rw e at h) }
 
 -- a claim of the value, if there is one
-abbrev pub test_of : {A : Type 0} → Bool → Option A → (A → Bool) → Bool
-test_of none None f = none
-test_of none (Some a) f = f a
-
 abbrev pub given : {A : Type 0} → Option A → (A → Tested) → Tested
-given {A} o c = record { claim = (a : A) → o ≡ Some a → (c a).claim; test = test_of true o (λ a. (c a).test); sound = λ h a e. (c a).sound (rw e at h) }
+given {A} o c = record { claim = (a : A) → o ≡ Some a → (c a).claim; test = option_map_or (λ a. (c a).test) o true; sound = λ h a e. (c a).sound (rw e at h) }
 
 -- there is a value, of which the claim holds
-pub found_at : {A : Type 0} (o : Option A) (f : A → Bool) → test_of false o f ≡ true → (a : A) × (o ≡ Some a) × (f a ≡ true)
+pub found_at : {A : Type 0} (o : Option A) (f : A → Bool) → option_map_or f o false ≡ true → (a : A) × (o ≡ Some a) × (f a ≡ true)
 found_at None f h = cc
 found_at (Some a) f h = (a, refl, h)
 
 abbrev pub found : {A : Type 0} → Option A → (A → Tested) → Tested
 found {A} o c = record {
   claim = (a : A) × (o ≡ Some a) × (c a).claim;
-  test = test_of false o (λ a. (c a).test);
+  test = option_map_or (λ a. (c a).test) o false;
   sound = λ h. let (a, is, passes) = found_at o (λ x. (c x).test) h in (a, is, (c a).sound passes);
 }
 

@@ -1,13 +1,8 @@
 -- All laws of turns that follow the turn rule: what they keep, that they are never refused, what they cost, and when a work is over.
-use Rattle.snoop_model.proofs.Common.{[], Access, All, All-contains, All-filter, All-push, All-weaker, ap, arith, Ask, asked, awaited_request, BusTaken, CacheAction, CacheEvent, CacheState, Cell, ClosedIsLast, ComesToRest, cond_some, Contains-get_or, Ends, EndsAtOnce, eq-eqb, false, FirstMove, has_transaction, held_by, I, inl, inr, is_some, IsServing, Issued, IsWellKept, Item, length, Line, List, missed_request, ne_eqb, NeverRefused, None, none-some, not, nothing_there, NothingWaiting, Op, Open, Option, or_cases, Order, Pays, Picture, picture_of, Protocol, queue_of, queues_after, refl, Refused, Refuses, Reply, Request, Respond, same_Some, ServesOn, Situation, slice_index_or, slice_set, Some, Stalled, state_of, sum_by, sym, Takes, true, TurnLaws, waiting_request, Waits, with_line, ℕ, ◌+◌, ◌==◌, ◌∙◌, ◌≡◌, ◌≢◌, ◌≤◌, ◌⊎◌}
-use Rattle.snoop_rules.specs.declared.names.CacheAction.TheVariants as action
-use Rattle.snoop_model.{specs.Turns.Turn.{step_under_way, turn_of}, proofs.Lists.Writes.{all_first, each_still, sum_issued, sum_ordered, count_set}}
-use Rattle.snoop_model.proofs.{Queues.Moves.{none_there, starts_well, keeps_well, queued_waits, waits_queued}, Once.Owed.owed_after, Tables.StateTests.some_of}
+use Rattle.snoop_model.proofs.Common.{[], Access, All, All-contains, All-filter, All-push, All-weaker, ap, arith, Ask, asked, awaited_request, BusTaken, CacheAction, CacheState, cond_some, Contains-get_or, eq-eqb, false, FirstMove, has_transaction, held_by, I, inl, inr, is_some, IsServing, Issue, Issued, IsWellKept, Item, Line, missed_request, ne_eqb, NeverRefused, None, none_from_not_some, none-some, not, nothing_there, NothingWaiting, Op, Open, Option, or_cases, Order, Pays, Picture, picture_of, queue_of, queues_after, refl, Refused, Refuses, Reply, Request, Respond, same_Some, ServesOn, Situation, slice_index_or, slice_set, Some, Stall, Stalled, state_of, sym, Takes, true, TurnLaws, waiting_request, Waits, with_line, ℕ, ◌==◌, ◌∙◌, ◌≡◌, ◌≢◌, ◌↔◌, ◌⊎◌}
+use Rattle.snoop_model.{specs.Turns.Turn.{step_under_way, turn_of}, proofs.Lists.Writes.{all_first, each_still, sum_asked, sum_ordered, count_set}}
+use Rattle.snoop_model.proofs.{Queues.Moves.{starts_well, keeps_well, queued_waits, waits_queued}, Once.Owed.owed_after, Tables.StateTests.some_of}
 use Rattle.snoop_model.proofs.Tables.Rows.{action_rule, is_busy}
-
--- a stall comes only where the core waits
-pub stall_busy : (p : Protocol) (s : CacheState) (e : CacheEvent) (n : CacheState) → Cell p s e action.Stall n → is_busy s ≡ true
-stall_busy p s e n h = action_rule p s e action.Stall n h
 
 -- for one of the two, or the other
 pub busy_cases : (s : CacheState) → is_busy s ≡ true → ((request : Request) × (waiting_request s ≡ Some request)) ⊎ ((request : Request) × (awaited_request s ≡ Some request))
@@ -23,20 +18,23 @@ pub missed_busy : (s : CacheState) → is_some (missed_request s) ≡ true → i
 missed_busy I h = cc
 missed_busy _ h = cc
 
--- what is so where a work under way takes no step
-none_left : (w : Option Request) (t : Option Open) (core block : ℕ) → step_under_way w t core block ≡ None
-    → (w ≡ None) × ((o : Open) → t ≡ Some o → o.core ≡ core → ⊥)
-none_left (Some q) None core block h = cc
-none_left (Some q) (Some o) core block h = cc
-none_left None None core block h = (refl, λ o e own. cc)
-none_left None (Some o) core block h = (refl, λ p e own. (let clash = rw (eq-eqb o.core core (rw (same_Some _ _ e) own)) at h in cc))
+-- a work under way takes no step exactly where nothing of its core waits or is open
+no_step : (w : Option Request) (t : Option Open) (core block : ℕ)
+    → (step_under_way w t core block ≡ None) ↔ ((w ≡ None) × ((o : Open) → t ≡ Some o → o.core ≢ core))
+no_step (Some q) None core block = (λ h. cc, λ idle. cc)
+no_step (Some q) (Some o) core block = (λ h. cc, λ idle. cc)
+no_step None None core block = (λ h. (refl, λ o e. cc), λ idle. refl)
+no_step None (Some o) core block = (
+  λ h. (refl, λ p e own. (let clash = rw (eq-eqb o.core core (rw (same_Some _ _ e) own)) at h in cc)),
+  λ idle. rw (ne_eqb o.core core (idle.1 o refl)) refl,
+)
 
 never_refused : NeverRefused
 never_refused s under_way core block word asking false step serving kept has_core has_block has_word idle is cause refused = ask_goes cause (rw (← (same_Some _ _ is)) at refused)
   where
     ask_goes : (cause : Refused) → Refuses s (Ask core block word asking) cause → ⊥
     ask_goes (Stalled state) h =
-        none-some block (sym idle ∙ busy_under_way s under_way serving kept core block (stall_busy s.protocol (state_of s core block) (asked asking) h.2.0 h.2.1))
+        none-some block (sym idle ∙ busy_under_way s under_way serving kept core block (action_rule s.protocol (state_of s core block) (asked asking) Stall h.2.0 h.2.1))
     ask_goes _ h = grind arith
 never_refused s under_way core block word asking true step serving kept has_core has_block has_word its is cause refused =
     goes (waiting_request (state_of s core block)) (picture_of s block).transaction refl refl is
@@ -77,7 +75,7 @@ module _ {s : Situation} {under_way : ℕ → Option ℕ} (serving : IsServing u
     where
       queued : (act : CacheAction) (next : CacheState) (held : Line) (entry : Option Item) → Takes act next s.log core m.0 word asking (held_by (picture_of s m.0) core) held answer entry
           → (k : ℕ) → All (λ b. under_way k ≡ Some b) (queue_of (queues_after act s.queues core m.0) k)
-      queued (action.Issue request) next held entry taken = each_still s.queues core _ [] (λ k queue. All (λ b. under_way k ≡ Some b) queue) serving.waits
+      queued (Issue request) next held entry taken = each_still s.queues core _ [] (λ k queue. All (λ b. under_way k ≡ Some b) queue) serving.waits
           (All-push (λ b. under_way core ≡ Some b) (queue_of s.queues core) m.0 (serving.waits core) (its request taken.1))
       queued _ next held entry taken = serving.waits
 
@@ -108,30 +106,6 @@ serves_on s t before after (Respond on) answer serving move extends its =
       opened = set_opened now move.0 responds.next (λ o is. absurd (none-some o (sym responds.closed ∙ is)));
     })
 
-ends : Ends
-ends s before after core block word asking serving kept works none others =
-    let left = none_left (waiting_request (state_of s core block)) (picture_of s block).transaction core block none in
-    record {
-      waits = λ k i d lt.
-          let w = queued_waits s kept.queued k (slice_index_or (queue_of s.queues k) i d) (Contains-get_or (queue_of s.queues k) i d lt) in
-          others k (λ e. none-some w.0 (cc (left.0, w.1, e, serving.waits k i d lt, works))) ∙ serving.waits k i d lt;
-      opened = λ b o is. others o.core (λ e. left.1 o (cc (serving.opened b o is, works, e, is)) e) ∙ serving.opened b o is;
-    }
-
-comes_to_rest : ComesToRest
-comes_to_rest s serving kept = record {
-  ordered = λ core block request waits. none-some block (All-contains (λ b. ◌≡◌ {A = Option ℕ} None (Some b)) (queue_of s.queues core) block
-      (serving.waits core) (waits_queued s kept.queued core block request waits));
-  closed = λ block. none_there (picture_of s block).transaction (λ o is. none-some block (serving.opened block o is));
-  performed = λ core block. none_there (held_by (picture_of s block) core).waiting
-      (λ o is. none-some block (busy_under_way s (λ _. None) serving kept core block (missed_busy _ (kept.operations core block o is))));
-}
-
--- an Ask puts at most one request more into the queues
-sum_asked : (act : CacheAction) (lines : List (List ℕ)) (core block : ℕ) → sum_by length (queues_after act lines core block) ≤ sum_by length lines + 1
-sum_asked (action.Issue request) lines core block = sum_issued lines core block
-sum_asked _ lines core block = omega arith
-
 pays : Pays
 pays s t (Ask core on word asking) answer move = elim move.1.1.moves [
   | inl absent ↦ rw absent.3 (omega arith)
@@ -148,25 +122,8 @@ pays s t (Respond on) answer move =
 -- a work whose operation waits has a step left
 pub has_step : (s : Situation) (core block word : ℕ) (asking : Op) (wanted : Access) → IsWellKept s → (held_by (picture_of s block) core).waiting ≡ Some wanted → turn_of s core block word asking true ≡ None → ⊥
 has_step s core block word asking wanted kept waits none =
-    let left = none_left (waiting_request (state_of s core block)) (picture_of s block).transaction core block none in
+    let left = (no_step (waiting_request (state_of s core block)) (picture_of s block).transaction core block).0 none in
     grind (arith, busy_cases (state_of s core block) (missed_busy (state_of s core block) (kept.operations core block wanted waits)), left.0, left.1, kept.awaits core block)
-
--- where no step is left, the operation is the core's last one
-closed_is_last : ClosedIsLast
-closed_is_last s core block word asking wanted kept owed none = elim owed [ inl waits ↦ absurd (has_step s core block word asking wanted kept waits none) | inr last ↦ last ]
-
--- nothing of the core waits or is open
-idle_turn : (core block : ℕ) (w : Option Request) (o : Option Open) → ((r : Request) → w ≢ Some r) → ((t : Open) → o ≡ Some t → t.core ≢ core) → step_under_way w o core block ≡ None
-idle_turn core block (Some r) o none_waits none_open = absurd (none_waits r refl)
-idle_turn core block None None none_waits none_open = refl
-idle_turn core block None (Some t) none_waits none_open = rw (ne_eqb t.core core (none_open t refl)) refl
-
-asked_once : EndsAtOnce
-asked_once s t under_way core block word asking answer serving idle kept m other =
-    let now = asked_serves serving core block word asking answer t m (λ request is. absurd (other request is)) in
-    idle_turn core block (waiting_request (state_of t core block)) (picture_of t block).transaction
-    (λ r w. none-some block (sym idle ∙ All-contains (λ b. under_way core ≡ Some b) (queue_of t.queues core) block (now.waits core) (waits_queued t kept.queued core block r w)))
-    (λ o is c. none-some block (sym (ap under_way c ∙ idle) ∙ now.opened block o is))
 
 pub turn_rule : TurnLaws
 turn_rule = record {
@@ -174,10 +131,30 @@ turn_rule = record {
   keeps_well = keeps_well;
   never_refused = never_refused;
   serves_on = serves_on;
-  ends = ends;
-  comes_to_rest = comes_to_rest;
+  ends = λ s before after core block word asking serving kept works none others.
+      let left = (no_step (waiting_request (state_of s core block)) (picture_of s block).transaction core block).0 none in
+      record {
+        waits = λ k i d lt.
+            let w = queued_waits s kept.queued k (slice_index_or (queue_of s.queues k) i d) (Contains-get_or (queue_of s.queues k) i d lt) in
+            others k (λ e. none-some w.0 (cc (left.0, w.1, e, serving.waits k i d lt, works))) ∙ serving.waits k i d lt;
+        opened = λ b o is. others o.core (λ e. left.1 o (cc (serving.opened b o is, works, e, is)) e) ∙ serving.opened b o is;
+      };
+  comes_to_rest = λ s serving kept. record {
+    ordered = λ core block request waits. none-some block (All-contains (λ b. ◌≡◌ {A = Option ℕ} None (Some b)) (queue_of s.queues core) block
+        (serving.waits core) (waits_queued s kept.queued core block request waits));
+    closed = λ block. none_from_not_some (picture_of s block).transaction (λ o is. none-some block (serving.opened block o is));
+    performed = λ core block. none_from_not_some (held_by (picture_of s block) core).waiting
+        (λ o is. none-some block (busy_under_way s (λ _. None) serving kept core block (missed_busy _ (kept.operations core block o is))));
+  };
   pays = pays;
   owes = owed_after;
-  closed_is_last = closed_is_last;
-  ends_at_once = asked_once;
+  closed_is_last = λ s core block word asking wanted kept owed none.
+      elim owed [ inl waits ↦ absurd (has_step s core block word asking wanted kept waits none) | inr last ↦ last ];
+  ends_at_once = λ s t under_way core block word asking answer serving idle kept m other.
+      let now = asked_serves serving core block word asking answer t m (λ request is. absurd (other request is)) in
+      let queued = λ (r : Request) (w : Waits t core block r).
+      none-some block (sym idle ∙ All-contains (λ b. under_way core ≡ Some b) (queue_of t.queues core) block (now.waits core)
+      (waits_queued t kept.queued core block r w)) in
+      (no_step (waiting_request (state_of t core block)) (picture_of t block).transaction core block).1
+      (none_from_not_some (waiting_request (state_of t core block)) queued, λ o is c. none-some block (sym (ap under_way c ∙ idle) ∙ now.opened block o is));
 }
