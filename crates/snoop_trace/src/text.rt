@@ -139,32 +139,6 @@ struct Watched<R: Source, K: Begun> {
     ghost told: { failed ≡ true → R.never_fails ≡ false },
 }
 
-impl<R: Source, K: Begun> Watched<R, K> {
-    fn new(inner: R) -> Watched<R, K>
-        requires { R.failed inner ≡ K.before }
-        ensures { result.inner ≡ inner }
-    {
-        Watched {
-            inner,
-            failed: false,
-            begun: PhantomData,
-        }
-    }
-
-    // The reader, and whether a read of it has failed since.
-    fn into_parts(self) -> (R, bool)
-        ensures blamed { BlamesReader K.before (R.failed result.0) (result.1 ≡ true) }
-        ensures never_blamed { result.1 ≡ true → R.never_fails ≡ false }
-    {
-        let Watched {
-            inner,
-            failed,
-            begun: _,
-        } = self;
-        (inner, failed)
-    }
-}
-
 impl<R: Source, K: Begun> Read for Watched<R, K> {
     ghost remaining = { λ r. R.remaining r.inner };
 
@@ -195,20 +169,28 @@ fn read_known<E: Entry, C: Entries<E> + Drop, R: Source, K: Begun>(
     ensures never_blamed { R.never_fails ≡ true → result.1 ≢ Err TextFault.Read }
     ensures blamed { BlamesReader (R.failed reader) (R.failed result.0) (result.1 ≡ Err TextFault.Read) }
 {
-    let watched: Watched<R, K> = Watched::new(reader);
+    let watched: Watched<R, K> = Watched {
+        inner: reader,
+        failed: false,
+        begun: PhantomData,
+    };
     let mut text = ReaderBuilder::new()
         .has_headers(false)
         .flexible(true)
         .from_reader(alloc, watched);
     let mut fields = ByteRecord::new(alloc);
     let taken = take_text(&mut text, &mut fields, heading, shape, &mut entries);
-    let (reader, failed) = text.into_inner().into_parts();
+    let Watched {
+        inner,
+        failed,
+        begun: _,
+    } = text.into_inner();
     let read = match taken {
         _ if failed => Err(TextFault::Read),
         Ok(()) => Ok(entries),
         Err(fault) => Err(fault),
     };
-    (reader, read)
+    (inner, read)
 }
 
 // The same, with what is known of the reader picked at the call.
