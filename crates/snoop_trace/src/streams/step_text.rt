@@ -110,7 +110,8 @@ fn put_two(back: &mut Back, letter: u8, core: u32, address: u64)
     ensures { back.new ≡ letter ∷ [] ++ codes "," ++ decimal core ++ codes "," ++ decimal address ++ back.old }
 {
     put_field(back, address);
-    put_one(back, letter, core as u64);
+    put_field(back, core as u64);
+    back.put(letter);
 }
 
 // Puts the record of what a core asks for before no text.
