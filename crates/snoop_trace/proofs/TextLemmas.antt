@@ -1,9 +1,10 @@
 -- How the records that were read so far stand in the whole text.
+use Rattle.std.proofs.lemmas.Option.{IfSome_then}
 use Rattle.std.proofs.Common.{◌≡◌, ℕ, ◌+◌, List, [], ◌∷◌, ◌++◌, Option, Some, None, true, false, refl, ◌∙◌, add-one, ap, append_assoc}
 use Rattle.std.specs.Prelude.{Bool, Result, Ok, Err, IfErr, IfSome, if◌then◌else◌, zero, suc}
 use Rattle.snoop_trace.specs.{Progress.heading_asked, declared.protocol.Protocol.Protocol}
 use Rattle.snoop_trace.proofs.Common.{Extent, Heading, IfErr-at_err, State, TextFault, append-nil, false_from_ne_true, records_left}
-use Rattle.csv.specs.{Machine.next_record, Reading.{Reached, ReadRecord, default_config, reader_config, reader_state, source_of}}
+use Rattle.csv.specs.{Machine.next_record, Reading.{Reached, ReadRecord, default_config, reader_config, reader_state, records, source_of}}
 use Rattle.csv.{specs.declared.reader.Reader.Reader, proofs.ReadFacts.{rows-end, rows-more}}
 use Rattle.snoop_trace.specs.{Grammar.{◌>>=◌, NamesRecord}, Heading.{heading_as, is_heading}, Text.{Gives, entries_from, entries_in}}
 use Rattle.snoop_trace.proofs.CsvLemmas.{records-ended, records_step}
@@ -75,10 +76,14 @@ says_none says (Some asked) zero = refl
 says_none says heading (suc n) = refl
 
 -- what is said in all is what was said so far, and then what the records say that are left
-pub record SoFar {A : Type 0} (says : Says A) (heading : Option Heading) (said : Result (List A) TextFault) (s : State) (left : Option (List ℕ)) (entries : List A) (n : ℕ) : Type 0 where
+pub record Split {A : Type 0} (says : Says A) (heading : Option Heading) (said : Result (List A) TextFault) (s : State) (left : Option (List ℕ)) (entries : List A) (n : ℕ) : Type 0 where
   pub rest : List ℕ
   pub known : left ≡ Some rest
   pub same : said ≡ (says_from says heading n (records_left s rest) >>= λ more. Ok (entries ++ more))
+
+-- a reader of a text stands after n records, which gave these entries
+pub record SoFar {R A : Type 0} (rem : R → Option (List ℕ)) (says : Says A) (heading : Option Heading) (start r : Reader R) (entries : List A) (n : ℕ) : Type 0 where
+  pub split : IfSome (source_of rem start) (λ xs. Split says heading (entries_in says heading (records default_config xs)) (reader_state r) (source_of rem r) entries n)
 
 module _ {R : Type 0} (rem : R → Option (List ℕ)) (a b : Reader R) (f : List (List ℕ)) (config : reader_config a ≡ default_config) where
   -- a record that was read
@@ -91,24 +96,27 @@ module _ {R : Type 0} (rem : R → Option (List ℕ)) (a b : Reader R) (f : List
       let whole : (p.0, p.1, p.2) ≡ (f, reader_state b, z) = cc (is, at_end.0, at_end.1) in
       (z, next ∙ ap Some whole, at_z)
 
-  module _ {A : Type 0} (says : Says A) (heading : Option Heading) (said : Result (List A) TextFault) (entries : List A) (n : ℕ)
-      (far : SoFar says heading said (reader_state a) (source_of rem a) entries n) where
-    pub done : ReadRecord rem a b false f → said ≡ Ok entries
-    done r = far.same ∙ rw (records-ended default_config _ (reader_state a) far.rest (rows-end rem a b f default_config far.rest config far.known r), says_none says heading n, append-nil) refl
+  module _ {A : Type 0} (says : Says A) (heading : Option Heading) (start : Reader R) (entries : List A) (n : ℕ) (far : SoFar rem says heading start a entries n) where
+    pub done : ReadRecord rem a b false f → IfSome (source_of rem start) (λ xs. entries_in says heading (records default_config xs) ≡ Ok entries)
+    done r = IfSome_then (source_of rem start) far.split (λ xs far.
+        far.same ∙ rw (records-ended default_config _ (reader_state a) far.rest (rows-end rem a b f default_config far.rest config far.known r), says_none says heading n, append-nil) refl)
 
-    pub further : ReadRecord rem a b true f → (before : List A) → says_next says heading n f ≡ Ok before → SoFar says heading said (reader_state b) (source_of rem b) (entries ++ before) (n + 1)
-    further r before is =
-        let (ys, next, known) = took far.rest r far.known in
-        record {
-          rest = ys;
-          known = known;
-          same = far.same ∙ rw (records_step default_config (reader_state a) far.rest (f, reader_state b, ys) next, next_first says heading n f (records_left (reader_state b) ys), is) (simp (bind_assoc, append_assoc));
-        }
+    pub further : ReadRecord rem a b true f → (before : List A) → says_next says heading n f ≡ Ok before → SoFar rem says heading start b (entries ++ before) (n + 1)
+    further r before is = record {
+      split = IfSome_then (source_of rem start) far.split (λ xs far.
+          let (ys, next, known) = took far.rest r far.known in
+          record {
+            rest = ys;
+            known = known;
+            same = far.same ∙ rw (records_step default_config (reader_state a) far.rest (f, reader_state b, ys) next, next_first says heading n f (records_left (reader_state b) ys), is) (simp (bind_assoc, append_assoc));
+          });
+    }
 
-    pub refused : ReadRecord rem a b true f → {X : Type 0} (view : X → List A) (answer : Result X TextFault) (named : TextFault) → answer ≡ Err named → says_next says heading n f ≡ Err named → Gives view answer said
-    refused r view answer named gives is =
+    pub refused : ReadRecord rem a b true f → {X : Type 0} (view : X → List A) (answer : Result X TextFault) (named : TextFault) → answer ≡ Err named → says_next says heading n f ≡ Err named
+        → IfSome (source_of rem start) (λ xs. Gives view answer (entries_in says heading (records default_config xs)))
+    refused r view answer named gives is = IfSome_then (source_of rem start) far.split (λ xs far.
         let (ys, next, known) = took far.rest r far.known in
-        rw gives (gives_fault view named said (far.same ∙ rw (records_step default_config (reader_state a) far.rest (f, reader_state b, ys) next, next_first says heading n f (records_left (reader_state b) ys), is) refl))
+        rw gives (gives_fault view named _ (far.same ∙ rw (records_step default_config (reader_state a) far.rest (f, reader_state b, ys) next, next_first says heading n f (records_left (reader_state b) ys), is) refl)))
 
 -- what a record that was read says
 pub took_entry : {R : Type 0} (rem : R → Option (List ℕ)) (a b : Reader R) (f : List (List ℕ)) {A : Type 0} (says : List (List ℕ) → Result A TextFault)
