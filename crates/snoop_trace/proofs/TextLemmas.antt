@@ -53,7 +53,8 @@ says_next says (Some asked) zero f = if is_heading f then (heading_as asked 1 f 
 says_next says heading n f = says (n + 1) f >>= λ entry. Ok (entry ∷ [])
 
 -- a record that is no heading
-pub no_heading : {A : Type 0} (says : Says A) (protocol : Option Protocol) (shape : Extent) (n : ℕ) (f : List (List ℕ)) → ((p : Protocol) → protocol ≡ Some p → n ≡ 0 → is_heading f ≡ true → ⊥)
+pub no_heading : {A : Type 0} (says : Says A) (protocol : Option Protocol) (shape : Extent) (n : ℕ) (f : List (List ℕ))
+    → ((p : Protocol) → protocol ≡ Some p → n ≡ 0 → is_heading f ≡ true → ⊥)
     → says_next says (heading_asked protocol shape) n f ≡ (says (n + 1) f >>= λ entry. Ok (entry ∷ []))
 no_heading says None shape n f other = refl
 no_heading says (Some p) shape zero f other = rw (false_from_ne_true (is_heading f) (other p refl refl)) refl
@@ -76,14 +77,17 @@ says_none says (Some asked) zero = refl
 says_none says heading (suc n) = refl
 
 -- what is said in all is what was said so far, and then what the records say that are left
-pub record Split {A : Type 0} (says : Says A) (heading : Option Heading) (said : Result (List A) TextFault) (s : State) (left : Option (List ℕ)) (entries : List A) (n : ℕ) : Type 0 where
+pub record Split {A : Type 0} (says : Says A) (heading : Option Heading) (said : Result (List A) TextFault) (s : State) (left : Option (List ℕ))
+    (entries : List A) (n : ℕ) : Type 0 where
   pub rest : List ℕ
   pub known : left ≡ Some rest
   pub same : said ≡ (says_from says heading n (records_left s rest) >>= λ more. Ok (entries ++ more))
 
 -- a reader of a text stands after n records, which gave these entries
-pub record SoFar {R A : Type 0} (rem : R → Option (List ℕ)) (says : Says A) (heading : Option Heading) (start r : Reader R) (entries : List A) (n : ℕ) : Type 0 where
-  pub split : IfSome (source_of rem start) (λ xs. Split says heading (entries_in says heading (records default_config xs)) (reader_state r) (source_of rem r) entries n)
+pub record SoFar {R A : Type 0} (rem : R → Option (List ℕ)) (says : Says A) (heading : Option Heading) (start r : Reader R)
+    (entries : List A) (n : ℕ) : Type 0 where
+  pub split : IfSome (source_of rem start) (λ xs.
+      Split says heading (entries_in says heading (records default_config xs)) (reader_state r) (source_of rem r) entries n)
 
 module _ {R : Type 0} (rem : R → Option (List ℕ)) (a b : Reader R) (f : List (List ℕ)) (config : reader_config a ≡ default_config) where
   -- a record that was read
@@ -96,27 +100,38 @@ module _ {R : Type 0} (rem : R → Option (List ℕ)) (a b : Reader R) (f : List
       let whole : (p.0, p.1, p.2) ≡ (f, reader_state b, z) = cc (is, at_end.0, at_end.1) in
       (z, next ∙ ap Some whole, at_z)
 
-  module _ {A : Type 0} (says : Says A) (heading : Option Heading) (start : Reader R) (entries : List A) (n : ℕ) (far : SoFar rem says heading start a entries n) where
+  module _ {A : Type 0} (says : Says A) (heading : Option Heading) (start : Reader R) (entries : List A) (n : ℕ)
+      (far : SoFar rem says heading start a entries n) where
     pub done : ReadRecord rem a b false f → IfSome (source_of rem start) (λ xs. entries_in says heading (records default_config xs) ≡ Ok entries)
     done r = IfSome_then (source_of rem start) far.split (λ xs far.
-        far.same ∙ rw (records-ended default_config _ (reader_state a) far.rest (rows-end rem a b f default_config far.rest config far.known r), says_none says heading n, append-nil) refl)
+        let none = rows-end rem a b f default_config far.rest config far.known r in
+        far.same ∙ rw (records-ended default_config _ (reader_state a) far.rest none, says_none says heading n, append-nil) refl)
 
-    pub further : ReadRecord rem a b true f → (before : List A) → says_next says heading n f ≡ Ok before → SoFar rem says heading start b (entries ++ before) (n + 1)
+    -- a record, and then those that are left
+    one_more : (xs ys : List ℕ) → next_record default_config (reader_state a) [] [] xs ≡ Some (f, reader_state b, ys)
+        → says_from says heading n (records_left (reader_state a) xs)
+        ≡ (says_next says heading n f >>= λ before. says_from says heading (n + 1) (records_left (reader_state b) ys) >>= λ more. Ok (before ++ more))
+    one_more xs ys next =
+        rw (records_step default_config (reader_state a) xs (f, reader_state b, ys) next) (next_first says heading n f (records_left (reader_state b) ys))
+
+    pub further : ReadRecord rem a b true f → (before : List A) → says_next says heading n f ≡ Ok before
+        → SoFar rem says heading start b (entries ++ before) (n + 1)
     further r before is = record {
       split = IfSome_then (source_of rem start) far.split (λ xs far.
           let (ys, next, known) = took far.rest r far.known in
           record {
             rest = ys;
             known = known;
-            same = far.same ∙ rw (records_step default_config (reader_state a) far.rest (f, reader_state b, ys) next, next_first says heading n f (records_left (reader_state b) ys), is) (simp (bind_assoc, append_assoc));
+            same = far.same ∙ rw (one_more far.rest ys next, is) (simp (bind_assoc, append_assoc));
           });
     }
 
-    pub refused : ReadRecord rem a b true f → {X : Type 0} (view : X → List A) (answer : Result X TextFault) (named : TextFault) → answer ≡ Err named → says_next says heading n f ≡ Err named
+    pub refused : ReadRecord rem a b true f → {X : Type 0} (view : X → List A) (answer : Result X TextFault) (named : TextFault)
+        → answer ≡ Err named → says_next says heading n f ≡ Err named
         → IfSome (source_of rem start) (λ xs. Gives view answer (entries_in says heading (records default_config xs)))
     refused r view answer named gives is = IfSome_then (source_of rem start) far.split (λ xs far.
         let (ys, next, known) = took far.rest r far.known in
-        rw gives (gives_fault view named _ (far.same ∙ rw (records_step default_config (reader_state a) far.rest (f, reader_state b, ys) next, next_first says heading n f (records_left (reader_state b) ys), is) refl)))
+        rw gives (gives_fault view named _ (far.same ∙ rw (one_more far.rest ys next, is) refl)))
 
 -- what a record that was read says
 pub took_entry : {R : Type 0} (rem : R → Option (List ℕ)) (a b : Reader R) (f : List (List ℕ)) {A : Type 0} (says : List (List ℕ) → Result A TextFault)

@@ -3,23 +3,25 @@ use Rattle.std.specs.Prelude.{Ok}
 use Rattle.snoop_trace.proofs.{Common.{All-push, IsSaid, append-nil, err_from_is_err_and, fields_of, length-append}, RecordLemmas.names_heading_as}
 use Rattle.snoop_trace.proofs.TextLemmas.{done, further, no_heading, not_failed, refused, says_next}
 use Rattle.snoop_trace.specs.{Grammar.{◌>>=◌}, Heading.{heading_as, heading_for}, Progress.{IsPlain, heading_asked}}
-use Rattle.snoop_trace.proofs.text.take_text.Goals.{in-Some+in_ok-read-in-Some, in_default+in_ok-from_record-in_default+in_ok-append-in_default, in_default-via-in-Some+then-i-eq0+else-is_begun, in_default-via-in-Some+else-i-eq0, in_default-via-in_default}
+use Rattle.snoop_trace.proofs.text.take_text.Goals.{in-Some+in_ok-read-in-Some, in_default+in_ok-from_record-in_default+in_ok-append-in_default}
+use Rattle.snoop_trace.proofs.text.take_text.Goals.{in_default-via-in-Some+then-i-eq0+else-is_begun, in_default-via-in-Some+else-i-eq0, in_default-via-in_default}
 use Rattle.snoop_trace.proofs.text.take_text.Goals as goal
 
 pub returns-in-Ok-false-clause-read : goal.returns-in-Ok-false-clause-read
 returns-in-Ok-false-clause-read g c =
-    done g.R.Read.remaining c.loop-i.text c.read_byte_record.new.self (fields_of c.read_byte_record.new.row) c.loop-i.invariant.0.config _ _ _ _ _ c.loop-i.invariant.1
-    (rw c.in-Ok-false.field-0-test at (c.in-Ok-false.ensures.reads c.loop-i.invariant.0.trim c.loop-i.invariant.0.ready))
+    done g.R.Read.remaining c.loop-i.text c.read_byte_record.new.self (fields_of c.read_byte_record.new.row) c.loop-i.invariant.0.config _ _ _ _ _
+    c.loop-i.invariant.1 (rw c.in-Ok-false.field-0-test at (c.in-Ok-false.ensures.reads c.loop-i.invariant.0.trim c.loop-i.invariant.0.ready))
 
 pub returns-in_err-read-in-Some-clause-read : goal.returns-in_err-read-in-Some-clause-read
 returns-in_err-read-in-Some-clause-read g c =
     let f = fields_of c.read_byte_record.new.row in
     let read = rw c.in-Ok-true.field-0-test at (c.in-Ok-true.ensures.reads c.loop-i.invariant.0.trim c.loop-i.invariant.0.ready) in
     let p = err_from_is_err_and c.from_residual.result c.from_residual.ensures.1 in
-    let says : says_next (g.E.Entry.says c.args.shape) (heading_asked c.args.protocol c.args.shape) c.loop-i.i f ≡ (heading_as (heading_for c.in-Some.protocol c.args.shape) 1 f >>= λ heading. Ok [])
+    let says : says_next (g.E.Entry.says c.args.shape) (heading_asked c.args.protocol c.args.shape) c.loop-i.i f
+    ≡ (heading_as (heading_for c.in-Some.protocol c.args.shape) 1 f >>= λ heading. Ok [])
     = rw (c.in-Some.is, c.if-i-eq0.true, sym c.is_begun.ensures ∙ c.if-is_begun.true) refl in
-    refused g.R.Read.remaining c.loop-i.text c.read_byte_record.new.self f c.loop-i.invariant.0.config _ _ _ _ _ c.loop-i.invariant.1 read _ _ c.in_err-read-in-Some.field-0.0 (rw p.2 at p.1)
-    (rw (says, sym c.new.ensures, sym c.read.ensures ∙ c.in_err-read-in-Some.was) refl)
+    refused g.R.Read.remaining c.loop-i.text c.read_byte_record.new.self f c.loop-i.invariant.0.config _ _ _ _ _ c.loop-i.invariant.1 read _ _
+    c.in_err-read-in-Some.field-0.0 (rw p.2 at p.1) (rw (says, sym c.new.ensures, sym c.read.ensures ∙ c.in_err-read-in-Some.was) refl)
 
 pub returns-in_err-read-in-Some-clause-not_read : goal.returns-in_err-read-in-Some-clause-not_read
 returns-in_err-read-in-Some-clause-not_read g c =
@@ -37,19 +39,23 @@ returns-in_err-from_record-in_default-clause-read g c =
       | in_default-via-in-Some+else-i-eq0 w ↦ λ p some zero begun. w.if-i-eq0.false zero
       | in_default-via-in_default w ↦ λ p some zero begun. w.in_default.not-Some p some
     ]) in
-    refused g.R.Read.remaining c.loop-i.text c.read_byte_record.new.self f c.loop-i.invariant.0.config _ _ _ _ _ c.loop-i.invariant.1 read _ _ c.in_err-from_record-in_default.field-0.0 (rw p.2 at p.1)
-    (rw (says, sym c.from_record.ensures.entry ∙ c.in_err-from_record-in_default.was) refl)
+    refused g.R.Read.remaining c.loop-i.text c.read_byte_record.new.self f c.loop-i.invariant.0.config _ _ _ _ _ c.loop-i.invariant.1 read _ _
+    c.in_err-from_record-in_default.field-0.0 (rw p.2 at p.1) (rw (says, sym c.from_record.ensures.entry ∙ c.in_err-from_record-in_default.was) refl)
 
 pub loop-i-preserved : goal.loop-i-preserved
 loop-i-preserved g c =
     let f = fields_of c.read_byte_record.new.row in
     let read = rw c.in-Ok-true.field-0-test at (c.in-Ok-true.ensures.reads c.loop-i.invariant.0.trim c.loop-i.invariant.0.ready) in
-    let plain : IsPlain c.read_byte_record.new.self = record { trim = read.3 ∙ c.loop-i.invariant.0.trim; ready = inl (c.in-Ok-true.ensures.ready c.loop-i.invariant.0.trim); config = read.2 ∙ c.loop-i.invariant.0.config } in
+    let plain : IsPlain c.read_byte_record.new.self = record {
+      trim = read.3 ∙ c.loop-i.invariant.0.trim;
+      ready = inl (c.in-Ok-true.ensures.ready c.loop-i.invariant.0.trim);
+      config = read.2 ∙ c.loop-i.invariant.0.config;
+    } in
+    let on = further g.R.Read.remaining c.loop-i.text c.read_byte_record.new.self f c.loop-i.invariant.0.config _ _ _ _ _ c.loop-i.invariant.1 read in
     elim c.match-protocol.branch [
       | in-Some+in_ok-read-in-Some w ↦ rw w.entries-is (
         plain,
-        rw append-nil at (further g.R.Read.remaining c.loop-i.text c.read_byte_record.new.self f c.loop-i.invariant.0.config _ _ _ _ _ c.loop-i.invariant.1 read []
-            (rw (w.in-Some.is, w.if-i-eq0.true, sym w.is_begun.ensures ∙ w.if-is_begun.true, sym w.new.ensures, sym w.read.ensures ∙ w.in_ok-read-in-Some.was) refl)),
+        rw append-nil at (on [] (rw (w.in-Some.is, w.if-i-eq0.true, sym w.is_begun.ensures ∙ w.if-is_begun.true, sym w.new.ensures, sym w.read.ensures ∙ w.in_ok-read-in-Some.was) refl)),
         c.loop-i.invariant.2,
         inl (omega (arith, w.if-i-eq0.true)),
         omega (arith, w.if-i-eq0.true),
@@ -60,12 +66,13 @@ loop-i-preserved g c =
             | in_default-via-in-Some+else-i-eq0 w ↦ λ p some zero begun. w.if-i-eq0.false zero
             | in_default-via-in_default w ↦ λ p some zero begun. w.in_default.not-Some p some
           ]) in
+          let entry = w.in_ok-from_record-in_default.field-0 in
           let said = sym w.from_record.ensures.entry ∙ w.in_ok-from_record-in_default.was in
           let items = w.in_ok-append-in_default.ensures.items in
-          let longer = length-append (g.C.Entries.listed c.loop-i.entries) (w.in_ok-from_record-in_default.field-0 ∷ []) in rw w.entries-is (
+          let longer = length-append (g.C.Entries.listed c.loop-i.entries) (entry ∷ []) in rw w.entries-is (
             plain,
-            rw items (further g.R.Read.remaining c.loop-i.text c.read_byte_record.new.self f c.loop-i.invariant.0.config _ _ _ _ _ c.loop-i.invariant.1 read (w.in_ok-from_record-in_default.field-0 ∷ []) (rw (says, said) refl)),
-            rw items (All-push (IsSaid (g.E.Entry.says c.args.shape)) (g.C.Entries.listed c.loop-i.entries) w.in_ok-from_record-in_default.field-0 c.loop-i.invariant.2 (c.loop-i.i + 1, (f, said))),
+            rw items (on (entry ∷ []) (rw (says, said) refl)),
+            rw items (All-push (IsSaid (g.E.Entry.says c.args.shape)) (g.C.Entries.listed c.loop-i.entries) entry c.loop-i.invariant.2 (c.loop-i.i + 1, (f, said))),
             inr w.in_ok-append-in_default.ensures.bounded,
             rw items (omega (arith, longer, c.loop-i.invariant.4)),
           )
