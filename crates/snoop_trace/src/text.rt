@@ -1,7 +1,6 @@
 //! Reading a text of steps or of rows.
-ghost use Rattle.std.specs.Prelude.{◌≡◌, ◌<◌, ◌≢◌, ◌+◌, [], true, false, Bool, List, All, Option, Some, None, IfSome, IfOk, IfErr, IsSome, Err};
-ghost use Rattle.csv.specs.Reading.{ReadRecord, default_config, reader_state, records, source_of};
-ghost use Rattle.csv.specs.Records.{fields_of};
+ghost use Rattle.std.specs.Prelude.{◌≡◌, ◌≢◌, [], true, false, Bool, List, All, Option, Some, None, IfSome, IfOk, IfErr, Err};
+ghost use Rattle.csv.specs.Reading.{default_config, reader_state, records, source_of};
 ghost use Rattle.csv.specs.declared.parser.State.TheVariants as st;
 ghost use Rattle.snoop_trace.specs.Asked.{AreAsked, step_of};
 ghost use Rattle.snoop_trace.specs.Grammar.{IsRowWithin, IsStepWithin};
