@@ -1,10 +1,10 @@
 -- The blocks that a list mentions, with one item more.
 use Rattle.std.proofs.Common.{sym, arith, get_or, ◌≡◌, ℕ, Bool, true, false, not, List, [], ◌∷◌, ◌++◌, refl, map, filter, ◌<◌, eqb, append-nil, append_assoc}
 use Rattle.std.{specs.Prelude.{Option, Some, None, option_to_list, slice_get, suc, ◌==◌, nat_eq, All}, proofs.lemmas.Map.Views.any-filter_same}
-use Rattle.snoop_history.proofs.Common.{Did, ForSome, Item, Totals, blocks_text, eqb-true, flat_map, flat_map-append, insert_key, list_any}
-use Rattle.snoop_history.{proofs.Common.{operation_of, report_of, slice_get-get_or, totals_text}, specs.Within.{block_of, IsItemWithin}}
+use Rattle.snoop_history.proofs.Common.{Did, ForSome, Item, eqb-true, flat_map, flat_map-append, insert_key, list_any}
+use Rattle.snoop_history.{proofs.Common.{operation_of, slice_get-get_or}, specs.Within.{block_of, IsItemWithin}}
 use Rattle.std.proofs.lemmas.List.Elements.{All-weaker, filter-append, All-filter, All-nil, All-cons, All-head, All-tail, All-append}
-use Rattle.snoop_history.specs.Totals.{each_once, mentioned, touched, totals_of}
+use Rattle.snoop_history.specs.Totals.{each_once, mentioned, touched}
 
 -- the numbers other than y
 abbrev pub but : ℕ → List ℕ → List ℕ
@@ -68,9 +68,3 @@ touched_within cores blocks words items all =
 -- what holds of the element at each place holds of all
 pub all_places : (P : Item → Type 0) (items : List Item) → ((k : ℕ) (entry : Item) → slice_get items k ≡ Some entry → P entry) → All P items
 all_places P items each k d within = each k (get_or items k d) (slice_get-get_or items k d within)
-
--- the totals and then the blocks are the report
-pub report_joined : (words : ℕ) (items : List Item) (old : List ℕ) {blocks mid new : List ℕ} {totals : Totals} → totals ≡ totals_of items → blocks ≡ touched items → mid ≡ old ++ totals_text totals →
-    new ≡ mid ++ blocks_text words items blocks → new ≡ old ++ report_of words items
-report_joined words items old counts blocks_are put_totals put_blocks =
-    rw (put_blocks, put_totals, counts, blocks_are) (append_assoc old (totals_text (totals_of items)) (blocks_text words items (touched items)))

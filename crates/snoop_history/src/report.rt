@@ -1,12 +1,11 @@
 //! The report of a history.
-ghost use Rattle.std.specs.Prelude.{All, ◌≡◌, ◌≢◌, ◌<◌, ◌++◌, codes, map, true, OnOk, OnErr, Err};
+ghost use Rattle.std.specs.Prelude.{◌≡◌, ◌≢◌, ◌<◌, ◌++◌, codes, map, true, OnOk, OnErr, Err};
 ghost use Rattle.std.specs.Fmt.{decimal};
 ghost use Rattle.std.specs.Io.KnownBytes.{Appends};
 ghost use Rattle.std.specs.List.{range_with_len};
 ghost use Rattle.snoop_trace.specs.Output.{AppendsFront, BlamesWriter};
 ghost use Rattle.snoop_history.specs.History.{flat};
-ghost use Rattle.snoop_history.specs.Totals.{touched};
-ghost use Rattle.snoop_history.specs.Report.{values_text, totals_text, block_text, blocks_text, report_of};
+ghost use Rattle.snoop_history.specs.Report.{values_text, totals_text, block_text, report_of};
 
 use crate::items::Totals;
 use crate::log::Log;
@@ -22,60 +21,23 @@ fn push_count(out: &mut Vec<u8>, name: &str, count: u64) -> Result<(), NoMemory>
     push_decimal(out, count)
 }
 
-// Appends a line of two names, each with its count.
-fn push_two(
-    out: &mut Vec<u8>,
-    first: &str,
-    one: u64,
-    second: &str,
-    two: u64,
-) -> Result<(), NoMemory>
-    ensures { OnOk result (out.new.items ≡ out.old.items ++ (first.now ++ decimal one ++ second.now ++ decimal two ++ codes "\n")) }
-{
-    push_count(out, first, one)?;
-    push_count(out, second, two)?;
-    push_byte(out, b'\n')
-}
-
-// Appends a line of three names, each with its count.
-fn push_three(
-    out: &mut Vec<u8>,
-    first: &str,
-    one: u64,
-    second: &str,
-    two: u64,
-    third: &str,
-    three: u64,
-) -> Result<(), NoMemory>
-    ensures { OnOk result (out.new.items ≡ out.old.items ++ (first.now ++ decimal one ++ second.now ++ decimal two ++ third.now ++ decimal three ++ codes "\n")) }
-{
-    push_count(out, first, one)?;
-    push_two(out, second, two, third, three)
-}
-
 // Appends the five lines of totals.
 fn push_totals(out: &mut Vec<u8>, t: Totals) -> Result<(), NoMemory>
     ensures { OnOk result (out.new.items ≡ out.old.items ++ totals_text t) }
 {
-    push_two(out, "loads ", t.loads, " hits ", t.load_hits)?;
-    push_two(out, "stores ", t.stores, " hits ", t.store_hits)?;
-    push_three(out, "GetS ", t.get_s, " GetM ", t.get_m, " PutM ", t.put_m)?;
-    push_two(
-        out,
-        "from memory ",
-        t.from_memory,
-        " from caches ",
-        t.from_caches,
-    )?;
-    push_three(
-        out,
-        "writebacks ",
-        t.writebacks,
-        " clean ",
-        t.clean,
-        " stale ",
-        t.stale,
-    )
+    push_count(out, "loads ", t.loads)?;
+    push_count(out, " hits ", t.load_hits)?;
+    push_count(out, "\nstores ", t.stores)?;
+    push_count(out, " hits ", t.store_hits)?;
+    push_count(out, "\nGetS ", t.get_s)?;
+    push_count(out, " GetM ", t.get_m)?;
+    push_count(out, " PutM ", t.put_m)?;
+    push_count(out, "\nfrom memory ", t.from_memory)?;
+    push_count(out, " from caches ", t.from_caches)?;
+    push_count(out, "\nwritebacks ", t.writebacks)?;
+    push_count(out, " clean ", t.clean)?;
+    push_count(out, " stale ", t.stale)?;
+    push_byte(out, b'\n')
 }
 
 // Appends the values of a block's words.
@@ -100,25 +62,15 @@ fn push_block(out: &mut Vec<u8>, log: &Log, block: u32) -> Result<(), NoMemory>
     push_byte(out, b'\n')
 }
 
-// Appends a line for each of the blocks.
-fn push_blocks(out: &mut Vec<u8>, log: &Log, blocks: &[u32]) -> Result<(), NoMemory>
-    requires { All (λ block. block < log.now.blocks) blocks.now }
-    ensures { OnOk result (out.new.items ≡ out.old.items ++ blocks_text log.now.words log.now.items blocks.now) }
-{
-    for block in blocks {
-        push_block(out, log, *block)?;
-    }
-    Ok(())
-}
-
-// Appends the report, given the blocks that an item mentions.
-fn push_report(out: &mut Vec<u8>, log: &Log, blocks: &[u32]) -> Result<(), NoMemory>
-    requires touched { blocks.now ≡ touched log.now.items }
-    requires within { All (λ block. block < log.now.blocks) blocks.now }
+// Appends the report: the totals, and a line for each block that an item mentions.
+fn push_report(out: &mut Vec<u8>, log: &Log) -> Result<(), NoMemory>
     ensures { OnOk result (out.new.items ≡ out.old.items ++ report_of log.now.words log.now.items) }
 {
     push_totals(out, log.totals())?;
-    push_blocks(out, log, blocks)
+    for block in log.touched() {
+        push_block(out, log, *block)?;
+    }
+    Ok(())
 }
 
 /// Writes the report of a history: five lines of totals, then a line for each block that an item
@@ -137,6 +89,6 @@ pub fn write_report<W: Sink>(alloc: Global, writer: &mut W, log: &Log) -> Result
     ensures blamed { BlamesWriter (W.failed writer.old) (W.failed writer.new) (result ≡ Err WriteFault.Write) }
 {
     let mut report = Vec::new(alloc);
-    push_report(&mut report, log, log.touched())?;
+    push_report(&mut report, log)?;
     write_whole(writer, &report)
 }

@@ -1,12 +1,13 @@
 -- How the records that were read so far stand in the whole text.
-use Rattle.std.proofs.Common.{◌≡◌, ℕ, ◌+◌, List, [], ◌∷◌, ◌++◌, Option, Some, None, true, false, refl, ◌∙◌, ap, append_assoc}
-use Rattle.std.specs.Prelude.{Bool, Result, Ok, Err, IfErr, IfSome, if◌then◌else◌}
-use Rattle.snoop_trace.proofs.Common.{Heading, IfErr-at_err, State, TakesEntry, TakesRecord, TextFault, append-nil, entries_after, records_left}
+use Rattle.std.proofs.lemmas.Option.{IfSome_then}
+use Rattle.std.proofs.Common.{◌≡◌, ℕ, ◌+◌, List, [], ◌∷◌, ◌++◌, Option, Some, None, true, false, refl, ◌∙◌, add-one, ap, append_assoc}
+use Rattle.std.specs.Prelude.{Bool, Result, Ok, Err, IfErr, IfSome, if◌then◌else◌, zero, suc}
+use Rattle.snoop_trace.specs.{Progress.heading_asked, declared.protocol.Protocol.Protocol}
+use Rattle.snoop_trace.proofs.Common.{Extent, Heading, IfErr-at_err, State, TextFault, append-nil, false_from_ne_true, records_left}
 use Rattle.csv.specs.{Machine.next_record, Reading.{Reached, ReadRecord, default_config, reader_config, reader_state, records, source_of}}
 use Rattle.csv.{specs.declared.reader.Reader.Reader, proofs.ReadFacts.{rows-end, rows-more}}
 use Rattle.snoop_trace.specs.{Grammar.{◌>>=◌, NamesRecord}, Heading.{heading_as, is_heading}, Text.{Gives, entries_from, entries_in}}
 use Rattle.snoop_trace.proofs.CsvLemmas.{records-ended, records_step}
-use Rattle.csv.specs.declared.parser.State.TheVariants as st
 use Rattle.snoop_trace.specs.declared.fault.TextFault.TheVariants as fault
 
 -- what a record says, by its number and its fields
@@ -31,7 +32,7 @@ bind_if : {A B : Type 0} (b : Bool) (r q : Result A TextFault) (f : A → Result
 bind_if true r q f = refl
 bind_if false r q f = refl
 
-pub if_some : {X : Type 0} (o : Option X) (P : X → Type 0) → ((x : X) → o ≡ Some x → P x) → IfSome o P
+if_some : {X : Type 0} (o : Option X) (P : X → Type 0) → ((x : X) → o ≡ Some x → P x) → IfSome o P
 if_some None P f = tt
 if_some (Some x) P f = f x refl
 
@@ -41,100 +42,103 @@ gives_fault view fault.Read said is = tt
 gives_fault view fault.NoMemory said is = tt
 gives_fault view named said is = is
 
--- entries, and then a record that says one more
-after_entry : {A : Type 0} (says : Says A) (before : List A) (n : ℕ) (row : List (List ℕ)) (rows : List (List (List ℕ))) (entry : A)
-    → says n row ≡ Ok entry → entries_after says before n (row ∷ rows) ≡ entries_after says (before ++ (entry ∷ [])) (n + 1) rows
-unfolding entries_from
-after_entry says before n row rows entry is = rw is (simp (bind_assoc, append_assoc))
+-- what the records of a text say after n others: the first of all may be a heading
+abbrev pub says_from : {A : Type 0} → Says A → Option Heading → ℕ → List (List (List ℕ)) → Result (List A) TextFault
+says_from says heading zero rows = entries_in says heading rows
+says_from says heading (suc n) rows = entries_from says (suc n + 1) rows
+
+-- what one record says after n others: a heading no entry
+abbrev pub says_next : {A : Type 0} → Says A → Option Heading → ℕ → List (List ℕ) → Result (List A) TextFault
+says_next says (Some asked) zero f = if is_heading f then (heading_as asked 1 f >>= λ heading. Ok []) else (says 1 f >>= λ entry. Ok (entry ∷ []))
+says_next says heading n f = says (n + 1) f >>= λ entry. Ok (entry ∷ [])
+
+-- a record that is no heading
+pub no_heading : {A : Type 0} (says : Says A) (protocol : Option Protocol) (shape : Extent) (n : ℕ) (f : List (List ℕ))
+    → ((p : Protocol) → protocol ≡ Some p → n ≡ 0 → is_heading f ≡ true → ⊥)
+    → says_next says (heading_asked protocol shape) n f ≡ (says (n + 1) f >>= λ entry. Ok (entry ∷ []))
+no_heading says None shape n f other = refl
+no_heading says (Some p) shape zero f other = rw (false_from_ne_true (is_heading f) (other p refl refl)) refl
+no_heading says (Some p) shape (suc n) f other = refl
+
+-- one record, and then those that follow it
+next_first : {A : Type 0} (says : Says A) (heading : Option Heading) (n : ℕ) (f : List (List ℕ)) (rows : List (List (List ℕ)))
+    → says_from says heading n (f ∷ rows) ≡ (says_next says heading n f >>= λ before. says_from says heading (n + 1) rows >>= λ more. Ok (before ++ more))
+unfolding entries_in entries_from
+next_first says None zero f rows = simp bind_assoc
+next_first says None (suc n) f rows = rw add-one (simp bind_assoc)
+next_first says (Some asked) zero f rows = simp (bind_if, bind_assoc) (rw (bind_ends (entries_from says 2 rows)))
+next_first says (Some asked) (suc n) f rows = rw add-one (simp bind_assoc)
+
+-- after the last record
+says_none : {A : Type 0} (says : Says A) (heading : Option Heading) (n : ℕ) → says_from says heading n [] ≡ Ok []
+unfolding entries_in entries_from
+says_none says None zero = refl
+says_none says (Some asked) zero = refl
+says_none says heading (suc n) = refl
 
 -- what is said in all is what was said so far, and then what the records say that are left
-pub record SoFar {A : Type 0} (says : Says A) (said : Result (List A) TextFault) (s : State) (left : Option (List ℕ)) (entries : List A) (n : ℕ) : Type 0 where
+pub record Split {A : Type 0} (says : Says A) (heading : Option Heading) (said : Result (List A) TextFault) (s : State) (left : Option (List ℕ))
+    (entries : List A) (n : ℕ) : Type 0 where
   pub rest : List ℕ
   pub known : left ≡ Some rest
-  pub same : said ≡ entries_after says entries (n + 1) (records_left s rest)
+  pub same : said ≡ (says_from says heading n (records_left s rest) >>= λ more. Ok (entries ++ more))
 
-module _ {A : Type 0} (says : Says A) (said : Result (List A) TextFault) (s : State) (left : Option (List ℕ)) (entries : List A) (n : ℕ) (far : SoFar says said s left entries n) where
-  pub further : (s2 : State) (left2 : Option (List ℕ)) (entry : A) → IfSome left (λ y. TakesRecord (says (n + 1)) s y (Ok (Some entry)) s2 left2) → SoFar says said s2 left2 (entries ++ (entry ∷ [])) (n + 1)
-  further s2 left2 entry h =
-      let (fields, ys, next, known, is) = rw far.known at h in
-      record {
-        rest = ys;
-        known = known;
-        same = far.same ∙ ap (entries_after says entries (n + 1)) (records_step default_config s far.rest (fields, s2, ys) next) ∙ after_entry says entries (n + 1) fields (records_left s2 ys) entry is;
-      }
+-- a reader of a text stands after n records, which gave these entries
+pub record SoFar {R A : Type 0} (rem : R → Option (List ℕ)) (says : Says A) (heading : Option Heading) (start r : Reader R)
+    (entries : List A) (n : ℕ) : Type 0 where
+  pub split : IfSome (source_of rem start) (λ xs.
+      Split says heading (entries_in says heading (records default_config xs)) (reader_state r) (source_of rem r) entries n)
 
-  pub done : IfSome left (λ y. next_record default_config s [] [] y ≡ None) → said ≡ Ok entries
-  unfolding entries_from
-  done h = far.same ∙ rw (records-ended default_config _ s far.rest (rw far.known at h), append-nil) refl
-
-  pub faulty : {X : Type 0} (view : X → List A) (s2 : State) (left2 : Option (List ℕ)) (named : TextFault) → IfSome left (λ y. TakesRecord (says (n + 1)) s y (Err named) s2 left2) → Gives view (Err named) said
-  unfolding entries_from
-  faulty view s2 left2 fault.Read h = tt
-  faulty view s2 left2 fault.NoMemory h = tt
-  faulty view s2 left2 named h = let (r, next, is) = rw far.known at h in far.same ∙ rw (records_step default_config s far.rest r next, is) refl
-
--- what the first record says: a heading no entry
-abbrev pub first_says : {A : Type 0} → Says A → Heading → List (List ℕ) → Result (List A) TextFault
-first_says says asked f = if is_heading f then (heading_as asked 1 f >>= λ heading. Ok []) else (says 1 f >>= λ entry. Ok (entry ∷ []))
-
--- a text says what its first record does, and then what those say that are left
-in_first : {A : Type 0} (says : Says A) (asked : Heading) (f : List (List ℕ)) (rest : List (List (List ℕ)))
-    → entries_in says (Some asked) (f ∷ rest) ≡ (first_says says asked f >>= λ before. entries_after says before 2 rest)
-unfolding entries_in entries_from
-in_first says asked f rest = simp (bind_if, bind_assoc) (rw (bind_ends (entries_from says 2 rest)))
-
-module _ {R : Type 0} (rem : R → Option (List ℕ)) (a b : Reader R) (f : List (List ℕ)) where
+module _ {R : Type 0} (rem : R → Option (List ℕ)) (a b : Reader R) (f : List (List ℕ)) (config : reader_config a ≡ default_config) where
   -- a record that was read
-  took : (xs : List ℕ) → reader_config a ≡ default_config → ReadRecord rem a b true f → source_of rem a ≡ Some xs
+  took : (xs : List ℕ) → ReadRecord rem a b true f → source_of rem a ≡ Some xs
       → (ys : List ℕ) × (next_record default_config (reader_state a) [] [] xs ≡ Some (f, reader_state b, ys)) × (source_of rem b ≡ Some ys)
   unfolding Reached
-  took xs config r e =
+  took xs r e =
       let (z, at_z, reached) = rows-more rem a b f default_config (reader_state a) xs xs [] config e (refl, refl) r in
       let (p, next, is, at_end) = reached in
       let whole : (p.0, p.1, p.2) ≡ (f, reader_state b, z) = cc (is, at_end.0, at_end.1) in
       (z, next ∙ ap Some whole, at_z)
 
-  module _ {A : Type 0} (says : List (List ℕ) → Result A TextFault) (config : reader_config a ≡ default_config) (r : ReadRecord rem a b true f) where
-    pub took_entry : (entry : A) → says f ≡ Ok entry → TakesEntry rem says a (Ok (Some entry)) b
-    took_entry entry e = if_some (source_of rem a) _ (λ xs at. let (ys, next, left) = took xs config r at in (f, ys, next, left, e))
+  module _ {A : Type 0} (says : Says A) (heading : Option Heading) (start : Reader R) (entries : List A) (n : ℕ)
+      (far : SoFar rem says heading start a entries n) where
+    pub done : ReadRecord rem a b false f → IfSome (source_of rem start) (λ xs. entries_in says heading (records default_config xs) ≡ Ok entries)
+    done r = IfSome_then (source_of rem start) far.split (λ xs far.
+        let none = rows-end rem a b f default_config far.rest config far.known r in
+        far.same ∙ rw (records-ended default_config _ (reader_state a) far.rest none, says_none says heading n, append-nil) refl)
 
-    pub took_fault : (named : TextFault) → says f ≡ Err named → TakesEntry rem says a (Err named) b
-    took_fault fault.Read e = if_some (source_of rem a) _ (λ xs at. tt)
-    took_fault fault.NoMemory e = if_some (source_of rem a) _ (λ xs at. tt)
-    took_fault named e = if_some (source_of rem a) _ (λ xs at. let (ys, next, left) = took xs config r at in ((f, reader_state b, ys), next, e))
+    -- a record, and then those that are left
+    one_more : (xs ys : List ℕ) → next_record default_config (reader_state a) [] [] xs ≡ Some (f, reader_state b, ys)
+        → says_from says heading n (records_left (reader_state a) xs)
+        ≡ (says_next says heading n f >>= λ before. says_from says heading (n + 1) (records_left (reader_state b) ys) >>= λ more. Ok (before ++ more))
+    one_more xs ys next =
+        rw (records_step default_config (reader_state a) xs (f, reader_state b, ys) next) (next_first says heading n f (records_left (reader_state b) ys))
 
-  module _ {A : Type 0} (says : Says A) (asked : Heading) (heading : Option Heading) (some : heading ≡ Some asked) (config : reader_config a ≡ default_config) (begins : reader_state a ≡ st.StartRecord) where
-    -- the text has no record
-    pub none_read : (entries : List A) → ReadRecord rem a b false f → entries ≡ [] → IfSome (source_of rem a) (λ xs. entries_in says heading (records default_config xs) ≡ Ok entries)
-    unfolding entries_in
-    none_read entries r none =
-        if_some (source_of rem a) _ (λ xs at. rw (some, none, records-ended default_config _ st.StartRecord xs (rw begins at (rows-end rem a b f default_config xs config at r))) refl)
+    pub further : ReadRecord rem a b true f → (before : List A) → says_next says heading n f ≡ Ok before
+        → SoFar rem says heading start b (entries ++ before) (n + 1)
+    further r before is = record {
+      split = IfSome_then (source_of rem start) far.split (λ xs far.
+          let (ys, next, known) = took far.rest r far.known in
+          record {
+            rest = ys;
+            known = known;
+            same = far.same ∙ rw (one_more far.rest ys next, is) (simp (bind_assoc, append_assoc));
+          });
+    }
 
-    module _ {X : Type 0} (view : X → List A) (answer : Result X TextFault) (r : ReadRecord rem a b true f) where
-      -- the first record of a text, and those that are left
-      first_read : ((ys : List ℕ) → source_of rem b ≡ Some ys → Gives view answer (first_says says asked f >>= λ before. entries_after says before 2 (records_left (reader_state b) ys)))
-          → IfSome (source_of rem a) (λ xs. Gives view answer (entries_in says heading (records default_config xs)))
-      first_read gives = if_some (source_of rem a) _ (λ xs at.
-          let (ys, next, left) = took xs config r at in
-          rw (some, records_step default_config st.StartRecord xs (f, reader_state b, ys) (simp begins at next), in_first says asked f (records_left (reader_state b) ys)) (gives ys left))
+    pub refused : ReadRecord rem a b true f → {X : Type 0} (view : X → List A) (answer : Result X TextFault) (named : TextFault)
+        → answer ≡ Err named → says_next says heading n f ≡ Err named
+        → IfSome (source_of rem start) (λ xs. Gives view answer (entries_in says heading (records default_config xs)))
+    refused r view answer named gives is = IfSome_then (source_of rem start) far.split (λ xs far.
+        let (ys, next, known) = took far.rest r far.known in
+        rw gives (gives_fault view named _ (far.same ∙ rw (one_more far.rest ys next, is) refl)))
 
-      pub first_refused : (named : TextFault) → answer ≡ Err named → first_says says asked f ≡ Err named
-          → IfSome (source_of rem a) (λ xs. Gives view answer (entries_in says heading (records default_config xs)))
-      first_refused named is refused = first_read (λ ys left. rw is (gives_fault view named _ (rw refused refl)))
-
-      pub first_taken : (before : List A) → first_says says asked f ≡ Ok before
-          → IfSome (source_of rem b) (λ ys. Gives view answer (entries_after says before 2 (records_left (reader_state b) ys)))
-          → IfSome (source_of rem a) (λ xs. Gives view answer (entries_in says heading (records default_config xs)))
-      first_taken before is later = first_read (λ ys left. rw is (rw left at later))
-
--- no heading is asked for
-pub no_heading : {A X : Type 0} (says : Says A) (heading : Option Heading) (view : X → List A) (answer : Result X TextFault) (before : List A) (s : State) (o : Option (List ℕ))
-    → heading ≡ None → s ≡ st.StartRecord → before ≡ []
-    → IfSome o (λ xs. Gives view answer (entries_after says before 1 (records_left s xs)))
-    → IfSome o (λ xs. Gives view answer (entries_in says heading (records default_config xs)))
-unfolding entries_in
-no_heading says heading view answer before s None absent begins none read = tt
-no_heading says heading view answer before s (Some xs) absent begins none read = rw absent (rw (bind_ends (entries_from says 1 (records default_config xs))) at (rw (begins, none) at read))
+-- what a record that was read says
+pub took_entry : {R : Type 0} (rem : R → Option (List ℕ)) (a b : Reader R) (f : List (List ℕ)) {A : Type 0} (says : List (List ℕ) → Result A TextFault)
+    → reader_config a ≡ default_config → ReadRecord rem a b true f → (entry : A) → says f ≡ Ok entry
+    → IfSome (source_of rem a) (λ xs. (fields : List (List ℕ)) × (ys : List ℕ)
+    × (next_record default_config (reader_state a) [] [] xs ≡ Some (fields, reader_state b, ys)) × (source_of rem b ≡ Some ys) × (says fields ≡ Ok entry))
+took_entry rem a b f says config r entry e = if_some (source_of rem a) _ (λ xs at. let (ys, next, left) = took rem a b f config xs r at in (f, ys, next, left, e))
 
 -- a fault that names a record is no failed read
 pub not_failed : {X Y : Type 0} (said : Result Y TextFault) (answer : Result X TextFault) (named : TextFault) → said ≡ Err named → IfErr said NamesRecord → answer ≡ Err named → answer ≡ Err fault.Read → ⊥

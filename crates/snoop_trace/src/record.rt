@@ -27,13 +27,22 @@ pub(crate) trait Entry: Copy {
 impl Entry for Step {
     ghost says = { spec.step_in };
 
-    #[tactic(auto, unfolding(crate::specs::Grammar::step_in))]
+    #[tactic(auto, using(crate::proofs::RecordLemmas::names_order, crate::proofs::RecordLemmas::names_respond), unfolding(crate::specs::Grammar::step_in, crate::specs::Grammar::ask))]
     #[inline(always)]
     fn from_record(shape: Shape, n: u64, fields: &ByteRecord) -> Result<Self, TextFault> {
         match letter_of(fields).ok_or(TextFault::BadKind(n))? {
             b'O' => order(shape, n, fields),
             b'R' => respond(shape, n, fields),
-            letter => ask(shape, n, letter, fields),
+            letter => {
+                let row = row_by_letter(shape, n, letter, fields)?;
+                let block = block_in(shape, n, row.address)?;
+                Ok(Step::Ask {
+                    core: row.core,
+                    block,
+                    word: shape.word_asked(row.address, row.op),
+                    op: row.op,
+                })
+            }
         }
     }
 }
@@ -41,11 +50,11 @@ impl Entry for Step {
 impl Entry for Row {
     ghost says = { spec.row_in };
 
-    #[tactic(auto, unfolding(crate::specs::Grammar::row_in))]
+    #[tactic(auto, using(crate::proofs::RecordLemmas::names_row), unfolding(crate::specs::Grammar::row_in))]
     #[inline(always)]
     fn from_record(shape: Shape, n: u64, fields: &ByteRecord) -> Result<Self, TextFault> {
         let letter = letter_of(fields).ok_or(TextFault::BadKind(n))?;
-        let row = asked(shape, n, letter, fields)?;
+        let row = row_by_letter(shape, n, letter, fields)?;
         block_in(shape, n, row.address)?;
         Ok(row)
     }
@@ -58,7 +67,7 @@ impl Entry for Asked {
     #[inline(always)]
     fn from_record(shape: Shape, n: u64, fields: &ByteRecord) -> Result<Self, TextFault> {
         let letter = letter_of(fields).ok_or(TextFault::BadKind(n))?;
-        let row = asked(shape, n, letter, fields)?;
+        let row = row_by_letter(shape, n, letter, fields)?;
         let block = block_in(shape, n, row.address)?;
         let work = Work {
             block,
@@ -126,7 +135,7 @@ fn store(shape: Shape, n: u64, fields: &ByteRecord) -> Result<Row, TextFault>
 // What a core asks for in record n, by its letter.
 #[tactic(auto, unfolding(crate::specs::Grammar::row_by_letter))]
 #[inline(always)]
-fn asked(shape: Shape, n: u64, letter: u8, fields: &ByteRecord) -> Result<Row, TextFault>
+fn row_by_letter(shape: Shape, n: u64, letter: u8, fields: &ByteRecord) -> Result<Row, TextFault>
     ensures { result ≡ spec.row_by_letter shape n letter (fields_of fields.now) }
 {
     match letter {
@@ -135,21 +144,6 @@ fn asked(shape: Shape, n: u64, letter: u8, fields: &ByteRecord) -> Result<Row, T
         b'E' => without_value(shape, n, Op::Evict, fields),
         _ => Err(TextFault::BadKind(n)),
     }
-}
-
-#[tactic(auto, unfolding(crate::specs::Grammar::ask))]
-#[inline(always)]
-fn ask(shape: Shape, n: u64, letter: u8, fields: &ByteRecord) -> Result<Step, TextFault>
-    ensures { result ≡ spec.ask shape n letter (fields_of fields.now) }
-{
-    let row = asked(shape, n, letter, fields)?;
-    let block = block_in(shape, n, row.address)?;
-    Ok(Step::Ask {
-        core: row.core,
-        block,
-        word: shape.word_asked(row.address, row.op),
-        op: row.op,
-    })
 }
 
 #[tactic(auto, unfolding(crate::specs::Grammar::order))]

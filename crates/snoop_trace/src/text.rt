@@ -1,15 +1,14 @@
 //! Reading a text of steps or of rows.
-ghost use Rattle.std.specs.Prelude.{◌≡◌, ◌<◌, ◌≢◌, ◌+◌, [], true, false, Bool, List, All, Option, Some, None, IfSome, IfOk, IfErr, IsSome, Err};
-ghost use Rattle.csv.specs.Reading.{ReadRecord, default_config, reader_state, records, source_of};
-ghost use Rattle.csv.specs.Records.{fields_of};
+ghost use Rattle.std.specs.Prelude.{◌≡◌, ◌≢◌, [], true, false, Bool, List, All, Option, Some, None, IfSome, IfOk, IfErr, Err};
+ghost use Rattle.csv.specs.Reading.{default_config, reader_state, records, source_of};
 ghost use Rattle.csv.specs.declared.parser.State.TheVariants as st;
 ghost use Rattle.snoop_trace.specs.Asked.{AreAsked, step_of};
 ghost use Rattle.snoop_trace.specs.Grammar.{IsRowWithin, IsStepWithin};
-ghost use Rattle.snoop_trace.specs.Progress.{IsPlain, IsSaid, TakesEntry, entries_after, records_left};
+ghost use Rattle.snoop_trace.specs.Progress.{IsPlain, IsSaid, heading_asked};
 ghost use Rattle.snoop_trace.specs.Text.{BlamesReader, Gives, entries_in, records_of, rows_of, steps_of};
 ghost use Rattle.snoop_trace.specs.declared.step.Row.{Row as Given};
 
-use crate::fault::{NoMemory, TextFault};
+use crate::fault::TextFault;
 use crate::heading::Heading;
 use crate::protocol::Protocol;
 use crate::record::Entry;
@@ -24,76 +23,11 @@ use std::io;
 use std::io::{ErrorKind, Read};
 use std::marker::{Brand, PhantomData};
 
-// Whether there is one more record, and its fields. A failed read is answered as out of memory
-// here: `read_known` tells the two apart.
-#[inline(always)]
-fn next_record<R: Read>(text: &mut Reader<R>, fields: &mut ByteRecord) -> Result<bool, NoMemory>
-    requires { IsPlain text.old }
-    ensures plain { IfOk result (λ found. found ≡ true → IsPlain text.new) }
-    ensures reads { IfOk result (λ found. ReadRecord R.remaining text.old text.new found (fields_of fields.new)) }
-{
-    let Ok(found) = text.read_byte_record(fields) else {
-        return Err(NoMemory);
-    };
-    Ok(found)
-}
-
-// The entry of record n, which is the next one; None at the end of the text.
-#[inline(always)]
-fn next_entry<E: Entry, R: Read>(
-    text: &mut Reader<R>,
-    fields: &mut ByteRecord,
-    shape: Shape,
-    n: u64,
-) -> Result<Option<E>, TextFault>
-    requires { IsPlain text.old }
-    ensures plain { IfOk result (λ entry. IsSome entry → IsPlain text.new) }
-    ensures takes { TakesEntry R.remaining (E.says shape n) text.old result text.new }
-    ensures said { IfOk result (λ entry. IfSome entry (IsSaid (E.says shape))) }
-    ensures not_read { result ≢ Err TextFault.Read }
-{
-    if !next_record(text, fields)? {
-        return Ok(None);
-    }
-    match E::from_record(shape, n, fields) {
-        Ok(entry) => Ok(Some(entry)),
-        Err(fault) => Err(fault),
-    }
-}
-
-// The entries of the records that are left of a text, of which so many were read.
-fn take_entries<E: Entry, C: Entries<E>, R: Read>(
-    text: &mut Reader<R>,
-    fields: &mut ByteRecord,
-    shape: Shape,
-    read: u64,
-    entries: &mut C,
-) -> Result<(), TextFault>
-    requires plain { IsPlain text.old }
-    requires fits { (entry : E) → IsSaid (E.says shape) entry → C.fits entry }
-    requires said { All (IsSaid (E.says shape)) (C.listed entries.old) }
-    requires few { read < 2 }
-    ensures read { IfSome (source_of R.remaining text.old) (λ xs. Gives (λ _. C.listed entries.new) result
-        (entries_after (E.says shape) (C.listed entries.old) (read + 1) (records_left (reader_state text.old) xs))) }
-    ensures said { IfOk result (λ _. All (IsSaid (E.says shape)) (C.listed entries.new)) }
-    ensures not_read { result ≢ Err TextFault.Read }
-{
-    for i in read..u64::MAX {
-        match next_entry(text, fields, shape, i + 1) {
-            Ok(Some(entry)) => entries.append(entry)?,
-            Ok(None) => return Ok(()),
-            Err(fault) => return Err(fault),
-        }
-    }
-    // No list holds so many.
-    unreachable!()
-}
-
-// All entries of a text, after none. Where a heading is asked for, the first record may be one.
+// All entries of a text, after none. Where a text for a protocol is asked for, the first record may be a heading.
 fn take_text<E: Entry, C: Entries<E>, R: Read>(
     text: &mut Reader<R>,
     fields: &mut ByteRecord,
-    heading: Option<Heading>,
+    protocol: Option<Protocol>,
     shape: Shape,
     entries: &mut C,
 ) -> Result<(), TextFault>
@@ -102,22 +36,26 @@ fn take_text<E: Entry, C: Entries<E>, R: Read>(
     requires empty { C.listed entries.old ≡ [] }
     requires fits { (entry : E) → IsSaid (E.says shape) entry → C.fits entry }
     ensures read { IfSome (source_of R.remaining text.old)
-        (λ xs. Gives (λ _. C.listed entries.new) result (entries_in (E.says shape) heading (records default_config xs))) }
+        (λ xs. Gives (λ _. C.listed entries.new) result (entries_in (E.says shape) (heading_asked protocol shape) (records default_config xs))) }
     ensures said { IfOk result (λ _. All (IsSaid (E.says shape)) (C.listed entries.new)) }
     ensures not_read { result ≢ Err TextFault.Read }
 {
-    let Some(heading) = heading else {
-        return take_entries(text, fields, shape, 0, entries);
-    };
-    if !next_record(text, fields)? {
-        return Ok(());
+    for i in 0..u64::MAX {
+        match text.read_byte_record(fields) {
+            Ok(true) => {}
+            Ok(false) => return Ok(()),
+            // A failed read too: `read_known` tells the two apart.
+            Err(_) => return Err(TextFault::NoMemory),
+        }
+        match &protocol {
+            Some(protocol) if i == 0 && Heading::is_begun(fields) => {
+                Heading::new(*protocol, shape).read(1, fields)?;
+            }
+            _ => entries.append(E::from_record(shape, i + 1, fields)?)?,
+        }
     }
-    if Heading::is_begun(fields) {
-        heading.read(1, fields)?;
-    } else {
-        entries.append(E::from_record(shape, 1, fields)?)?;
-    }
-    take_entries(text, fields, shape, 1, entries)
+    // No list holds so many.
+    unreachable!()
 }
 
 // What is known of a reader as a call begins, for the proof alone: a call at `Brand` picks it.
@@ -139,32 +77,6 @@ struct Watched<R: Source, K: Begun> {
     ghost told: { failed ≡ true → R.never_fails ≡ false },
 }
 
-impl<R: Source, K: Begun> Watched<R, K> {
-    fn new(inner: R) -> Watched<R, K>
-        requires { R.failed inner ≡ K.before }
-        ensures { result.inner ≡ inner }
-    {
-        Watched {
-            inner,
-            failed: false,
-            begun: PhantomData,
-        }
-    }
-
-    // The reader, and whether a read of it has failed since.
-    fn into_parts(self) -> (R, bool)
-        ensures blamed { BlamesReader K.before (R.failed result.0) (result.1 ≡ true) }
-        ensures never_blamed { result.1 ≡ true → R.never_fails ≡ false }
-    {
-        let Watched {
-            inner,
-            failed,
-            begun: _,
-        } = self;
-        (inner, failed)
-    }
-}
-
 impl<R: Source, K: Begun> Read for Watched<R, K> {
     ghost remaining = { λ r. R.remaining r.inner };
 
@@ -182,7 +94,7 @@ impl<R: Source, K: Begun> Read for Watched<R, K> {
 fn read_known<E: Entry, C: Entries<E> + Drop, R: Source, K: Begun>(
     reader: R,
     alloc: Global,
-    heading: Option<Heading>,
+    protocol: Option<Protocol>,
     shape: Shape,
     mut entries: C,
 ) -> (R, Result<C, TextFault>)
@@ -190,58 +102,66 @@ fn read_known<E: Entry, C: Entries<E> + Drop, R: Source, K: Begun>(
     requires empty { C.listed entries ≡ [] }
     requires fits { (entry : E) → IsSaid (E.says shape) entry → C.fits entry }
     ensures read { IfSome (R.remaining reader)
-        (λ bytes. Gives C.listed result.1 (entries_in (E.says shape) heading (records_of bytes))) }
+        (λ bytes. Gives C.listed result.1 (entries_in (E.says shape) (heading_asked protocol shape) (records_of bytes))) }
     ensures said { IfOk result.1 (λ entries. All (IsSaid (E.says shape)) (C.listed entries)) }
     ensures never_blamed { R.never_fails ≡ true → result.1 ≢ Err TextFault.Read }
     ensures blamed { BlamesReader (R.failed reader) (R.failed result.0) (result.1 ≡ Err TextFault.Read) }
 {
-    let watched: Watched<R, K> = Watched::new(reader);
+    let watched: Watched<R, K> = Watched {
+        inner: reader,
+        failed: false,
+        begun: PhantomData,
+    };
     let mut text = ReaderBuilder::new()
         .has_headers(false)
         .flexible(true)
         .from_reader(alloc, watched);
     let mut fields = ByteRecord::new(alloc);
-    let taken = take_text(&mut text, &mut fields, heading, shape, &mut entries);
-    let (reader, failed) = text.into_inner().into_parts();
+    let taken = take_text(&mut text, &mut fields, protocol, shape, &mut entries);
+    let Watched {
+        inner,
+        failed,
+        begun: _,
+    } = text.into_inner();
     let read = match taken {
         _ if failed => Err(TextFault::Read),
         Ok(()) => Ok(entries),
         Err(fault) => Err(fault),
     };
-    (reader, read)
+    (inner, read)
 }
 
 // The same, with what is known of the reader picked at the call.
 fn read_from<E: Entry, C: Entries<E> + Drop, R: Source>(
     reader: R,
     alloc: Global,
-    heading: Option<Heading>,
+    protocol: Option<Protocol>,
     shape: Shape,
     entries: C,
 ) -> (R, Result<C, TextFault>)
     requires empty { C.listed entries ≡ [] }
     requires fits { (entry : E) → IsSaid (E.says shape) entry → C.fits entry }
     ensures read { IfSome (R.remaining reader)
-        (λ bytes. Gives C.listed result.1 (entries_in (E.says shape) heading (records_of bytes))) }
+        (λ bytes. Gives C.listed result.1 (entries_in (E.says shape) (heading_asked protocol shape) (records_of bytes))) }
     ensures said { IfOk result.1 (λ entries. All (IsSaid (E.says shape)) (C.listed entries)) }
     ensures never_blamed { R.never_fails ≡ true → result.1 ≢ Err TextFault.Read }
     ensures blamed { BlamesReader (R.failed reader) (R.failed result.0) (result.1 ≡ Err TextFault.Read) }
 {
-    read_known::<E, C, R, Brand>(reader, alloc, heading, shape, entries)
+    read_known::<E, C, R, Brand>(reader, alloc, protocol, shape, entries)
 }
 
 // The entries that a text gives, after none, or its first fault.
 fn read_entries<E: Entry, C: Entries<E> + Drop, R: Source>(
     alloc: Global,
     reader: &mut R,
-    heading: Option<Heading>,
+    protocol: Option<Protocol>,
     shape: Shape,
     entries: C,
 ) -> Result<C, TextFault>
     requires empty { C.listed entries ≡ [] }
     requires fits { (entry : E) → IsSaid (E.says shape) entry → C.fits entry }
     ensures read { IfSome (R.remaining reader.old)
-        (λ bytes. Gives C.listed result (entries_in (E.says shape) heading (records_of bytes))) }
+        (λ bytes. Gives C.listed result (entries_in (E.says shape) (heading_asked protocol shape) (records_of bytes))) }
     ensures said { IfOk result (λ entries. All (IsSaid (E.says shape)) (C.listed entries)) }
     ensures never_blamed { R.never_fails ≡ true → result ≢ Err TextFault.Read }
     ensures blamed { BlamesReader (R.failed reader.old) (R.failed reader.new) (result ≡ Err TextFault.Read) }
@@ -249,7 +169,7 @@ fn read_entries<E: Entry, C: Entries<E> + Drop, R: Source>(
     replace_with(
         reader,
         entries,
-        |reader, entries| read_from::<E, C, R>(reader, alloc, heading, shape, entries),
+        |reader, entries| read_from::<E, C, R>(reader, alloc, protocol, shape, entries),
     )
 }
 
@@ -287,8 +207,7 @@ pub fn read_steps<R: Source>(
     ensures never_blamed { R.never_fails ≡ true → result ≢ Err TextFault.Read }
     ensures blamed { BlamesReader (R.failed reader.old) (R.failed reader.new) (result ≡ Err TextFault.Read) }
 {
-    let heading = Some(Heading::new(protocol, shape));
-    read_entries::<Step, Vec<Step>, R>(alloc, reader, heading, shape, Vec::new(alloc))
+    read_entries::<Step, Vec<Step>, R>(alloc, reader, Some(protocol), shape, Vec::new(alloc))
 }
 
 /// The same steps, or the same fault, gathered in another list, which is empty at first and fits every step of the shape.
@@ -307,8 +226,7 @@ pub fn gather_steps<C: Entries<Step> + Drop, R: Source>(
     ensures blamed { BlamesReader (R.failed reader.old) (R.failed reader.new) (result ≡ Err TextFault.Read) }
 {
     shape.within_limits();
-    let heading = Some(Heading::new(protocol, shape));
-    read_entries::<Step, C, R>(alloc, reader, heading, shape, steps)
+    read_entries::<Step, C, R>(alloc, reader, Some(protocol), shape, steps)
 }
 
 /// The rows that a text gives, or its first fault.

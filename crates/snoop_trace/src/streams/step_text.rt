@@ -2,7 +2,6 @@
 ghost use Rattle.std.specs.Prelude.{◌≡◌, ◌≤◌, ◌<◌, ◌+◌, ◌++◌, ◌∷◌, [], OnOk, codes, length};
 ghost use Rattle.std.specs.Fmt.{decimal};
 ghost use Rattle.snoop_trace.specs.Output.{step_text};
-ghost use Rattle.snoop_trace.specs.declared.step.Step.TheVariants.{Ask};
 
 use crate::fault::NoMemory;
 use crate::shape::Shape;
@@ -110,23 +109,8 @@ fn put_two(back: &mut Back, letter: u8, core: u32, address: u64)
     ensures { back.new ≡ letter ∷ [] ++ codes "," ++ decimal core ++ codes "," ++ decimal address ++ back.old }
 {
     put_field(back, address);
-    put_one(back, letter, core as u64);
-}
-
-// Puts the record of what a core asks for before no text.
-#[inline(always)]
-fn put_ask(back: &mut Back, shape: Shape, core: u32, block: u32, word: u32, op: Op)
-    requires { back.old ≡ [] }
-    ensures { back.new ≡ step_text shape (Ask core block word op) }
-{
-    match op {
-        Op::Load => put_two(back, b'L', core, shape.word_address(block, word)),
-        Op::Evict => put_two(back, b'E', core, shape.address_of(block)),
-        Op::Store(value) => {
-            put_field(back, value);
-            put_two(back, b'S', core, shape.word_address(block, word));
-        }
-    }
+    put_field(back, core as u64);
+    back.put(letter);
 }
 
 /// Appends the text of a step, without a line end.
@@ -143,8 +127,23 @@ pub fn push_step(out: &mut Vec<u8>, shape: Shape, step: Step) -> Result<(), NoMe
             core,
             block,
             word,
-            op,
-        } => put_ask(&mut back, shape, core, block, word, op),
+            op: Op::Load,
+        } => put_two(&mut back, b'L', core, shape.word_address(block, word)),
+        Step::Ask {
+            core,
+            block,
+            word,
+            op: Op::Store(value),
+        } => {
+            put_field(&mut back, value);
+            put_two(&mut back, b'S', core, shape.word_address(block, word));
+        }
+        Step::Ask {
+            core,
+            block,
+            word: _,
+            op: Op::Evict,
+        } => put_two(&mut back, b'E', core, shape.address_of(block)),
         Step::Order { core } => put_one(&mut back, b'O', core as u64),
         Step::Respond { block } => put_one(&mut back, b'R', shape.address_of(block)),
     }

@@ -1,7 +1,15 @@
-use Rattle.std.proofs.lemmas.Result.{on_ok_weaker}
-use Rattle.snoop_history.proofs.Touching.{report_joined}
+use Rattle.std.proofs.Common.{◌++◌, map, sym}
+use Rattle.snoop_history.proofs.Common.{append-nil, block_text, flat, range_with_len, totals_text}
+use Rattle.snoop_history.specs.Totals.{totals_of}
+use Rattle.snoop_rules.proofs.TextLemmas.{piece_more}
 use Rattle.snoop_history.proofs.report.push_report.Goals as goal
 
-pub returns : goal.returns
-returns c =
-    on_ok_weaker c.push_blocks.result (report_joined c.args.log.now.words c.args.log.now.items c.args.out.now.items c.totals.ensures c.requires.touched c.in_ok-push_totals.ensures) c.push_blocks.ensures
+pub loop-block-init : goal.loop-block-init
+loop-block-init c = rw append-nil (rw c.totals.ensures at c.in_ok-push_totals.ensures)
+
+pub loop-block-preserved : goal.loop-block-preserved
+loop-block-preserved c =
+    let log = c.args.log.now in
+    let blocks = sym c.touched-block-items.ensures.value in
+    rw blocks (piece_more (λ block. block_text block (map (flat log.items block) (range_with_len 0 log.words))) c.touched-block-items.result.now c.loop-block.block-index 0
+    (c.args.out.now.items ++ totals_text (totals_of log.items)) c.loop-block.out.items c.push_block.new.out.items c.loop-block-test.true (rw blocks at c.loop-block.invariant) c.in_ok-push_block.ensures)

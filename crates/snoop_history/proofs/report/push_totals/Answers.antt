@@ -1,14 +1,23 @@
-use Rattle.std.proofs.{Common.{◌≡◌, ◌++◌, List, ℕ, refl, append_assoc}, lemmas.Result.on_ok_weaker}
-use Rattle.snoop_history.specs.Report.{loads_text, stores_text, requests_text, sources_text, writebacks_text}
+use Rattle.std.{proofs.{Common.{◌≡◌, ◌++◌, List, ℕ, codes, refl, append_assoc}, lemmas.Result.on_ok_weaker}, specs.Fmt.decimal}
+use Rattle.snoop_history.{proofs.Common.Totals, specs.Report.{stores_text, requests_text, sources_text, writebacks_text}}
 use Rattle.snoop_history.proofs.report.push_totals.Goals as goal
 
-five_joined : (old a b c d e : List ℕ) {p q r s new : List ℕ} → p ≡ old ++ a → q ≡ p ++ b → r ≡ q ++ c → s ≡ r ++ d → new ≡ s ++ e → new ≡ old ++ (a ++ b ++ c ++ d ++ e)
-five_joined old a b c d e first second third fourth fifth = rw (fifth, fourth, third, second, first) (simp append_assoc refl)
+-- the names and counts, one after another, are the lines
+lines_joined : (t : Totals) (old loads : List ℕ) {p1 p2 p3 p4 p5 p6 p7 p8 p9 p10 p11 p12 new : List ℕ}
+    → p1 ≡ old ++ (loads ++ decimal t.loads) → p2 ≡ p1 ++ (codes " hits " ++ decimal t.load_hits)
+    → p3 ≡ p2 ++ (codes "\nstores " ++ decimal t.stores) → p4 ≡ p3 ++ (codes " hits " ++ decimal t.store_hits)
+    → p5 ≡ p4 ++ (codes "\nGetS " ++ decimal t.get_s) → p6 ≡ p5 ++ (codes " GetM " ++ decimal t.get_m)
+    → p7 ≡ p6 ++ (codes " PutM " ++ decimal t.put_m) → p8 ≡ p7 ++ (codes "\nfrom memory " ++ decimal t.from_memory)
+    → p9 ≡ p8 ++ (codes " from caches " ++ decimal t.from_caches) → p10 ≡ p9 ++ (codes "\nwritebacks " ++ decimal t.writebacks)
+    → p11 ≡ p10 ++ (codes " clean " ++ decimal t.clean) → p12 ≡ p11 ++ (codes " stale " ++ decimal t.stale)
+    → new ≡ p12 ++ codes "\n"
+    → new ≡ old ++ ((loads ++ decimal t.loads ++ codes " hits " ++ decimal t.load_hits ++ codes "\n") ++ stores_text t ++ requests_text t ++ sources_text t ++ writebacks_text t)
+lines_joined t old loads a b c d e f g h i j k l end = rw (end, l, k, j, i, h, g, f, e, d, c, b, a) (simp append_assoc refl)
 
 pub returns : goal.returns
 returns c =
-    let t = c.args.t in
-    on_ok_weaker c.push_three-2.result
-    (five_joined c.args.out.now.items (loads_text t) (stores_text t) (requests_text t) (sources_text t) (writebacks_text t)
-    c.in_ok-push_two.ensures c.in_ok-push_two-2.ensures c.in_ok-push_three.ensures c.in_ok-push_two-3.ensures)
-    c.push_three-2.ensures
+    on_ok_weaker c.push_byte.result (lines_joined c.args.t c.args.out.now.items (codes "loads ")
+    c.in_ok-push_count.ensures c.in_ok-push_count-2.ensures c.in_ok-push_count-3.ensures c.in_ok-push_count-4.ensures c.in_ok-push_count-5.ensures
+    c.in_ok-push_count-6.ensures c.in_ok-push_count-7.ensures c.in_ok-push_count-8.ensures c.in_ok-push_count-9.ensures
+    c.in_ok-push_count-10.ensures c.in_ok-push_count-11.ensures c.in_ok-push_count-12.ensures)
+    c.push_byte.ensures.ok

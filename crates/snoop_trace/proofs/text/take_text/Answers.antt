@@ -1,48 +1,79 @@
-use Rattle.std.proofs.Common.{refl, sym, ◌∙◌}
-use Rattle.snoop_trace.{proofs.{Common.{err_from_is_err_and, fields_of}, RecordLemmas.names_heading_as}, specs.Heading.heading_as}
-use Rattle.csv.specs.Reading.{reader_state, source_of}
-use Rattle.snoop_trace.proofs.TextLemmas.{first_refused, first_taken, no_heading, none_read, not_failed}
-use Rattle.snoop_trace.proofs.text.take_text.Goals.{then-is_begun+in_ok-read, else-is_begun+in_ok-from_record+in_ok-append}
+use Rattle.std.proofs.{Common.{◌≡◌, ◌+◌, ◌∷◌, [], inl, inr, refl, sym, ◌∙◌, arith}}
+use Rattle.std.specs.Prelude.{Ok}
+use Rattle.snoop_trace.proofs.{Common.{All-push, IsSaid, append-nil, err_from_is_err_and, fields_of, length-append}, RecordLemmas.names_heading_as}
+use Rattle.snoop_trace.proofs.TextLemmas.{done, further, no_heading, not_failed, refused, says_next}
+use Rattle.snoop_trace.specs.{Grammar.{◌>>=◌}, Heading.{heading_as, heading_for}, Progress.{IsPlain, heading_asked}}
+use Rattle.snoop_trace.proofs.text.take_text.Goals.{in-Some+in_ok-read-in-Some, in_default+in_ok-from_record-in_default+in_ok-append-in_default}
+use Rattle.snoop_trace.proofs.text.take_text.Goals.{in_default-via-in-Some+then-i-eq0+else-is_begun, in_default-via-in-Some+else-i-eq0, in_default-via-in_default}
 use Rattle.snoop_trace.proofs.text.take_text.Goals as goal
 
-pub returns-in_default-clause-read : goal.returns-in_default-clause-read
-returns-in_default-clause-read g c =
-    no_heading (g.E.Entry.says c.args.shape) c.args.heading _ c.take_entries.result (g.C.Entries.listed c.args.entries.now) (reader_state c.args.text.now) (source_of g.R.Read.remaining c.args.text.now)
-    c.in_default.is c.requires.begins c.requires.empty c.take_entries.ensures.read
+pub returns-in-Ok-false-clause-read : goal.returns-in-Ok-false-clause-read
+returns-in-Ok-false-clause-read g c =
+    done g.R.Read.remaining c.loop-i.text c.read_byte_record.new.self (fields_of c.read_byte_record.new.row) c.loop-i.invariant.0.config _ _ _ _ _
+    c.loop-i.invariant.1 (rw c.in-Ok-false.field-0-test at (c.in-Ok-false.ensures.reads c.loop-i.invariant.0.trim c.loop-i.invariant.0.ready))
 
-pub returns-then-not-branch-clause-read : goal.returns-then-not-branch-clause-read
-returns-then-not-branch-clause-read g c =
-    none_read g.R.Read.remaining c.args.text.now c.next_record.new.text (fields_of c.next_record.new.fields) (g.E.Entry.says c.args.shape) _ _
-    c.in-Some.is c.requires.plain.config c.requires.begins _ (rw c.if-not-branch.true at c.in_ok-next_record.ensures.reads) c.requires.empty
+pub returns-in_err-read-in-Some-clause-read : goal.returns-in_err-read-in-Some-clause-read
+returns-in_err-read-in-Some-clause-read g c =
+    let f = fields_of c.read_byte_record.new.row in
+    let read = rw c.in-Ok-true.field-0-test at (c.in-Ok-true.ensures.reads c.loop-i.invariant.0.trim c.loop-i.invariant.0.ready) in
+    let p = err_from_is_err_and c.from_residual.result c.from_residual.ensures.1 in
+    let says : says_next (g.E.Entry.says c.args.shape) (heading_asked c.args.protocol c.args.shape) c.loop-i.i f
+    ≡ (heading_as (heading_for c.in-Some.protocol c.args.shape) 1 f >>= λ heading. Ok [])
+    = rw (c.in-Some.is, c.if-i-eq0.true, sym c.is_begun.ensures ∙ c.if-is_begun.true) refl in
+    refused g.R.Read.remaining c.loop-i.text c.read_byte_record.new.self f c.loop-i.invariant.0.config _ _ _ _ _ c.loop-i.invariant.1 read _ _
+    c.in_err-read-in-Some.field-0.0 (rw p.2 at p.1) (rw (says, sym c.new.ensures, sym c.read.ensures ∙ c.in_err-read-in-Some.was) refl)
 
-pub returns-in_err-read-clause-read : goal.returns-in_err-read-clause-read
-returns-in_err-read-clause-read g c =
-    let p = err_from_is_err_and c.from_residual-in_err-read.result c.from_residual-in_err-read.ensures.1 in
-    first_refused g.R.Read.remaining c.args.text.now c.next_record.new.text (fields_of c.next_record.new.fields) (g.E.Entry.says c.args.shape) _ _
-    c.in-Some.is c.requires.plain.config c.requires.begins _ _ (rw c.if-not-branch.false at c.in_ok-next_record.ensures.reads) c.in_err-read.field-0.0 (rw p.2 at p.1)
-    (rw (sym c.is_begun.ensures ∙ c.if-is_begun.true, sym c.read.ensures ∙ c.in_err-read.was) refl)
+pub returns-in_err-read-in-Some-clause-not_read : goal.returns-in_err-read-in-Some-clause-not_read
+returns-in_err-read-in-Some-clause-not_read g c =
+    let p = err_from_is_err_and c.from_residual.result c.from_residual.ensures.1 in
+    not_failed (heading_as c.new.result 1 (fields_of c.read_byte_record.new.row)) c.from_residual.result c.in_err-read-in-Some.field-0.0
+    (sym c.read.ensures ∙ c.in_err-read-in-Some.was) (names_heading_as c.new.result 1 (fields_of c.read_byte_record.new.row)) (rw p.2 at p.1)
 
-pub returns-in_err-read-clause-not_read : goal.returns-in_err-read-clause-not_read
-returns-in_err-read-clause-not_read g c =
-    let p = err_from_is_err_and c.from_residual-in_err-read.result c.from_residual-in_err-read.ensures.1 in
-    not_failed (heading_as c.in-Some.heading 1 (fields_of c.next_record.new.fields)) c.from_residual-in_err-read.result c.in_err-read.field-0.0
-    (sym c.read.ensures ∙ c.in_err-read.was) (names_heading_as c.in-Some.heading 1 (fields_of c.next_record.new.fields)) (rw p.2 at p.1)
+pub returns-in_err-from_record-in_default-clause-read : goal.returns-in_err-from_record-in_default-clause-read
+returns-in_err-from_record-in_default-clause-read g c =
+    let f = fields_of c.read_byte_record.new.row in
+    let read = rw c.in-Ok-true.field-0-test at (c.in-Ok-true.ensures.reads c.loop-i.invariant.0.trim c.loop-i.invariant.0.ready) in
+    let p = err_from_is_err_and c.from_residual-in_err-from_record-in_default.result c.from_residual-in_err-from_record-in_default.ensures.1 in
+    let says = no_heading (g.E.Entry.says c.args.shape) c.args.protocol c.args.shape c.loop-i.i f (elim c.in_default.branch [
+      | in_default-via-in-Some+then-i-eq0+else-is_begun w ↦ λ p some zero begun. cc (w.is_begun.ensures, w.if-is_begun.false)
+      | in_default-via-in-Some+else-i-eq0 w ↦ λ p some zero begun. w.if-i-eq0.false zero
+      | in_default-via-in_default w ↦ λ p some zero begun. w.in_default.not-Some p some
+    ]) in
+    refused g.R.Read.remaining c.loop-i.text c.read_byte_record.new.self f c.loop-i.invariant.0.config _ _ _ _ _ c.loop-i.invariant.1 read _ _
+    c.in_err-from_record-in_default.field-0.0 (rw p.2 at p.1) (rw (says, sym c.from_record.ensures.entry ∙ c.in_err-from_record-in_default.was) refl)
 
-pub returns-in_err-from_record-clause-read : goal.returns-in_err-from_record-clause-read
-returns-in_err-from_record-clause-read g c =
-    let p = err_from_is_err_and c.from_residual-in_err-from_record.result c.from_residual-in_err-from_record.ensures.1 in
-    first_refused g.R.Read.remaining c.args.text.now c.next_record.new.text (fields_of c.next_record.new.fields) (g.E.Entry.says c.args.shape) _ _
-    c.in-Some.is c.requires.plain.config c.requires.begins _ _ (rw c.if-not-branch.false at c.in_ok-next_record.ensures.reads) c.in_err-from_record.field-0.0 (rw p.2 at p.1)
-    (rw (sym c.is_begun.ensures ∙ c.if-is_begun.false, sym c.from_record.ensures.entry ∙ c.in_err-from_record.was) refl)
-
-pub returns-clause-read : goal.returns-clause-read
-returns-clause-read g c =
-    first_taken g.R.Read.remaining c.args.text.now c.next_record.new.text (fields_of c.next_record.new.fields) (g.E.Entry.says c.args.shape) _ _
-    c.in-Some.is c.requires.plain.config c.requires.begins _ _ (rw c.if-not-branch.false at c.in_ok-next_record.ensures.reads) (g.C.Entries.listed c.if-is_begun.entries)
-    (elim c.if-is_begun.branch [
-      | then-is_begun+in_ok-read w ↦
-          rw (w.entries-is, c.requires.empty, sym c.is_begun.ensures ∙ w.if-is_begun.true, sym w.read.ensures ∙ w.in_ok-read.was) refl
-      | else-is_begun+in_ok-from_record+in_ok-append w ↦
-          rw (w.entries-is, w.in_ok-append.ensures.items, c.requires.empty, sym c.is_begun.ensures ∙ w.if-is_begun.false, sym w.from_record.ensures.entry ∙ w.in_ok-from_record.was) refl
-    ])
-    c.take_entries-2.ensures.read
+pub loop-i-preserved : goal.loop-i-preserved
+loop-i-preserved g c =
+    let f = fields_of c.read_byte_record.new.row in
+    let read = rw c.in-Ok-true.field-0-test at (c.in-Ok-true.ensures.reads c.loop-i.invariant.0.trim c.loop-i.invariant.0.ready) in
+    let plain : IsPlain c.read_byte_record.new.self = record {
+      trim = read.3 ∙ c.loop-i.invariant.0.trim;
+      ready = inl (c.in-Ok-true.ensures.ready c.loop-i.invariant.0.trim);
+      config = read.2 ∙ c.loop-i.invariant.0.config;
+    } in
+    let on = further g.R.Read.remaining c.loop-i.text c.read_byte_record.new.self f c.loop-i.invariant.0.config _ _ _ _ _ c.loop-i.invariant.1 read in
+    elim c.match-protocol.branch [
+      | in-Some+in_ok-read-in-Some w ↦ rw w.entries-is (
+        plain,
+        rw append-nil at (on [] (rw (w.in-Some.is, w.if-i-eq0.true, sym w.is_begun.ensures ∙ w.if-is_begun.true, sym w.new.ensures, sym w.read.ensures ∙ w.in_ok-read-in-Some.was) refl)),
+        c.loop-i.invariant.2,
+        inl (omega (arith, w.if-i-eq0.true)),
+        omega (arith, w.if-i-eq0.true),
+      )
+      | in_default+in_ok-from_record-in_default+in_ok-append-in_default w ↦
+          let says = no_heading (g.E.Entry.says c.args.shape) c.args.protocol c.args.shape c.loop-i.i f (elim w.in_default.branch [
+            | in_default-via-in-Some+then-i-eq0+else-is_begun w ↦ λ p some zero begun. cc (w.is_begun.ensures, w.if-is_begun.false)
+            | in_default-via-in-Some+else-i-eq0 w ↦ λ p some zero begun. w.if-i-eq0.false zero
+            | in_default-via-in_default w ↦ λ p some zero begun. w.in_default.not-Some p some
+          ]) in
+          let entry = w.in_ok-from_record-in_default.field-0 in
+          let said = sym w.from_record.ensures.entry ∙ w.in_ok-from_record-in_default.was in
+          let items = w.in_ok-append-in_default.ensures.items in
+          let longer = length-append (g.C.Entries.listed c.loop-i.entries) (entry ∷ []) in rw w.entries-is (
+            plain,
+            rw items (on (entry ∷ []) (rw (says, said) refl)),
+            rw items (All-push (IsSaid (g.E.Entry.says c.args.shape)) (g.C.Entries.listed c.loop-i.entries) entry c.loop-i.invariant.2 (c.loop-i.i + 1, (f, said))),
+            inr w.in_ok-append-in_default.ensures.bounded,
+            rw items (omega (arith, longer, c.loop-i.invariant.4)),
+          )
+    ]
