@@ -74,11 +74,11 @@ module _ (next : Ranked) where
       → Falls most (placed blocks next) × ((one : Ranked) → tied one (placed blocks next) ≡ tied one (blocks ++ next ∷ []))
   placed_so most [] few falls = ((few, tt), λ one. refl)
   placed_so most (b ∷ bs) few falls = rw placed_on (elim (cases_lt b.requests next.requests) [
-    | inl less ↦ rw (lt-ltb b.requests next.requests less) ((few, (omega arith, falls.1)), λ one.
-        let none : ties_with one next ≡ true → tied one (b ∷ bs) ≡ [] = λ ties.
+    | inl less ↦
+        let none : (one : Ranked) → ties_with one next ≡ true → tied one (b ∷ bs) ≡ [] = λ one ties.
         none_tied b.requests one (b ∷ bs) (omega arith, falls.1) (grind (arith, nat_tests)) in
-        let last = filter-append (ties_with one) (b ∷ bs) (next ∷ []) in
-        grind (arith, none, append-nil, last))
+        rw (lt-ltb b.requests next.requests less)
+        ((few, (omega arith, falls.1)), λ one. grind (arith, none one, append-nil, filter-append (ties_with one) (b ∷ bs) (next ∷ [])))
     | inr more ↦
         let on = placed_so b.requests bs more falls.1 in
         rw (le-ltb b.requests next.requests more) ((falls.0, on.0), λ one. ap (λ (l : List Ranked). cond (ties_with one b) (b ∷ l) l) (on.1 one))
@@ -94,8 +94,8 @@ ranked_so most far [] falls = (most, falls, λ one. ap (tied one) (sym (append-n
 ranked_so most far (b ∷ bs) falls =
     let more = placed_so b (most + b.requests) far (omega arith) (falls_below most far falls (most + b.requests) (omega arith)) in
     let rest = ranked_so (most + b.requests) (placed far b) bs more.0 in
-    (rest.0, rest.1, λ one. rest.2 one ∙ filter-append (ties_with one) (placed far b) bs
-    ∙ rw (more.1 one, ← filter-append (ties_with one) (far ++ b ∷ []) bs, append_assoc) refl)
+    let split = λ (one : Ranked) (l : List Ranked). filter-append (ties_with one) l bs in
+    (rest.0, rest.1, λ one. rest.2 one ∙ split one (placed far b) ∙ rw (more.1 one, ← split one (far ++ b ∷ []), append_assoc) refl)
 
 -- a stable sort by rising `goes_before` ranks
 pub sorted_is_ranked : (blocks sorted : List Ranked) → IsSortedBy goes_before sorted → IsStableBy goes_before blocks sorted → sorted ≡ ranked blocks

@@ -268,11 +268,20 @@ module _ (protocol : Protocol) (shape : Extent) (frames : List Frame) (final : S
     total c items own = items_sum whose many c items (λ entry inside counted. rw (own_subject whose c (happening.Item entry) own) (there entry inside))
 
     sums_total : sums_of whose many (happenings frames) ≡ totals_of final.log
-    sums_total = rw (
-      total count.Loads refl refl, total count.LoadHits refl refl, total count.Stores refl refl, total count.StoreHits refl refl,
-      total count.GetS refl refl, total count.GetM refl refl, total count.PutM refl refl, total count.FromMemory refl refl,
-      total count.FromCaches refl refl, total count.Writebacks refl refl, total count.Clean refl refl, total count.Stale refl refl,
-    ) refl
+    sums_total = λ i. record {
+      loads = total count.Loads refl refl i;
+      load_hits = total count.LoadHits refl refl i;
+      stores = total count.Stores refl refl i;
+      store_hits = total count.StoreHits refl refl i;
+      get_s = total count.GetS refl refl i;
+      get_m = total count.GetM refl refl i;
+      put_m = total count.PutM refl refl i;
+      from_memory = total count.FromMemory refl refl i;
+      from_caches = total count.FromCaches refl refl i;
+      writebacks = total count.Writebacks refl refl i;
+      clean = total count.Clean refl refl i;
+      stale = total count.Stale refl refl i;
+    }
 
   pub sums_are_totals : SumsAreTotals shape frames final.log
   sums_are_totals = record {

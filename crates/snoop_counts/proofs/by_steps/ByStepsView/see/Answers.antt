@@ -35,5 +35,5 @@ returns-in_ok-push_steps-in-Some c first frames before has next =
         counted = rw (← begins_anew every some frames frame none) (c.restart.ensures Machine _ counted);
       },
       rw (← line_now every some frames frame none c.first_of.result (rw (get, number) at c.first_of.ensures), ← number)
-      (c.in_ok-push_steps-in-Some.ensures _ counted),
+          (c.in_ok-push_steps-in-Some.ensures _ counted),
     )
