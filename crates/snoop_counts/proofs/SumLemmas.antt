@@ -6,7 +6,7 @@ use Rattle.std.specs.Prelude.{Err, is_some, IsSomeAnd, nat_lt, option_to_list, s
 use Rattle.snoop_trace.specs.Extent.{IsWithinLimits}
 use Rattle.snoop_rules.specs.declared.names.{CacheEvent.TheVariants.OtherGetM, CacheState.TheVariants.{S, SmAd}, Payload.{Payload, TheVariants.Data}}
 use Rattle.snoop_history.specs.{Totals.{how_many, is_put_m, performed, totals_of}, Within.{block_of, IsItemWithin}}
-use Rattle.snoop_model.proofs.{Queues.Moves.keeps_well, Runs.{GoOn.{IsSteady, reset_steady, steady_on}, Replies.{move_tells, refusal_tells}}}
+use Rattle.snoop_model.proofs.{Queues.Moves.keeps_well, Runs.{GoOn.{IsSteady, reset_steady, steady_on}, Replies.move_tells}}
 use Rattle.snoop_model.specs.{Moves.Replies.Tells, Pictures.Situation.{IsShaped, nothing_there}}
 use Rattle.snoop_model.specs.declared.replies.Reply.TheVariants.{Absent, Came, Gone, Hit, Issued, Ordered, StoreHit}
 use Rattle.snoop_engine.proofs.Common.{All-append, All-cons, arrival, Ask, CacheEvent, CacheState, cases_lt, ConsultsCache, Contains, Extent, get_or_past, GoesFirst, held_by, I, IfSome, Invariant, Item, Line, nothing_held, Order, Picture, picture_of, Protocol, reset, Respond, ShowsRows, state_of, waiting_request}
@@ -37,23 +37,22 @@ none_added {old} same = (None, record { logged = same ∙ sym (append-nil old); 
 one_added : {old new : List Item} (entry : Item) → new ≡ old ++ entry ∷ [] → IsOfOneBlock entry → (entry : Option Item) × Adds old new entry
 one_added entry is one = (Some entry, record { logged = is; of_one_block = All-cons IsOfOneBlock entry [] one (All-nil IsOfOneBlock) })
 
--- a step adds one item at most, as its outcome tells
-told_adds : {old new : List Item} (step : Step) (outcome : Result Reply Refused) → Tells old step outcome new → (entry : Option Item) × Adds old new entry
-told_adds (Ask core block word op.Load) (Ok (Hit value)) tells = one_added _ tells tt
-told_adds (Ask core block word (op.Store value)) (Ok StoreHit) tells = one_added _ tells tt
-told_adds (Ask core block word asking) (Ok (Issued request)) tells = none_added tells.1
-told_adds (Ask core block word op.Evict) (Ok Gone) tells = none_added tells
-told_adds (Ask core block word op.Evict) (Ok Absent) tells = none_added tells
-told_adds (Order core) (Ok (Ordered request)) tells = one_added _ tells.1 tt
-told_adds (Respond block) (Ok (Came payload from None)) tells = one_added _ tells.1.1 tt
-told_adds (Respond block) (Ok (Came payload from (Some did))) tells = one_added _ tells.1.1 tells.1.2.1
-told_adds step (Err cause) tells = none_added tells
-told_adds step outcome tells = absurd tells
+-- a step adds one item at most, as its reply tells
+told_adds : {old new : List Item} (step : Step) (answer : Reply) → Tells old step (Ok answer) new → (entry : Option Item) × Adds old new entry
+told_adds (Ask core block word op.Load) (Hit value) tells = one_added _ tells tt
+told_adds (Ask core block word (op.Store value)) StoreHit tells = one_added _ tells tt
+told_adds (Ask core block word asking) (Issued request) tells = none_added tells.1
+told_adds (Ask core block word op.Evict) Gone tells = none_added tells
+told_adds (Ask core block word op.Evict) Absent tells = none_added tells
+told_adds (Order core) (Ordered request) tells = one_added _ tells.1 tt
+told_adds (Respond block) (Came payload from None) tells = one_added _ tells.1.1 tt
+told_adds (Respond block) (Came payload from (Some did)) tells = one_added _ tells.1.1 tells.1.2.1
+told_adds step answer tells = absurd tells
 
-first_tells : (old new : Situation) (step : Step) (outcome : Result Reply Refused) → Invariant old → GoesFirst old step outcome new
-    → Tells old.log step outcome new.log
-first_tells old new step (Ok answer) kept move = move_tells old new step answer kept move
-first_tells old new step (Err cause) kept refused = refusal_tells step cause (ap (λ (s : Situation). s.log) refused.1)
+step_adds : (old new : Situation) (step : Step) (outcome : Result Reply Refused) → Invariant old → GoesFirst old step outcome new
+    → (entry : Option Item) × Adds old.log new.log entry
+step_adds old new step (Ok answer) kept move = told_adds step answer (move_tells old new step answer kept move)
+step_adds old new step (Err cause) kept refused = none_added (ap (λ (s : Situation). s.log) refused.1)
 
 last_got : {X : Type 0} (xs : List X) (entry : Option X) → slice_get (xs ++ option_to_list entry) (length xs) ≡ entry
 last_got xs None = grind (arith, gets, common_steps)
@@ -77,7 +76,7 @@ are_run [] old new steady run =
 are_run (f ∷ fs) old new steady run =
     let from : IsSteady f.before = rw run.0.before steady in
     let goes = run.0.goes in
-    let adds = frame_adds f (told_adds f.step f.outcome (first_tells f.before f.after f.step f.outcome from.0 goes)) in
+    let adds = frame_adds f (step_adds f.before f.after f.step f.outcome from.0 goes) in
     let rest = are_run fs f.after new (steady_on keeps_well f.before f.step f.outcome f.after from goes) run.1 in
     let shape : f.before.shape ≡ old.shape = ap (λ (s : Situation). s.shape) run.0.before in
     let same : f.after.shape ≡ old.shape = (goes_alike f.before f.step f.outcome f.after goes).1 ∙ shape in
@@ -150,10 +149,6 @@ sum_once : (whose : Subjects) (many : ℕ) (c : Count) (seen : List Happening) �
 sum_once whose many c seen there =
     sum_kept (λ s. is_counted whose s c) (counts c) (range_with_len 0 many) seen
     (λ k d low. ones many (counts c (get_or seen k d)) (subject_of whose c (get_or seen k d)) (there k d low))
-
-own_subject : (whose : Subjects) (c : Count) (seen : Happening) → core_counted c ≡ own_core → subject_of whose c seen ≡ subject_of whose count.Lines seen
-own_subject Cores c seen own = ap (λ (found : Happening → Option ℕ). found seen) own
-own_subject whose c seen own = refl
 
 -- a core sent it, and is there
 sender_there : (cores blocks words : ℕ) (entry : Item) → IsItemWithin cores blocks words entry → counts_item count.Supplied entry ≡ true
@@ -262,10 +257,10 @@ module _ (protocol : Protocol) (shape : Extent) (frames : List Frame) (final : S
 
   -- of the counts of the report, over all cores or all blocks
   module _ (whose : Subjects) (many : ℕ)
-      (there : (entry : Item) → IsItemWithin shape.cores shape.blocks shape.words entry
-      → IsSomeAnd (subject_of whose count.Lines (happening.Item entry)) (λ k. k < many)) where
+      (there : (c : Count) → core_counted c ≡ own_core → (entry : Item) → IsItemWithin shape.cores shape.blocks shape.words entry
+      → IsSomeAnd (subject_of whose c (happening.Item entry)) (λ k. k < many)) where
     total : (c : Count) → IsOfItems c → core_counted c ≡ own_core → sum_of whose many (happenings frames) c ≡ how_many (counts_item c) final.log
-    total c items own = items_sum whose many c items (λ entry inside counted. rw (own_subject whose c (happening.Item entry) own) (there entry inside))
+    total c items own = items_sum whose many c items (λ entry inside counted. there c own entry inside)
 
     sums_total : sums_of whose many (happenings frames) ≡ totals_of final.log
     sums_total = λ i. record {
@@ -285,8 +280,8 @@ module _ (protocol : Protocol) (shape : Extent) (frames : List Frame) (final : S
 
   pub sums_are_totals : SumsAreTotals shape frames final.log
   sums_are_totals = record {
-    cores = sums_total Cores shape.cores (λ entry inside. inside.core);
-    blocks = sums_total Blocks shape.blocks (λ entry inside. inside.block);
+    cores = sums_total Cores shape.cores (λ c own entry inside. rw own inside.core);
+    blocks = sums_total Blocks shape.blocks (λ c own entry inside. inside.block);
   }
 
   -- for each invalidation the cores are there
