@@ -1,20 +1,15 @@
 -- The last steps in which something happened, and one step more.
-use Rattle.std.proofs.Common.{◌≡◌, ℕ, ◌+◌, ◌-◌, Bool, true, false, List, [], ◌∷◌, ◌++◌, length, length-append, refl, sym, ◌∙◌, arith}
-use Rattle.std.{specs.{Prelude.{◌||◌, cond, not, reverse, Option, if◌then◌else◌}, List.{list_any, position_or_len}}, proofs.lemmas.List.reverse-append}
-use Rattle.std.proofs.lemmas.List.Folds.{list_any-append}
-use Rattle.snoop_engine.{proofs.Common.{Did, Situation}, specs.{Frames.{Frame, FramesFrom}, Taken.lines_of_step, declared.taken.Taken.Taken}}
-use Rattle.snoop_counts.specs.{Causes.{gives_up, is_stored_to, last_step, loses, operation_in, takes_such_row}, Counted.{is_giving_up, is_loss}}
-use Rattle.snoop_counts.specs.{LastSteps.{KnowsLastSteps, HasLastSteps, Marks, MarksLines, MarksStore, number_at}, declared.copies.Copies.Copies}
+use Rattle.std.{proofs.lemmas.List.{reverse-append, Folds.list_any-append}, specs.List.list_any}
+use Rattle.snoop_engine.specs.Frames.{FramesFrom}
+use Rattle.snoop_counts.proofs.Common.{[], ℕ, ◌++◌, ◌+◌, ◌∙◌, ◌∷◌, ◌≡◌, arith, Bool, Did, Frame, if◌then◌else◌, length, length-append, lines_of_step, List, MarksLines, operation_in, Option, Situation, sym, Taken}
+use Rattle.snoop_counts.specs.{Causes.{gives_up, is_stored_to, last_step, loses, takes_such_row}, Counted.{is_giving_up, is_loss}}
+use Rattle.snoop_counts.specs.{LastSteps.{HasLastSteps, KnowsLastSteps, Marks, MarksStore}, declared.copies.Copies.Copies}
 use Rattle.snoop_counts.specs.declared.last_steps.LastSteps.{LastSteps}
-
-one_step : (b : Bool) (n p : ℕ) → n + 1 - cond (not b) (1 + p) 0 ≡ (if b then 1 + n else n - p)
-one_step true n p = omega arith
-one_step false n p = omega arith
 
 -- one step more is the last, if it passes
 last_more : (test : Frame → Bool) (frames : List Frame) (frame : Frame) → last_step test (frames ++ frame ∷ []) ≡ (if test frame then 1 + length frames else last_step test frames)
 last_more test frames frame =
-    rw (reverse-append frames (frame ∷ []), length-append frames (frame ∷ [])) (one_step (test frame) (length frames) (position_or_len test (reverse frames)))
+    rw (reverse-append frames (frame ∷ []), length-append frames (frame ∷ [])) (grind arith)
 
 -- the number of the step is written where the test passes of it
 module _ (test : ℕ → ℕ → Frame → Bool) (frames : List Frame) (frame : Frame) (number : ℕ) (old new : LastSteps) where
@@ -23,17 +18,13 @@ module _ (test : ℕ → ℕ → Frame → Bool) (frames : List Frame) (frame : 
     number = λ block at. rw (marks block at, is, far.number block at) (sym (last_more (test block at) frames frame));
   }
 
-either : (a b : Bool) (n k : ℕ) → (if b then n else (if a then n else k)) ≡ (if a || b then n else k)
-either true true n k = refl
-either a b n k = refl
-
 -- marks of some lines, and of one more
 marks_more : (test : ℕ → ℕ → Taken → Bool) (number : ℕ) (lines : List Taken) (line : Taken) (old middle new : LastSteps)
     → Marks (λ block at. list_any (test block at) lines) number old middle → Marks (λ block at. list_any (test block at) (line ∷ [])) number middle new
     → Marks (λ block at. list_any (test block at) (lines ++ line ∷ [])) number old new
 marks_more test number lines line old middle new first next block at =
     rw (next block at, first block at, list_any-append (test block at) lines (line ∷ []))
-    (either (list_any (test block at) lines) (list_any (test block at) (line ∷ [])) number (number_at old.rows.items block at))
+    (grind arith)
 
 pub lines_more : (number : ℕ) (lines : List Taken) (line : Taken) (old middle new : Copies) → MarksLines number lines old middle → MarksLines number (line ∷ []) middle new → MarksLines number (lines ++ line ∷ []) old new
 lines_more number lines line old middle new first next = record {

@@ -1,8 +1,7 @@
 -- What a count of items alone counts of a line: nothing.
-use Rattle.std.{proofs.Common.{◌≡◌, Bool, false, refl, ◌∙◌}, specs.Prelude.{◌||◌, Option, Some, None, Result, Ok}}
-use Rattle.snoop_engine.{proofs.Common.{CacheEvent, CacheState, Refused, Reply, Step, option_map_or}, specs.declared.taken.Taken.{Taken, TheVariants.Core}}
-use Rattle.snoop_counts.specs.{Counted.{counts, counts_cause, counts_lines, counts_refusal, counts_row, has_row, is_refused}, declared.count.Cause.Cause}
-use Rattle.snoop_counts.specs.declared.count.Count.{Count}
+use Rattle.snoop_engine.proofs.Common.{CacheEvent, CacheState}
+use Rattle.snoop_counts.proofs.Common.{◌||◌, ◌∙◌, ◌≡◌, Bool, Cause, Core, Count, counts, false, None, Ok, Option, option_map_or, refl, Refused, Reply, Result, Some, Step, Taken}
+use Rattle.snoop_counts.specs.Counted.{counts_cause, counts_lines, counts_refusal, counts_row, has_row, is_refused}
 use Rattle.snoop_counts.specs.declared.count.Happening.TheVariants as happening
 
 pub no_row : (line : Taken) → has_row (λ state event. false) line ≡ false

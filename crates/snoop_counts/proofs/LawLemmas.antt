@@ -1,14 +1,13 @@
 -- What can be counted of steps that come after others; sums of counts over causes, and over parts of a run.
-use Rattle.std.proofs.Common.{◌≡◌, ℕ, suc, ◌+◌, Bool, get_or, true, false, cond, List, [], ◌∷◌, ◌++◌, All, length, length-append, map, refl, arith, append_assoc, append-nil}
-use Rattle.std.{specs.Prelude.{◌||◌, ◌&&◌, Option, Some, None, Result, option_to_list, if◌then◌else◌}, proofs.lemmas.List.Elements.{All-map, filter-append}}
-use Rattle.snoop_engine.{proofs.Common.{All-append, All-head, All-nil, All-tail, Did, Item, Refused, Reply, Step, option_map_or}, specs.Frames.Frame}
-use Rattle.snoop_engine.specs.{Taken.lines_of_step, declared.taken.Taken.{Taken, TheVariants.Core}}
-use Rattle.snoop_counts.specs.{Causes.{cause_of, item_of, operation_in}, Counted.{counts_cause, is_counted, is_miss, times_counted}, declared.count.Cause.Cause}
-use Rattle.snoop_counts.specs.{Happenings.{happenings, seen_after, seen_in}, Laws.{CausesAreAll, PartsAddUp}, declared.count.{Count.Count, Happening.Happening}}
+use Rattle.std.proofs.{Common.Contains, lemmas.List.Elements.{All-contains_itself, All-map, Contains-append_left, Contains-append_right}}
+use Rattle.std.specs.Prelude.{option_to_list}
+use Rattle.snoop_engine.proofs.Common.{All-append, Item}
+use Rattle.snoop_counts.proofs.Common.{[], ℕ, ◌&&◌, ◌++◌, ◌+◌, ◌||◌, ◌∷◌, ◌≡◌, All, All-head, All-nil, All-tail, append-nil, append_assoc, arith, Bool, Cause, cause_of, cond, Core, Count, Did, false, filter-append, flat_map, Frame, get_or, Happening, happenings, if◌then◌else◌, is_counted, length, length-append, lines_of_step, List, map, None, operation_in, Option, option_map_or, refl, Refused, Reply, Result, Some, Step, Subjects, Taken, times_counted, true}
+use Rattle.snoop_counts.{proofs.CountedLemmas.not_refused, specs.{Causes.item_of, Counted.{counts_cause, is_miss}, Happenings.{seen_after, seen_in}}}
+use Rattle.snoop_counts.specs.Laws.{CausesAreAll, PartsAddUp}
 use Rattle.snoop_counts.specs.declared.count.Cause.TheVariants as cause
 use Rattle.snoop_counts.specs.declared.count.Count.TheVariants as count
 use Rattle.snoop_counts.specs.declared.count.Happening.TheVariants as happening
-use Rattle.snoop_counts.{specs.declared.count.Subjects.Subjects, proofs.CountedLemmas.not_refused}
 use Rattle.snoop_counts.specs.declared.count.Subjects.TheVariants as subjects
 
 -- what can be counted of steps that are cut in two
@@ -30,23 +29,28 @@ once b = cond b 1 0
 
 -- one element more
 pub kept_if : {X : Type 0} (b : Bool) (x : X) (xs : List X) → length (cond b (x ∷ xs) xs) ≡ once b + length xs
-kept_if true x xs = omega arith
-kept_if b x xs = omega arith
+kept_if b x xs = grind arith
+
+-- what the steps add to the history
+abbrev pub items_in : List Frame → List Item
+items_in frames = flat_map (λ frame. option_to_list (item_of frame)) frames
 
 -- what holds of each line with its cause, and of each item, holds of all that can be counted
 pub all_seen : (P : Happening → Type 0) (earlier frames : List Frame)
-    → All (λ frame. (before : List Frame) → All (λ line. P (happening.Line frame.step frame.outcome line (cause_of before (operation_in frame) line)))
-    (lines_of_step frame.before frame.step frame.outcome)) frames
-    → ((entry : Item) → P (happening.Item entry)) → All P (seen_after earlier frames)
+    → ((before : List Frame) (frame : Frame) (line : Taken) → Contains frames frame → Contains (lines_of_step frame.before frame.step frame.outcome) line
+    → P (happening.Line frame.step frame.outcome line (cause_of before (operation_in frame) line)))
+    → ((entry : Item) → Contains (items_in frames) entry → P (happening.Item entry)) → All P (seen_after earlier frames)
 all_seen P earlier [] lines items = All-nil P
 all_seen P earlier (frame ∷ frames) lines items =
     let of_line : Taken → Happening = λ line. happening.Line frame.step frame.outcome line (cause_of earlier (operation_in frame) line) in
     let taken : List Taken = lines_of_step frame.before frame.step frame.outcome in
     let added : List Item = option_to_list (item_of frame) in
     All-append P (seen_in earlier frame) (seen_after (earlier ++ frame ∷ []) frames)
-    (All-append P (map of_line taken) (map happening.Item added) (All-map P of_line taken (lines 0 frame (omega arith) earlier))
-    (All-map P happening.Item added (λ k d low. items (get_or added k d))))
-    (all_seen P (earlier ++ frame ∷ []) frames (λ k d low. lines (suc k) d (omega arith)) items)
+    (All-append P (map of_line taken) (map happening.Item added)
+    (All-map P of_line taken (λ k d low. lines earlier frame (get_or taken k d) (0, omega arith, refl) (All-contains_itself taken k d low)))
+    (All-map P happening.Item added (λ k d low. items (get_or added k d) (Contains-append_left added (items_in frames) _ (All-contains_itself added k d low)))))
+    (all_seen P (earlier ++ frame ∷ []) frames (λ before other line there. lines before other line (Contains-append_right (frame ∷ []) frames other there))
+    (λ entry there. items entry (Contains-append_right added (items_in frames) entry there)))
 
 -- a miss has one cause, and what is no miss has none
 of_miss : (mine miss : Bool) (why : Cause) → let found : Option Cause = if miss then Some why else None in
@@ -84,5 +88,5 @@ line_has whose subject earlier operation step outcome line = simp (not_refused o
 pub causes_are_all : CausesAreAll
 causes_are_all frames whose subject =
     one_cause whose subject (happenings frames)
-    (all_seen (HasOneCause whose subject) [] frames (λ k f low before j line in_lines. line_has whose subject before (operation_in (get_or frames k f)) _ _ _)
-    (λ entry. refl))
+    (all_seen (HasOneCause whose subject) [] frames
+    (λ before frame line here there. line_has whose subject before (operation_in frame) _ _ line) (λ entry here. refl))

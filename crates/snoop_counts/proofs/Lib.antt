@@ -1,3 +1,4 @@
+pub mod Common
 pub mod CountedLemmas
 pub mod TallyLemmas
 pub mod BlockLemmas

@@ -1,7 +1,6 @@
 -- Lists that grow or in which an element changes, and what holds of each element.
-use Rattle.std.proofs.{Common.{◌≡◌, ℕ, ◌+◌, ◌<◌, List, [], ◌∷◌, ◌++◌, get_or, slice_set, length-set, ◌∙◌, inl, inr, arith}, lemmas.Bool.cases_eq}
-use Rattle.std.proofs.lemmas.{List.{get_or_append_left, get_or_push, get_or-set_other, length_push}, Grind.get_or-set_at}
-use Rattle.snoop_states.specs.Each.{AreEach}
+use Rattle.std.proofs.{Common.{length-set, slice_set}, lemmas.{Grind.get_or-set_at, List.{get_or-set_other, get_or_append_left, get_or_push}}}
+use Rattle.snoop_states.proofs.Common.{[], ℕ, ◌++◌, ◌+◌, ◌<◌, ◌∙◌, ◌∷◌, ◌≡◌, AreEach, arith, get_or, length_push, List}
 
 module _ {X : Type 0} {n : ℕ} {P Q : ℕ → X → Type 0} {xs : List X} (are : AreEach n P xs) where
   -- what follows of each element
@@ -12,18 +11,12 @@ module _ {X : Type 0} {n : ℕ} {P Q : ℕ → X → Type 0} {xs : List X} (are 
   pub each_set : (i : ℕ) (x : X) → i < n → Q i x → ((k : ℕ) (y : X) → (k ≡ i → ⊥) → P k y → Q k y) → AreEach n Q (slice_set xs i x)
   each_set i x low here others = record {
     count = length-set xs i x ∙ are.count;
-    each = λ k inside d. elim (cases_eq k i) [
-      | inl same ↦ rw (get_or-set_at xs i k x d same (omega (arith, are.count)), same) here
-      | inr other ↦ rw (get_or-set_other xs i k x d other) (others k (get_or xs k d) other (are.each k inside d))
-    ];
+    each = λ k inside d. grind (arith, get_or-set_at, get_or-set_other, here, others k (get_or xs k d), are.each k inside d);
   }
 
 -- one element more
 pub each_more : {X : Type 0} {n : ℕ} {P : ℕ → X → Type 0} {xs : List X} → AreEach n P xs → (x : X) → P n x → AreEach (n + 1) P (xs ++ x ∷ [])
 each_more {n = n} {xs = xs} are x here = record {
   count = omega (arith, are.count, length_push xs x);
-  each = λ k low d. elim (cases_eq k n) [
-    | inl same ↦ rw (get_or_push xs x d k (omega (arith, are.count)), same) here
-    | inr other ↦ rw (get_or_append_left xs (x ∷ []) d k (omega (arith, are.count))) (are.each k (omega arith) d)
-  ];
+  each = λ k low d. grind (arith, get_or_push, get_or_append_left, here, are.each k, are.count);
 }

@@ -1,4 +1,4 @@
+pub mod Common
 pub mod EachLemmas
 pub mod RowLemmas
-pub mod KeptLemmas
 pub mod TableLemmas

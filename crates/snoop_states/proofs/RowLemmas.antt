@@ -1,6 +1,6 @@
 -- A row by its cells, as a row by its columns.
-use Rattle.std.proofs.{Common.{◌≡◌, ℕ, List, map, flat_map, refl}, lemmas.{List.Folds.flat_map-map, Simd.map-map}}
-use Rattle.snoop_states.specs.{declared.{column.Column.Column, table.Cell.Cell}, Seen.{HasCells, pair}}
+use Rattle.std.proofs.lemmas.List.Folds.{flat_map-map}
+use Rattle.snoop_states.{proofs.Common.{ℕ, ◌≡◌, Column, flat_map, List, map, map-map, pair, refl}, specs.{Seen.HasCells, declared.table.Cell.Cell}}
 
 module _ (columns : List Column) (text : Column → List ℕ) (cells : List Cell) (has : HasCells columns text cells) where
   -- what is appended of each cell, by its column and its text

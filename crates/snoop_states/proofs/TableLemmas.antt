@@ -1,14 +1,14 @@
 -- The table of a block, when one frame more is seen.
-use Rattle.std.proofs.Common.{◌≡◌, ℕ, ◌+◌, ◌-◌, ◌<◌, ◌≤◌, ◌==◌, ◌&&◌, Bool, true, false, if◌then◌else◌, Option, Some, None, List, [], ◌∷◌, ◌++◌, map, length, nat_le, nat_lt, refl, sym, ◌∙◌, append_assoc, append-nil, take_all, arith, codes, inl, inr, leb-true, lt-ltb, ne_eqb}
-use Rattle.std.{specs.Option.option_map_or, proofs.lemmas.Bool.{and_left, and_parts, and_right, both_ways, cases_lt, false≢true}}
-use Rattle.std.proofs.lemmas.List.{length_push, map-append}
-use Rattle.snoop_trace.specs.{Extent.Extent, declared.protocol.Protocol.Protocol}
-use Rattle.snoop_model.specs.Pictures.Situation.{Situation, reset}
-use Rattle.snoop_engine.specs.{Chosen.{Chosen, is_chosen, is_in_range}, Frames.Frame, Line.line_text, Numbered.{Numbered, led_to}, Views.block_of_step}
-use Rattle.snoop_states.{proofs.KeptLemmas.{kept_on, led_comes, led_stays, none_kept, not_before}, specs.declared.{column.Column.Column, widths.Widths.Widths}}
-use Rattle.snoop_engine.proofs.NumberedLemmas.{led_on, numbered}
-use Rattle.snoop_states.specs.{declared.table.Table.Table, Cells.cell_text, Rows.{cells_text, names_text}, Seen.{Grows, HasRows, IsEmpty, IsTable}}
-use Rattle.snoop_states.specs.Tables.{first_row, first_shown, heading_text, is_of, rows_text, shown_block, shown_of, table_text}
+use Rattle.std.proofs.Common.{◌&&◌, ◌-◌, ◌==◌, filter, if◌then◌else◌, leb-true, lt-ltb, nat_le, nat_lt, None, take_all}
+use Rattle.std.proofs.lemmas.{Bool.{and_left, and_parts, and_right, cases_lt, lt-leb, Decides.nat_tests}, List.{take-append-le, Elements.filter-append}}
+use Rattle.std.specs.Option.{option_map_or}
+use Rattle.snoop_model.specs.Pictures.Situation.{reset}
+use Rattle.snoop_engine.{proofs.NumberedLemmas.{led_on, numbered, numbered_on}, specs.Chosen.{is_chosen, is_in_range}}
+use Rattle.snoop_engine.specs.{Numbered.{led_to, Numbered, numbered_from}, Views.block_of_step}
+use Rattle.snoop_states.proofs.Common.{[], ℕ, ◌++◌, ◌+◌, ◌<◌, ◌∙◌, ◌∷◌, ◌≡◌, ◌≤◌, ap, append-nil, append_assoc, arith, Bool, both_ways, cell_text, Chosen, codes, Column, Extent, false, Frame, Grows, inl, inr, IsEmpty, IsTable, length, length_push, line_text, List, map, map-append, Option, Protocol, refl, Situation, Some, sym, take, true}
+use Rattle.snoop_states.specs.{Rows.{cells_text, names_text}, Seen.HasRows}
+use Rattle.snoop_states.specs.{Tables.{first_row, first_shown, heading_text, is_of, rows_text, shown_block, shown_of, table_text}, declared.table.Table.Table}
+use Rattle.snoop_states.specs.declared.widths.Widths.{Widths}
 
 -- one row more
 rows_on : (widths : Widths) (shape : Extent) (block : ℕ) (columns : List Column) (above : Situation) (ns : List Numbered) (n : Numbered)
@@ -18,65 +18,34 @@ rows_on widths shape block columns above [] n = append-nil _
 rows_on widths shape block columns above (m ∷ ms) n = rw (rows_on widths shape block columns m.frame.after ms n) (simp append_assoc)
 
 -- nothing is shown before the first step that is
-none_yet : (choice : Chosen) (block : ℕ) (frames : List Frame) → 1 + length frames ≤ choice.from → shown_of choice block frames ≡ []
-none_yet choice block frames few =
-    none_kept (λ n. is_in_range choice n.number && is_of block n.frame) choice.from 1 frames
-    (λ n low. and_left (is_in_range choice n.number) (is_of block n.frame) (not_before choice n.number low)) few
+none_yet : (choice : Chosen) (block number : ℕ) (frames : List Frame) → number + length frames ≤ choice.from
+    → filter (λ (n : Numbered). is_in_range choice n.number && is_of block n.frame) (numbered_from number frames) ≡ []
+none_yet choice block number [] few = refl
+none_yet choice block number (f ∷ fs) few =
+    rw (and_left (is_in_range choice number) _ (and_left (nat_le choice.from number) _ (lt-leb choice.from number (omega arith))))
+    (none_yet choice block (number + 1) fs (omega arith))
+
+-- one frame more
+shown_on : (choice : Chosen) (block : ℕ) (frames : List Frame) (frame : Frame)
+    → shown_of choice block (frames ++ frame ∷ [])
+    ≡ shown_of choice block frames ++ (if is_in_range choice (1 + length frames) && is_of block frame then numbered (1 + length frames) frame ∷ [] else [])
+shown_on choice block frames frame = rw (numbered_on 1 frames frame, filter-append) refl
+
+-- the machine before the step of this number, once it is there
+led_stays : (start : Situation) (from : ℕ) (frames : List Frame) (frame : Frame) → from ≤ 1 + length frames
+    → led_to start (take (from - 1) (frames ++ frame ∷ [])) ≡ led_to start (take (from - 1) frames)
+led_stays start from frames frame late =
+    let short : from - 1 ≤ length frames = omega arith in
+    ap (led_to start) (take-append-le (from - 1) frames (frame ∷ []) short)
 
 -- a step stands in the table of a block that is shown where its shown block is this one
-pub shown_in : (choice : Chosen) (frame : Frame) (number block : ℕ) (found : Option ℕ) → is_chosen choice.block block ≡ true → shown_block choice (block_of_step frame.before frame.step) number ≡ found
+shown_in : (choice : Chosen) (frame : Frame) (number block : ℕ) (found : Option ℕ) → is_chosen choice.block block ≡ true
+    → shown_block choice (block_of_step frame.before frame.step) number ≡ found
     → (is_in_range choice number && is_of block frame) ≡ option_map_or (λ b. b == block) found false
 shown_in choice frame number block found chosen e = rw (← e) (by_block (block_of_step frame.before frame.step)) where
-  by_tests : (within shown : Bool) (b : ℕ) → (b ≡ block → shown ≡ true) → (within && (b == block)) ≡ option_map_or (λ n. n == block) (if shown && within then Some b else None) false
-  by_tests true true b h = refl
-  by_tests true false b h = ne_eqb b block (λ same. false≢true (h same))
-  by_tests false true b h = refl
-  by_tests false false b h = refl
-
   by_block : (of : Option ℕ) → (is_in_range choice number && option_map_or (λ b. b == block) of false) ≡ option_map_or (λ b. b == block) (shown_block choice of number) false
   by_block None = and_right (is_in_range choice number) false refl
-  by_block (Some b) = by_tests (is_in_range choice number) (is_chosen choice.block b) b (λ same. rw same chosen)
-
--- the next step is the first one that is shown: the table has its first row
-pub table_starts : {widths : Widths} {choice : Chosen} {protocol : Protocol} {shape : Extent} {block : ℕ} {columns : List Column} {here : Situation} {table : Table} (frames : List Frame) (frame : Frame)
-    → choice.from ≡ 2 + length frames → frame.after ≡ here → HasRows widths choice shape block columns here [] table → IsTable widths choice protocol shape columns (frames ++ frame ∷ []) block table
-table_starts {choice = choice} {protocol = protocol} {shape = shape} {block = block} frames frame next after has =
-    let more = length_push frames frame in
-    record {
-      early = λ e. absurd (omega arith);
-      late = λ _. rw (led_comes (reset protocol shape) choice.from frames frame next ∙ after, none_yet choice block (frames ++ frame ∷ []) (omega arith)) has;
-    }
-
-module _ {widths : Widths} {choice : Chosen} {protocol : Protocol} {shape : Extent} {block : ℕ} {columns : List Column} {frames : List Frame} {table : Table} (frame : Frame)
-    (so_far : IsTable widths choice protocol shape columns frames block table) where
-  -- the step is not shown
-  pub table_stays : (choice.from ≡ 2 + length frames → ⊥) → (is_in_range choice (1 + length frames) && is_of block frame) ≡ false
-      → IsTable widths choice protocol shape columns (frames ++ frame ∷ []) block table
-  table_stays other off =
-      let more = length_push frames frame in
-      record {
-        early = λ e. so_far.early (omega arith);
-        late = λ l. rw (led_stays (reset protocol shape) choice.from frames frame (omega arith), kept_on, off, append-nil) (so_far.late (omega arith));
-      }
-
-  -- the step is shown: the table gets its row
-  pub table_grows : {new : Table} → (is_in_range choice (1 + length frames) && is_of block frame) ≡ true
-      → Grows widths frame.after block (1 + length frames) (line_text shape frame.step frame.outcome) true table new → IsTable widths choice protocol shape columns (frames ++ frame ∷ []) block new
-  table_grows on grows =
-      let within = (and_parts (is_in_range choice (1 + length frames)) (is_of block frame) on).0 in
-      let late : choice.from ≤ 1 + length frames = leb-true choice.from (1 + length frames) (and_parts (nat_le choice.from (1 + length frames)) (nat_le (1 + length frames) choice.to) within).0 in
-      let old : HasRows widths choice shape block columns (first_shown choice protocol shape frames) (shown_of choice block frames) table = so_far.late (omega arith) in
-      let shown : List Numbered = shown_of choice block frames in
-      let one : Numbered = numbered (1 + length frames) frame in
-      let row = grows columns (cell_text (led_to (first_shown choice protocol shape frames) (map (λ n. n.frame) shown)) block) old.cells in
-      record {
-        early = λ e. absurd (omega (arith, length_push frames frame));
-        late = λ _. rw (led_stays (reset protocol shape) choice.from frames frame late, kept_on, on) (record {
-          cells = rw (map-append, led_on) row.cells;
-          rows = rw (row.rows, old.rows, rows_on widths shape block columns (first_shown choice protocol shape frames) shown one) (simp append_assoc);
-          is_shown = row.is_shown ∙ sym (lt-ltb 0 (length (shown ++ one ∷ [])) (omega (arith, length_push shown one)));
-        });
-      }
+  by_block (Some b) = let same : b ≡ block → is_chosen choice.block b ≡ true = λ is. rw is chosen in grind (arith, nat_tests, same)
 
 -- the text of a table, by whether it has a row of a step
 text_of : (widths : Widths) (choice : Chosen) (protocol : Protocol) (shape : Extent) (block : ℕ) (columns : List Column) (start : Situation) (shown : List Numbered) (some : Bool)
@@ -86,35 +55,84 @@ text_of : (widths : Widths) (choice : Chosen) (protocol : Protocol) (shape : Ext
 text_of widths choice protocol shape block columns start [] some e = rw e refl
 text_of widths choice protocol shape block columns start (n ∷ ns) some e = rw (e, lt-ltb 0 (length (n ∷ ns)) (omega arith)) refl
 
-module _ {widths : Widths} {choice : Chosen} {protocol : Protocol} {shape : Extent} {block : ℕ} {columns : List Column} {frames : List Frame} {table : Table}
-    (so_far : IsTable widths choice protocol shape columns frames block table) where
-  abbrev Text : List ℕ
-  Text = table_text widths choice protocol shape block columns (first_shown choice protocol shape frames) (shown_of choice block frames)
+module _ {widths : Widths} {choice : Chosen} {protocol : Protocol} {shape : Extent} {block : ℕ} {columns : List Column} {table : Table} where
+  -- the tables at reset
+  pub begun_at_reset : {here : Situation} → choice.from ≡ 1 → here ≡ reset protocol shape → HasRows widths choice shape block columns here [] table
+      → IsTable widths choice protocol shape columns [] block table
+  begun_at_reset one at has =
+      let frames : List Frame = [] in
+      record { early = λ e. absurd (omega arith); late = λ _. rw (take_all (choice.from - 1) frames (omega arith), ← at) has }
 
-  -- nothing is written of a table without a row of a step
-  pub table_unshown : table.is_shown ≡ false → Text ≡ []
-  table_unshown off = elim (cases_lt (length frames + 1) choice.from) [
-    | inl early ↦ rw (none_yet choice block frames (omega arith)) refl
-    | inr late ↦ text_of widths choice protocol shape block columns (first_shown choice protocol shape frames) (shown_of choice block frames) false (sym off ∙ (so_far.late late).is_shown)
-  ]
+  pub empty_at_reset : 1 < choice.from → IsEmpty columns table → IsTable widths choice protocol shape columns [] block table
+  empty_at_reset far empty = record { early = λ _. empty; late = λ e. absurd (omega arith) }
 
-  -- a table with one has rows, and they are written
-  pub table_shown : table.is_shown ≡ true → HasRows widths choice shape block columns (first_shown choice protocol shape frames) (shown_of choice block frames) table
-      × (Text ≡ heading_text protocol shape block ++ names_text widths columns ++ table.rows.items ++ codes "\n")
-  table_shown on = elim (cases_lt (length frames + 1) choice.from) [
-    | inl early ↦ absurd (both_ways table.is_shown (so_far.early early).is_shown on)
-    | inr late ↦
-        let has = so_far.late late in
-        (has, rw (text_of widths choice protocol shape block columns (first_shown choice protocol shape frames) (shown_of choice block frames) true (sym on ∙ has.is_shown), has.rows) (simp append_assoc))
-  ]
+  -- the next step is the first one that is shown: the table has its first row
+  pub table_starts : {here : Situation} (frames : List Frame) (frame : Frame) → choice.from ≡ 2 + length frames → frame.after ≡ here
+      → HasRows widths choice shape block columns here [] table → IsTable widths choice protocol shape columns (frames ++ frame ∷ []) block table
+  table_starts frames frame next after has =
+      let more = length_push frames frame in
+      let led = ap (led_to (reset protocol shape)) (take_all (choice.from - 1) (frames ++ frame ∷ []) (omega arith))
+      ∙ led_on (reset protocol shape) frames frame ∙ after in
+      record { early = λ e. absurd (omega arith); late = λ _. rw (led, none_yet choice block 1 (frames ++ frame ∷ []) (omega arith)) has }
 
--- the tables at reset
-pub begun_at_reset : {widths : Widths} {choice : Chosen} {protocol : Protocol} {shape : Extent} {block : ℕ} {columns : List Column} {here : Situation} {table : Table}
-    → choice.from ≡ 1 → here ≡ reset protocol shape → HasRows widths choice shape block columns here [] table → IsTable widths choice protocol shape columns [] block table
-begun_at_reset {choice = choice} one at has =
-    let frames : List Frame = [] in
-    record { early = λ e. absurd (omega arith); late = λ _. rw (take_all (choice.from - 1) frames (omega arith), ← at) has }
+  module _ {frames : List Frame} (so_far : IsTable widths choice protocol shape columns frames block table) where
+    abbrev start : Situation
+    start = first_shown choice protocol shape frames
 
-pub empty_at_reset : {widths : Widths} {choice : Chosen} {protocol : Protocol} {shape : Extent} {block : ℕ} {columns : List Column} {table : Table}
-    → 1 < choice.from → IsEmpty columns table → IsTable widths choice protocol shape columns [] block table
-empty_at_reset far empty = record { early = λ _. empty; late = λ e. absurd (omega arith) }
+    module _ (frame : Frame) (found : Option ℕ) (chosen : is_chosen choice.block block ≡ true)
+        (is : shown_block choice (block_of_step frame.before frame.step) (1 + length frames) ≡ found) where
+      on_this : (is_in_range choice (1 + length frames) && is_of block frame) ≡ option_map_or (λ b. b == block) found false
+      on_this = shown_in choice frame (1 + length frames) block found chosen is
+
+      -- the step is not shown here
+      pub table_stays : (choice.from ≡ 2 + length frames → ⊥) → option_map_or (λ b. b == block) found false ≡ false
+          → IsTable widths choice protocol shape columns (frames ++ frame ∷ []) block table
+      table_stays other off =
+          let more = length_push frames frame in
+          record {
+            early = λ e. so_far.early (omega arith);
+            late = λ l. rw (led_stays (reset protocol shape) choice.from frames frame (omega arith), shown_on, on_this ∙ off, append-nil)
+                (so_far.late (omega arith));
+          }
+
+      -- the step is shown: the table gets its row
+      pub table_grows : {new : Table} → option_map_or (λ b. b == block) found false ≡ true
+          → Grows widths frame.after block (1 + length frames) (line_text shape frame.step frame.outcome) true table new
+          → IsTable widths choice protocol shape columns (frames ++ frame ∷ []) block new
+      table_grows here grows =
+          let on = on_this ∙ here in
+          let within = (and_parts (is_in_range choice (1 + length frames)) (is_of block frame) on).0 in
+          let late = leb-true choice.from (1 + length frames) (and_parts (nat_le choice.from (1 + length frames)) _ within).0 in
+          let shown : List Numbered = shown_of choice block frames in
+          let one : Numbered = numbered (1 + length frames) frame in
+          let old : HasRows widths choice shape block columns start shown table = so_far.late (omega arith) in
+          let row = grows columns (cell_text (led_to start (map (λ n. n.frame) shown)) block) old.cells in
+          record {
+            early = λ e. absurd (omega (arith, length_push frames frame));
+            late = λ _. rw (led_stays (reset protocol shape) choice.from frames frame late, shown_on, on) (record {
+              cells = rw (map-append, led_on) row.cells;
+              rows = rw (row.rows, old.rows, rows_on widths shape block columns start shown one) (simp append_assoc);
+              is_shown = row.is_shown ∙ sym (lt-ltb 0 (length (shown ++ one ∷ [])) (omega (arith, length_push shown one)));
+            });
+          }
+
+    abbrev Text : List ℕ
+    Text = table_text widths choice protocol shape block columns start (shown_of choice block frames)
+
+    -- nothing is written of a table without a row of a step
+    pub table_unshown : table.is_shown ≡ false → Text ≡ []
+    table_unshown off = elim (cases_lt (length frames + 1) choice.from) [
+      | inl early ↦ rw (none_yet choice block 1 frames (omega arith)) refl
+      | inr late ↦ text_of widths choice protocol shape block columns start (shown_of choice block frames) false (sym off ∙ (so_far.late late).is_shown)
+    ]
+
+    -- a table with one has rows, and they are written
+    pub table_shown : table.is_shown ≡ true → HasRows widths choice shape block columns start (shown_of choice block frames) table
+        × (Text ≡ heading_text protocol shape block ++ names_text widths columns ++ table.rows.items ++ codes "\n")
+    table_shown on = elim (cases_lt (length frames + 1) choice.from) [
+      | inl early ↦ absurd (both_ways table.is_shown (so_far.early early).is_shown on)
+      | inr late ↦
+          let has = so_far.late late in
+          let text = text_of widths choice protocol shape block columns start (shown_of choice block frames) true (sym on ∙ has.is_shown) in
+          (has, rw (text, has.rows) (simp append_assoc))
+    ]

@@ -1,5 +1,4 @@
-use Rattle.std.proofs.Common.{◌≡◌, List, map}
-use Rattle.snoop_counts.specs.{BlockTally.CountsBlocks, ByBlock.{blocks_named, with_requests}, declared.count.Happening.Happening}
+use Rattle.snoop_counts.proofs.Common.{◌≡◌, blocks_named, CountsBlocks, Happening, List, map, with_requests}
 use Rattle.snoop_counts.proofs.block_table.blocks_named.Given as goal
 
 -- the blocks so far

@@ -1,5 +1,4 @@
-use Rattle.std.proofs.{Common.{append_assoc, rules}, lemmas.Result.IfOk-equal}
-use Rattle.snoop_counts.{specs.{ByBlock.block_counts, Counted.counted_of, declared.count.Subjects.TheVariants.Blocks}, proofs.BlockLemmas.fields_are}
+use Rattle.snoop_counts.{proofs.{Common.{append_assoc, Blocks, counted_of, IfOk-equal, rules}, BlockLemmas.fields_are}, specs.ByBlock.block_counts}
 use Rattle.snoop_counts.proofs.block_table.push_block.Goals as goal
 
 pub returns-in_ok-push_counts-in-Some : goal.returns-in_ok-push_counts-in-Some

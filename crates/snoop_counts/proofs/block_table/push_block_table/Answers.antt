@@ -1,5 +1,5 @@
-use Rattle.std.proofs.{Common.{◌≡◌, map, append_assoc, ◌∙◌, ap}, lemmas.Result.IfOk-equal}
-use Rattle.snoop_counts.{specs.ByBlock.{blocks_named, blocks_shown, with_requests}, proofs.BlockLemmas.shown_are_named}
+use Rattle.snoop_counts.proofs.{Common.{◌∙◌, ◌≡◌, ap, append_assoc, blocks_named, IfOk-equal, map, with_requests}, BlockLemmas.shown_are_named}
+use Rattle.snoop_counts.specs.ByBlock.{blocks_shown}
 use Rattle.snoop_counts.proofs.block_table.push_block_table.Goals as goal
 
 pub returns : goal.returns

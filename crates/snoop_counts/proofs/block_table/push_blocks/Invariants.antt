@@ -1,5 +1,5 @@
-use Rattle.std.{proofs.Common.{◌≡◌, ◌<◌, true, List, ◌++◌, All, take}, specs.List.flat_map}
-use Rattle.snoop_counts.specs.{BlockTally.CountsBlocks, ByBlock.block_line, Counted.is_named, declared.count.{Happening.Happening, Subjects.TheVariants.Blocks}}
+use Rattle.snoop_counts.{proofs.Common.{◌++◌, ◌<◌, ◌≡◌, All, Blocks, CountsBlocks, flat_map, Happening, List, take, true}, specs.ByBlock.block_line}
+use Rattle.snoop_counts.specs.Counted.{is_named}
 use Rattle.snoop_counts.proofs.block_table.push_blocks.Given as goal
 
 -- the lines so far

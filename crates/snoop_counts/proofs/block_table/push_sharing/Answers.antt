@@ -1,6 +1,5 @@
-use Rattle.std.proofs.{Common.{append_assoc, rules}, lemmas.Result.IfOk-equal}
+use Rattle.snoop_counts.proofs.Common.{append_assoc, Blocks, IfOk-equal, rules}
 use Rattle.snoop_counts.specs.declared.count.Count.TheVariants as count
-use Rattle.snoop_counts.specs.declared.count.Subjects.TheVariants.{Blocks}
 use Rattle.snoop_counts.proofs.block_table.push_sharing.Goals as goal
 
 pub returns : goal.returns

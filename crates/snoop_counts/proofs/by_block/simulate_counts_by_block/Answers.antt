@@ -1,5 +1,4 @@
-use Rattle.snoop_engine.proofs.{ShownLemmas.same_view, ViewLemmas.quiet_view}
-use Rattle.snoop_counts.specs.ByBlock.{counts_by_block}
+use Rattle.snoop_counts.{proofs.Common.{quiet_view, same_view}, specs.ByBlock.counts_by_block}
 use Rattle.snoop_counts.proofs.by_block.simulate_counts_by_block.Goals as goal
 
 pub returns-clause-does : goal.returns-clause-does

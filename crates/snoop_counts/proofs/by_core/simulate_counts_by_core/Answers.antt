@@ -1,5 +1,4 @@
-use Rattle.snoop_engine.proofs.{ShownLemmas.same_view, ViewLemmas.quiet_view}
-use Rattle.snoop_counts.specs.CoreTable.{counts_by_core}
+use Rattle.snoop_counts.{proofs.Common.{quiet_view, same_view}, specs.CoreTable.counts_by_core}
 use Rattle.snoop_counts.proofs.by_core.simulate_counts_by_core.Goals as goal
 
 pub returns-clause-does : goal.returns-clause-does

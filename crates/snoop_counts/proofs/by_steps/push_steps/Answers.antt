@@ -1,5 +1,5 @@
-use Rattle.std.proofs.{Common.{◌<◌, append_assoc, arith, rules}, lemmas.Result.IfOk-equal}
-use Rattle.snoop_counts.{specs.{BySteps.machine_counts, Counted.counted_of, declared.count.Subjects.TheVariants.Machine}, proofs.BlockLemmas.fields_are}
+use Rattle.snoop_counts.{proofs.{Common.{◌<◌, append_assoc, arith, counted_of, IfOk-equal, rules}, BlockLemmas.fields_are}, specs.BySteps.machine_counts}
+use Rattle.snoop_counts.specs.declared.count.Subjects.TheVariants.{Machine}
 use Rattle.snoop_counts.proofs.by_steps.push_steps.Goals as goal
 
 pub returns-in_ok-push_counts-in-Some : goal.returns-in_ok-push_counts-in-Some

@@ -1,5 +1,4 @@
-use Rattle.snoop_engine.proofs.{ShownLemmas.same_view, ViewLemmas.quiet_view}
-use Rattle.snoop_counts.specs.ByWord.{counts_by_word}
+use Rattle.snoop_counts.{proofs.Common.{quiet_view, same_view}, specs.ByWord.counts_by_word}
 use Rattle.snoop_counts.proofs.by_word.simulate_counts_by_word.Goals as goal
 
 pub returns-clause-does : goal.returns-clause-does

@@ -1,5 +1,5 @@
-use Rattle.std.proofs.{Common.{append-nil, append_assoc, rules, sym}, lemmas.Result.IfOk-equal}
-use Rattle.snoop_counts.{specs.{CoreTable.core_counts, Counted.counted_of, declared.count.Subjects.TheVariants.Cores}, proofs.BlockLemmas.fields_are}
+use Rattle.snoop_counts.proofs.{Common.{append-nil, append_assoc, Cores, counted_of, IfOk-equal, rules, sym}, BlockLemmas.fields_are}
+use Rattle.snoop_counts.specs.CoreTable.{core_counts}
 use Rattle.snoop_counts.proofs.core_table.push_core.Goals as goal
 
 pub returns-in_ok-push_counts-in-Some : goal.returns-in_ok-push_counts-in-Some

@@ -1,6 +1,4 @@
-use Rattle.std.proofs.Common.{◌≡◌, ◌++◌, ◌∙◌, append_assoc, arith}
-use Rattle.snoop_engine.proofs.RangeLemmas.{range_piece}
-use Rattle.snoop_counts.specs.CoreTable.{core_header, core_line}
+use Rattle.snoop_counts.{proofs.Common.{◌++◌, ◌∙◌, ◌≡◌, append_assoc, arith, range_piece}, specs.CoreTable.{core_header, core_line}}
 use Rattle.snoop_counts.proofs.core_table.push_core_table.Goals as goal
 
 pub loop-core-preserved : goal.loop-core-preserved

@@ -1,5 +1,4 @@
-use Rattle.std.{proofs.Common.{◌≡◌, List, ◌++◌}, specs.List.{flat_map, range_with_len}}
-use Rattle.snoop_counts.specs.{CoreTable.{core_header, core_line}, Tally.HasCounted, declared.count.{Happening.Happening, Subjects.TheVariants.Cores}}
+use Rattle.snoop_counts.{proofs.Common.{◌++◌, ◌≡◌, Cores, flat_map, Happening, HasCounted, List, range_with_len}, specs.CoreTable.{core_header, core_line}}
 use Rattle.snoop_counts.proofs.core_table.push_core_table.Given as goal
 
 -- the lines so far

@@ -1,5 +1,4 @@
-use Rattle.std.proofs.Common.{◌≡◌, ◌++◌, take}
-use Rattle.snoop_counts.specs.{CoreTable.count_fields, Tally.counter_in}
+use Rattle.snoop_counts.{proofs.Common.{◌++◌, ◌≡◌, counter_in, take}, specs.CoreTable.count_fields}
 use Rattle.snoop_counts.proofs.core_table.push_counts.Given as goal
 
 -- the fields so far

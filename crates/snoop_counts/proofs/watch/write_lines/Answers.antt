@@ -1,6 +1,6 @@
-use Rattle.std.proofs.{Common.{None, sym}, lemmas.List.map_more}
+use Rattle.std.proofs.lemmas.List.{map_more}
 use Rattle.snoop_rules.specs.declared.names.CacheState.TheVariants.{I}
-use Rattle.snoop_engine.specs.declared.taken.Taken.TheVariants.{Core}
+use Rattle.snoop_counts.proofs.Common.{Core, None, sym}
 use Rattle.snoop_counts.proofs.watch.write_lines.Goals as goal
 
 pub loop-line-preserved : goal.loop-line-preserved

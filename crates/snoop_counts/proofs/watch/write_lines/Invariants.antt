@@ -1,6 +1,4 @@
-use Rattle.std.proofs.Common.{◌≡◌, List, map, take}
-use Rattle.snoop_engine.specs.Frames.{Frame}
-use Rattle.snoop_counts.specs.{Causes.cause_of, LastSteps.KnowsLastSteps, declared.count.Happening.TheVariants.Line}
+use Rattle.snoop_counts.{proofs.Common.{◌≡◌, cause_of, Frame, List, map, take}, specs.{LastSteps.KnowsLastSteps, declared.count.Happening.TheVariants.Line}}
 use Rattle.snoop_counts.proofs.watch.write_lines.Given as goal
 
 -- the lines so far

@@ -1,5 +1,4 @@
-use Rattle.std.proofs.{Common.{append_assoc, rules}, lemmas.Result.IfOk-equal}
-use Rattle.snoop_counts.{specs.{ByWord.word_counts, Counted.counted_of, declared.count.Subjects.TheVariants.Words}, proofs.BlockLemmas.fields_are}
+use Rattle.snoop_counts.{proofs.{Common.{append_assoc, counted_of, IfOk-equal, rules, Words}, BlockLemmas.fields_are}, specs.ByWord.word_counts}
 use Rattle.snoop_counts.proofs.word_table.push_word.Goals as goal
 
 pub returns-in_ok-push_counts-in-Some : goal.returns-in_ok-push_counts-in-Some

@@ -1,6 +1,5 @@
-use Rattle.std.proofs.{Common.{◌≤◌, ◌*◌, append_assoc, arith, rules}, lemmas.Result.IfOk-equal}
+use Rattle.snoop_counts.proofs.Common.{◌*◌, ◌≤◌, append_assoc, arith, IfOk-equal, rules, Words}
 use Rattle.snoop_counts.specs.declared.count.Count.TheVariants as count
-use Rattle.snoop_counts.specs.declared.count.Subjects.TheVariants.{Words}
 use Rattle.snoop_counts.proofs.word_table.push_word_sharing.Goals as goal
 
 pub returns : goal.returns

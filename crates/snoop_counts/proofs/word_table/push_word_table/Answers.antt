@@ -1,6 +1,4 @@
-use Rattle.std.proofs.Common.{◌≡◌, ◌++◌, ◌∙◌, append_assoc, arith}
-use Rattle.snoop_engine.proofs.RangeLemmas.{range_piece}
-use Rattle.snoop_counts.specs.ByWord.{word_header, word_lines}
+use Rattle.snoop_counts.{proofs.Common.{◌++◌, ◌∙◌, ◌≡◌, append_assoc, arith, range_piece}, specs.ByWord.{word_header, word_lines}}
 use Rattle.snoop_counts.proofs.word_table.push_word_table.Goals as goal
 
 pub loop-block-preserved : goal.loop-block-preserved

@@ -1,5 +1,4 @@
-use Rattle.snoop_engine.proofs.RangeLemmas.{range_piece}
-use Rattle.snoop_counts.specs.ByWord.{word_line}
+use Rattle.snoop_counts.{proofs.Common.range_piece, specs.ByWord.word_line}
 use Rattle.snoop_counts.proofs.word_table.push_words.Goals as goal
 
 pub loop-word-preserved : goal.loop-word-preserved

@@ -1,5 +1,4 @@
-use Rattle.std.{proofs.Common.{◌≡◌, List, ◌++◌}, specs.List.{flat_map, range_with_len}}
-use Rattle.snoop_counts.specs.{ByWord.word_line, WordTally.CountsWords, declared.count.Happening.Happening}
+use Rattle.snoop_counts.{proofs.Common.{◌++◌, ◌≡◌, CountsWords, flat_map, Happening, List, range_with_len}, specs.ByWord.word_line}
 use Rattle.snoop_counts.proofs.word_table.push_words.Given as goal
 
 -- the lines so far

@@ -1,6 +1,6 @@
-use Rattle.std.proofs.{Common.{ℕ, Bool, sym, subst, take}, lemmas.List.Folds.list_any_more}
+use Rattle.std.proofs.{Common.subst, lemmas.List.Folds.list_any_more}
 use Rattle.snoop_trace.specs.declared.step.{Op.TheVariants.Load, Step.TheVariants.Ask}
-use Rattle.snoop_states.specs.{Asked.AreMarks, Columns.{asks_for, is_asker}}
+use Rattle.snoop_states.{proofs.Common.{ℕ, AreMarks, Bool, is_asker, sym, take}, specs.Columns.asks_for}
 use Rattle.snoop_states.proofs.asked.asked_by.Goals as goal
 
 pub loop-step-preserved : goal.loop-step-preserved

@@ -1,5 +1,4 @@
-use Rattle.std.proofs.Common.{take}
-use Rattle.snoop_states.specs.{Asked.AreMarks, Columns.is_asker}
+use Rattle.snoop_states.proofs.Common.{AreMarks, is_asker, take}
 use Rattle.snoop_states.proofs.asked.asked_by.Given as goal
 
 -- the marks of the steps so far

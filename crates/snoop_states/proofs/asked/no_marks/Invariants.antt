@@ -1,5 +1,4 @@
-use Rattle.std.proofs.Common.{false}
-use Rattle.snoop_states.specs.{Asked.HasMarks, Each.AreEach}
+use Rattle.snoop_states.{proofs.Common.{AreEach, false}, specs.Asked.HasMarks}
 use Rattle.snoop_states.proofs.asked.no_marks.Given as goal
 
 -- the marks so far

@@ -1,4 +1,4 @@
-use Rattle.std.proofs.{Common.append_assoc, lemmas.Result.IfOk-equal}
+use Rattle.snoop_states.proofs.Common.{append_assoc, IfOk-equal}
 use Rattle.snoop_states.proofs.at_end.push_end.Goals as goal
 
 pub returns : goal.returns

@@ -1,4 +1,4 @@
-use Rattle.std.proofs.Common.{◌≡◌, ◌++◌, codes, take, decimal, flat_map}
+use Rattle.std.proofs.Common.{◌++◌, ◌≡◌, codes, decimal, flat_map, take}
 use Rattle.snoop_states.proofs.at_end.push_further.Given as goal
 
 -- the numbers so far

@@ -1,4 +1,4 @@
-use Rattle.std.proofs.Common.{◌≡◌, ◌++◌, replicate}
+use Rattle.std.proofs.Common.{◌++◌, ◌≡◌, replicate}
 use Rattle.snoop_states.proofs.pieces.push_blanks.Given as goal
 
 -- the blanks so far

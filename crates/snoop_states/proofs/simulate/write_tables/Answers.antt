@@ -1,11 +1,10 @@
-use Rattle.std.{proofs.Common.{◌≡◌, ℕ, zero, suc, ◌+◌, ◌<◌, ◌≤◌, Bool, Option, List, [], flat_map, refl, ◌∙◌, inl, inr, arith}, specs.List.range_with_len}
-use Rattle.std.proofs.lemmas.{Option.slice_get_cases, Result.{on_err_weaker, on_ok_weaker}}
-use Rattle.snoop_trace.{specs.{Extent.Extent, declared.{protocol.Protocol.Protocol, step.Step.Step}}, proofs.OutputLemmas.on_err}
-use Rattle.snoop_model.specs.Pictures.Situation.{Situation}
-use Rattle.snoop_engine.{specs.{Chosen.Chosen, Frames.{AreFrames, Frame}, Views.view_text}, proofs.{RangeLemmas.filter_range, ShownLemmas.begins_nothing}}
-use Rattle.snoop_engine.{specs.SimulatedView.{BeginsToShow, ShowsRun}, proofs.ViewLemmas.quiet_view}
-use Rattle.snoop_states.specs.{declared.{asked.Marks.Marks, tables.Tables.Tables}, Asked.{AreMarks, mark_at}, Columns.{columns_of, is_asker}, Widths.widths_of}
-use Rattle.snoop_states.specs.{Views.{IsFor, columns_in}, Whole.{block_table, states_table_text, tables_text}}
+use Rattle.std.proofs.{Common.{suc, zero}, lemmas.{Option.slice_get_cases, Result.on_err_weaker}}
+use Rattle.snoop_trace.{proofs.OutputLemmas.on_err, specs.declared.step.Step.Step}
+use Rattle.snoop_engine.{proofs.{RangeLemmas.filter_range, ShownLemmas.begins_nothing, ViewLemmas.quiet_view}, specs.Frames.AreFrames}
+use Rattle.snoop_engine.specs.{SimulatedView.{BeginsToShow, ShowsRun}, Views.view_text}
+use Rattle.snoop_states.proofs.Common.{[], ℕ, ◌+◌, ◌<◌, ◌∙◌, ◌≡◌, ◌≤◌, AreMarks, arith, block_table, Bool, Chosen, Column, columns_for, columns_in, Extent, flat_map, Frame, inl, inr, is_asker, List, mark_at, on_ok_weaker, Option, Protocol, range_with_len, refl, Situation}
+use Rattle.snoop_states.specs.{Columns.columns_of, Views.IsFor, Whole.{states_table_text, tables_text}, Widths.widths_of, declared.asked.Marks.Marks}
+use Rattle.snoop_states.specs.declared.tables.Tables.{Tables}
 use Rattle.snoop_states.proofs.simulate.write_tables.Goals as goal
 
 -- another definition of the text that is shown of the run
@@ -22,24 +21,24 @@ flat_same : (f g : ℕ → List ℕ) (a n : ℕ) → ((k : ℕ) → a ≤ k → 
 flat_same f g a zero h = refl
 flat_same f g a (suc n) h = rw (h a (omega arith) (omega arith), flat_same f g (a + 1) n (λ k low high. h k (omega arith) (omega arith))) refl
 
--- what the marks say inside the shape
-marks_tell : (shape : Extent) (test : ℕ → ℕ → Bool) (asked : List Marks) → AreMarks shape test asked → (block core : ℕ) → block < shape.blocks → core < shape.cores
-    → mark_at asked block core ≡ test block core
-marks_tell shape test asked are block core low inside = elim (slice_get_cases asked block).1 [
-  | inl found ↦ rw (found.2) ((rw found.3 at (are.each block low found.0)).each core inside)
-  | inr past ↦ absurd (omega (arith, past.0, are.count))
-]
+-- the columns of a block are those of the cores that ask for it
+columns_are : (shape : Extent) (test : ℕ → ℕ → Bool) (asked : List Marks) → AreMarks shape test asked → (block : ℕ) → block < shape.blocks
+    → columns_for shape (mark_at asked block) ≡ columns_for shape (test block)
+columns_are shape test asked are block low =
+    rw (filter_range (mark_at asked block) (test block) 0 shape.cores
+    (λ core up inside. elim (slice_get_cases asked block).1 [
+      | inl found ↦ rw (found.2) ((rw found.3 at (are.each block low found.0)).each core (omega arith))
+      | inr past ↦ absurd (omega (arith, past.0, are.count))
+    ])) refl
 
 -- the text of the view that is for these steps is theirs
 text_same : {protocol : Protocol} {shape : Extent} {choice : Chosen} {steps : List Step} {view : Tables} → IsFor shape choice steps view
     → (frames : List Frame) (final : Situation) → AreFrames protocol shape steps frames final
     → view_text [] (λ fs f. []) (λ fs s. tables_text view.widths view.choice protocol shape (columns_in shape view) fs s) frames final ≡ states_table_text protocol shape choice frames final
 text_same {protocol = protocol} {shape = shape} {choice = choice} {steps = steps} {view = view} for_steps frames final are =
-    let columns : (block : ℕ) → block < shape.blocks → columns_in shape view block ≡ columns_of shape steps block = λ block low.
-    rw (filter_range (mark_at view.asked.items block) (is_asker steps block) 0 shape.cores
-    (λ core up inside. marks_tell shape (is_asker steps) view.asked.items for_steps.asked block core low (omega arith))) refl in
-    let same = flat_same (block_table (widths_of shape steps) choice protocol shape (columns_in shape view) frames)
-    (block_table (widths_of shape steps) choice protocol shape (columns_of shape steps) frames) 0 shape.blocks (λ block low high. rw (columns block (omega arith))) in
+    let table : (ℕ → List Column) → ℕ → List ℕ = λ columns. block_table (widths_of shape steps) choice protocol shape columns frames in
+    let same = flat_same (table (columns_in shape view)) (table (columns_of shape steps)) 0 shape.blocks
+    (λ block low high. rw (columns_are shape (is_asker steps) view.asked.items for_steps.asked block (omega arith))) in
     quiet_view (λ fs s. tables_text view.widths view.choice protocol shape (columns_in shape view) fs s) frames final ∙ rw (for_steps.widths, for_steps.choice, are.whole, same) refl
 
 pub returns-in_err-view-clause-front : goal.returns-in_err-view-clause-front

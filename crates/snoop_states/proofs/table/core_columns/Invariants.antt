@@ -1,5 +1,4 @@
-use Rattle.std.proofs.Common.{◌≡◌, [], map, take}
-use Rattle.snoop_states.specs.{declared.column.Column.TheVariants.Core, Seen.pair}
+use Rattle.snoop_states.{proofs.Common.{[], ◌≡◌, map, pair, take}, specs.declared.column.Column.TheVariants.Core}
 use Rattle.snoop_states.proofs.table.core_columns.Given as goal
 
 -- the columns so far

@@ -1,5 +1,4 @@
-use Rattle.std.proofs.Common.{◌≡◌, ◌++◌, map, take, flat_map}
-use Rattle.snoop_states.specs.{Cells.cell_text, Columns.width_of, Rows.{below, padded_text}, Seen.pair}
+use Rattle.snoop_states.proofs.Common.{◌++◌, ◌≡◌, below, cell_text, flat_map, map, padded_text, pair, take, width_of}
 use Rattle.snoop_states.proofs.table.push_cells.Given as goal
 
 -- the cells so far

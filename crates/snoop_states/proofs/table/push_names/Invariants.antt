@@ -1,5 +1,4 @@
-use Rattle.std.proofs.Common.{◌≡◌, ◌++◌, take, flat_map}
-use Rattle.snoop_states.specs.{Columns.{column_name, width_of}, Rows.padded_text}
+use Rattle.snoop_states.proofs.Common.{◌++◌, ◌≡◌, column_name, flat_map, padded_text, take, width_of}
 use Rattle.snoop_states.proofs.table.push_names.Given as goal
 
 -- the names so far

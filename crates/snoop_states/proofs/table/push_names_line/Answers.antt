@@ -1,5 +1,4 @@
-use Rattle.std.proofs.{Common.{ℕ, List, append_assoc, rules}, lemmas.Result.IfOk-equal}
-use Rattle.snoop_states.{specs.{declared.column.Column.Column, Columns.{column_name, width_of}, Rows.padded_text}, proofs.RowLemmas.pieces_of}
+use Rattle.snoop_states.proofs.{Common.{ℕ, append_assoc, Column, column_name, IfOk-equal, List, padded_text, rules, width_of}, RowLemmas.pieces_of}
 use Rattle.snoop_states.proofs.table.push_names_line.Goals as goal
 
 pub returns : goal.returns

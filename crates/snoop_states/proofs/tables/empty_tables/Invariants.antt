@@ -1,4 +1,4 @@
-use Rattle.snoop_states.specs.{Asked.mark_at, Columns.columns_for, Each.AreEach, Seen.IsEmpty}
+use Rattle.snoop_states.proofs.Common.{AreEach, columns_for, IsEmpty, mark_at}
 use Rattle.snoop_states.proofs.tables.empty_tables.Given as goal
 
 -- the tables so far

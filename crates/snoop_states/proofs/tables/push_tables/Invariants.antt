@@ -1,6 +1,4 @@
-use Rattle.std.{proofs.Common.{◌≡◌, ◌++◌, ℕ, List}, specs.List.{flat_map, range_with_len}}
-use Rattle.snoop_engine.specs.Frames.{Frame}
-use Rattle.snoop_states.specs.{declared.column.Column.Column, Seen.{AreTables, IsTable}, Whole.block_table}
+use Rattle.snoop_states.proofs.Common.{ℕ, ◌++◌, ◌≡◌, AreTables, block_table, Column, flat_map, Frame, IsTable, List, range_with_len}
 use Rattle.snoop_states.proofs.tables.push_tables.Given as goal
 
 -- the tables so far

@@ -1,6 +1,6 @@
-use Rattle.std.proofs.{Common.{◌≡◌, ◌+◌, ◌<◌, true, Some, length, get_or, refl, sym, ◌∙◌, arith, eq-eqb, ne_eqb}, lemmas.Result.on_ok_weaker}
-use Rattle.snoop_engine.specs.Line.{line_text}
-use Rattle.snoop_states.{specs.Seen.Grows, proofs.{EachLemmas.{each_mapped, each_set}, TableLemmas.{shown_in, table_grows, table_starts, table_stays}}}
+use Rattle.std.proofs.Common.{eq-eqb, ne_eqb}
+use Rattle.snoop_states.proofs.Common.{◌+◌, ◌<◌, ◌≡◌, arith, get_or, Grows, length, line_text, on_ok_weaker, refl, sym, true}
+use Rattle.snoop_states.proofs.{EachLemmas.{each_mapped, each_set}, TableLemmas.{table_grows, table_starts, table_stays}}
 use Rattle.snoop_states.proofs.tables.show_step.Goals as goal
 
 pub returns-then-number-from : goal.returns-then-number-from
@@ -14,7 +14,7 @@ pub returns-in-None : goal.returns-in-None
 returns-in-None c protocol columns frames frame after step outcome counted of are =
     let other : c.args.choice.from ≡ 2 + length frames → ⊥ = λ e. omega (arith, c.from.ensures.value, c.from.ensures.within, c.if-number-from.false) in
     let none = rw (of, counted) at (sym c.in-None.ensures) in
-    each_mapped are (λ block table low is chosen. table_stays frame (is chosen) other (shown_in c.args.choice frame (1 + length frames) block _ chosen none))
+    each_mapped are (λ block table low is chosen. table_stays (is chosen) frame _ chosen none other refl)
 
 pub returns-then-at-len : goal.returns-then-at-len
 returns-then-at-len c protocol columns frames frame after step outcome counted of are =
@@ -25,14 +25,13 @@ returns-then-at-len c protocol columns frames frame after step outcome counted o
     let other : c.args.choice.from ≡ 2 + length frames → ⊥ = λ e. omega (arith, c.from.ensures.value, c.from.ensures.within, c.if-number-from.false) in
     let some = rw (of, counted) at (sym c.in-Some.ensures) in
     let shape = c.args.machine.now.situation.shape in
-    let now = c.push_step.new.self in
-    let grown : Grows c.args.widths frame.after block (1 + length frames) (line_text shape frame.step frame.outcome) true was now → Grows c.args.widths frame.after block (1 + length frames) (line_text shape frame.step frame.outcome) true was now = λ g. g in
     on_ok_weaker c.push_step.result
-    (λ grows. each_set are block c.push_step.new.self low
-    (λ chosen. table_grows frame ((rw (← same) at (are.each block low was)) chosen)
-    (shown_in c.args.choice frame (1 + length frames) block (Some block) chosen some ∙ eq-eqb block block refl) (grown (rw (after, step, outcome, ← counted) grows)))
-    (λ k table apart is chosen. table_stays frame (is chosen) other
-    (shown_in c.args.choice frame (1 + length frames) k (Some block) chosen some ∙ ne_eqb block k (λ e. apart (sym e)))))
+    (λ grows.
+    let grown : Grows c.args.widths frame.after block (1 + length frames) (line_text shape frame.step frame.outcome) true was c.push_step.new.self =
+    rw (after, step, outcome, ← counted) grows in
+    each_set are block c.push_step.new.self low
+    (λ chosen. table_grows ((rw (← same) at (are.each block low was)) chosen) frame _ chosen some (eq-eqb block block refl) grown)
+    (λ k table apart is chosen. table_stays (is chosen) frame _ chosen some other (ne_eqb block k (λ e. apart (sym e)))))
     c.push_step.ensures
 
 pub returns-else-at-len : goal.returns-else-at-len
@@ -40,5 +39,4 @@ returns-else-at-len c protocol columns frames frame after step outcome counted o
     let block = c.in-Some.block in
     let other : c.args.choice.from ≡ 2 + length frames → ⊥ = λ e. omega (arith, c.from.ensures.value, c.from.ensures.within, c.if-number-from.false) in
     let some = rw (of, counted) at (sym c.in-Some.ensures) in
-    each_mapped are (λ k table low is chosen. table_stays frame (is chosen) other
-    (shown_in c.args.choice frame (1 + length frames) k (Some block) chosen some ∙ ne_eqb block k (λ e. absurd (omega (arith, are.count)))))
+    each_mapped are (λ k table low is chosen. table_stays (is chosen) frame _ chosen some other (ne_eqb block k (λ e. absurd (omega (arith, are.count)))))

@@ -1,5 +1,4 @@
-use Rattle.std.proofs.Common.{ℕ, List}
-use Rattle.snoop_states.specs.{declared.column.Column.Column, Seen.{AreTables, IsEmpty, IsHalfBegun}}
+use Rattle.snoop_states.{proofs.Common.{ℕ, AreTables, Column, IsEmpty, List}, specs.Seen.IsHalfBegun}
 use Rattle.snoop_states.proofs.tables.start_tables.Given as goal
 
 -- the tables of the first blocks are begun

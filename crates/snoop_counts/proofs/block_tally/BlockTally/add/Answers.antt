@@ -1,5 +1,5 @@
+use Rattle.snoop_counts.proofs.Common.{Blocks}
 use Rattle.snoop_counts.specs.declared.count.Count.TheVariants as count
-use Rattle.snoop_counts.specs.declared.count.Subjects.TheVariants.{Blocks}
 use Rattle.snoop_counts.proofs.block_tally.BlockTally.add.Goals as goal
 
 pub returns : goal.returns

@@ -1,5 +1,4 @@
-use Rattle.std.proofs.Common.{ℕ, List, ◌++◌, take}
-use Rattle.snoop_counts.specs.{BlockTally.CountsBlocks, declared.count.Happening.Happening}
+use Rattle.snoop_counts.proofs.Common.{ℕ, ◌++◌, CountsBlocks, Happening, List, take}
 use Rattle.snoop_counts.proofs.block_tally.BlockTally.add_all.Given as goal
 
 -- those so far are counted

@@ -1,4 +1,4 @@
-use Rattle.std.proofs.Common.{refl}
+use Rattle.snoop_counts.proofs.Common.{refl}
 use Rattle.snoop_counts.proofs.by_block.ByBlockView.begin.Goals as goal
 
 pub returns-clause-begins : goal.returns-clause-begins

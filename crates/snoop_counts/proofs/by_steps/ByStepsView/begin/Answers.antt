@@ -1,5 +1,5 @@
-use Rattle.std.{proofs.{Common.{◌%◌, refl}, lemmas.Result.on_ok_weaker}, specs.Int.NonZero.non_zero_u64_get}
-use Rattle.snoop_counts.proofs.WindowLemmas.{none_begun}
+use Rattle.std.proofs.Common.{◌%◌}
+use Rattle.snoop_counts.proofs.{Common.{non_zero_u64_get, on_ok_weaker, refl}, WindowLemmas.none_begun}
 use Rattle.snoop_counts.proofs.by_steps.ByStepsView.begin.Goals as goal
 
 pub returns-clause-begins : goal.returns-clause-begins

@@ -1,6 +1,5 @@
-use Rattle.std.{proofs.Common.{◌≡◌, ◌<◌, append-nil, sym, arith}, specs.Int.NonZero.non_zero_u64_get}
-use Rattle.snoop_engine.specs.Views.{frame_seen}
-use Rattle.snoop_counts.{specs.declared.count.Subjects.TheVariants.Machine, proofs.WindowLemmas.{begins_anew, goes_on, line_now, nothing_yet, numbered}}
+use Rattle.snoop_counts.proofs.Common.{[], ◌++◌, ◌<◌, ◌∷◌, ◌≡◌, append-nil, arith, frame_seen, length, length-append, non_zero_u64_get, sym}
+use Rattle.snoop_counts.{proofs.WindowLemmas.{begins_anew, goes_on, line_now, nothing_yet}, specs.declared.count.Subjects.TheVariants.Machine}
 use Rattle.snoop_counts.proofs.by_steps.ByStepsView.see.Goals as goal
 
 pub returns-then-seen-every-ne0 : goal.returns-then-seen-every-ne0
@@ -10,16 +9,12 @@ returns-then-seen-every-ne0 c first frames before has next =
     let every = non_zero_u64_get first.every in
     let get : c.get-every.result ≡ every = rw has.every at c.get-every.ensures.value in
     let some : 0 < every = omega (arith, get, c.get-every.ensures.nonzero) in
+    let number : c.args.seen.number ≡ length (frames ++ frame ∷ []) = omega (arith, next.number, length-append frames (frame ∷ [])) in
     let watched = c.in_ok-see.ensures machine.protocol machine.shape frames before machine has.watched next c.log.ensures.items in
     let counted = rw (c.happenings.ensures, watched.1) at (c.add_all.ensures Machine 1 _ (rw c.in-Some.is at has.counted)) in
-    let not = rw get at c.if-seen-every-ne0.true in (
-      record {
-        every = has.every;
-        steps = numbered every some frames frame c.args.seen.number next.number;
-        watched = watched.0;
-        counted = rw (goes_on every some frames frame c.args.seen.number next.number not) at counted;
-      },
-      rw (nothing_yet every some frames frame c.args.seen.number next.number not) (sym (append-nil c.args.out.now.items)),
+    let more = rw (get, number) at c.if-seen-every-ne0.true in (
+      record { every = has.every; steps = number; watched = watched.0; counted = rw (goes_on every some frames frame more) at counted },
+      rw (nothing_yet every some frames frame more) (sym (append-nil c.args.out.now.items)),
     )
 
 pub returns-in_ok-push_steps-in-Some : goal.returns-in_ok-push_steps-in-Some
@@ -29,15 +24,16 @@ returns-in_ok-push_steps-in-Some c first frames before has next =
     let every = non_zero_u64_get first.every in
     let get : c.get-every.result ≡ every = rw has.every at c.get-every.ensures.value in
     let some : 0 < every = omega (arith, get, c.get-every.ensures.nonzero) in
+    let number : c.args.seen.number ≡ length (frames ++ frame ∷ []) = omega (arith, next.number, length-append frames (frame ∷ [])) in
     let watched = c.in_ok-see.ensures machine.protocol machine.shape frames before machine has.watched next c.log.ensures.items in
     let counted = rw (c.happenings.ensures, watched.1) at (c.add_all.ensures Machine 1 _ (rw c.in-Some.is at has.counted)) in
-    let zero = rw get at c.if-seen-every-ne0.false in
-    let begins = rw get at c.first_of.ensures in (
+    let none = rw (get, number) at c.if-seen-every-ne0.false in (
       record {
         every = has.every;
-        steps = numbered every some frames frame c.args.seen.number next.number;
+        steps = number;
         watched = watched.0;
-        counted = rw (← begins_anew every some frames frame c.args.seen.number next.number zero) (c.restart.ensures Machine _ counted);
+        counted = rw (← begins_anew every some frames frame none) (c.restart.ensures Machine _ counted);
       },
-      rw (← line_now every some frames frame c.args.seen.number next.number zero c.first_of.result begins) (c.in_ok-push_steps-in-Some.ensures _ counted),
+      rw (← line_now every some frames frame none c.first_of.result (rw (get, number) at c.first_of.ensures), ← number)
+          (c.in_ok-push_steps-in-Some.ensures _ counted),
     )

@@ -1,4 +1,4 @@
-use Rattle.snoop_counts.specs.Happenings.{happenings}
+use Rattle.snoop_counts.proofs.Common.{happenings}
 use Rattle.snoop_counts.proofs.by_word.ByWordView.end.Goals as goal
 
 pub returns-in-Some : goal.returns-in-Some

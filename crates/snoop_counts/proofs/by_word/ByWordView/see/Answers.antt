@@ -1,6 +1,4 @@
-use Rattle.std.proofs.Common.{[], append-nil, sym}
-use Rattle.snoop_engine.specs.Views.{frame_seen}
-use Rattle.snoop_counts.{specs.Happenings.happenings, proofs.LawLemmas.seen_on}
+use Rattle.snoop_counts.proofs.{Common.{[], append-nil, frame_seen, happenings, sym}, LawLemmas.seen_on}
 use Rattle.snoop_counts.proofs.by_word.ByWordView.see.Goals as goal
 
 pub returns-in-Some : goal.returns-in-Some

@@ -1,5 +1,4 @@
-use Rattle.std.proofs.Common.{take}
-use Rattle.snoop_counts.specs.LastSteps.{MarksLines}
+use Rattle.snoop_counts.proofs.Common.{MarksLines, take}
 use Rattle.snoop_counts.proofs.copies.Copies.add_lines.Given as goal
 
 -- the lines so far are marked

@@ -1,5 +1,4 @@
-use Rattle.std.proofs.lemmas.Result.{on_ok_weaker}
-use Rattle.snoop_counts.proofs.CauseLemmas.{follows_more}
+use Rattle.snoop_counts.proofs.{Common.on_ok_weaker, CauseLemmas.follows_more}
 use Rattle.snoop_counts.proofs.copies.Copies.follow.Goals as goal
 
 pub returns : goal.returns

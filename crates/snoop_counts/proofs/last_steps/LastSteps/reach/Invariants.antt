@@ -1,5 +1,5 @@
-use Rattle.std.proofs.Common.{◌≡◌, ℕ, ◌+◌, ◌-◌, vec_len}
-use Rattle.snoop_counts.specs.LastSteps.{number_at}
+use Rattle.std.proofs.Common.{vec_len}
+use Rattle.snoop_counts.{proofs.Common.{ℕ, ◌+◌, ◌-◌, ◌≡◌}, specs.LastSteps.number_at}
 use Rattle.snoop_counts.proofs.last_steps.LastSteps.reach.Given as goal
 
 -- all numbers are the same so far

@@ -1,4 +1,4 @@
-use Rattle.std.proofs.Common.{◌≡◌, ℕ, ◌+◌, ◌-◌, slice_index, vec_len}
+use Rattle.std.proofs.Common.{ℕ, ◌+◌, ◌-◌, ◌≡◌, slice_index, vec_len}
 use Rattle.snoop_counts.proofs.last_steps.Row.reach.Given as goal
 
 -- all numbers are the same so far

@@ -1,7 +1,7 @@
-use Rattle.std.proofs.{Common.{[], length, sym, ap, ◌∙◌, arith}, lemmas.Option.get_or_from_slice_get}
+use Rattle.std.proofs.lemmas.Option.{get_or_from_slice_get}
 use Rattle.snoop_blocks.specs.CoreSet.{has}
 use Rattle.snoop_engine.proofs.RangeLemmas.{filter_range}
-use Rattle.snoop_counts.specs.Sharers.{is_shared_by}
+use Rattle.snoop_counts.{proofs.Common.{[], ◌∙◌, ap, arith, length, sym}, specs.Sharers.is_shared_by}
 use Rattle.snoop_counts.proofs.sharers.Sharers.of.Goals as goal
 
 pub returns-in-Some : goal.returns-in-Some

@@ -1,5 +1,4 @@
-use Rattle.std.proofs.Common.{ap}
-use Rattle.snoop_counts.proofs.TallyLemmas.{counted_more, other}
+use Rattle.snoop_counts.proofs.{Common.ap, TallyLemmas.{counted_more, other}}
 use Rattle.snoop_counts.proofs.tally.Tally.add.Goals as goal
 
 pub returns-in-Line : goal.returns-in-Line

@@ -1,5 +1,4 @@
-use Rattle.std.proofs.Common.{ℕ, List, ◌++◌, take}
-use Rattle.snoop_counts.specs.{Tally.HasCounted, declared.count.{Happening.Happening, Subjects.Subjects}}
+use Rattle.snoop_counts.proofs.Common.{ℕ, ◌++◌, Happening, HasCounted, List, Subjects, take}
 use Rattle.snoop_counts.proofs.tally.Tally.add_all.Given as goal
 
 -- those so far are counted

@@ -1,6 +1,5 @@
+use Rattle.snoop_counts.proofs.Common.{◌*◌, Blocks, Words}
 use Rattle.snoop_counts.specs.declared.count.Count.TheVariants as count
-use Rattle.snoop_counts.specs.declared.count.Subjects.TheVariants.{Blocks, Words}
-use Rattle.std.proofs.Common.{◌*◌}
 use Rattle.snoop_counts.proofs.word_tally.WordTally.add.Goals as goal
 
 pub returns : goal.returns

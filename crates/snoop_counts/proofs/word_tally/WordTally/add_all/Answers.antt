@@ -1,5 +1,4 @@
-use Rattle.std.proofs.lemmas.List.{take_all}
-use Rattle.snoop_counts.proofs.TallyLemmas.{one_happening_more}
+use Rattle.snoop_counts.proofs.{Common.take_all, TallyLemmas.one_happening_more}
 use Rattle.snoop_counts.proofs.word_tally.WordTally.add_all.Goals as goal
 
 pub loop-happening-preserved : goal.loop-happening-preserved

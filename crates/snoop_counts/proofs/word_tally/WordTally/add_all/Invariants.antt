@@ -1,6 +1,5 @@
-use Rattle.std.proofs.Common.{List, ◌++◌, take}
 use Rattle.snoop_trace.specs.Extent.{Extent}
-use Rattle.snoop_counts.specs.{WordTally.CountsWords, declared.count.Happening.Happening}
+use Rattle.snoop_counts.proofs.Common.{◌++◌, CountsWords, Happening, List, take}
 use Rattle.snoop_counts.proofs.word_tally.WordTally.add_all.Given as goal
 
 -- those so far are counted

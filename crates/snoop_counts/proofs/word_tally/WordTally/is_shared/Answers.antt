@@ -1,5 +1,4 @@
-use Rattle.std.proofs.Common.{refl}
-use Rattle.snoop_counts.specs.declared.count.{Count.TheVariants.Operations, Subjects.TheVariants.Blocks}
+use Rattle.snoop_counts.{proofs.Common.{Blocks, refl}, specs.declared.count.Count.TheVariants.Operations}
 use Rattle.snoop_counts.proofs.word_tally.WordTally.is_shared.Goals as goal
 
 pub returns : goal.returns

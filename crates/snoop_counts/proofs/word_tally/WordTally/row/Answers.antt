@@ -1,5 +1,4 @@
-use Rattle.std.proofs.Common.{◌*◌}
-use Rattle.snoop_counts.specs.declared.count.Subjects.TheVariants.{Words}
+use Rattle.snoop_counts.proofs.Common.{◌*◌, Words}
 use Rattle.snoop_counts.proofs.word_tally.WordTally.row.Goals as goal
 
 pub returns : goal.returns

@@ -1,4 +1,4 @@
-use Rattle.std.proofs.{Common.{refl, append_assoc}, lemmas.{List.map-append, Simd.map-map}}
+use Rattle.snoop_states.proofs.Common.{append_assoc, map-append, map-map, refl}
 use Rattle.snoop_states.proofs.table.Table.new.Goals as goal
 
 pub returns : goal.returns

@@ -1,5 +1,4 @@
-use Rattle.std.proofs.Common.{ℕ, List, refl, append_assoc, append-nil, ◌∙◌}
-use Rattle.snoop_states.specs.{declared.column.Column.Column, Cells.cell_text, Columns.width_of, Rows.{below, padded_text}}
+use Rattle.snoop_states.proofs.Common.{ℕ, ◌∙◌, append-nil, append_assoc, below, cell_text, Column, List, padded_text, refl, width_of}
 use Rattle.snoop_states.proofs.RowLemmas.{cells_of, pieces_of}
 use Rattle.snoop_states.proofs.table.Table.push_row.Goals as goal
 

@@ -1,5 +1,4 @@
-use Rattle.std.proofs.{Common.{append_assoc, append-nil, rules, sym}, lemmas.Result.IfOk-equal}
-use Rattle.snoop_states.proofs.TableLemmas.{table_shown, table_unshown}
+use Rattle.snoop_states.proofs.{Common.{append-nil, append_assoc, IfOk-equal, rules, sym}, TableLemmas.{table_shown, table_unshown}}
 use Rattle.snoop_states.proofs.table.Table.push_table.Goals as goal
 
 pub returns-in_ok-push_bytes : goal.returns-in_ok-push_bytes

@@ -1,4 +1,4 @@
-use Rattle.std.proofs.{Common.{ℕ, List, [], ◌++◌, ap, append-nil, ◌∙◌}, lemmas.Result.on_ok_weaker}
+use Rattle.snoop_states.proofs.Common.{[], ℕ, ◌++◌, ◌∙◌, ap, append-nil, List, on_ok_weaker}
 use Rattle.snoop_states.proofs.table.Table.start.Goals as goal
 
 pub returns : goal.returns

@@ -1,5 +1,5 @@
-use Rattle.std.{proofs.{Common.{ℕ, List, ◌++◌, ap, ◌∙◌, append_assoc}, lemmas.Result.on_ok_weaker}, specs.List.{flat_map, range_with_len}}
-use Rattle.snoop_states.specs.{AtEnd.end_text, Views.columns_in, Whole.block_table}
+use Rattle.snoop_states.proofs.Common.{ℕ, ◌++◌, ◌∙◌, ap, append_assoc, block_table, columns_in, flat_map, List, on_ok_weaker, range_with_len}
+use Rattle.snoop_states.specs.AtEnd.{end_text}
 use Rattle.snoop_states.proofs.tables.TablesView.end.Goals as goal
 
 pub returns : goal.returns

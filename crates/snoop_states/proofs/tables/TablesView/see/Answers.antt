@@ -1,6 +1,5 @@
-use Rattle.std.proofs.{Common.{refl, sym, append-nil}, lemmas.Result.on_ok_weaker}
 use Rattle.snoop_engine.specs.Views.{frame_seen}
-use Rattle.snoop_states.specs.Views.{columns_in}
+use Rattle.snoop_states.proofs.Common.{append-nil, columns_in, on_ok_weaker, refl, sym}
 use Rattle.snoop_states.proofs.tables.TablesView.see.Goals as goal
 
 pub returns : goal.returns
