@@ -4,7 +4,8 @@ use Rattle.std.{specs.{List.list_all, Prelude.{fold, max}}, proofs.Math.Nat.zero
 use Rattle.csv.specs.Records.{field_at}
 use Rattle.snoop_trace.specs.Grammar.{ask, order, respond, row_by_letter, row_in, step_in, store, without_value}
 use Rattle.snoop_lint.specs.{Fewest.{AreFewest, resized}, Fields.{address_named, core_named}, Summary.can_be_taken, Tallies.{block_named, greatest}}
-use Rattle.snoop_lint.proofs.Common.{Extent, Form, Protocol, Rows, Steps, fault_at, findings, findings_from, first_fault, has_heading, heads, is_none, is_other, list_any, nat_lt, nat_tests, records_of, refusal, tally_of, ◌&&◌}
+use Rattle.snoop_lint.proofs.Common.{Extent, Form, Protocol, Rows, Steps, fault_at, findings, findings_from, first_fault, has_heading, heads, is_none}
+use Rattle.snoop_lint.proofs.Common.{is_other, list_any, nat_lt, nat_tests, records_of, refusal, tally_of, ◌&&◌}
 use Rattle.snoop_lint.proofs.FindingLemmas.{Fields, first_is_refusal, found, is_beyond, no_later_heading}
 
 -- a greatest number is below a bound exactly where each is
@@ -34,7 +35,8 @@ module _ (shape : Extent) (c b : ℕ) (some_core : 1 ≤ c) (some_block : 1 ≤ 
       let at = λ (e : Extent). found n row (fault_at form protocol e n row) (findings_from (fault_at form protocol e) (n + 1) rows) in
       let others = (at shape).others in
       let later = (at (resized shape c b)).none in
-      grind (arith, none, others, later, fault_bound form protocol n row heading, all_bound form protocol (n + 1) rows (omega arith) (λ e. absurd (omega arith)))
+      let more = all_bound form protocol (n + 1) rows (omega arith) (λ e. absurd (omega arith)) in
+      grind (arith, none, others, later, fault_bound form protocol n row heading, more)
 
 -- the greatest core and the greatest block, each plus one
 pub fewest : (form : Form) (protocol : Protocol) (shape : Extent) (bytes : List ℕ) → can_be_taken (tally_of form protocol shape (records_of bytes)) ≡ true

@@ -6,7 +6,8 @@ use Rattle.csv.{specs.{Reading.{ReadRecord, reader_config, reader_state, records
 use Rattle.csv.specs.declared.parser.State.TheVariants as st
 use Rattle.snoop_trace.{specs.Progress.records_left, proofs.{CsvLemmas.{records-ended, records_step}, TextLemmas.took_entry}}
 use Rattle.snoop_lint.specs.{Linted.{first_lines, line_at}, Looked.line_if_room, Tallies.one_more}
-use Rattle.snoop_lint.proofs.Common.{Extent, Finding, Form, Protocol, Tally, default_config, fault_at, finding, findings, findings_from, has_heading, heads, is_some, nat_lt, nat_tests, option_to_list, tally_of, ◌||◌, if◌then◌else◌}
+use Rattle.snoop_lint.proofs.Common.{Extent, Finding, Form, Protocol, Tally, default_config, fault_at, finding, findings, findings_from, has_heading}
+use Rattle.snoop_lint.proofs.Common.{heads, is_some, nat_lt, nat_tests, option_to_list, tally_of, ◌||◌, if◌then◌else◌}
 use Rattle.snoop_lint.proofs.FindingLemmas.{Fields, findings_more, found, found_at}
 
 -- what is counted, with one record more
@@ -44,8 +45,16 @@ module _ {R : Type 0} {form : Form} {most : ℕ} {protocol : Protocol} {shape : 
       → tally ≡ record { records = 0; faults = 0; has_others = false; has_heading = false; asks = false; drives = false; core = 0; block = 0 }
       → Looked form most protocol shape lines xs rem r old old tally 0
   unfolding first_lines findings_from tally_of
-  looked_none at begins none =
-      record { rows = []; ys = xs; at = at; all = rw begins refl; count = refl; few = rw none (omega arith); out_is = grind (arith, common_steps, take-nil); tally_is = none }
+  looked_none at begins none = record {
+    rows = [];
+    ys = xs;
+    at = at;
+    all = rw begins refl;
+    count = refl;
+    few = rw none (omega arith);
+    out_is = grind (arith, common_steps, take-nil);
+    tally_is = none;
+  }
 
   -- one record more
   pub looked_more : {a b : Reader R} (f : Fields) {out next : List ℕ} {tally counted : Tally} {n : ℕ}
@@ -57,8 +66,9 @@ module _ {R : Type 0} {form : Form} {most : ℕ} {protocol : Protocol} {shape : 
   looked_more {a} {b} f {out} {next} {tally} {counted} {n} config read far line count =
       let (row, ys, step, at, is) = rw far.at at (took_entry rem a b f (λ (fields : Fields). Ok fields) config read f refl) in
       let more = findings_more (fault_at form protocol shape) 1 far.rows f (n + 1) (omega (arith, far.count)) in
-      let faults : tally.faults ≡ length (findings form protocol shape far.rows) = ap (λ (t : Tally). t.faults) far.tally_is in
-      let room = take_room (line_at form protocol shape lines) most (findings form protocol shape far.rows) (finding (fault_at form protocol shape) (n + 1) f) in
+      let faulty : List Finding = findings form protocol shape far.rows in
+      let faults : tally.faults ≡ length faulty = ap (λ (t : Tally). t.faults) far.tally_is in
+      let room = take_room (line_at form protocol shape lines) most faulty (finding (fault_at form protocol shape) (n + 1) f) in
       let same : row ≡ f = cc in
       record {
         rows = far.rows ++ (f ∷ []);

@@ -33,7 +33,8 @@ module _ (steps run threads states stated forms counts counted groupings lint ki
 tested : (test : App → Bool) → ((steps run threads states stated forms counts counted groupings lint kinds draw drawn drawings themes table tables layouts : Names)
     → test (with_commands top_app (commands steps run threads states stated forms counts counted groupings lint kinds draw drawn drawings themes table tables layouts)) ≡ true) → (app : App) → IsSnoop app → test app ≡ true
 tested test holds app (_, _, _, _, _, _, _, _, (steps, _, a), (run, _, b), (threads, _, c), (forms, _, (states, stated, _, _, d)), (groupings, _, (counts, counted, _, _, e)), (kinds, _, (lint, _, f)), (drawings, themes, _, _, (draw, drawn, _, _, g)), (table, tables, layouts, _, _, _, h), is) =
-    rw (is, a, b, c, d, e, f, g, h) (holds steps run threads states stated forms counts counted groupings lint kinds draw drawn drawings themes table tables layouts)
+    rw (is, a, b, c, d, e, f, g, h)
+    (holds steps run threads states stated forms counts counted groupings lint kinds draw drawn drawings themes table tables layouts)
 
 -- help has no command, and neither has a mistake in the words, or memory that was refused
 no_help : (command : Option (Text × List Row)) (help : Error) → HasTask command (Help help) → ⊥
@@ -79,7 +80,8 @@ module _ (app : App) (words : List Text) (snoop : IsSnoop app) where
   without_task matches failure found well has = named (λ command. HasNoTask command failure) matches found well has
 
   -- an error that isn't out of memory is of a kind that the words give
-  kind_given : (error : Error) → kind_of error ≢ OutOfMemory → (is_simple_and_free app ≡ true → HasKind (fault_of app words) error) → StopsAt words (kind_of error)
+  kind_given : (error : Error) → kind_of error ≢ OutOfMemory → (is_simple_and_free app ≡ true → HasKind (fault_of app words) error)
+      → StopsAt words (kind_of error)
   kind_given error memory has = (app, snoop, among (has (tested is_simple_and_free is_free_snoop app snoop)))
     where
       among : HasKind (fault_of app words) error → IsAmong (kind_of error) (fault_of app words)

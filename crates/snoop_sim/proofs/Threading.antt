@@ -16,7 +16,9 @@ use Rattle.snoop_sim.specs.declared.fault.ThreadsFault.TheVariants as threads
 
 -- what stands where there is no seat
 abbrev no_seat : Seating
-no_seat = record { core = 0; shape = record { cores = 0; blocks = 0; block_bytes = 0; words = 0 }; seen = []; answers = []; pending = None; strange = None; stop = None }
+no_seat =
+    let none : Extent = record { cores = 0; blocks = 0; block_bytes = 0; words = 0 } in
+    record { core = 0; shape = none; seen = []; answers = []; pending = None; strange = None; stop = None }
 
 -- a seat that did nothing before has done its rows: its answers, which are its core's operations, are theirs
 answered_rows : (shape : Extent) (rows : List Row) (core : ℕ) (s t : Seating) (log : List Item) → IsNew core shape s → Grows (rows_of_core s.core rows) s t
@@ -112,7 +114,8 @@ first_refused shape rows stops old new fault limits fresh each within ran first 
     let inside : first.place < length old = let lt = slice_get_within stops first.place (Some (Fault first.number first.refused)) first.there in omega (arith, lt, each) in
     let refused = subst (λ (o : Option Stop). RanTo o rows (slice_index_or old first.place no_seat) (slice_index_or new first.place no_seat))
     (get_or_from_slice_get stops first.place (Some (Fault first.number first.refused)) None first.there) (ran first.place no_seat inside) in
-    rw first.is (row_refused shape first.place first.number rows _ _ first.refused limits (fresh.1 first.place no_seat (omega (arith, inside, fresh.0))) within refused)
+    rw first.is
+    (row_refused shape first.place first.number rows _ _ first.refused limits (fresh.1 first.place no_seat (omega (arith, inside, fresh.0))) within refused)
 
 -- the steps stand, and were written, or their writing broke off
 pub steps_written : (protocol : Protocol) (shape : Extent) (input : Option (List ℕ)) (rows : List Row) (steps : List Step) (wrote : Result (Unit {0}) WriteFault) (answer : Result (Unit {0}) ThreadsFault) (old new : Option (List ℕ))

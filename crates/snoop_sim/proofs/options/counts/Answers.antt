@@ -10,4 +10,5 @@ returns c =
     let top : DescribesOption c.optional.result top_rule = search rules in
     let every : DescribesOption c.optional-2.result every_rule = search rules in
     let topped = adds_option (adds_option named groupings.2 c.in_ok-arg.ensures) top c.in_ok-arg-2.ensures in
-    IfOk-weaker c.arg-3.result _ _ (λ command adds. let all = adds_option topped every adds in (all.local, (groupings.0, groupings.1, (plain.1.0, plain.1.1, plain.1.2, plain.1.3, all.is)))) c.arg-3.ensures
+    IfOk-weaker c.arg-3.result _ _ (λ command adds. let all = adds_option topped every adds in
+    (all.local, (groupings.0, groupings.1, (plain.1.0, plain.1.1, plain.1.2, plain.1.3, all.is)))) c.arg-3.ensures

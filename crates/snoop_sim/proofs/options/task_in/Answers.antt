@@ -11,7 +11,8 @@ returns-in-Ok-clause-ok c =
 pub returns-in-Ok-clause-err : goal.returns-in-Ok-clause-err
 returns-in-Ok-clause-err c =
     let found = c.in-Ok.ensures in
-    IfErr-weaker c.task_of.result _ _ (λ failure. without_task _ _ c.in_ok-grammar.ensures c.in-Ok.matches failure found.matches found.kinds) c.task_of.ensures.err
+    IfErr-weaker c.task_of.result _ _ (λ failure. without_task _ _ c.in_ok-grammar.ensures c.in-Ok.matches failure found.matches found.kinds)
+    c.task_of.ensures.err
 
 pub returns-in-Err-clause-err : goal.returns-in-Err-clause-err
 returns-in-Err-clause-err c = refused _ _ c.in_ok-grammar.ensures c.in-Err.error c.from.result c.in-Err.ensures.kinds (search rules) c.from.ensures

@@ -8,4 +8,5 @@ returns c =
     let kinds = c.kinds.ensures in
     let named : Describes c.in_ok-simulation.field-0 (simulation_app c.args.name.now plain.1.0 []) = record { local = plain.0; is = plain.1.2 } in
     let of = adds_option named kinds.2 c.in_ok-arg.ensures in
-    IfOk-weaker c.arg-2.result _ _ (λ command adds. let all = adds_option of c.flag.ensures adds in (all.local, (plain.1.0, kinds.0, plain.1.1, kinds.1, all.is))) c.arg-2.ensures
+    IfOk-weaker c.arg-2.result _ _ (λ command adds. let all = adds_option of c.flag.ensures adds in
+    (all.local, (plain.1.0, kinds.0, plain.1.1, kinds.1, all.is))) c.arg-2.ensures

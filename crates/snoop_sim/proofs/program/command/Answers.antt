@@ -6,8 +6,13 @@ use Rattle.snoop_sim.proofs.program.command.Goals as goal
 pub returns-in-Err-clause-does : goal.returns-in-Err-clause-does
 returns-in-Err-clause-does g c =
     let begins = c.in-Err.ensures.err in
-    let unread = refused_unread (map string_bytes c.args.words.now) c.in-Err.failure begins in
-    (Err c.in-Err.failure, c.report.ensures, (λ never. unread), (λ old. ((λ failed. absurd (unread failed)), (λ none. old))), inr (c.in-Err.failure, refl, begins, refl))
+    let unread = refused_unread (map string_bytes c.args.words.now) c.in-Err.failure begins in (
+      Err c.in-Err.failure,
+      c.report.ensures,
+      (λ never. unread),
+      (λ old. ((λ failed. absurd (unread failed)), (λ none. old))),
+      inr (c.in-Err.failure, refl, begins, refl),
+    )
 
 pub returns-in-Err-clause-known : goal.returns-in-Err-clause-known
 returns-in-Err-clause-known g c = rw c.report.ensures (status_known c.in-Err.failure)
@@ -24,15 +29,19 @@ returns-in-Err-clause-blamed g c = λ old.
 -- the task was performed
 pub returns-in-Ok-perform-clause-does : goal.returns-in-Ok-perform-clause-does
 returns-in-Ok-perform-clause-does g c =
-    (c.perform.result, sym (ap status_of_ending c.in-Ok-perform.is), c.perform.ensures.reads, c.perform.ensures.read_blamed, inl (c.in-Ok.task, c.in-Ok.ensures.ok, c.perform.ensures.does))
+    let done = c.perform.ensures in
+    (c.perform.result, sym (ap status_of_ending c.in-Ok-perform.is), done.reads, done.read_blamed, inl (c.in-Ok.task, c.in-Ok.ensures.ok, done.does))
 
 -- it failed
 pub returns-in-Err-perform-clause-does : goal.returns-in-Err-perform-clause-does
 returns-in-Err-perform-clause-does g c =
-    (c.perform.result, c.report-in-Err-perform.ensures ∙ sym (ap status_of_ending c.in-Err-perform.is), c.perform.ensures.reads, c.perform.ensures.read_blamed, inl (c.in-Ok.task, c.in-Ok.ensures.ok, c.perform.ensures.does))
+    let done = c.perform.ensures in
+    let status = c.report-in-Err-perform.ensures ∙ sym (ap status_of_ending c.in-Err-perform.is) in
+    (c.perform.result, status, done.reads, done.read_blamed, inl (c.in-Ok.task, c.in-Ok.ensures.ok, done.does))
 
 pub returns-in-Err-perform-clause-known : goal.returns-in-Err-perform-clause-known
 returns-in-Err-perform-clause-known g c = rw c.report-in-Err-perform.ensures (status_known c.in-Err-perform.failure)
 
 pub returns-in-Err-perform-clause-read_blamed : goal.returns-in-Err-perform-clause-read_blamed
-returns-in-Err-perform-clause-read_blamed g c old new = c.report-in-Err-perform.ensures ∙ failed_read_status c.in-Err-perform.failure _ _ c.in-Err-perform.ensures.read_blamed old new
+returns-in-Err-perform-clause-read_blamed g c old new =
+    c.report-in-Err-perform.ensures ∙ failed_read_status c.in-Err-perform.failure _ _ c.in-Err-perform.ensures.read_blamed old new
