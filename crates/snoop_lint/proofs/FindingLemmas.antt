@@ -1,10 +1,10 @@
 -- The faulty records of a text, and the fault by which it is refused.
 use Rattle.std.proofs.Common.{◌≡◌, ℕ, ◌+◌, ◌≤◌, ◌++◌, List, [], ◌∷◌, length, Option, Some, false, refl, sym, arith, append_assoc, append-nil}
-use Rattle.std.{specs.{Prelude.{Bool, Result, not, option_map, option_to_list}, Result.result_err}, proofs.lemmas.Bool.Decides.nat_tests}
-use Rattle.snoop_trace.specs.{Extent.Extent, Grammar.{row_in, step_in}, Heading.heading_for, Text.{entries_from, entries_in, records_of}}
-use Rattle.snoop_trace.specs.declared.{fault.TextFault.TextFault, protocol.Protocol.Protocol}
-use Rattle.snoop_lint.specs.{declared.form.Form.{Form, TheVariants.{Steps, Rows}}, Tallies.is_limit}
-use Rattle.snoop_lint.specs.Findings.{Finding, fault_at, finding, findings, findings_from, first_fault, heads, refusal}
+use Rattle.std.specs.{Prelude.{Result, not, option_map}, Result.result_err}
+use Rattle.snoop_trace.specs.{Grammar.{row_in, step_in}, Heading.heading_for, Text.{entries_from, entries_in}}
+use Rattle.snoop_lint.proofs.Common.{Bool, Extent, Finding, Form, Protocol, Rows, Steps, TextFault, fault_at, finding, findings, findings_from}
+use Rattle.snoop_lint.proofs.Common.{first_fault, heads, is_limit, is_none, is_other, list_any, nat_tests, option_to_list, records_of, refusal, ◌&&◌}
+use Rattle.snoop_lint.proofs.Common.{◌||◌}
 
 abbrev pub Fields : Type 0
 Fields = List (List ℕ)
@@ -16,6 +16,14 @@ found_at n row fault = option_map (λ (why : TextFault). record { number = n; fi
 -- a finding that more cores and blocks would not mend
 abbrev pub is_beyond : Finding → Bool
 is_beyond f = not (is_limit f.fault)
+
+-- of a record that has this fault, if any, and of the findings after it: whether one is of another kind, and whether there is none
+pub record Found (n : ℕ) (row : Fields) (o : Option TextFault) (rest : List Finding) : Type 0 where
+  pub others : list_any is_beyond (option_to_list (found_at n row o) ++ rest) ≡ (is_other o || list_any is_beyond rest)
+  pub none : is_none (first_fault (option_to_list (found_at n row o) ++ rest)) ≡ (is_none o && is_none (first_fault rest))
+
+pub found : (n : ℕ) (row : Fields) (o : Option TextFault) (rest : List Finding) → Found n row o rest
+found n row o rest = record { others = grind arith; none = grind arith }
 
 -- one record more
 pub findings_more : (fault : ℕ → Fields → Option TextFault) (n : ℕ) (rows : List Fields) (row : Fields) (m : ℕ) → m ≡ n + length rows

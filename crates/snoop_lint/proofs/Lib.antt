@@ -1,3 +1,4 @@
+pub mod Common
 pub mod FindingLemmas
 pub mod LookedLemmas
 pub mod LineLemmas

@@ -1,23 +1,14 @@
 -- What was appended and counted of the records that were read so far.
 use Rattle.std.proofs.Common.{◌≡◌, ℕ, ◌+◌, ◌≤◌, ◌++◌, List, [], ◌∷◌, length, length-append, take, Option, Some, true, false, refl, sym, ap, ◌∙◌, arith, append_assoc, append-nil}
-use Rattle.std.specs.{Prelude.{◌||◌, Ok, is_some, nat_lt, option_to_list, if◌then◌else◌}, List.{flat_map, list_any}, Option.option_map_or}
-use Rattle.std.proofs.{Math.{Bool.or-false, Seq.take-nil}, lemmas.{Bool.Decides.nat_tests, Grind.common_steps, List.{length_push, Folds.list_any-append}}}
-use Rattle.std.proofs.lemmas.List.Sums.{fold_push}
-use Rattle.csv.specs.{Reading.{ReadRecord, default_config, reader_config, reader_state, records, source_of}, declared.reader.Reader.Reader}
+use Rattle.std.{specs.{List.flat_map, Option.option_map_or, Prelude.Ok}, proofs.Math.{Bool.or-false, Seq.take-nil}}
+use Rattle.std.proofs.lemmas.{Grind.common_steps, List.{length_push, Folds.list_any-append, Sums.fold_push}}
+use Rattle.csv.{specs.{Reading.{ReadRecord, reader_config, reader_state, records, source_of}, declared.reader.Reader.Reader}, proofs.ReadFacts.rows-end}
 use Rattle.csv.specs.declared.parser.State.TheVariants as st
-use Rattle.csv.proofs.ReadFacts.{rows-end}
-use Rattle.snoop_trace.specs.{Extent.Extent, Progress.records_left, declared.{fault.TextFault.TextFault, protocol.Protocol.Protocol}}
-use Rattle.snoop_trace.proofs.{CsvLemmas.{records-ended, records_step}, TextLemmas.took_entry}
-use Rattle.snoop_lint.specs.{declared.{form.Form.Form, tally.Tally.Tally}, Findings.{Finding, fault_at, finding, findings, findings_from, heads}}
-use Rattle.snoop_lint.specs.{Linted.{first_lines, line_at}, Looked.line_if_room, Tallies.{has_heading, is_other, one_more, tally_of}}
-use Rattle.snoop_lint.proofs.FindingLemmas.{Fields, findings_more, found_at, is_beyond}
-
--- what is counted of a record that has this fault, if any
-one_found : (n : ℕ) (row : Fields) (o : Option TextFault) → length (option_to_list (found_at n row o)) ≡ (if is_some o then 1 else 0)
-one_found n row o = grind arith
-
-other_found : (n : ℕ) (row : Fields) (o : Option TextFault) → list_any is_beyond (option_to_list (found_at n row o)) ≡ is_other o
-other_found n row o = grind arith
+use Rattle.snoop_trace.{specs.Progress.records_left, proofs.{CsvLemmas.{records-ended, records_step}, TextLemmas.took_entry}}
+use Rattle.snoop_lint.specs.{Linted.{first_lines, line_at}, Looked.line_if_room, Tallies.one_more}
+use Rattle.snoop_lint.proofs.Common.{Extent, Finding, Form, Protocol, Tally, default_config, fault_at, finding, findings, findings_from, has_heading}
+use Rattle.snoop_lint.proofs.Common.{heads, is_some, nat_lt, nat_tests, option_to_list, tally_of, ◌||◌, if◌then◌else◌}
+use Rattle.snoop_lint.proofs.FindingLemmas.{Fields, findings_more, found, found_at}
 
 -- what is counted, with one record more
 tally_more : (form : Form) (protocol : Protocol) (shape : Extent) (rows : List Fields) (row : Fields) (n : ℕ) → n ≡ length rows + 1
@@ -25,9 +16,11 @@ tally_more : (form : Form) (protocol : Protocol) (shape : Extent) (rows : List F
 unfolding tally_of
 tally_more form protocol shape rows row n e =
     let fault = fault_at form protocol shape n row in
+    let faults : length (option_to_list (found_at n row fault)) ≡ (if is_some fault then 1 else 0) = grind arith in
+    let others = rw append-nil at (found n row fault []).others in
     let heading : has_heading form (rows ++ (row ∷ [])) ≡ (has_heading form rows || heads form n row) = grind (arith, nat_tests) in
     rw (length_push rows row ∙ sym e, findings_more (fault_at form protocol shape) 1 rows row n (omega arith), heading)
-    (simp (length-append, list_any-append, fold_push, one_found n row fault, other_found n row fault, or-false) refl)
+    (simp (length-append, list_any-append, fold_push, faults, others, or-false) refl)
 
 -- the piece of one finding more, where there is room for it
 take_room : (f : Finding → List ℕ) (most : ℕ) (fs : List Finding) (o : Option Finding)
@@ -72,10 +65,10 @@ module _ {R : Type 0} {form : Form} {most : ℕ} {protocol : Protocol} {shape : 
   unfolding first_lines tally_of
   looked_more {a} {b} f {out} {next} {tally} {counted} {n} config read far line count =
       let (row, ys, step, at, is) = rw far.at at (took_entry rem a b f (λ (fields : Fields). Ok fields) config read f refl) in
-      let found = findings_more (fault_at form protocol shape) 1 far.rows f (n + 1) (omega (arith, far.count)) in
-      let faults : tally.faults ≡ length (findings form protocol shape far.rows) = ap (λ (t : Tally). t.faults) far.tally_is in
-      let piece = line_at form protocol shape lines in
-      let room = take_room piece most (findings form protocol shape far.rows) (finding (fault_at form protocol shape) (n + 1) f) in
+      let more = findings_more (fault_at form protocol shape) 1 far.rows f (n + 1) (omega (arith, far.count)) in
+      let faulty : List Finding = findings form protocol shape far.rows in
+      let faults : tally.faults ≡ length faulty = ap (λ (t : Tally). t.faults) far.tally_is in
+      let room = take_room (line_at form protocol shape lines) most faulty (finding (fault_at form protocol shape) (n + 1) f) in
       let same : row ≡ f = cc in
       record {
         rows = far.rows ++ (f ∷ []);
@@ -84,7 +77,7 @@ module _ {R : Type 0} {form : Form} {most : ℕ} {protocol : Protocol} {shape : 
         all = far.all ∙ rw (records_step default_config _ far.ys (row, reader_state b, ys) step, same) (sym (append_assoc far.rows _ _));
         count = omega (arith, length-append far.rows (f ∷ []), far.count);
         few = rw count (grind (arith, far.few));
-        out_is = line ∙ rw (far.out_is, faults, found, room) (append_assoc old _ _);
+        out_is = line ∙ rw (far.out_is, faults, more, room) (append_assoc old _ _);
         tally_is = count ∙ rw far.tally_is (sym (tally_more form protocol shape far.rows f (n + 1) (omega (arith, far.count))));
       }
 

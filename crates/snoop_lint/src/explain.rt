@@ -276,7 +276,7 @@ fn push_no_number(out: &mut Vec<u8>, name: &str, field: &[u8]) -> Result<(), NoM
     push_text(out, number_hint(field))
 }
 
-#[tactic(auto, unfolding(crate::specs::Explained::no_core))]
+#[tactic(auto, using(std::proofs::lemmas::List::append_assoc), unfolding(crate::specs::Explained::no_core))]
 fn push_no_core(out: &mut Vec<u8>, shape: Shape, core: u64) -> Result<(), NoMemory>
     ensures { OnOk result (out.new.items ≡ out.old.items ++ spec.no_core shape core) }
 {
@@ -308,7 +308,7 @@ fn push_no_block(out: &mut Vec<u8>, shape: Shape, address: u64) -> Result<(), No
     push_more_blocks(out, address / shape.block_bytes() as u64)
 }
 
-#[tactic(auto, unfolding(crate::specs::Explained::memory))]
+#[tactic(auto, using(std::proofs::lemmas::List::append_assoc), unfolding(crate::specs::Explained::memory))]
 fn push_memory(out: &mut Vec<u8>, shape: Shape) -> Result<(), NoMemory>
     ensures { OnOk result (out.new.items ≡ out.old.items ++ spec.memory shape) }
 {

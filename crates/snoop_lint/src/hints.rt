@@ -233,12 +233,7 @@ fn is_padded(field: &[u8]) -> bool
 fn has_foreign(field: &[u8]) -> bool
     ensures { result ≡ list_any spec.is_foreign field.now }
 {
-    for byte in field {
-        if is_foreign(*byte) {
-            return true;
-        }
-    }
-    false
+    field.iter().any(|byte| is_foreign(*byte))
 }
 
 fn is_foreign(byte: u8) -> bool
@@ -266,10 +261,13 @@ fn all_digits(base: u32, field: &[u8]) -> bool
     requires high { base ≤ 16 }
     ensures { result ≡ list_all (λ byte. is_digit byte base) field.now }
 {
-    for byte in field {
-        if (*byte as char).to_digit(base).is_none() {
-            return false;
-        }
-    }
-    true
+    field.iter().all(|byte| is_digit(base, *byte))
+}
+
+fn is_digit(base: u32, byte: u8) -> bool
+    requires low { 2 ≤ base }
+    requires high { base ≤ 16 }
+    ensures { result ≡ is_digit byte base }
+{
+    (byte as char).to_digit(base).is_some()
 }

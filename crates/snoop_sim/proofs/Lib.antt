@@ -2,5 +2,4 @@ pub mod Threading
 pub mod OptionLemmas
 pub mod CommandLineLemmas
 pub mod AskedLemmas
-pub mod ReadLemmas
-pub mod StatusLemmas
+pub mod Statuses

@@ -1,7 +1,7 @@
 -- What the options of a command are read as.
 use Rattle.std.{proofs.Common.{◌≡◌, ◌∙◌, ◌^◌, ap, sym, refl, ℕ, Bool, true, false, List, Option, Some, None, map, codes}, specs.Option.option_map}
 use Rattle.std.specs.{Prelude.{Result, Ok, Err, is_some}, Char.to_ascii_lowercase, Str.{bytes_eq, Parse.ParsesUnsigned}, Result.OkIff}
-use Rattle.std.proofs.lemmas.Slice.Eq.{bytes_eq-Decides}
+use Rattle.std.proofs.lemmas.{Bool.false_from_ne_true, Slice.Eq.bytes_eq-Decides}
 use Rattle.clap.specs.{Words.{ReadsOne, first_of, first_value, one_of, one_text, rows_of}, declared.parser.matches.Found.Found}
 use Rattle.clap.proofs.WalkLemmas.{first_value-rows, one_text-rows}
 use Rattle.snoop_trace.specs.{declared.protocol.Protocol.TheVariants.{Msi, Mesi}, Extent.{Extent, IsBlockCount, IsBlockSize, IsCoreCount, IsWordCount}}
@@ -14,11 +14,7 @@ equal a b e = (bytes_eq-Decides a b).1 e
 
 -- and else unequal
 unequal : (a b : List ℕ) → (a ≡ b → ⊥) → bytes_eq a b ≡ false
-unequal a b ne = go (bytes_eq a b) (bytes_eq-Decides a b).0
-  where
-    go : (r : Bool) → (r ≡ true → a ≡ b) → r ≡ false
-    go true is = absurd (ne (is refl))
-    go false is = refl
+unequal a b ne = false_from_ne_true (bytes_eq a b) (λ is. ne ((bytes_eq-Decides a b).0 is))
 
 -- MESI was named
 pub mesi_named : (f : Found) (name : List ℕ) → first_value f (codes "protocol") ≡ Some name

@@ -1,7 +1,7 @@
 -- From the threads' answers and the gathered log to the rows.
-use Rattle.std.proofs.Common.{◌≡◌, ℕ, ◌<◌, ◌/◌, ◌==◌, List, [], ◌∷◌, ◌++◌, length, take, All, Option, Some, None, Bool, true, nat_lt, if◌then◌else◌, refl, sym, ap, subst, ◌∙◌, arith}
+use Rattle.std.proofs.Common.{◌≡◌, ℕ, ◌<◌, ◌/◌, ◌==◌, List, [], ◌∷◌, ◌++◌, length, take, All, Option, Some, None, refl, sym, ap, subst, ◌∙◌, arith}
 use Rattle.std.specs.{Prelude.{slice_index_or, IsSome, IfErr, MatchResult, OnOk, OnErr, Result, Ok, Err}, Io.KnownBytes.Appends, Result.IsErrAnd}
-use Rattle.std.proofs.lemmas.{Bool.Decides.nat_tests, List.Elements.{All-filter, All-from_get_or, All-get_or}, Option.{get_or_from_slice_get, slice_get_within}}
+use Rattle.std.proofs.lemmas.{Bool.lt-ltb, List.Elements.{All-filter, All-from_get_or, All-get_or}, Option.{get_or_from_slice_get, slice_get_within}}
 use Rattle.snoop_trace.{specs.{Extent.{Extent, IsWithinLimits}, Grammar.{block_at, IsRowWithin}, Text.steps_of}, proofs.WordPlaces.word_there}
 use Rattle.snoop_trace.specs.{Output.{AppendsFront, IsReadableStep, text_of}, declared.{fault.WriteFault.WriteFault, step.{Row.Row, Step.Step}}}
 use Rattle.snoop_trace.specs.declared.protocol.Protocol.{Protocol}
@@ -14,15 +14,19 @@ use Rattle.snoop_engine.specs.SimulatedRun.{ReadsRows}
 use Rattle.snoop_sim.specs.{Threaded.{SimulatesThreads, Threaded}, ThreadsFault.{IsOfThreads, IsOfFirstStop}, declared.fault.ThreadsFault.ThreadsFault}
 use Rattle.snoop_sim.specs.declared.fault.ThreadsFault.TheVariants as threads
 
+-- what stands where there is no seat
+abbrev no_seat : Seating
+no_seat =
+    let none : Extent = record { cores = 0; blocks = 0; block_bytes = 0; words = 0 } in
+    record { core = 0; shape = none; seen = []; answers = []; pending = None; strange = None; stop = None }
+
 -- a seat that did nothing before has done its rows: its answers, which are its core's operations, are theirs
 answered_rows : (shape : Extent) (rows : List Row) (core : ℕ) (s t : Seating) (log : List Item) → IsNew core shape s → Grows (rows_of_core s.core rows) s t
     → answers_of log t.core ≡ t.answers → AnswersRows shape (rows_of_core core rows) (answers_of log core)
 answered_rows shape rows core s t log new grows told =
-    let dids : List Did = grows.added.0 in
-    let all : t.answers ≡ dids = grows.added.1 ∙ ap (λ (l : List Did). l ++ dids) new.answers in
-    let logged : answers_of log core ≡ dids = subst (λ (c : ℕ). answers_of log c ≡ dids) (grows.stays.core ∙ new.core_is) (told ∙ all) in
-    let here : AnswersRows s.shape (rows_of_core core rows) dids = subst (λ (c : ℕ). AnswersRows s.shape (rows_of_core c rows) dids) new.core_is grows.added.2 in
-    subst (λ (l : List Did). AnswersRows shape (rows_of_core core rows) l) (sym logged) (subst (λ (e : Extent). AnswersRows e (rows_of_core core rows) dids) new.shape_is here)
+    let all : t.answers ≡ grows.added.0 = grows.added.1 ∙ ap (λ (l : List Did). l ++ grows.added.0) new.answers in
+    let logged : answers_of log core ≡ grows.added.0 = ap (answers_of log) (sym (grows.stays.core ∙ new.core_is)) ∙ told ∙ all in
+    rw (logged, ← new.shape_is) (rw new.core_is at grows.added.2)
 
 -- all seats have done their rows, and were gathered
 pub threaded : (protocol : Protocol) (shape : Extent) (rows : List Row) (stops : List (Option Stop)) (old new : List Seating) (log : List Item) (steps : List Step)
@@ -36,36 +40,24 @@ threaded protocol shape rows stops old new log steps fresh each same ran none jo
       readable = joined.readable;
       quiet = joined.quiet;
       answered = λ core lt.
-          let d : Seating = record { core = 0; shape = shape; seen = []; answers = []; pending = None; strange = None; stop = None } in
           let inside : core < length old = omega (arith, lt, fresh.0) in
-          let done : Grows (rows_of_core (slice_index_or old core d).core rows) (slice_index_or old core d) (slice_index_or new core d) =
-          subst (λ (stop : Option Stop). RanTo stop rows (slice_index_or old core d) (slice_index_or new core d))
-          (All-get_or (λ (stop : Option Stop). stop ≡ None) stops core None (omega (arith, inside, each)) none) (ran core d inside) in
-          let told = All-get_or (λ (s : Seating). answers_of log s.core ≡ s.answers) new core d (omega (arith, inside, same)) joined.joins.answered in
-          subst (λ (l : List Item). AnswersRows shape (rows_of_core core rows) (answers_of l core)) joined.log_is
-          (answered_rows shape rows core (slice_index_or old core d) (slice_index_or new core d) log (fresh.1 core d lt) done told);
+          let done = subst (λ (stop : Option Stop). RanTo stop rows (slice_index_or old core no_seat) (slice_index_or new core no_seat))
+          (All-get_or (λ (stop : Option Stop). stop ≡ None) stops core None (omega (arith, inside, each)) none) (ran core no_seat inside) in
+          let told = All-get_or (λ (s : Seating). answers_of log s.core ≡ s.answers) new core no_seat (omega (arith, inside, same)) joined.joins.answered in
+          rw (← joined.log_is) (answered_rows shape rows core _ _ log (fresh.1 core no_seat lt) done told);
     }
 
 -- a row within the shape lies in a block of it
 row_block : (shape : Extent) (row : Row) → IsRowWithin shape row → block_at shape row.address ≡ Some (row.address / shape.block_bytes)
-row_block shape row within = ap (λ (b : Bool). if b then Some (row.address / shape.block_bytes) else None) (tests (row.address / shape.block_bytes) shape.blocks within.1)
-  where
-    tests : (block blocks : ℕ) → block < blocks → nat_lt block blocks ≡ true
-    tests block blocks lt = grind (arith, nat_tests)
+row_block shape row within = rw (lt-ltb (row.address / shape.block_bytes) shape.blocks within.1) refl
 
 -- where each core has a new seat, each row within the shape is served
 row_served : (shape : Extent) (seats : List Seating) (row : Row) → AreSeats shape seats → IsRowWithin shape row → IsServed seats row
 row_served shape seats row fresh within = record {
-  has = (row.core, let lt = within.0 in omega (arith, lt, fresh.0), λ d. (fresh.1 row.core d within.0).core_is);
-  within = All-from_get_or (λ (seat : Seating). seat.core ≡ row.core → IsSome (block_at seat.shape row.address)) seats nobody
-      (λ k lt same. subst (λ (e : Extent). IsSome (block_at e row.address)) (sym (fresh.1 k nobody (omega (arith, lt, fresh.0))).shape_is) found);
+  has = (row.core, omega (arith, within.0, fresh.0), λ d. (fresh.1 row.core d within.0).core_is);
+  within = All-from_get_or (λ (seat : Seating). seat.core ≡ row.core → IsSome (block_at seat.shape row.address)) seats no_seat
+      (λ k lt same. rw ((fresh.1 k no_seat (omega (arith, lt, fresh.0))).shape_is, row_block shape row within) refl);
 }
-  where
-    nobody : Seating
-    nobody = record { core = 0; shape = shape; seen = []; answers = []; pending = None; strange = None; stop = None }
-
-    found : IsSome (block_at shape row.address)
-    found = let some : IsSome (Some (row.address / shape.block_bytes)) = refl in subst (λ (o : Option ℕ). IsSome o) (sym (row_block shape row within)) some
 
 -- so rows within the shape are refused for memory alone
 pub begun : (shape : Extent) (seats : List Seating) (rows : List Row) (fault : RunFault) → AreSeats shape seats → All (IsRowWithin shape) rows → RefusesRows seats rows fault → IsOfThreads (threads.Run fault)
@@ -119,12 +111,11 @@ pub first_refused : (shape : Extent) (rows : List Row) (stops : List (Option Sto
     → ((i : ℕ) (d : Seating) → i < length old → RanTo (slice_index_or stops i None) rows (slice_index_or old i d) (slice_index_or new i d))
     → IsOfFirstStop stops fault → IsOfThreads fault
 first_refused shape rows stops old new fault limits fresh each within ran first =
-    let d : Seating = record { core = 0; shape = shape; seen = []; answers = []; pending = None; strange = None; stop = None } in
     let inside : first.place < length old = let lt = slice_get_within stops first.place (Some (Fault first.number first.refused)) first.there in omega (arith, lt, each) in
-    let stop : slice_index_or stops first.place None ≡ Some (Fault first.number first.refused) = get_or_from_slice_get stops first.place (Some (Fault first.number first.refused)) None first.there in
-    let refused : IsRefused first.number first.refused (rows_of_core (slice_index_or old first.place d).core rows) (slice_index_or old first.place d) (slice_index_or new first.place d) =
-    subst (λ (o : Option Stop). RanTo o rows (slice_index_or old first.place d) (slice_index_or new first.place d)) stop (ran first.place d inside) in
-    subst IsOfThreads (sym first.is) (row_refused shape first.place first.number rows (slice_index_or old first.place d) (slice_index_or new first.place d) first.refused limits (fresh.1 first.place d (omega (arith, inside, fresh.0))) within refused)
+    let refused = subst (λ (o : Option Stop). RanTo o rows (slice_index_or old first.place no_seat) (slice_index_or new first.place no_seat))
+    (get_or_from_slice_get stops first.place (Some (Fault first.number first.refused)) None first.there) (ran first.place no_seat inside) in
+    rw first.is
+    (row_refused shape first.place first.number rows _ _ first.refused limits (fresh.1 first.place no_seat (omega (arith, inside, fresh.0))) within refused)
 
 -- the steps stand, and were written, or their writing broke off
 pub steps_written : (protocol : Protocol) (shape : Extent) (input : Option (List ℕ)) (rows : List Row) (steps : List Step) (wrote : Result (Unit {0}) WriteFault) (answer : Result (Unit {0}) ThreadsFault) (old new : Option (List ℕ))

@@ -1,8 +1,9 @@
 -- The command line that the program understands, as the crate `clap` describes one.
 -- Source: this project's profile.
 use Rattle.std.specs.{Prelude.{◌≡◌, ℕ, List, [], ◌∷◌, Some, codes, map, true, false, pos}, Borrow.Bor}
-use Rattle.clap.specs.{Words.{App, Rule, Text, new_app, new_rule, with_rule, with_subcommand}, declared.builder.action.ArgAction.TheVariants.SetTrue}
-use Rattle.clap.specs.declared.builder.{command.Command.{Command, TheViews.out-Command}, value_parser.ValueParser.ValueParser}
+use Rattle.clap.specs.{Words.{App, Rule, Text, app_of, new_app, new_rule, rule_of, with_rule, with_subcommand}, declared.builder.arg.Arg.Arg}
+use Rattle.clap.specs.declared.builder.{action.ArgAction.TheVariants.SetTrue, command.Command.{Command, TheViews.out-Command}}
+use Rattle.clap.specs.declared.builder.value_parser.ValueParser.{ValueParser}
 use Rattle.clap.specs.declared.builder.value_parser.ValueParser.TheVariants as parser
 
 -- an option with its default
@@ -185,3 +186,13 @@ IsSnoop app = (steps run threads states counts lint draw table : App) × IsSteps
 -- no option of the command is one of its subcommands' too
 abbrev pub IsLocal : Command → Type 0
 IsLocal command = (out-Command command).has_globals ≡ false
+
+-- a command with options of its own alone, and its description
+pub record Describes (command : Command) (app : App) : Type 0 where
+  pub local : IsLocal command
+  pub is : app_of command ≡ app
+
+-- an option of a command alone, and its description
+pub record DescribesOption (arg : Arg) (rule : Rule) : Type 0 where
+  pub local : arg.global ≡ false
+  pub is : rule_of arg ≡ rule

@@ -1,9 +1,9 @@
 //! The command line: its words and what they ask for.
-ghost use Rattle.std.specs.Prelude.{◌≡◌, ◌≢◌, ◌^◌, [], IfErr, IfOk, Ok, codes, false, map, string_bytes, true};
-ghost use Rattle.clap.specs.Words.{app_of, found_of, one_of, rows_of, rule_of, subcommand_rows_of};
+ghost use Rattle.std.specs.Prelude.{◌≡◌, ◌≢◌, ◌^◌, [], IfErr, IfOk, Ok, codes, false, is_some, map, string_bytes, true};
+ghost use Rattle.clap.specs.Words.{App, app_of, first_of, found_of, one_of, rows_of, subcommand_rows_of};
 ghost use Rattle.snoop_sim.specs.Asked.{AsksFor, HasNoEngine, HasNoTask, HasTask, IsTaskOf, BeginsNothing};
-ghost use Rattle.snoop_sim.specs.CommandLine.{IsCounts, IsDraw, IsForms, IsGroupings, IsKinds, IsLayouts, IsLint, IsLocal, IsProtocols, IsRun, IsSimulation, IsSnoop, IsStates, IsSteps, IsTable, IsThemes, IsThreads, IsView, Names, choice_rules, flag_rule, form_rule, grouping_rule, kind_rule, layout_rule, number_rule, optional_rule, protocol_rule, theme_rule, top_app, with_rules};
-ghost use Rattle.snoop_sim.specs.Options.{IsChoiceOf, HasNoGrouping, HasNoNamed, HasNoSteps, IsGroupingOf, IsInputOf, IsNamed, IsPaperOf, IsSteps as IsStepsOf, names_grouping, names_theme, IsNumberOf, IsReadAs, IsShapeOf, MisplacesPaper, MisplacesSerial, asks_ascii, asks_serial, charset_named, form_named, kind_named, layout_named, protocol_named, says, theme_named, which_named};
+ghost use Rattle.snoop_sim.specs.CommandLine.{Describes, DescribesOption, IsCounts, IsDraw, IsGroupings, IsKinds, IsLayouts, IsLint, IsLocal, IsProtocols, IsRun, IsSimulation, IsSnoop, IsStates, IsSteps, IsTable, IsThemes, IsThreads, IsView, Names, choice_rules, flag_rule, form_rule, grouping_rule, kind_rule, layout_rule, number_rule, optional_rule, protocol_rule, theme_rule, top_app, with_rules};
+ghost use Rattle.snoop_sim.specs.Options.{IsChoiceOf, HasNoGrouping, HasNoNamed, HasNoSteps, IsGroupingOf, IsInputOf, IsNamed, IsPaperOf, IsSteps as IsStepsOf, IsNumberOf, IsReadAs, IsShapeOf, MisplacesPaper, MisplacesSerial, asks_ascii, asks_serial, charset_named, form_named, kind_named, layout_named, protocol_named, says, theme_named, which_named};
 
 use crate::failure::Failure;
 use crate::help;
@@ -181,7 +181,7 @@ fn grammar<'a>(alloc: Global) -> Result<Command<'a>, AllocError>
 
 /// The program before its commands.
 fn top<'a>(alloc: Global) -> Result<Command<'a>, AllocError>
-    ensures { IfOk result (λ command. IsLocal command × (app_of command ≡ top_app)) }
+    ensures { IfOk result (λ command. Describes command top_app) }
 {
     let named = Command::new(alloc, "snoop").bin_name("snoop")?;
     Ok(
@@ -314,8 +314,7 @@ fn draw<'a>(alloc: Global) -> Result<Command<'a>, AllocError>
 
 /// The command, which chooses a block and steps too.
 fn choosing<'a>(alloc: Global, command: Command<'a>) -> Result<Command<'a>, AllocError>
-    requires { IsLocal command }
-    ensures { IfOk result (λ new. IsLocal new × (app_of new ≡ with_rules (app_of command.entry) choice_rules)) }
+    ensures { IfOk result (λ new. (app : App) → Describes command.entry app → Describes new (with_rules app choice_rules)) }
 {
     let from = optional(
         alloc,
@@ -403,7 +402,7 @@ fn table<'a>(alloc: Global) -> Result<Command<'a>, AllocError>
 }
 
 fn protocol<'a>(alloc: Global) -> Arg<'a>
-    ensures { (result.global ≡ false) × ((protocols : Names) × IsProtocols protocols × (rule_of result ≡ protocol_rule protocols)) }
+    ensures { (protocols : Names) × IsProtocols protocols × DescribesOption result (protocol_rule protocols) }
 {
     Arg::new(alloc, "protocol")
         .long("protocol")
@@ -414,7 +413,7 @@ fn protocol<'a>(alloc: Global) -> Arg<'a>
 }
 
 fn flag<'a>(alloc: Global, name: &'a str, help: &'a str) -> Arg<'a>
-    ensures { (result.global ≡ false) × (rule_of result ≡ flag_rule name.entry.now) }
+    ensures { DescribesOption result (flag_rule name.entry.now) }
 {
     Arg::new(alloc, name)
         .long(name)
@@ -423,7 +422,7 @@ fn flag<'a>(alloc: Global, name: &'a str, help: &'a str) -> Arg<'a>
 }
 
 fn groupings<'a>(alloc: Global) -> Arg<'a>
-    ensures { (result.global ≡ false) × ((groupings : Names) × IsGroupings groupings × (rule_of result ≡ grouping_rule groupings)) }
+    ensures { (groupings : Names) × IsGroupings groupings × DescribesOption result (grouping_rule groupings) }
 {
     Arg::new(alloc, "by")
         .long("by")
@@ -433,7 +432,7 @@ fn groupings<'a>(alloc: Global) -> Arg<'a>
 
 /// The form of the output, a text if it is not given.
 fn forms<'a>(alloc: Global, names: &'a [&'a str]) -> Arg<'a>
-    ensures { (result.global ≡ false) × (rule_of result ≡ form_rule names.entry) }
+    ensures { DescribesOption result (form_rule names.entry) }
 {
     Arg::new(alloc, "as")
         .long("as")
@@ -443,7 +442,7 @@ fn forms<'a>(alloc: Global, names: &'a [&'a str]) -> Arg<'a>
 }
 
 fn kinds<'a>(alloc: Global) -> Arg<'a>
-    ensures { (result.global ≡ false) × ((kinds : Names) × IsKinds kinds × (rule_of result ≡ kind_rule kinds)) }
+    ensures { (kinds : Names) × IsKinds kinds × DescribesOption result (kind_rule kinds) }
 {
     Arg::new(alloc, "of")
         .long("of")
@@ -454,7 +453,7 @@ fn kinds<'a>(alloc: Global) -> Arg<'a>
 
 /// How a table is written, by rows if it is not given.
 fn layouts<'a>(alloc: Global) -> Arg<'a>
-    ensures { (result.global ≡ false) × ((layouts : Names) × IsLayouts layouts × (rule_of result ≡ layout_rule layouts)) }
+    ensures { (layouts : Names) × IsLayouts layouts × DescribesOption result (layout_rule layouts) }
 {
     Arg::new(alloc, "as")
         .long("as")
@@ -465,7 +464,7 @@ fn layouts<'a>(alloc: Global) -> Arg<'a>
 
 /// The colours of a drawing, the reader's own if they are not given.
 fn themes<'a>(alloc: Global) -> Arg<'a>
-    ensures { (result.global ≡ false) × ((themes : Names) × IsThemes themes × (rule_of result ≡ theme_rule themes)) }
+    ensures { (themes : Names) × IsThemes themes × DescribesOption result (theme_rule themes) }
 {
     Arg::new(alloc, "theme")
         .long("theme")
@@ -475,7 +474,7 @@ fn themes<'a>(alloc: Global) -> Arg<'a>
 
 /// An option that may be left out.
 fn optional<'a>(alloc: Global, name: &'a str, values: ValueParser<'a>, help: &'a str) -> Arg<'a>
-    ensures { (result.global ≡ false) × (rule_of result ≡ optional_rule name.entry.now values.entry) }
+    ensures { DescribesOption result (optional_rule name.entry.now values.entry) }
 {
     Arg::new(alloc, name)
         .long(name)
@@ -484,7 +483,7 @@ fn optional<'a>(alloc: Global, name: &'a str, values: ValueParser<'a>, help: &'a
 }
 
 fn number<'a>(alloc: Global, name: &'a str, default: &'a str, help: &'a str) -> Arg<'a>
-    ensures { (result.global ≡ false) × (rule_of result ≡ number_rule name.entry.now default.entry.now) }
+    ensures { DescribesOption result (number_rule name.entry.now default.entry.now) }
 {
     Arg::new(alloc, name)
         .long(name)
@@ -557,7 +556,7 @@ fn paper_in(options: &ArgMatches) -> Result<Option<Paper>, Failure>
 {
     let shown = long_in(options, "shown");
     if says(options, "as", "text") {
-        match (has_theme(options), shown) {
+        match (is_given(options, "theme"), shown) {
             (false, None) => Ok(None),
             _ => Err(Failure::BadChoice),
         }
@@ -570,13 +569,6 @@ fn paper_in(options: &ArgMatches) -> Result<Option<Paper>, Failure>
             shown: shown.unwrap_or(u64::MAX),
         }))
     }
-}
-
-/// Whether `--theme` is given.
-fn has_theme(options: &ArgMatches) -> bool
-    ensures { result ≡ names_theme (rows_of (found_of options.now)) }
-{
-    options.get_str("theme").is_some()
 }
 
 /// The form that was named, other than a text.
@@ -608,18 +600,11 @@ fn grouping_in(options: &ArgMatches) -> Result<Grouping, Failure>
     ensures ok { IfOk result (IsGroupingOf (rows_of (found_of options.now))) }
     ensures err { IfErr result (HasNoGrouping (rows_of (found_of options.now))) }
 {
-    match (has_grouping(options), long_in(options, "every")) {
+    match (is_given(options, "by"), long_in(options, "every")) {
         (true, None) => named_in(options),
         (false, Some(every)) => steps_in(options, every),
         _ => Err(Failure::BadBy),
     }
-}
-
-/// Whether `--by` is given.
-fn has_grouping(options: &ArgMatches) -> bool
-    ensures { result ≡ names_grouping (rows_of (found_of options.now)) }
-{
-    options.get_str("by").is_some()
 }
 
 /// What `--by` says; `--top` is for blocks alone.
@@ -677,6 +662,13 @@ fn input_in(options: &ArgMatches) -> Result<Input, Failure>
         (Form::Rows, false) => Ok(Input::Rows),
         (Form::Rows, true) => Ok(Input::SerialRows),
     }
+}
+
+/// Whether the option is given.
+fn is_given(options: &ArgMatches, name: &str) -> bool
+    ensures { result ≡ is_some (first_of name.now (rows_of (found_of options.now))) }
+{
+    options.get_str(name).is_some()
 }
 
 /// Whether the option has this value.

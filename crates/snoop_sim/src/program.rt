@@ -5,7 +5,7 @@ ghost use Rattle.std.specs.Io.KnownBytes.{Appends};
 ghost use Rattle.snoop_trace.specs.Output.{AppendsFront, BlamesWriter};
 ghost use Rattle.snoop_trace.specs.Text.{BlamesReader};
 ghost use Rattle.snoop_sim.specs.Status.{status_of};
-ghost use Rattle.snoop_sim.specs.Performed.{EndsWithStatus, IsFailedRead, LeavesOutput, PerformsTask, Runs, WritesText, layout_text, status_of_ending};
+ghost use Rattle.snoop_sim.specs.Performed.{EndsWithStatus, IsFailedRead, PerformsTask, Runs, WritesText, layout_text, status_of_ending};
 
 use crate::failure::Failure;
 use crate::options::{Engine, Grouping, Layout, Task, task_in};
@@ -56,7 +56,11 @@ pub fn command<T: Threads + Wait + Sync, R: Source, W: Sink, E: Write>(
     // Where it is known that no write to the writer had failed, the status is 4 exactly where one fails, and none is tried again.
     ensures blamed { BlamesWriter (W.failed writer.old) (W.failed writer.new) (result ≡ 4) }
 {
-    match perform(rt, alloc, words, reader, writer) {
+    let task = match task_in(alloc, words) {
+        Ok(task) => task,
+        Err(failure) => return report(errors, &failure),
+    };
+    match perform(rt, alloc, task, reader, writer) {
         Ok(()) => 0,
         Err(failure) => report(errors, &failure),
     }
@@ -71,29 +75,8 @@ pub fn refuse_words<E: Write>(cause: io::Error, errors: &mut E) -> u8
     report(errors, &Failure::of_words(cause))
 }
 
-/// Does what the words ask for.
+/// Does the task that the words ask for.
 fn perform<T: Threads + Wait + Sync, R: Source, W: Sink>(
-    rt: &T,
-    alloc: Global,
-    words: &[String],
-    reader: &mut R,
-    writer: &mut W,
-) -> Result<(), Failure>
-    ensures does { LeavesOutput (map string_bytes words.now) (R.remaining reader.old) result (W.contents writer.old) (W.contents writer.new) }
-    ensures reads { R.never_fails ≡ true → ¬ IsFailedRead result }
-    ensures read_blamed { BlamesReader (R.failed reader.old) (R.failed reader.new) (IsFailedRead result) }
-    ensures unwritten { IfErr result (λ failure. status_of failure < 3 → writer.new ≡ writer.old) }
-    ensures refused { IfErr result (λ failure. status_of failure ≡ 5 → writer.new ≡ writer.old) }
-    ensures never_blamed { IfErr result (λ failure. W.never_fails ≡ true → status_of failure ≢ 4) }
-    ensures blamed { BlamesWriter (W.failed writer.old) (W.failed writer.new) (status_of_ending result ≡ 4) }
-{
-    match task_in(alloc, words) {
-        Ok(task) => perform_task(rt, alloc, task, reader, writer),
-        Err(failure) => Err(failure),
-    }
-}
-
-fn perform_task<T: Threads + Wait + Sync, R: Source, W: Sink>(
     rt: &T,
     alloc: Global,
     task: Task,

@@ -1,33 +1,16 @@
-use Rattle.std.proofs.{Common.{rules, codes, [], ◌∙◌, ap}, lemmas.Result.IfOk-weaker}
-use Rattle.snoop_sim.specs.CommandLine.{choice_rules, flag_rule, form_rule, shown_rule, theme_rule, view_app, with_rules}
-use Rattle.snoop_sim.proofs.CommandLineLemmas.{Describes, DescribesOption, adds_option}
+use Rattle.std.proofs.{Common.{rules, codes, []}, lemmas.Result.IfOk-weaker}
+use Rattle.snoop_sim.{specs.CommandLine.{Describes, DescribesOption, shown_rule, view_app}, proofs.CommandLineLemmas.adds_option}
 use Rattle.snoop_sim.proofs.options.draw.Goals as goal
-
-pub choosing-requires : goal.choosing-requires
-choosing-requires c =
-    let protocols = c.in_ok-plain.ensures.1.0 in
-    let kinds = c.in_ok-plain.ensures.1.1 in
-    let plain : Describes c.in_ok-plain.plain (view_app (codes "draw") protocols kinds []) = record { local = c.in_ok-plain.ensures.0; is = c.in_ok-plain.ensures.1.4 } in
-    let form : DescribesOption c.forms.result (form_rule c.as_slice.result) = record { local = c.forms.ensures.0; is = c.forms.ensures.1 } in
-    let ascii : DescribesOption c.flag-ascii.result (flag_rule (codes "ascii")) = record { local = c.flag-ascii.ensures.0; is = c.flag-ascii.ensures.1 } in
-    let themed : DescribesOption c.themes.result (theme_rule c.themes.ensures.1.0) = record { local = c.themes.ensures.0; is = c.themes.ensures.1.2 } in
-    let shown : DescribesOption c.optional-shown.result shown_rule = record { local = search rules; is = search rules } in
-    let formed = adds_option _ _ c.in_ok-arg.field-0 _ _ plain form c.in_ok-arg.ensures in
-    let marked = adds_option _ _ c.in_ok-arg-2.field-0 _ _ formed ascii c.in_ok-arg-2.ensures in
-    let coloured = adds_option _ _ c.in_ok-arg-3.field-0 _ _ marked themed c.in_ok-arg-3.ensures in
-    (adds_option _ _ c.in_ok-arg-4.field-0 _ _ coloured shown c.in_ok-arg-4.ensures).local
 
 pub returns : goal.returns
 returns c =
-    let protocols = c.in_ok-plain.ensures.1.0 in
-    let kinds = c.in_ok-plain.ensures.1.1 in
-    let plain : Describes c.in_ok-plain.plain (view_app (codes "draw") protocols kinds []) = record { local = c.in_ok-plain.ensures.0; is = c.in_ok-plain.ensures.1.4 } in
-    let form : DescribesOption c.forms.result (form_rule c.as_slice.result) = record { local = c.forms.ensures.0; is = c.forms.ensures.1 } in
-    let ascii : DescribesOption c.flag-ascii.result (flag_rule (codes "ascii")) = record { local = c.flag-ascii.ensures.0; is = c.flag-ascii.ensures.1 } in
-    let themed : DescribesOption c.themes.result (theme_rule c.themes.ensures.1.0) = record { local = c.themes.ensures.0; is = c.themes.ensures.1.2 } in
-    let shown : DescribesOption c.optional-shown.result shown_rule = record { local = search rules; is = search rules } in
-    let formed = adds_option _ _ c.in_ok-arg.field-0 _ _ plain form c.in_ok-arg.ensures in
-    let marked = adds_option _ _ c.in_ok-arg-2.field-0 _ _ formed ascii c.in_ok-arg-2.ensures in
-    let coloured = adds_option _ _ c.in_ok-arg-3.field-0 _ _ marked themed c.in_ok-arg-3.ensures in
-    let all = adds_option _ _ c.in_ok-arg-4.field-0 _ _ coloured shown c.in_ok-arg-4.ensures in
-    IfOk-weaker c.choosing.result _ _ (λ command chooses. (chooses.0, (c.as_slice.result, c.themes.ensures.1.0, search rules, c.themes.ensures.1.1, (protocols, kinds, c.in_ok-plain.ensures.1.2, c.in_ok-plain.ensures.1.3, chooses.1 ∙ ap (λ app. with_rules app choice_rules) all.is)))) c.choosing.ensures
+    let plain = c.in_ok-plain.ensures in
+    let themes = c.themes.ensures in
+    let named : Describes c.in_ok-plain.plain (view_app (codes "draw") plain.1.0 plain.1.1 []) = record { local = plain.0; is = plain.1.4 } in
+    let shown : DescribesOption c.optional-shown.result shown_rule = search rules in
+    let formed = adds_option named c.forms.ensures c.in_ok-arg.ensures in
+    let marked = adds_option formed c.flag-ascii.ensures c.in_ok-arg-2.ensures in
+    let coloured = adds_option marked themes.2 c.in_ok-arg-3.ensures in
+    let cut = adds_option coloured shown c.in_ok-arg-4.ensures in
+    IfOk-weaker c.choosing.result _ _ (λ command chooses. let all = chooses _ cut in
+    (all.local, (c.as_slice.result, themes.0, search rules, themes.1, (plain.1.0, plain.1.1, plain.1.2, plain.1.3, all.is)))) c.choosing.ensures

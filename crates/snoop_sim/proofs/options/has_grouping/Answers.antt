@@ -1,7 +1,0 @@
-use Rattle.std.proofs.Common.{◌∙◌, codes}
-use Rattle.clap.specs.Words.{found_of}
-use Rattle.snoop_sim.proofs.OptionLemmas.{given}
-use Rattle.snoop_sim.proofs.options.has_grouping.Goals as goal
-
-pub returns : goal.returns
-returns c = c.is_some.ensures ∙ given (found_of c.args.options.now) (codes "by") (λ s. s.now) c.get_str.result c.get_str.ensures
