@@ -1,9 +1,9 @@
 use Rattle.std.proofs.{Common.min, lemmas.{Bool.{both_ways, eqb-true}, List.take-append-le}}
-use Rattle.snoop_engine.proofs.Common.{◌≡◌, ℕ, ◌+◌, ◌-◌, ◌<◌, ◌≤◌, ◌==◌, ◌%◌, true, false, if◌then◌else◌, List, [], ◌∷◌, ◌++◌, length, filter, Result, Ok, Err, OnOk}
-use Rattle.snoop_engine.proofs.Common.{ap, block_of_step, lines_of_step, inl, inr, refl, sym, ◌∙◌, append-nil, arith, cases_lt, eq-eqb, filter-append, le-ltb, length_push, lt-ltb, nat_tests, take_all}
-use Rattle.snoop_engine.proofs.{Common.{Chosen, Extent, Frame, Numbered, Protocol, frame_seen, numbered_from}, NumberedLemmas.{led_on, numbered, numbered_on}}
-use Rattle.snoop_svg.specs.{declared.drawing.Drawing.Drawing, Drawings.{HasSeen, StandsBelow, drawn, frame_text, has_row, last_above, row_above, rows_per_sheet, turn_text}}
-use Rattle.snoop_svg.specs.Sheets.{AfterSteps, Plan, row_text, row_y}
+use Rattle.snoop_engine.proofs.Common.{◌≡◌, ℕ, ◌+◌, ◌-◌, ◌<◌, ◌≤◌, ◌==◌, ◌%◌, true, false, if◌then◌else◌, List, [], ◌∷◌, ◌++◌, length, filter}
+use Rattle.snoop_engine.proofs.Common.{Result, Ok, Err, OnOk, inl, inr, ap, refl, sym, ◌∙◌, append-nil, arith, cases_lt, eq-eqb, filter-append, le-ltb, length_push, lt-ltb, nat_tests, take_all}
+use Rattle.snoop_engine.proofs.{Common.{Chosen, Extent, Frame, Numbered, Protocol, block_of_step, frame_seen, lines_of_step, numbered_from}, NumberedLemmas.{led_on, numbered, numbered_on}}
+use Rattle.snoop_svg.specs.{declared.drawing.Drawing.Drawing, Drawings.{HasSeen, StandsBelow, drawn, frame_text, has_row, last_above, row_above}}
+use Rattle.snoop_svg.specs.{Drawings.{rows_per_sheet, turn_text}, Sheets.{AfterSteps, Plan, row_text, row_y}}
 use Rattle.snoop_svg.proofs.drawing.DrawingView.see.Goals as goal
 
 -- a step before the first number is not drawn
@@ -74,7 +74,8 @@ module _ {first old : Drawing} {protocol : Protocol} {shape : Extent} {frames : 
         seen_on plan (rw grown (omega (arith, has.place, count))) (λ late few. rw (grown, last_on) (stands (omega (arith, has.place, count, rw grown at few))))
 
 -- what is drawn of a step whose row is shown in this place
-text_shown : (plan : Plan) (protocol : Protocol) (shape : Extent) (frames : List Frame) (frame : Frame) (place : ℕ) → (1 + length frames + 1 == plan.choice.from) ≡ false
+text_shown : (plan : Plan) (protocol : Protocol) (shape : Extent) (frames : List Frame) (frame : Frame) (place : ℕ)
+    → (1 + length frames + 1 == plan.choice.from) ≡ false
     → has_row plan.choice (numbered (1 + length frames) frame) ≡ true → place ≡ length (drawn plan.choice frames) → place < plan.paper.shown
     → frame_text plan protocol shape frames (numbered (1 + length frames) frame)
     ≡ turn_text plan protocol shape place (row_above plan.choice protocol shape frames)
@@ -121,9 +122,9 @@ returns-then-has_step c first frames before has next =
             seen_drawn frame has on c.push_drawn.ensures.plan (omega (arith, rw is at (c.push_drawn.ensures.place low)))
                 (λ _. rw (is, next.number) at (c.push_drawn.ensures.below above low stands)),
             (rw is at (c.push_drawn.ensures.shown above low stands))
-            ∙ (λ i. out ++ (turn_text old.plan s.protocol s.shape old.place above
-            ++ row_text old.plan s.shape y above (next.number i) s (next.block i) seen.step seen.outcome (next.lines i)))
-            ∙ (λ i. out ++ sym (text_shown old.plan s.protocol s.shape frames frame old.place not_first on here low) i) ∙ ap text has.plan,
+                ∙ (λ i. out ++ (turn_text old.plan s.protocol s.shape old.place above
+                ++ row_text old.plan s.shape y above (next.number i) s (next.block i) seen.step seen.outcome (next.lines i)))
+                ∙ (λ i. out ++ sym (text_shown old.plan s.protocol s.shape frames frame old.place not_first on here low) i) ∙ ap text has.plan,
           ))
       | inr high ↦
           let blank = c.push_drawn.ensures.blank high in
