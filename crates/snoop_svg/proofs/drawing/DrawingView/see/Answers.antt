@@ -1,7 +1,9 @@
 use Rattle.std.proofs.{Common.min, lemmas.{Bool.{both_ways, eqb-true}, List.take-append-le}}
 use Rattle.snoop_engine.proofs.Common.{◌≡◌, ℕ, ◌+◌, ◌-◌, ◌<◌, ◌≤◌, ◌==◌, ◌%◌, true, false, if◌then◌else◌, List, [], ◌∷◌, ◌++◌, length, filter}
-use Rattle.snoop_engine.proofs.Common.{Result, Ok, Err, OnOk, inl, inr, ap, refl, sym, ◌∙◌, append-nil, arith, cases_lt, eq-eqb, filter-append, le-ltb, length_push, lt-ltb, nat_tests, take_all}
-use Rattle.snoop_engine.proofs.{Common.{Chosen, Extent, Frame, Numbered, Protocol, block_of_step, frame_seen, lines_of_step, numbered_from}, NumberedLemmas.{led_on, numbered, numbered_on}}
+use Rattle.snoop_engine.proofs.Common.{Result, Ok, Err, OnOk, inl, inr, ap, refl, sym, ◌∙◌, append-nil, arith}
+use Rattle.snoop_engine.proofs.Common.{cases_lt, eq-eqb, filter-append, le-ltb, length_push, lt-ltb, nat_tests, take_all}
+use Rattle.snoop_engine.proofs.Common.{Chosen, Extent, Frame, Numbered, Protocol, block_of_step, frame_seen, lines_of_step, numbered_from}
+use Rattle.snoop_engine.proofs.NumberedLemmas.{led_on, numbered, numbered_on}
 use Rattle.snoop_svg.specs.{declared.drawing.Drawing.Drawing, Drawings.{HasSeen, StandsBelow, drawn, frame_text, has_row, last_above, row_above}}
 use Rattle.snoop_svg.specs.{Drawings.{rows_per_sheet, turn_text}, Sheets.{AfterSteps, Plan, row_text, row_y}}
 use Rattle.snoop_svg.proofs.drawing.DrawingView.see.Goals as goal
