@@ -1,8 +1,1 @@
-pub mod TextLemmas
 pub mod LayoutLemmas
-pub mod DrawnLemmas
-pub mod SeenLemmas
-pub mod FrameLemmas
-pub mod RowLemmas
-pub mod WholeLemmas
-pub mod LawLemmas
