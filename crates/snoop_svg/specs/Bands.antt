@@ -1,6 +1,6 @@
 -- The bands of a drawing: what a core may do, whether a transaction is open, whether memory sends.
 -- Source: this project's profile.
-use Rattle.std.specs.Prelude.{◌≡◌, ◌⊎◌, ℕ, ◌+◌, ◌-◌, Bool, true, false, List, [], ◌++◌, codes, Option, Some, None, if◌then◌else◌, bytes_eq}
+use Rattle.std.specs.Prelude.{◌≡◌, ◌⊎◌, ℕ, ◌+◌, Bool, true, false, List, [], ◌++◌, codes, Option, Some, None, if◌then◌else◌, bytes_eq}
 use Rattle.snoop_trace.specs.declared.protocol.Protocol.{Protocol}
 use Rattle.snoop_rules.specs.declared.names.{CacheState.{CacheState, TheVariants.{E, EiA}}, MemState.MemState}
 use Rattle.snoop_bus.specs.Traffic.{Open}

@@ -1,7 +1,7 @@
 -- A cell: what a column shows in a row.
 -- Source: this project's profile.
 use Rattle.std.specs.Prelude.{ℕ, ◌+◌, ◌-◌, ◌&&◌, Bool, true, List, [], ◌∷◌, ◌++◌, codes, Option, Some, None, not, if◌then◌else◌, is_none, nat_eq}
-use Rattle.std.specs.{Cmp.Lexicographic.pointwise, List.flat_map, Option.option_map_or}
+use Rattle.std.specs.{Cmp.Lexicographic.pointwise, List.flat_map}
 use Rattle.snoop_model.specs.Pictures.Situation.{Situation}
 use Rattle.snoop_svg.specs.declared.{bands.Band.{Band, TheVariants.Bare}, columns.Column.Column, looks.Rail.{Rail, TheVariants.{Free, ToOrder, ToData}}}
 use Rattle.snoop_svg.specs.{Bands.band_text, Elements.{line, text}, Looks.{Look, look_at}}

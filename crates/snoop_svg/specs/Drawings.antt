@@ -1,6 +1,6 @@
 -- The drawing of a run: a row for each step that is drawn, in sheets.
 -- Source: this project's profile.
-use Rattle.std.specs.Prelude.{ℕ, ◌+◌, ◌-◌, ◌%◌, ◌==◌, ◌&&◌, ◌≡◌, ◌≤◌, Bool, List, [], ◌∷◌, ◌++◌, Option, length, min, nat_lt, take, if◌then◌else◌}
+use Rattle.std.specs.Prelude.{ℕ, ◌+◌, ◌-◌, ◌%◌, ◌==◌, ◌&&◌, ◌≡◌, ◌≤◌, Bool, List, [], ◌∷◌, ◌++◌, length, min, nat_lt, take, if◌then◌else◌}
 use Rattle.std.specs.List.{filter}
 use Rattle.snoop_trace.specs.{Extent.Extent, declared.{protocol.Protocol.Protocol, step.Step.Step}}
 use Rattle.snoop_model.specs.Pictures.Situation.{Situation, reset}

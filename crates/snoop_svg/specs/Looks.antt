@@ -1,6 +1,6 @@
 -- What a column shows of a situation: its band, its rail and its words.
 -- Source: this project's profile.
-use Rattle.std.specs.Prelude.{ℕ, List, [], codes, map}
+use Rattle.std.specs.Prelude.{ℕ, List, map}
 use Rattle.snoop_model.specs.Pictures.Situation.{Situation, picture_of}
 use Rattle.snoop_engine.specs.{Taken.memory_at, Words.{core_words, memory_words}}
 use Rattle.snoop_draw.specs.{Events.awaits, Rows.held_in, Words.bus_words, declared.marks.Mark.Mark}

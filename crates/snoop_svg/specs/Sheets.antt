@@ -1,12 +1,12 @@
 -- A sheet of a drawing: its heading, its first row, its rows and its end. All numbers are pixels.
 -- Source: this project's profile.
-use Rattle.std.specs.{Prelude.{ℕ, ◌+◌, ◌-◌, ◌*◌, ◌==◌, max, min, List, [], ◌++◌, codes, Option, Result, Ok, Err, if◌then◌else◌}, Fmt.decimal, List.flat_map}
+use Rattle.std.specs.{Prelude.{ℕ, ◌+◌, ◌-◌, ◌*◌, ◌==◌, max, List, [], ◌++◌, codes, Option, Result, Ok, Err, if◌then◌else◌}, Fmt.decimal, List.flat_map}
 use Rattle.snoop_trace.specs.{Extent.Extent, Output.{address_of, step_text}, declared.{protocol.Protocol.Protocol, step.Step.Step}}
 use Rattle.snoop_model.specs.{Pictures.Situation.Situation, declared.replies.{Refused.Refused, Reply.Reply}}
 use Rattle.snoop_engine.specs.{Line.outcome_text, Words.capitals, declared.taken.Taken.Taken, Chosen.Chosen}
 use Rattle.snoop_svg.specs.declared.{columns.{Column.Column, Subject.{Subject, TheVariants.{Core, Bus, Memory}}}, paper.Form.{Form, TheVariants.{Svg, Html}}}
 use Rattle.snoop_svg.specs.{declared.{paper.Paper.Paper, sizes.Sizes.Sizes}, Cells.{first_cells, next_cells}, Happenings.event_text, Legends.legend_text}
-use Rattle.snoop_svg.specs.{Elements.{box, line, number, size, text, text_closed, text_opened}, Styles.style, Titles.{row_title, step_line}}
+use Rattle.snoop_svg.specs.{Elements.{box, line, number, size, text, text_closed, text_opened}, Styles.style, Titles.{row_title}}
 
 -- what all sheets of a drawing share: its sizes and columns, where replies begin, which steps are drawn and how many, and what it is written for
 pub record Plan : Type 0 where
