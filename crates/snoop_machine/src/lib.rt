@@ -1,7 +1,6 @@
 //! The machine: caches, memory and bus, and its steps.
 #![tactic(auto)]
 
-mod any_parts;
 mod cache;
 mod holders;
 mod lines;
