@@ -128,13 +128,7 @@ impl<B: Block> Parts<B> {
 
 impl<B: Block> Lines<B> {
     /// Each core takes its row for a request on the block. The row of a core that the request does not concern changes nothing, and is not looked up.
-    fn take_rows(
-        &mut self,
-        protocol: Protocol,
-        requestor: u32,
-        request: Request,
-        block: u32,
-    )
+    fn take_rows(&mut self, protocol: Protocol, requestor: u32, request: Request, block: u32)
         requires block { block < length self.old.rows }
         requires requestor { requestor < length (slice_index_or self.old.rows block []) }
         requires rows { (k : ℕ) → k < length (slice_index_or self.old.rows block []) → HasRow protocol (held_at (slice_index_or self.old.rows block []) k).state (seen_by k requestor request) }

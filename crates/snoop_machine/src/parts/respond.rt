@@ -124,11 +124,7 @@ fn came<B: Block>(closing: &Open<Kept<B>>) -> Came
 }
 
 /// What the response brings to its requestor's line.
-fn fill<B: Block>(
-    protocol: Protocol,
-    found: Option<&Entry<B>>,
-    closing: &Open<Kept<B>>,
-) -> Filled
+fn fill<B: Block>(protocol: Protocol, found: Option<&Entry<B>>, closing: &Open<Kept<B>>) -> Filled
     requires proper { IsProper (line_or_nothing (option_copied found)) }
     requires word { IfSome (line_or_nothing (option_copied found)).waiting (λ access. access.word < B.count) }
     requires possible { IsSomeAnd (arrival closing.now.payload) (HasRow protocol (line_or_nothing (option_copied found)).state) }
@@ -169,12 +165,7 @@ fn fill<B: Block>(
 }
 
 /// What memory does with the message of a transaction: its row for it at a PutM and where it waits for one, else nothing, and it stays.
-fn settle(
-    protocol: Protocol,
-    memory: MemState,
-    request: Request,
-    payload: Payload,
-) -> MemCell
+fn settle(protocol: Protocol, memory: MemState, request: Request, payload: Payload) -> MemCell
     requires { IsTrue (takes_payload request memory) → IsSomeAnd (arrival_at_memory payload) (HasMemRow protocol memory) }
     ensures { Settles protocol request payload memory result.action result.next }
 {

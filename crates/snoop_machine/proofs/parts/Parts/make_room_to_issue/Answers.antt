@@ -51,12 +51,15 @@ returns-clause-lines g c k =
     let now = rw c.reserve-2.ensures.lines at c.put_ahead.ensures.lines in
     let within : core < length lines = rw c.self.invariant.sized.lines (rw (← c.self.view_is) at c.requires) in
     let idle = state_seen c.self.invariant refl core c.args.block ∙ c.has.ensures.held c.if-has.false in
+    let absent = sym c.has.ensures.line ∙ c.if-has.false in
+    let more = get_or-set_same lines core (own ++ c.args.block ∷ []) [] within in
     rw (← c.self.view_is, now) (elim (cases_eq k core) [
-      | inl e ↦ inr (sym e, idle, sym c.has.ensures.line ∙ c.if-has.false, rw (e, get_or-set_same lines core (own ++ c.args.block ∷ []) [] within) (length-append own (c.args.block ∷ [])))
+      | inl e ↦ inr (sym e, idle, absent, rw (e, more) (length-append own (c.args.block ∷ [])))
       | inr ne ↦ inl (ap length (get_or-set_other lines core k (own ++ c.args.block ∷ []) [] ne))
     ])
 
 pub returns-clause-unchanged : goal.returns-clause-unchanged
 returns-clause-unchanged g c =
     let shown = queues_of-room c.self.inside.bus.queues c.args.core (waiting_of c.reserve-3.new.self c.args.core).room in
-    rw (c.put_ahead.ensures.rows, c.reserve-2.ensures.rows, c.reserve-3.ensures.queue, shown, c.reserve-3.ensures.transactions) (ap (λ s. s.situation) c.self.view_is)
+    rw (c.put_ahead.ensures.rows, c.reserve-2.ensures.rows, c.reserve-3.ensures.queue, shown, c.reserve-3.ensures.transactions)
+    (ap (λ s. s.situation) c.self.view_is)

@@ -1,4 +1,4 @@
-use Rattle.snoop_machine.proofs.Common.{◌-◌, ◌∷◌, [], None, append-nil, arith, asked, Cell, changed, drop-waits, fields, held_by, inr, IsProper-drop, IsProper-hit, IsProper-issue, issue-waits, length-append, line_at, picture_of, refl, Wait, waiting_of, with_line}
+use Rattle.snoop_machine.proofs.Common.{◌-◌, ◌∷◌, [], None, append-nil, arith, asked, Cell, changed, drop-waits, fields, held_by, inr, IsProper-drop, IsProper-hit, IsProper-issue, issue-waits, length-append, line_at, picture_of, refl, sym, Wait, waiting_of, with_line}
 use Rattle.snoop_machine.proofs.PartsViews.{follows-set, held_in-set, IsSound-issue, keeps_room, line-written, line_seen, picture_in, queues_of-issue, seen, sized_on}
 use Rattle.snoop_rules.specs.declared.names.CacheAction.TheVariants as action
 use Rattle.snoop_model.specs.Moves.Move.{as_access}
@@ -15,14 +15,17 @@ hit_line-requires-clause-still g c =
     let t = rw c.in-Hit.is at c.requires.found in
     λ is. (let row = rw is at t.0 in grind arith)
 
--- the line for which a request is issued
-issued : (g : _) (c : In-Issue g) → Cell c.args.self.now.situation.protocol (held_by (picture_of c.args.self.now.situation c.args.block) c.args.core).state (asked c.args.op) (action.Issue c.in-Issue.request) c.in-Issue.next
+-- the row by which the request is issued
+issued : (g : _) (c : In-Issue g)
+    → Cell c.args.self.now.situation.protocol (held_by (picture_of c.args.self.now.situation c.args.block) c.args.core).state
+    (asked c.args.op) (action.Issue c.in-Issue.request) c.in-Issue.next
 issued g c = rw c.in-Issue.is at c.requires.found
 
 pub change-requires-clause-proper : goal.change-requires-clause-proper
 change-requires-clause-proper g c =
     let row = issued g (goal.at.change-requires-clause-proper g c).In-Issue in
-    rw (line_seen c.self.invariant c.self.view_is c.args.core c.args.block, ← c.waiting_for-waiting.ensures) at (IsProper-issue _ _ c.args.word c.args.op _ _ c.requires.proper row)
+    rw (line_seen c.self.invariant c.self.view_is c.args.core c.args.block, ← c.waiting_for-waiting.ensures) at
+    (IsProper-issue _ _ c.args.word c.args.op _ _ c.requires.proper row)
 
 pub invariant_of-self : goal.invariant_of-self
 invariant_of-self g c =
@@ -46,6 +49,8 @@ returns-in-Issue g c =
     let before = waiting_of m.bus core in
     let long = length-append before.requests ((c.in-Issue.request, block) ∷ []) in
     let shown = queues_of-issue m.bus.queues core block (before.room - 1) c.in-Issue.request in
+    let here = seen c.self.invariant refl block in
+    let waits = sym c.waiting_for-waiting.ensures in
     let wrote = line-written c.self.invariant refl block c.change.new.self.rows core line c.change.ensures.rows in
     record {
       moved = record {
@@ -57,7 +62,7 @@ returns-in-Issue g c =
           held = changed c.in-Issue.next (Wait (as_access c.args.word c.args.op)) (held_by (picture_of c.args.self.now.situation block) core);
           entry = None;
           taken = (refl, refl, refl);
-          after = rw (← c.self.view_is, seen c.self.invariant refl block, c.issue.ensures.transactions, wrote, c.issue.ensures.queue, shown, ← c.waiting_for-waiting.ensures, append-nil m.log.items) refl;
+          after = rw (← c.self.view_is, here, c.issue.ensures.transactions, wrote, c.issue.ensures.queue, shown, waits, append-nil m.log.items) refl;
         });
         has_word = c.requires.word;
       };
