@@ -41,6 +41,10 @@ impl Queue {
         ensures requests { self.new.requests ≡ self.old.requests }
         ensures room { self.old.room ≤ self.new.room }
     {
+        // The usual case, at no cost.
+        if self.has_room() {
+            return Ok(());
+        }
         // The room alone decides: a refused growth may have left some.
         let grown = self.requests.reserve(1);
         if self.has_room() { Ok(()) } else { grown }

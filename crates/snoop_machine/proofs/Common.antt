@@ -28,7 +28,7 @@ pub use Rattle.snoop_machine.specs.Lines.{AreLines, Held, KeepsMapsRoom, LinesGo
 pub use Rattle.snoop_machine.specs.PartsView.{Fields, IsSized, IsSound, IsWhole, WaitsAs, fields, pictures_of, queues_of, requests_for, shown_line_room, shown_line_rooms, standing}
 pub use Rattle.snoop_machine.specs.Plan.{HasRoom, HasRoomToAsk, IsClosing, IsPlan, IsPlanFor, entry_of, entry_of_ask, planned_step, room_for, room_for_ask}
 pub use Rattle.snoop_machine.specs.{Prepared.{IsFull, IsPrepared, places, room_to}, Standing.{KeepsRoom, Standing, line_count}, declared.plan.Plan.Plan}
-pub use Rattle.snoop_machine.specs.declared.{ask.Asked.TheVariants.{Absent, Drop, Issue, Hit}, cache.LineChange.TheVariants.Wait, holders.Holders.Holders}
+pub use Rattle.snoop_machine.specs.declared.{plan.Asked.TheVariants.{Absent, Drop, Issue, Hit}, cache.LineChange.TheVariants.Wait, holders.Holders.Holders}
 pub use Rattle.snoop_model.proofs.{Invariant.Coherence.{finds_rows, orders_follow_sender_table, sender_within}, Runs.Along.{run_more, seen_along, kept_along}}
 pub use Rattle.snoop_model.proofs.{Invariant.Safety.{is_safe, move_keeps_all, kept_is_flat, reset_keeps}, Lines.EachRow.{Taking, Taking-more, Taking-past}}
 pub use Rattle.snoop_model.proofs.Lines.TheSender.{Silent-none, Silent-more, Silent-past, Silent-all, SilentBelow}

@@ -1,15 +1,10 @@
 -- The cores that a request concerns; each other core's row changes nothing and sends nothing.
-use Rattle.snoop_machine.proofs.Common.{◌≡◌, ◌≢◌, ℕ, ◌<◌, List, length, true, false, Some, sym, arith, ne_eqb, get_or_past, Protocol, Cell, seen_by, waiting_request, CacheState, Request, has, TakesRow, Line, held_at, nothing_held, IsProper, concerns, is_owner}
+use Rattle.snoop_machine.proofs.Common.{◌≡◌, ℕ, ◌<◌, List, length, true, false, Some, sym, arith, ne_eqb, get_or_past, Protocol, Cell, seen_by, waiting_request, CacheState, Request, has, TakesRow, Line, held_at, nothing_held, IsProper, is_owner}
 use Rattle.snoop_rules.specs.declared.names.CacheState.TheVariants as state
 use Rattle.snoop_rules.specs.declared.names.CacheAction.{CacheAction}
 use Rattle.snoop_rules.specs.declared.names.CacheAction.TheVariants as action
 use Rattle.snoop_model.specs.Moves.LookUps.{HasRow}
-use Rattle.snoop_machine.proofs.LineMaps.{moves_to_same}
-
--- a set of the requestor and of the cores that its request concerns
-pub record AreConcerned (lines : List Line) (core : ℕ) (q : Request) (set : List ℕ) : Type 0 where
-  pub own : has set core ≡ true
-  pub others : (k : ℕ) → k ≢ core → has set k ≡ concerns q (held_at lines k).state
+use Rattle.snoop_machine.{specs.Holders.AreConcerned, proofs.LineMaps.moves_to_same}
 
 module _ {lines : List Line} {core : ℕ} {q : Request} {set : List ℕ} (concerned : AreConcerned lines core q set) where
   -- they are cores that there are

@@ -1,6 +1,6 @@
 -- The parts of a machine, however they hold the words of a block.
 -- Source: this project's profile.
-use Rattle.snoop_machine.specs.{declared.any_parts.AnyParts.{AnyParts, TheVariants.{One, Two, Four, Eight, Sixteen, ThirtyTwo, SixtyFour}}, Standing.Standing}
+use Rattle.snoop_machine.specs.{declared.machine.AnyParts.{AnyParts, TheVariants.{One, Two, Four, Eight, Sixteen, ThirtyTwo, SixtyFour}}, Standing.Standing}
 
 -- their view
 abbrev pub stand : AnyParts → Standing

@@ -1,6 +1,6 @@
 -- The cores of a block that another's request concerns.
 -- Source: "A Primer on Memory Consistency and Cache Coherence", 2nd edition, chapter 7; that an Order looks at no other cores is this project's profile.
-use Rattle.std.specs.Prelude.{◌≡◌, ◌≢◌, ℕ, Bool, false, List, [], slice_index_or, slice_set}
+use Rattle.std.specs.Prelude.{◌≡◌, ◌≢◌, ℕ, Bool, true, false, List, [], slice_index_or, slice_set}
 use Rattle.snoop_rules.specs.declared.names.{CacheState.CacheState, Request.{Request, TheVariants.{GetS, GetM, PutM}}}
 use Rattle.snoop_model.specs.{Pictures.{Lines.Line, Picture.held_at, Proper.keeps}, Invariant.Fits.is_owner}
 use Rattle.snoop_machine.specs.declared.holders.Holders.{Holders}
@@ -15,6 +15,11 @@ is_concerned PutM owner reader = false
 -- whether another's request may change the line of a core in this state, or have it send
 abbrev pub concerns : Request → CacheState → Bool
 concerns request state = is_concerned request (is_owner state) (keeps state)
+
+-- a set of the requestor and of the cores that its request concerns
+pub record AreConcerned (lines : List Line) (requestor : ℕ) (request : Request) (set : List ℕ) : Type 0 where
+  pub own : has set requestor ≡ true
+  pub others : (k : ℕ) → k ≢ requestor → has set k ≡ concerns request (held_at lines k).state
 
 -- the sets have the owners and the readers of these lines, and no other cores
 pub record AreHolders (holders : Holders) (lines : List Line) : Type 0 where

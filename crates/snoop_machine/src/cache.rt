@@ -54,21 +54,6 @@ impl<B: Block> Model for Entry<B> {
 }
 
 impl<B: Block> Entry<B> {
-    /// The line of a block of which a cache holds nothing.
-    fn nothing() -> Entry<B>
-        requires { B.count ≤ 64 }
-        ensures { result ≡ nothing_held }
-    {
-        Entry {
-            state: CacheState::I,
-            is_kept: false,
-            is_waiting: false,
-            word: 0,
-            words: Kept::zero(),
-            op: Op::Load,
-        }
-    }
-
     pub(crate) fn state(&self) -> CacheState
         ensures { result ≡ self.now.state }
     {
@@ -113,41 +98,6 @@ impl<B: Block> Entry<B> {
         }
     }
 
-    /// The line moves to its next state, with nothing performed.
-    fn move_to(&mut self, next: CacheState)
-        ensures { self.new ≡ moves_to next self.old }
-    {
-        self.state = next;
-        if gives_up(next) {
-            self.is_kept = false;
-        }
-    }
-
-    /// This waits from now on.
-    fn wait(&mut self, waiting: Option<Access>)
-        ensures { self.new ≡ record self.old { waiting = waiting } }
-    {
-        match waiting {
-            Some(access) => {
-                self.is_waiting = true;
-                self.word = access.word;
-                self.op = access.op;
-            }
-            None => self.is_waiting = false,
-        }
-    }
-
-    /// The line moves to its next state by a hit, which is performed on the words that it keeps.
-    fn hit(&mut self, next: CacheState, access: Access)
-        requires { access.word < B.count }
-        ensures { self.new ≡ changed next (Hit access) self.old }
-    {
-        self.state = next;
-        if let Op::Store(value) = access.op {
-            self.words = self.words.with(access.word, value);
-        }
-    }
-
     /// The line takes these words, on which this is performed, and nothing waits.
     fn fill(&mut self, next: CacheState, access: Access, words: &Kept<B>)
         requires { access.word < B.count }
@@ -162,27 +112,32 @@ impl<B: Block> Entry<B> {
         };
     }
 
-    /// The line moves to its next state, and changes so.
+    /// The line moves to its next state, and changes so. Kept words are given up where it comes to a state without any, unless by a hit.
+    #[inline(always)]
     fn change(&mut self, next: CacheState, change: LineChange)
         requires { IsOfWords B.count change }
         ensures { self.new ≡ changed next change self.old }
     {
+        self.state = next;
         match change {
-            LineChange::Move => self.move_to(next),
-            LineChange::Hit(access) => self.hit(next, access),
-            LineChange::Wait(waiting) => {
-                self.move_to(next);
-                self.wait(waiting);
+            LineChange::Hit(access) => {
+                if let Op::Store(value) = access.op {
+                    self.words = self.words.with(access.word, value);
+                }
+                return;
             }
+            LineChange::Wait(Some(access)) => {
+                self.is_waiting = true;
+                self.word = access.word;
+                self.op = access.op;
+            }
+            LineChange::Wait(None) => self.is_waiting = false,
+            LineChange::Move => {}
+        }
+        if matches!(&next, CacheState::I | CacheState::ImAd | CacheState::IiA) {
+            self.is_kept = false;
         }
     }
-}
-
-/// Whether kept words are given up when this state comes.
-fn gives_up(next: CacheState) -> bool
-    ensures { (kept : Option Data) → kept_on next kept ≡ (if result then None else kept) }
-{
-    matches!(&next, CacheState::I | CacheState::ImAd | CacheState::IiA)
 }
 
 /// The state of a line that a map has, or I where it has none.
@@ -262,13 +217,6 @@ impl<B: Block> Cache<B> {
         self.lines.get(&block)
     }
 
-    /// Whether there is room for one more line.
-    fn has_room(&self) -> bool
-        ensures { IsTrue result ↔ (0 < self.now.spare) }
-    {
-        self.lines.len() < self.lines.capacity()
-    }
-
     /// Makes room for one more line. `NoMemory` leaves all as it was, and comes only where there was no room.
     pub(crate) fn reserve(&mut self) -> Result<(), NoMemory>
         ensures ok { OnOk result (0 < self.new.spare) }
@@ -279,7 +227,7 @@ impl<B: Block> Cache<B> {
     {
         // The room alone decides: a refused growth may have left some.
         let grown = self.lines.reserve(1);
-        if !self.has_room() {
+        if self.lines.len() == self.lines.capacity() {
             grown?;
         }
         Ok(())
@@ -294,7 +242,15 @@ impl<B: Block> Cache<B> {
         ensures blocks { blocks_of self.new ≡ blocks_of self.old ++ block ∷ [] }
         ensures room { KeepsMapRoom self.old self.new }
     {
-        self.lines.insert(block, Entry::nothing()).unwrap();
+        let nothing = Entry {
+            state: CacheState::I,
+            is_kept: false,
+            is_waiting: false,
+            word: 0,
+            words: Kept::zero(),
+            op: Op::Load,
+        };
+        self.lines.insert(block, nothing).unwrap();
     }
 
     /// Changes the block's line, and answers the state that it was in. A line that moves to I is taken out.
@@ -373,7 +329,7 @@ impl<B: Block> Cache<B> {
         if matches!(&cell.next, CacheState::I) {
             let _ = self.lines.swap_remove(&block);
         } else {
-            entry.move_to(cell.next);
+            entry.change(cell.next, LineChange::Move);
         }
         Some((before, cell.next))
     }

@@ -29,15 +29,6 @@ impl Holders {
         }
     }
 
-    /// The core moves to this state.
-    fn move_to(&mut self, core: u32, state: CacheState)
-        requires { core < 256 }
-        ensures { HaveMoved core state self.old self.new }
-    {
-        self.owners.set(core, is_owner(state));
-        self.readers.set(core, keeps(state));
-    }
-
     /// The requestor, and the cores that its request concerns.
     pub(crate) fn concerned(&self, requestor: u32, request: Request) -> CoreSet
         requires { requestor < 256 }
@@ -68,19 +59,15 @@ pub(crate) fn follow(
     requires stands { StandsAs core before (slice_index_or holders.old block no_holders) }
     ensures { HaveFollowed core block after holders.old holders.new }
 {
-    if are_alike(before, after) {
+    let owns = is_owner(after);
+    let reads = keeps(after);
+    if is_owner(before) == owns && keeps(before) == reads {
         return;
     }
     let mut moved = holders.get_or(block, Holders::empty());
-    moved.move_to(core, after);
+    moved.owners.set(core, owns);
+    moved.readers.set(core, reads);
     holders.set(block, moved);
-}
-
-/// Whether cores in these states stand in the same sets.
-fn are_alike(one: CacheState, other: CacheState) -> bool
-    ensures { IsTrue result ↔ ((is_owner one ≡ is_owner other) × (keeps one ≡ keeps other)) }
-{
-    is_owner(one) == is_owner(other) && keeps(one) == keeps(other)
 }
 
 /// Whether a core in this state may write.

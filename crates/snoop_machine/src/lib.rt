@@ -1,17 +1,13 @@
 //! The machine: caches, memory and bus, and its steps.
 #![tactic(auto)]
 
-mod any_parts;
-mod ask;
 mod cache;
 mod holders;
 mod lines;
 mod machine;
 mod memory;
-mod order;
 mod parts;
 mod plan;
-mod respond;
 mod turn;
 
 pub use machine::{Machine, run_steps};

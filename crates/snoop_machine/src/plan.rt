@@ -1,8 +1,7 @@
 //! What a step will do, as it was found: decisions, and the one value that a hit or a fill loads or stores.
-use crate::ask::Asked;
-use crate::respond::Filled;
 use snoop_history::Came;
-use snoop_rules::{MemCell, MemState, Payload, Request};
+use snoop_model::Access;
+use snoop_rules::{CacheState, MemCell, MemState, Payload, Request};
 use snoop_trace::Op;
 
 /// What a step will do, found before anything changes.
@@ -35,4 +34,25 @@ pub(crate) enum Plan {
         memory: MemCell,
         filled: Filled,
     },
+}
+
+/// What an Ask does to its core's line.
+#[derive(Clone, Copy)]
+pub(crate) enum Asked {
+    /// An Evict of a block in I.
+    Absent,
+    /// A hit: the line's next state, and the value that is loaded or stored.
+    Hit(CacheState, u64),
+    /// The request that is issued, and the line's next state.
+    Issue(Request, CacheState),
+    /// The copy is given up: the line's next state.
+    Drop(CacheState),
+}
+
+/// The next state of the requestor's line once its data has come, and what it performs with it.
+#[derive(Clone, Copy)]
+pub(crate) struct Filled {
+    pub(crate) next: CacheState,
+    pub(crate) access: Access,
+    pub(crate) value: u64,
 }

@@ -1,34 +1,34 @@
 //! An Ask: found, and made.
-ghost use Rattle.std.specs.Prelude.{◌≡◌, ◌≢◌, ◌<◌, ℕ, [], ◌∷◌, ◌++◌, slice_index, IfOk, IfErr, None, Some, true, Err, if◌then◌else◌};
+ghost use Rattle.std.specs.Prelude.{◌≡◌, ◌≢◌, ◌<◌, ℕ, [], ◌∷◌, ◌++◌, IfOk, IfErr, None, Some, true, Err, if◌then◌else◌, ◌⊎◌, option_copied};
 ghost use Rattle.snoop_trace.specs.declared.step.Step.TheVariants.{Ask};
-ghost use Rattle.snoop_trace.specs.declared.step.Op.TheVariants.{Load};
+ghost use Rattle.snoop_trace.specs.declared.step.Op.TheVariants.{Load, Evict};
 ghost use Rattle.snoop_trace.specs.Words.{HasWord, IsWord};
 ghost use Rattle.snoop_rules.specs.Waits.{waiting_request};
-ghost use Rattle.snoop_bus.specs.Queues.{after_issue};
 ghost use Rattle.snoop_history.specs.declared.items.Item.TheVariants.{Did as ItemDid};
 ghost use Rattle.snoop_rules.specs.declared.names.CacheState.TheVariants.{I};
-ghost use Rattle.snoop_machine.specs.Standing.{KeepsRoom, has_line};
+ghost use Rattle.snoop_machine.specs.Standing.{KeepsRoom};
 ghost use Rattle.snoop_machine.specs.Following.{LosesLines};
 ghost use Rattle.snoop_model.specs.Pictures.Picture.{held_by, with_line};
 ghost use Rattle.snoop_model.specs.Pictures.Situation.{picture_of, state_of, with_picture};
 ghost use Rattle.snoop_model.specs.Pictures.Proper.{IsProper};
 ghost use Rattle.snoop_model.specs.Moves.Move.{AskMove, is_load, as_access, next_did};
-ghost use Rattle.snoop_machine.specs.declared.cache.LineChange.TheVariants.{Hit, Wait};
-ghost use Rattle.snoop_machine.specs.Cache.{changed, IsOfWords};
-ghost use Rattle.snoop_machine.specs.Asked.{TakesAsk};
+ghost use Rattle.snoop_machine.specs.declared.cache.LineChange.TheVariants.{Hit};
+ghost use Rattle.snoop_machine.specs.Cache.{changed, IsOfWords, line_or_nothing};
+ghost use Rattle.snoop_machine.specs.Asked.{TakesAsk, RefusesAsk};
 ghost use Rattle.snoop_model.specs.Moves.Refuses.{Refuses};
 ghost use Rattle.snoop_machine.specs.Plan.{IsPlanFor, HasRoomToAsk};
 ghost use Rattle.snoop_model.specs.Invariant.Invariant.{Invariant};
 ghost use Rattle.snoop_model.specs.declared.replies.Refused.{Refused};
 ghost use Rattle.snoop_model.specs.declared.replies.Reply.TheVariants as reply;
+ghost use Rattle.snoop_rules.specs.Takers.{asked as asked_event};
+ghost use Rattle.snoop_model.specs.Moves.LookUps.{HasRow};
 
 use super::Parts;
-use crate::ask::{Asked, ask};
-use crate::cache::LineChange;
-use crate::plan::Plan;
+use crate::cache::{Entry, LineChange, state_of};
+use crate::plan::{Asked, Plan};
 use snoop_history::Item;
 use snoop_model::{Access, Refused, Reply};
-use snoop_rules::{CacheState, Request};
+use snoop_rules::{CacheAction, CacheState, Protocol, cache_cell, event_asked};
 use snoop_trace::{Block, Op};
 
 impl<B: Block> Parts<B> {
@@ -81,7 +81,10 @@ impl<B: Block> Parts<B> {
                 hit_reply(op, value)
             }
             Asked::Issue(request, next) => {
-                self.issue_line(core, block, next, waiting_for(word, op), request);
+                let waiting = waiting_for(word, op);
+                self.lines
+                    .change(core, block, next, LineChange::Wait(waiting));
+                self.bus.issue(core, request, block);
                 Reply::Issued(request)
             }
             Asked::Drop(next) => {
@@ -89,31 +92,6 @@ impl<B: Block> Parts<B> {
                 Reply::Gone
             }
         }
-    }
-
-    /// This waits in the line, which moves to its next state, and the request stands last in the core's queue.
-    #[inline(always)]
-    fn issue_line(
-        &mut self,
-        core: u32,
-        block: u32,
-        next: CacheState,
-        waiting: Option<Access>,
-        request: Request,
-    )
-        requires core { core < self.old.situation.shape.cores }
-        requires block { block < self.old.situation.shape.blocks }
-        requires room { (has_line self.old core block ≡ true) × (0 < slice_index self.old.request_rooms core) }
-        requires idle { waiting_request (state_of self.old.situation core block) ≡ None }
-        requires waits { waiting_request next ≡ Some request }
-        requires proper { IsProper (changed next (Wait waiting) (held_by (picture_of self.old.situation block) core)) }
-        ensures written { self.new.situation ≡ record (with_picture self.old.situation block (with_line (picture_of self.old.situation block) core (changed next (Wait waiting) (held_by (picture_of self.old.situation block) core)))) { queues = after_issue self.old.situation.queues core block } }
-        ensures room { KeepsRoom self.old self.new }
-        ensures lines { (k : ℕ) → LosesLines self.old self.new k }
-    {
-        self.lines
-            .change(core, block, next, LineChange::Wait(waiting));
-        self.bus.issue(core, request, block);
     }
 
     /// The line moves to its next state, and changes so, but it waits as it did.
@@ -173,5 +151,38 @@ fn hit_reply(op: Op, value: u64) -> Reply
     match op {
         Op::Load => Reply::Hit(value),
         Op::Store(_) | Op::Evict => Reply::StoreHit,
+    }
+}
+
+/// What an Ask of the operation does to this line.
+fn ask<B: Block>(
+    protocol: Protocol,
+    found: Option<&Entry<B>>,
+    word: u32,
+    op: Op,
+) -> Result<Asked, Refused>
+    requires proper { IsProper (line_or_nothing (option_copied found)) }
+    requires word { word < B.count ⊎ (op ≡ Evict) }
+    requires possible { (¬ ((op ≡ Evict) × ((line_or_nothing (option_copied found)).state ≡ I))) → HasRow protocol (line_or_nothing (option_copied found)).state (asked_event op) }
+    ensures taken { IfOk result (λ taken. TakesAsk protocol (line_or_nothing (option_copied found.entry)) word op taken) }
+    ensures refused { IfErr result (λ cause. RefusesAsk protocol (line_or_nothing (option_copied found.entry)) op cause) }
+{
+    let state = state_of(found);
+    if matches!((&state, &op), (CacheState::I, Op::Evict)) {
+        return Ok(Asked::Absent);
+    }
+    let Some(cell) = cache_cell(protocol, state, event_asked(op)) else {
+        unreachable!();
+    };
+    match (cell.action, op, found) {
+        (CacheAction::Stall, _, _) => Err(Refused::Stalled(state)),
+        (CacheAction::Hit, Op::Load, Some(entry)) => match entry.at(word) {
+            Some(value) => Ok(Asked::Hit(cell.next, value)),
+            None => unreachable!(),
+        },
+        (CacheAction::Hit, Op::Store(value), _) => Ok(Asked::Hit(cell.next, value)),
+        (CacheAction::Issue(request), _, _) => Ok(Asked::Issue(request, cell.next)),
+        (CacheAction::Drop, _, _) => Ok(Asked::Drop(cell.next)),
+        _ => unreachable!(),
     }
 }

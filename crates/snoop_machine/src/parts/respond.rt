@@ -1,5 +1,5 @@
 //! A Respond: found, and made.
-ghost use Rattle.std.specs.Prelude.{◌≡◌, ◌≢◌, ◌<◌, ℕ, IfOk, IfErr, IfSome, Some, None, Err};
+ghost use Rattle.std.specs.Prelude.{◌≡◌, ◌≢◌, ◌<◌, ℕ, IfOk, IfErr, IfSome, Some, None, Err, IsSomeAnd, IsTrue, option_copied};
 ghost use Rattle.snoop_trace.specs.declared.step.Step.TheVariants.{Respond};
 ghost use Rattle.snoop_trace.specs.Words.{IsWord};
 ghost use Rattle.snoop_rules.specs.declared.names.Request.TheVariants.{PutM};
@@ -7,22 +7,28 @@ ghost use Rattle.snoop_machine.specs.Standing.{KeepsRoom};
 ghost use Rattle.snoop_machine.specs.Following.{LosesLines};
 ghost use Rattle.snoop_model.specs.Pictures.Situation.{picture_of};
 ghost use Rattle.snoop_model.specs.Pictures.Picture.{held_by};
-ghost use Rattle.snoop_model.specs.Moves.Move.{Fills, RespondMove, came_of};
+ghost use Rattle.snoop_model.specs.Moves.Move.{Fills, RespondMove, came_of, Settles};
 ghost use Rattle.snoop_model.specs.Moves.Refuses.{Refuses};
-ghost use Rattle.snoop_machine.specs.Cache.{filled_line};
+ghost use Rattle.snoop_machine.specs.Cache.{filled_line, line_or_nothing};
 ghost use Rattle.snoop_machine.specs.Plan.{IsClosing, IsPlanFor};
 ghost use Rattle.snoop_model.specs.Invariant.Invariant.{Invariant};
 ghost use Rattle.snoop_model.specs.declared.replies.Refused.{Refused};
 ghost use Rattle.snoop_model.specs.declared.replies.Reply.TheVariants as reply;
+ghost use Rattle.snoop_rules.specs.Takers.{arrival, arrival_at_memory, takes_payload};
+ghost use Rattle.snoop_model.specs.Pictures.Proper.{IsProper};
+ghost use Rattle.snoop_model.specs.Moves.LookUps.{HasRow, HasMemRow};
 
 use super::Parts;
-use crate::plan::Plan;
-use crate::respond::{Filled, fill, settle};
+use crate::cache::{Entry, state_of, waiting_of};
+use crate::plan::{Filled, Plan};
 use snoop_bus::Open;
 use snoop_history::{Came, Did, Item};
-use snoop_model::Refused;
-use snoop_rules::{MemCell, Request};
-use snoop_trace::{Block, Kept};
+use snoop_model::{Access, Refused};
+use snoop_rules::{
+    CacheAction, CacheEvent, MemAction, MemCell, MemState, Payload, Protocol, Request,
+    arrival_at_memory, cache_cell, mem_cell, takes_payload,
+};
+use snoop_trace::{Block, Kept, Op};
 
 impl<B: Block> Parts<B> {
     /// What a Respond will do, of a block that there is.
@@ -115,4 +121,65 @@ fn came<B: Block>(closing: &Open<Kept<B>>) -> Came
         from: closing.from,
         payload: closing.payload,
     }
+}
+
+/// What the response brings to its requestor's line.
+fn fill<B: Block>(protocol: Protocol, found: Option<&Entry<B>>, closing: &Open<Kept<B>>) -> Filled
+    requires proper { IsProper (line_or_nothing (option_copied found)) }
+    requires word { IfSome (line_or_nothing (option_copied found)).waiting (λ access. access.word < B.count) }
+    requires possible { IsSomeAnd (arrival closing.now.payload) (HasRow protocol (line_or_nothing (option_copied found)).state) }
+    ensures { Fills closing.now protocol (line_or_nothing (option_copied found.entry)) (filled_line result.next result.access closing.now.value) result.access result.value }
+{
+    let event = match closing.payload {
+        Payload::Data => CacheEvent::Data,
+        Payload::DataE => CacheEvent::DataE,
+        Payload::NoData | Payload::NoDataE => unreachable!(),
+    };
+    let Some(cell) = cache_cell(protocol, state_of(found), event) else {
+        unreachable!();
+    };
+    match (cell.action, waiting_of(found)) {
+        (CacheAction::FillLoad, Some(Access { word, op: Op::Load })) => Filled {
+            next: cell.next,
+            access: Access { word, op: Op::Load },
+            value: closing.value.at(word),
+        },
+        (
+            CacheAction::FillStore,
+            Some(
+                Access {
+                    word,
+                    op: Op::Store(value),
+                },
+            ),
+        ) => Filled {
+            next: cell.next,
+            access: Access {
+                word,
+                op: Op::Store(value),
+            },
+            value,
+        },
+        _ => unreachable!(),
+    }
+}
+
+/// What memory does with the message of a transaction: its row for it at a PutM and where it waits for one, else nothing, and it stays.
+fn settle(protocol: Protocol, memory: MemState, request: Request, payload: Payload) -> MemCell
+    requires { IsTrue (takes_payload request memory) → IsSomeAnd (arrival_at_memory payload) (HasMemRow protocol memory) }
+    ensures { Settles protocol request payload memory result.action result.next }
+{
+    if !takes_payload(request, memory) {
+        return MemCell {
+            action: MemAction::None,
+            next: memory,
+        };
+    }
+    let Some(event) = arrival_at_memory(payload) else {
+        unreachable!();
+    };
+    let Some(cell) = mem_cell(protocol, memory, event) else {
+        unreachable!();
+    };
+    cell
 }

@@ -15,8 +15,7 @@ ghost use Rattle.snoop_model.specs.Invariant.Invariant.{Invariant};
 ghost use Rattle.snoop_model.specs.declared.replies.Refused.{Refused};
 
 use super::Parts;
-use crate::ask::Asked;
-use crate::plan::Plan;
+use crate::plan::{Asked, Plan};
 use snoop_history::{Item, Sent};
 use snoop_model::{Access, Refused, Reply};
 use snoop_trace::{Block, NoMemory, Op, Step};
@@ -122,11 +121,18 @@ impl<B: Block> Parts<B> {
             }
             | Plan::Order { .. }
             | Plan::Writeback { .. }
-            | Plan::Fill { .. } => self.reserve_item(),
+            | Plan::Fill { .. } => {
+                // The usual case, at no cost.
+                if self.log.has_room() {
+                    return Ok(());
+                }
+                self.log.reserve()
+            }
         }
     }
 
-    /// Makes room for one more request of the core for the block, and puts in the line that will wait for it.
+    /// Makes room for one more request of the core for the block, and puts in the line that will wait for it, in I, where the core's map has
+    /// none.
     #[inline(always)]
     fn make_room_to_issue(&mut self, core: u32, block: u32) -> Result<(), NoMemory>
         requires { core < self.old.situation.shape.cores }
@@ -137,72 +143,13 @@ impl<B: Block> Parts<B> {
         ensures lines { (k : ℕ) → AddsLine core block self.old self.new k }
         ensures unchanged { self.new.situation ≡ self.old.situation }
     {
-        if self.has_line(core, block) {
-            self.reserve_request(core)
-        } else {
-            self.add_line(core, block)
+        if self.lines.has(core, block) {
+            return self.bus.reserve(core);
         }
-    }
-
-    /// Whether the core's map has a line for the block, which it has where the core holds the block.
-    fn has_line(&self, core: u32, block: u32) -> bool
-        requires { core < self.now.situation.shape.cores }
-        ensures line { result ≡ has_line self.now core block }
-        ensures held { result ≡ false → state_of self.now.situation core block ≡ I }
-    {
-        self.lines.has(core, block)
-    }
-
-    /// Puts in a line in I for a block that the core's map has none for, once there is room for one more request of the core.
-    fn add_line(&mut self, core: u32, block: u32) -> Result<(), NoMemory>
-        requires core { core < self.old.situation.shape.cores }
-        requires absent { has_line self.old core block ≡ false }
-        ensures ok { OnOk result ((has_line self.new core block ≡ true) × (0 < slice_index self.new.request_rooms core)) }
-        ensures full { OnErr result (places self.old core ≡ 0) }
-        ensures refused { OnErr result (self.new ≡ self.old) }
-        ensures room { KeepsRoom self.old self.new }
-        ensures more { OnOk result (line_count self.new core ≡ line_count self.old core + 1) }
-        ensures others { (k : ℕ) → k ≢ core → line_count self.new k ≡ line_count self.old k }
-        ensures unchanged { self.new.situation ≡ self.old.situation }
-    {
         self.lines.reserve(core)?;
         self.bus.reserve(core)?;
         self.lines.put_ahead(core, block);
         Ok(())
-    }
-
-    /// Makes room for one more request of the core.
-    fn reserve_request(&mut self, core: u32) -> Result<(), NoMemory>
-        requires { core < self.old.situation.shape.cores }
-        ensures ok { OnOk result (0 < slice_index self.new.request_rooms core) }
-        ensures full { OnErr result (slice_index self.old.request_rooms core ≡ 0) }
-        ensures refused { OnErr result (self.new ≡ self.old) }
-        ensures room { KeepsRoom self.old self.new }
-        ensures lines { self.new.lines ≡ self.old.lines }
-        ensures unchanged { self.new.situation ≡ self.old.situation }
-    {
-        // The usual case, at no cost.
-        if self.bus.has_room(core) {
-            return Ok(());
-        }
-        self.bus.reserve(core)
-    }
-
-    /// Makes room for one more item.
-    #[inline(always)]
-    fn reserve_item(&mut self) -> Result<(), NoMemory>
-        ensures ok { OnOk result (0 < self.new.room) }
-        ensures full { OnErr result (self.old.room ≡ 0) }
-        ensures refused { OnErr result (self.new ≡ self.old) }
-        ensures room { KeepsRoom self.old self.new }
-        ensures lines { self.new.lines ≡ self.old.lines }
-        ensures unchanged { self.new.situation ≡ self.old.situation }
-    {
-        // The usual case, at no cost.
-        if self.log.has_room() {
-            return Ok(());
-        }
-        self.log.reserve()
     }
 
     /// Does what the plan says.

@@ -1,4 +1,4 @@
-use Rattle.snoop_machine.proofs.Common.{ℕ, [], ◌∷◌, Result, IsOk, OnOk, nat_eq, map-append, Line, arith}
+use Rattle.snoop_machine.proofs.Common.{ℕ, [], ◌∷◌, Result, IsOk, OnOk, nat_eq, map-append, Line, nothing_held, arith}
 use Rattle.indexmap.proofs.CallerLemmas.{insert_entry-new}
 use Rattle.snoop_machine.proofs.cache.Cache.put_ahead.Goals as goal
 
@@ -13,5 +13,5 @@ returns-clause-blocks g c =
     let room = rw (← c.self.view_is) at c.requires.room in
     let absent = rw (← c.self.view_is) at c.requires.absent in
     let entries = on_ok c.insert.result c.insert.ensures.entries (c.insert.ensures.succeeds room) in
-    let new = insert_entry-new nat_eq m block c.nothing.result (grind (arith, absent)) in
-    grind (arith, entries, new, map-append (λ (e : ℕ × Line). e.0) m.entries ((block, c.nothing.result) ∷ []), c.self.view_is)
+    let new = insert_entry-new nat_eq m block nothing_held (grind (arith, absent)) in
+    grind (arith, entries, new, map-append (λ (e : ℕ × Line). e.0) m.entries ((block, nothing_held) ∷ []), c.self.view_is)

@@ -5,4 +5,4 @@ pub returns-then-eq-clause-still : goal.returns-then-eq-clause-still
 returns-then-eq-clause-still g c = record { row = search rules; same = search rules; places = search rules }
 
 pub returns-else-matches-clause-moved : goal.returns-else-matches-clause-moved
-returns-else-matches-clause-moved g c = grind (arith, common_steps, (c.get_mut.follows.holds c.move_to.new.self).1, c.self.view_is)
+returns-else-matches-clause-moved g c = grind (arith, common_steps, (c.get_mut.follows.holds c.change.new.self).1, c.self.view_is)

@@ -14,10 +14,10 @@ fits g c =
     let read = c.get_or-holders.ensures ∙ get_or_default c.self.inside.holders c.args.block c.empty.result no_holders within in
     rw (read, ← (row_seen c.self.invariant c.self.view_is c.args.block within)) (c.self.invariant.indexed c.args.block within)
 
-pub returns-clause-others : goal.returns-clause-others
-returns-clause-others g c k ne =
-    let f = fits g (goal.at.returns-clause-others g c).After-concerned in
-    rw (c.concerned.ensures.others k ne, f.owners k, f.readers k) refl
+pub returns-clause-concerned : goal.returns-clause-concerned
+returns-clause-concerned g c =
+    let f = fits g (goal.at.returns-clause-concerned g c).After-concerned in
+    record { own = c.concerned.ensures.own; others = λ k ne. rw (c.concerned.ensures.others k ne, f.owners k, f.readers k) refl }
 
 pub returns-clause-proper : goal.returns-clause-proper
 returns-clause-proper g c k =

@@ -1,22 +1,17 @@
 use Rattle.snoop_machine.proofs.Common.{◌≡◌, ◌<◌, length, arith, ◌∙◌, set-set, length-set, row_of, line_at, IsProper-order, Taking, Taking-more, Taking-past}
-use Rattle.snoop_machine.proofs.{PartsViews.{LinesGo-more, KeepsMapsRoom-more, row_after}, lines.Lines.take_rows.Goals.{After-concerned-concerned, In-Some}}
-use Rattle.snoop_machine.proofs.ConcernedCores.{AreConcerned, concerned_within, TakesRow-passed, Cell-leaves}
+use Rattle.snoop_machine.proofs.{PartsViews.{LinesGo-more, KeepsMapsRoom-more, row_after}, lines.Lines.take_rows.Goals.In-Some}
+use Rattle.snoop_machine.proofs.ConcernedCores.{concerned_within, TakesRow-passed, Cell-leaves}
 use Rattle.snoop_machine.proofs.lines.Lines.take_rows.Goals as goal
 
--- the set has the cores that the request concerns
-concerned : (g : _) (c : After-concerned-concerned g)
-    → AreConcerned (row_of c.args.self.now.rows c.args.block) c.args.requestor c.args.request c.concerned-concerned.result
-concerned g c = record { own = c.concerned-concerned.ensures.own; others = c.concerned-concerned.ensures.others }
-
 within_row : (g : _) (c : In-Some g) → c.in-Some.core < length (row_of c.args.self.now.rows c.args.block)
-within_row g c = concerned_within (concerned g (goal.at.In-Some g c).After-concerned-concerned) c.requires.requestor c.in-Some.core c.in-Some.ensures.some.2
+within_row g c = concerned_within c.concerned-concerned.ensures.concerned c.requires.requestor c.in-Some.core c.in-Some.ensures.some.2
 
 -- the cores up to the one that is looked at have taken their rows
 so_far : (g : _) (c : In-Some g) → Taking c.args.protocol c.args.requestor c.args.request (row_of c.args.self.now.rows c.args.block) (row_of c.loop-core.self.rows c.args.block) c.in-Some.core
 so_far g c =
     let within = within_row g c in
     Taking-past c.args.protocol c.args.requestor c.args.request _ _ c.loop-core.from c.in-Some.core
-    (λ k above below. TakesRow-passed (concerned g (goal.at.In-Some g c).After-concerned-concerned) c.args.protocol c.requires.rows k (omega arith)
+    (λ k above below. TakesRow-passed c.concerned-concerned.ensures.concerned c.args.protocol c.requires.rows k (omega arith)
     (c.in-Some.ensures.some.3 k above below) (c.concerned-concerned.ensures.proper k))
     c.in-Some.ensures.some.0 c.loop-core.invariant.0
 
@@ -67,7 +62,7 @@ returns-clause-taken g c =
     let before = c.loop-core.invariant.0 in
     let old = row_of c.args.self.now.rows c.args.block in
     let taking = Taking-past c.args.protocol c.args.requestor c.args.request old (row_of c.loop-core.self.rows c.args.block) c.loop-core.from (length old)
-    (λ k above below. TakesRow-passed (concerned g (goal.at.returns-clause-taken g c).After-concerned-concerned) c.args.protocol c.requires.rows k below
+    (λ k above below. TakesRow-passed c.concerned-concerned.ensures.concerned c.args.protocol c.requires.rows k below
     (c.in_default.ensures.none k above) (c.concerned-concerned.ensures.proper k))
     c.loop-core.invariant.1 before in
     record { same_length = before.same_length; rows = taking.taken }

@@ -1,6 +1,6 @@
 use Rattle.snoop_machine.proofs.Common.{◌≡◌, ℕ, ◌≤◌, ◌⊎◌, inl, inr, arith, zero, suc, common_steps}
 use Rattle.std.{specs.Int.IsPowerOfTwo, proofs.{lemmas.Nat.pow_pos, Math.Nat.pow-suc}}
-use Rattle.snoop_machine.proofs.any_parts.AnyParts.reset.Goals as goal
+use Rattle.snoop_machine.proofs.machine.AnyParts.reset.Goals as goal
 
 -- a power of two up to 64 is one of seven
 pub one_of_seven : (words : ℕ) → IsPowerOfTwo words → words ≤ 64 → (words ≡ 1) ⊎ ((words ≡ 2) ⊎ ((words ≡ 4) ⊎ ((words ≡ 8) ⊎ ((words ≡ 16) ⊎ ((words ≡ 32) ⊎ (words ≡ 64))))))

@@ -1,4 +1,4 @@
-use Rattle.snoop_machine.proofs.ask.ask.Goals as goal
+use Rattle.snoop_machine.proofs.parts.ask.ask.Goals as goal
 
 pub returns-in-Stall-default-default-clause-refused : goal.returns-in-Stall-default-default-clause-refused
 returns-in-Stall-default-default-clause-refused g c =
