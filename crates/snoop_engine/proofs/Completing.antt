@@ -1,9 +1,9 @@
 -- From wherever a driver of rows has come, its rows can be served.
-use Rattle.snoop_engine.proofs.Common.{option_map_or, IsIdle, get_or, get_or_default, ◌≡◌, ◌⊎◌, ℕ, zero, suc, ◌+◌, ◌/◌, ◌<◌, true, Option, Some, None, List, [], ◌∷◌, length, refl, sym, ◌∙◌, ap, arith, inl, inr, Result, Ok, IsOk, slice_set, All-head, All-nil, All-tail, Extent, word_asked, Row, Step, Ask, Work, Protocol, Reply, Refused, FirstMove, Situation, reset, TheRun, IsUnderWay, turn_of, CanEnd, Leading, LeadsOn, EndsInOrder, FollowsInOrder, InOrder, IsInOrder, TakesUpNext, remaining_in_order, row_under_way, IsAtTheEnd, ServesOnly, nothing, Advances, IsEnabled, IsFit, IsOver, Progress, TakesUp, remaining, ask_for, Todo, block_of_work, left_in, nothing_to_do, todo_of, lanes_under_way}
+use Rattle.snoop_engine.proofs.Common.{eq-eqb, option_map_or, IsIdle, get_or, get_or_default, ◌≡◌, ◌⊎◌, ℕ, zero, suc, ◌+◌, ◌/◌, ◌<◌, true, Option, Some, None, List, [], ◌∷◌, length, refl, sym, ◌∙◌, ap, arith, inl, inr, Result, Ok, IsOk, slice_set, All-head, All-nil, All-tail, Extent, word_asked, Row, Step, Ask, Work, Protocol, Reply, Refused, FirstMove, Situation, reset, TheRun, IsUnderWay, turn_of, CanEnd, Leading, LeadsOn, EndsInOrder, FollowsInOrder, InOrder, IsInOrder, TakesUpNext, remaining_in_order, row_under_way, IsAtTheEnd, ServesOnly, nothing, Advances, IsEnabled, IsFit, IsOver, Progress, TakesUp, remaining, ask_for, Todo, block_of_work, left_in, nothing_to_do, todo_of, lanes_under_way}
 use Rattle.snoop_model.proofs.{Queues.Moves.keeps_well, Runs.GoOn.{IsSteady, moves_on, reset_steady, run_steady, steady_on}}
 use Rattle.snoop_engine.proofs.{CourseLemmas.{driver_leads, fewer_in_order, in_order_ends, in_order_leads}, Fewer.{leaves_fewer, left_same}}
 use Rattle.snoop_engine.proofs.Driving.{all_done, fit_begins, fit_idles, fit_moves, goes_begun, goes_on, lane_apart, lane_put, over_idle, over_now, takes_first}
-use Rattle.snoop_engine.proofs.InOrderLemmas.{at_rest, begun_enabled, begun_fit, begun_takes_up, begun_under_way, goes_on_enabled, in_order_moves, under_way_asks_nothing}
+use Rattle.snoop_engine.proofs.InOrderLemmas.{at_rest, begun_enabled, begun_fit, begun_takes_up, goes_on_enabled, in_order_moves, under_way_asks_nothing}
 use Rattle.snoop_engine.proofs.InOrderLemmas as order
 
 -- drivers of any kind: where the machine is, what leads to the end, how much is left, and what holds of a driver
@@ -138,7 +138,7 @@ module _ (s : Situation) (left : List Row) (row : Option Row) (fit : IsInOrder s
   then_left : ServesOnly nothing s → (rows : List Row) → left ≡ rows → InOrderNext there
   then_left serves [] none = inl (in_order_ends there none (at_rest s serves))
   then_left serves (next ∷ rest) first =
-      then rest (Some next) (ask_for s.shape next) (begun_fit fit serves next rest first) (begun_under_way fit serves next rest first) (begun_enabled fit serves next rest first) (begun_takes_up fit serves next rest first)
+      then rest (Some next) (ask_for s.shape next) (begun_fit fit serves next rest first) (rw (eq-eqb next.core next.core refl)) (begun_enabled fit serves next rest first) (begun_takes_up fit serves next rest first)
 
   then_row : (own : Option Row) (r : Option Step) → row ≡ own
       → r ≡ option_map_or (λ (own : Row). turn_of s own.core (own.address / s.shape.block_bytes) (word_asked s.shape own.address own.op) own.op true) own None → InOrderNext there

@@ -25,10 +25,7 @@ under_way_asks_nothing s core block word asking r is = rw is (asks_nothing (wait
 pub serves_any : (s : Situation) (some : ℕ → Option ℕ) → ServesOnly nothing s → ServesOnly some s
 serves_any s some serves = record {
   kept = serves.kept;
-  serving = record {
-    waits = λ core i d lt. cc (serves.serving.waits core i d lt);
-    opened = λ block transaction is. cc (serves.serving.opened block transaction is);
-  };
+  serving = record { waits = λ core i d lt. cc (serves.serving.waits core i d lt); opened = λ block transaction is. cc (serves.serving.opened block transaction is) };
 }
 
 -- nothing waits and nothing is open
@@ -65,9 +62,6 @@ module _ {s : Situation} {left : List Row} {old : Option Row} (fit : IsInOrder s
     begun = All-head (IsRowWithin s.shape) row rest (rw first at fit.within);
     serves = serves_any s (row_under_way s.shape (Some row)) serves;
   }
-
-  pub begun_under_way : IsUnderWay (row_under_way s.shape (Some row)) (ask_for s.shape row)
-  begun_under_way = here row.core (row.address / s.shape.block_bytes)
 
   pub begun_enabled : IsEnabled s (ask_for s.shape row)
   begun_enabled =

@@ -7,7 +7,7 @@ use Rattle.snoop_rules.specs.declared.names.MemAction.TheVariants as mem_action
 use Rattle.snoop_rules.proofs.Rows.{each_row, each_row-at}
 use Rattle.snoop_model.{specs.Moves.Refuses.Refuses, proofs.{OneBlock.AfterMoves.{ask_line, order_here, respond_here}, Queues.Moves.keeps_well}}
 use Rattle.snoop_model.proofs.Runs.GoOn.{reset_steady, IsSteady, steady_on}
-use Rattle.snoop_engine.proofs.{AllLines.{asker_listed, cores_listed, memory_rows_listed}, TakenLemmas.goes_alike}
+use Rattle.snoop_engine.proofs.{AllLines.{all_listed, asker_listed}, TakenLemmas.goes_alike}
 
 abbrev is_stall : CacheAction → Bool
 is_stall Stall = true
@@ -175,7 +175,7 @@ step_fits old new (Respond block) (Ok answer) g goes =
 
 -- none is left out
 step_whole : (old new : Situation) (step : Step) (outcome : Result Reply Refused) → Invariant old → GoesFirst old step outcome new → HasTakenRows outcome → HasAllLines (here old new step outcome)
-step_whole old new step (Ok answer) g goes takes = record { cores = cores_listed old new answer g step goes; memory = memory_rows_listed old new answer g step goes }
+step_whole old new step (Ok answer) g goes takes = all_listed old new step answer g goes
 step_whole old new (Ask asker on word asking) (Err (Stalled state)) g goes takes = record {
   cores = λ core block event first looks held. asker_listed old asker on word asking goes.0.0 core block event looks;
   memory = λ block event first looks. absurd looks;

@@ -27,16 +27,6 @@ pub text_of_frames : (protocol : Protocol) (frames : List Frame) (counters : Lis
     → counts_text protocol (counts_in counters) (memory_counts_in counters) ≡ frames_counts_text protocol frames
 text_of_frames protocol frames counters counted = λ i. counts_text protocol (λ state event. counted.cores state event i) (λ state event. counted.memory state event i)
 
-pub counts_view : (protocol : Protocol) (frames : List Frame) (final : Situation)
-    → view_text [] (λ (fs : List Frame) (f : Frame). []) (λ (fs : List Frame) (s : Situation). frames_counts_text protocol fs) frames final ≡ frames_counts_text protocol frames
-counts_view protocol frames final = quiet_view (λ (fs : List Frame) (s : Situation). frames_counts_text protocol fs) frames final
-
-pub states_view : (shape : Extent) (choice : Chosen) (frames : List Frame) (final : Situation)
-    → view_text header_text (λ (fs : List Frame) (f : Frame). shown_text shape choice (1 + length fs) f) (λ (fs : List Frame) (s : Situation). []) frames final ≡ states_text shape choice frames
-states_view shape choice frames final =
-    append-nil (header_text ++ shown (λ (fs : List Frame) (f : Frame). shown_text shape choice (1 + length fs) f) [] frames)
-    ∙ ap (λ (t : List ℕ). header_text ++ t) (shown_numbered (shown_text shape choice) [] frames)
-
 -- what is written of a step that is seen
 module _ (choice : Chosen) (frames : List Frame) (before : Situation) (seen : Seen) (after : Situation) (next : IsNextSeen after.protocol after.shape frames before seen after) where
   pub text_shown : is_shown choice seen.block seen.number ≡ true
