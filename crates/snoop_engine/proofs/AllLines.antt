@@ -1,5 +1,5 @@
 -- No row of a step that is taken is left out of its lines.
-use Rattle.snoop_engine.proofs.Common.{Evict, ◌≡◌, ℕ, ◌<◌, ◌≤◌, ◌+◌, true, zero, suc, List, [], ◌∷◌, Some, refl, sym, subst, ◌∙◌, inl, inr, lt-ltb, arith, Contains, Ok, flat_map, ap, range_with_len, cases_eq, cases_lt, get_or_past, Contains-append_left, Contains-append_right, Contains-push, same_Some, Op, Step, Ask, Order, Respond, CacheEvent, CacheState, I, MemEvent, Request, PutM, arrival, asked, at_memory, takes_payload, Open, Reply, Line, nothing_held, Situation, picture_of, state_of, ConsultsCache, ConsultsMemory, IsWithin, TakesFirst, GoesFirst, Invariant, event_asked, of_ask, of_core, of_holder, of_memory, of_requestor, of_waiting_memory, taken_by, unless_i, DoesNothing, HasAllLines, Taken, Core, Memory}
+use Rattle.snoop_engine.proofs.Common.{common_steps, Evict, ◌≡◌, ℕ, ◌<◌, ◌≤◌, ◌+◌, true, zero, suc, List, [], ◌∷◌, Some, refl, sym, subst, ◌∙◌, inl, inr, lt-ltb, arith, Contains, Ok, flat_map, ap, range_with_len, cases_eq, cases_lt, get_or_past, Contains-append_left, Contains-append_right, Contains-push, same_Some, Op, Step, Ask, Order, Respond, CacheEvent, CacheState, I, MemEvent, Request, PutM, arrival, asked, at_memory, takes_payload, Open, Reply, Line, nothing_held, Situation, picture_of, state_of, ConsultsCache, ConsultsMemory, IsWithin, TakesFirst, GoesFirst, Invariant, event_asked, of_ask, of_core, of_holder, of_memory, of_requestor, of_waiting_memory, taken_by, unless_i, DoesNothing, HasAllLines, Taken, Core, Memory}
 
 has_in_range : (f : ℕ → List Taken) (line : Taken) (a n k : ℕ) → a ≤ k → k < a + n → Contains (f k) line → Contains (flat_map f (range_with_len a n)) line
 has_in_range f line a zero k low high has = absurd (omega arith)
@@ -13,8 +13,7 @@ has_unless_i requestor I line h = absurd (h tt)
 has_unless_i requestor _ line h = Contains-push [] line
 
 event_unless : (asking : Op) (s : CacheState) → ((asking ≡ Evict) × (s ≡ I) → ⊥) → event_asked asking s ≡ Some (asked asking)
-event_unless Evict I h = absurd (h (refl, refl))
-event_unless _ _ h = refl
+event_unless asking s h = grind (arith, common_steps)
 
 module _ (s : Situation) where
   core_listed : (core block : ℕ) (event : CacheEvent) → core < s.shape.cores → block < s.shape.blocks → Contains (of_core s core block (Some event)) (Core core block (Some event) (state_of s core block))

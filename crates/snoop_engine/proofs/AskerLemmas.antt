@@ -1,5 +1,5 @@
 -- Only an Ask moves its core out of I.
-use Rattle.snoop_engine.proofs.Common.{◌≡◌, ℕ, ◌≤◌, Bool, true, false, List, [], length, Some, None, Option, refl, sym, ap, ◌∙◌, inl, inr, arith, ◌==◌, ◌&&◌, ◌%◌, Ok, nat_lt, slice_get, slice_index_or, slice_set, if◌then◌else◌, option_map_or, cases_lt, get_or_past, Protocol, Msi, Mesi, Op, Step, Ask, Order, Respond, CacheCell, CacheEvent, CacheState, I, Request, GetS, PutM, arrival, seen_by, Did, Open, Situation, picture_of, state_of, Reply, Line, Picture, held_at, held_by, nothing_held, ArrivesFor, GoesFirst, le-ltb, cell_of, other, own, nothing_there, with_line, get_or_from_slice_get, unwrap_or-slice_get, AreAskers, AreOthersInI, of_holder, unless_i, Taken, Core}
+use Rattle.snoop_engine.proofs.Common.{common_steps, ◌≡◌, ℕ, ◌≤◌, Bool, true, false, List, [], length, Some, None, Option, refl, sym, ap, ◌∙◌, inl, inr, arith, ◌==◌, ◌&&◌, ◌%◌, Ok, nat_lt, slice_get, slice_index_or, slice_set, if◌then◌else◌, option_map_or, cases_lt, get_or_past, Protocol, Msi, Mesi, Op, Step, Ask, Order, Respond, CacheCell, CacheEvent, CacheState, I, Request, GetS, PutM, arrival, seen_by, Did, Open, Situation, picture_of, state_of, Reply, Line, Picture, held_at, held_by, nothing_held, ArrivesFor, GoesFirst, le-ltb, cell_of, other, own, nothing_there, with_line, get_or_from_slice_get, unwrap_or-slice_get, AreAskers, AreOthersInI, of_holder, unless_i, Taken, Core}
 use Rattle.snoop_rules.specs.declared.names.Payload.{Payload, TheVariants.Data}
 use Rattle.snoop_blocks.specs.CoreSet.{Puts, has, set_of}
 use Rattle.snoop_model.proofs.Lists.Writes.{set_cases}
@@ -8,17 +8,11 @@ use Rattle.snoop_engine.proofs.TakenLemmas.{same_shape}
 
 -- a request that a core in I sees leaves it there
 seen_row : (p : Protocol) (own_one : Bool) (request : Request) (row : CacheCell) → cell_of p I (if own_one then own request else other request) ≡ Some row → row.next ≡ I
-seen_row Msi true GetS row h = cc
-seen_row Msi false GetS row h = cc
-seen_row Mesi true GetS row h = cc
-seen_row Mesi false GetS row h = cc
-seen_row _ _ _ row h = cc
+seen_row p own_one request row h = grind (arith, common_steps)
 
 -- no data comes to a core in I
 no_row : (p : Protocol) (payload : Payload) → option_map_or (λ event. cell_of p I event) (arrival payload) None ≡ None
-no_row Msi Data = refl
-no_row Mesi Data = refl
-no_row _ _ = refl
+no_row p payload = grind (arith, common_steps)
 
 no_fill : (p : Protocol) (payload : Payload) (event : CacheEvent) (row : CacheCell) → arrival payload ≡ Some event → cell_of p I event ≡ Some row → ⊥
 no_fill p payload event row comes is =
@@ -91,13 +85,8 @@ follow_ask old new asker on word asking answer sets next are few goes puts =
     }
 
 -- a core in I has no line at an Order
-idle_line : (there : Bool) (state : CacheState) (line : CacheState → Taken) → state ≡ I → option_map_or (λ before. unless_i before (line before)) (if there then Some state else None) [] ≡ []
-idle_line true state line is = ap (λ (before : CacheState). unless_i before (line before)) is
-idle_line false state line is = refl
-
 pub no_line_in_i : (s : Situation) (requestor block : ℕ) (request : Request) (core : ℕ) → state_of s core block ≡ I → of_holder s requestor block request core ≡ []
-no_line_in_i s requestor block request core is =
-    idle_line (nat_lt core s.shape.cores && nat_lt block s.shape.blocks) (state_of s core block) (λ before. Core core block (Some (seen_by core requestor request)) before) is
+no_line_in_i s requestor block request core is = grind (arith, common_steps)
 
 -- nor has a core that is not there
 pub no_line_past : (s : Situation) (requestor block : ℕ) (request : Request) (core : ℕ) → s.shape.cores ≤ core → of_holder s requestor block request core ≡ []

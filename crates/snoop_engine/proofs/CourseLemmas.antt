@@ -1,12 +1,11 @@
 -- Courses, step by step, and the rows that they serve.
-use Rattle.snoop_engine.proofs.Common.{◌≡◌, ◌==◌, ℕ, ◌+◌, ◌*◌, ◌<◌, true, cond, Option, Some, None, List, [], ◌∷◌, ◌++◌, length, length-append, map, refl, sym, ◌∙◌, ap, arith, append_assoc, append-nil, inl, inr, Result, Ok, IsOk, IfNone, option_to_list, filter-append, length-map, map-append, All-cons, All-nil, Extent, Row, Step, Ask, Work, Protocol, Reply, Refused, Picture, Situation, reset, FirstMove, GoesFirst, TheRun, IsQuiet, steps_paid, turn_rule, cons_option, cases_Bool, untouched, has_transaction, steps_owed, CanEnd, LeadsToEndWith, Leading, LeadsOn, EndsInOrder, FindsInOrder, FollowsInOrder, InOrder, LeadsToRest, remaining_in_order, StepsServe, StepsServeSerially, IsAtTheEnd, IsAtTheStart, Finds, Advances, Progress, ServesSerially, all_asks, ask_for, is_ask, Serves, ask_of, asks_of, work_of, works_of}
+use Rattle.snoop_engine.proofs.Common.{common_steps, ◌≡◌, ◌==◌, ℕ, ◌+◌, ◌*◌, ◌<◌, true, cond, Option, Some, None, List, [], ◌∷◌, ◌++◌, length, length-append, map, refl, sym, ◌∙◌, ap, arith, append_assoc, append-nil, inl, inr, Result, Ok, IsOk, IfNone, option_to_list, filter-append, length-map, map-append, All-cons, All-nil, Extent, Row, Step, Ask, Work, Protocol, Reply, Refused, Picture, Situation, reset, FirstMove, GoesFirst, TheRun, IsQuiet, steps_paid, turn_rule, cons_option, cases_Bool, untouched, has_transaction, steps_owed, CanEnd, LeadsToEndWith, Leading, LeadsOn, EndsInOrder, FindsInOrder, FollowsInOrder, InOrder, LeadsToRest, remaining_in_order, StepsServe, StepsServeSerially, IsAtTheEnd, IsAtTheStart, Finds, Advances, Progress, ServesSerially, all_asks, ask_for, is_ask, Serves, ask_of, asks_of, work_of, works_of}
 use Rattle.std.proofs.lemmas.List.Folds.{sum_by-replicate}
 use Rattle.snoop_engine.proofs.{Fewer.leaves_fewer, TakenLemmas.{run_more, same_shape}}
 
 -- a core's Asks, one step more at the head
 asks_first : (core : ℕ) (step : Step) (steps : List Step) → option_to_list (ask_of core step) ++ asks_of steps core ≡ asks_of (step ∷ steps) core
-asks_first core step steps =
-    elim (ask_of core step) as (λ asked. option_to_list asked ++ asks_of steps core ≡ cons_option asked (asks_of steps core)) [ None ↦ refl | Some work ↦ refl ]
+asks_first core step steps = grind (arith, common_steps)
 
 -- a driver of rows leads on by its step
 pub driver_leads : (old new : Progress) (step : Step) (answer : Reply) → Advances old step answer new → LeadsOn (IsAtTheEnd old) step (Ok answer) (IsAtTheEnd new)
@@ -47,8 +46,7 @@ driver_serves {outcomes = outcomes} {final = final} begins end = let served = dr
 
 -- an Ask pays for three steps
 paid_asks : (step : Step) → steps_paid step ≡ 3 * length (all_asks (step ∷ []))
-paid_asks (Ask core block word asking) = refl
-paid_asks _ = refl
+paid_asks step = grind (arith, common_steps)
 
 module _ (old new : InOrder) (step : Step) (answer : Reply) (follows : FollowsInOrder old step answer new) where
   -- fewer steps may still come
@@ -92,15 +90,13 @@ in_order_ends old none quiet = record {
 -- a core's Asks are among the Asks of all cores
 asks_among : (core : ℕ) (steps : List Step) → asks_of steps core ≡ asks_of (all_asks steps) core
 asks_among core [] = refl
-asks_among core (Ask c block word asking ∷ steps) = ap (cons_option (ask_of core (Ask c block word asking))) (asks_among core steps)
-asks_among core (_ ∷ steps) = asks_among core steps
+asks_among core (step ∷ steps) = grind (arith, common_steps, asks_among core steps)
 
 -- those of the rows are the core's works
 asks_of_rows : (shape : Extent) (core : ℕ) (rows : List Row) → asks_of (map (ask_for shape) rows) core ≡ works_of shape rows core
 asks_of_rows shape core [] = refl
 asks_of_rows shape core (row ∷ rows) =
-    let rest = asks_of_rows shape core rows in
-    elim (cases_Bool (row.core == core)) [ inl own ↦ rw own (ap (λ (l : List Work). work_of shape row ∷ l) rest) | inr other ↦ rw other rest ]
+    grind (arith, common_steps, asks_of_rows shape core rows)
 
 module _ {protocol : Protocol} {shape : Extent} {rows : List Row} {start : InOrder} (at : start.situation ≡ reset protocol shape) (left : start.left ≡ rows)
     {steps : List Step} {outcomes : List (Result Reply Refused)} {final : Situation} (end : EndsInOrder start steps outcomes final) where

@@ -1,5 +1,5 @@
 -- Packed steps, one more, and steps that all ask.
-use Rattle.snoop_engine.proofs.Common.{◌≡◌, ℕ, ◌+◌, ◌≤◌, List, [], ◌∷◌, ◌++◌, length, length-append, drop, slice_index_or, refl, arith, length-drop, step_by, step_of_head, steps_in, stored_by, stored_in, worded_by, worded_in, ◌<◌, ◌^◌, map, sym, ◌∙◌, ap, Result, Ok, Err, OnOk, OnErr, length-map, map-append, Asked, Step, Ask, step_of, asked_by}
+use Rattle.snoop_engine.proofs.Common.{common_steps, ◌≡◌, ℕ, ◌+◌, ◌≤◌, List, [], ◌∷◌, ◌++◌, length, length-append, drop, slice_index_or, refl, arith, length-drop, step_by, step_of_head, steps_in, stored_by, stored_in, worded_by, worded_in, ◌<◌, ◌^◌, map, sym, ◌∙◌, ap, Result, Ok, Err, OnOk, OnErr, length-map, map-append, Asked, Step, Ask, step_of, asked_by}
 use Rattle.std.proofs.lemmas.List.{drop-append-le, get_or_append_left}
 use Rattle.snoop_engine.specs.declared.packed.{Kind.Kind, Head.Head}
 use Rattle.snoop_engine.specs.declared.packed.Kind.TheVariants as kind
@@ -7,11 +7,7 @@ use Rattle.snoop_engine.specs.declared.packed.Kind.TheVariants as kind
 -- a head's step is the same with more words and values after its own
 step_on : (k : Kind) (h : Head) (ws mw vs mv : List ℕ) → worded_by k ≤ length ws → stored_by k ≤ length vs
     → step_by k h (slice_index_or (ws ++ mw) 0 0) (slice_index_or (vs ++ mv) 0 0) ≡ step_by k h (slice_index_or ws 0 0) (slice_index_or vs 0 0)
-step_on kind.Store h ws mw vs mv w v = rw (get_or_append_left vs mv 0 0 v)
-step_on kind.LoadOfWord h ws mw vs mv w v = rw (get_or_append_left ws mw 0 0 w)
-step_on kind.StoreOfWord h ws mw vs mv w v = rw (get_or_append_left ws mw 0 0 w, get_or_append_left vs mv 0 0 v)
-step_on kind.EvictOfWord h ws mw vs mv w v = rw (get_or_append_left ws mw 0 0 w)
-step_on _ h ws mw vs mv w v = refl
+step_on k h ws mw vs mv w v = grind (arith, common_steps, get_or_append_left ws mw 0 0, get_or_append_left vs mv 0 0)
 
 -- a head at the end, with its word and what it stores
 pub steps_more : (hs : List Head) (ws vs : List ℕ) (h : Head) (mw mv : List ℕ) → worded_in hs ≡ length ws → stored_in hs ≡ length vs
@@ -41,8 +37,7 @@ steps_counted (h ∷ hs) ws vs = let more = steps_counted hs (drop (worded_by h.
 -- one more Ask asks for one thing more
 pub asked_on : (steps : List Step) (asked : Asked) → asked_by (steps ++ step_of asked ∷ []) ≡ asked_by steps ++ asked ∷ []
 asked_on [] asked = refl
-asked_on (Ask core block word asking ∷ steps) asked = ap (λ (l : List Asked). record { core = core; work = record { block = block; word = word; op = asking } } ∷ l) (asked_on steps asked)
-asked_on (_ ∷ steps) asked = asked_on steps asked
+asked_on (step ∷ steps) asked = grind (arith, common_steps, asked_on steps asked)
 
 -- and all steps ask still, also where there was no memory for it
 pub still_ask : {E : Type 0} (r : Result (Unit {0}) E) (old new : List Step) (asked : Asked) → old ≡ map step_of (asked_by old)

@@ -127,14 +127,8 @@ view_faulted input bytes (Ok u) fault is gives begins = absurd is
 -- another definition of the same text
 module _ (protocol : Protocol) (shape : Extent) (one other : List Frame → Situation → List ℕ)
     (same : (steps : List Step) (frames : List Frame) (final : Situation) → AreFrames protocol shape steps frames final → one frames final ≡ other frames final) where
-  same_shown : (steps : List Step) (a b : Option (List ℕ)) → ShowsRun protocol shape one steps a b → ShowsRun protocol shape other steps a b
-  same_shown steps a b h = shows_run h.run (rw (same steps h.frames h.final h.run) at h.output)
-
-  pub same_begun : (steps : List Step) (a b : Option (List ℕ)) → BeginsToShow protocol shape one steps a b → BeginsToShow protocol shape other steps a b
-  same_begun steps a b h = begins_to_show h.run (rw (same steps h.frames h.final h.run) at h.output)
-
   pub same_view : (input : Input) (bytes : Option (List ℕ)) (result : Result (Unit {0}) SimFault) (a b : Option (List ℕ))
       → SimulatesView protocol shape input one bytes result a b → SimulatesView protocol shape input other bytes result a b
-  same_view input bytes (Ok u) a b h = (h.0, (h.1.0, same_shown h.0 a b h.1.1))
+  same_view input bytes (Ok u) a b h = let all = h.1.1 in (h.0, (h.1.0, shows_run all.run (rw (same h.0 all.frames all.final all.run) at all.output)))
   same_view input bytes (Err (Text fault)) a b h = h
-  same_view input bytes (Err _) a b h = (h.0, (h.1.0, same_begun h.0 a b h.1.1))
+  same_view input bytes (Err _) a b h = let some = h.1.1 in (h.0, (h.1.0, begins_to_show some.run (rw (same h.0 some.frames some.final some.run) at some.output)))

@@ -1,5 +1,5 @@
 -- Each line of the frames of a run fits its step.
-use Rattle.snoop_engine.proofs.Common.{Evict, ◌≡◌, ◌⊎◌, ℕ, ◌<◌, ◌+◌, Bool, true, false, zero, suc, List, [], ◌∷◌, length, Option, Some, None, refl, sym, ap, ◌∙◌, inl, inr, arith, ◌≢◌, ◌||◌, All, IsSomeAnd, MatchBool, Result, Ok, Err, not, if◌then◌else◌, flat_map, range_with_len, option_map_or, All-append, All-cons, All-nil, Extent, Protocol, Msi, Mesi, Op, Step, Ask, Order, Respond, CacheEvent, CacheState, I, MemEvent, Request, PutM, arrival, arrival_at_memory, asked, at_memory, seen_by, takes_payload, Did, Item, Open, Reply, Refused, BusTaken, Line, Picture, held_at, held_by, nothing_held, Situation, picture_of, reset, state_of, ConsultsCache, ConsultsMemory, ArrivesFor, IsAbsent, Asks, IsWithin, Responds, TakesFirst, GoesFirst, Invariant, get_or-set_same, Cell, Stalled, NothingWaiting, NoTransaction, Settles, Takes, Frame, FramesFrom, event_asked, lines_of_step, of_arrival_at_memory, of_ask, of_holder, of_memory, of_requestor, of_waiting_memory, refused_by, unless_i, FitsStep, HasAllLines, ShowsRows, HasTakenRows, Taken, Core, Memory}
+use Rattle.snoop_engine.proofs.Common.{common_steps, Evict, ◌≡◌, ◌⊎◌, ℕ, ◌<◌, ◌+◌, Bool, true, false, zero, suc, List, [], ◌∷◌, length, Option, Some, None, refl, sym, ap, ◌∙◌, inl, inr, arith, ◌≢◌, ◌||◌, All, IsSomeAnd, MatchBool, Result, Ok, Err, not, if◌then◌else◌, flat_map, range_with_len, option_map_or, All-append, All-cons, All-nil, Extent, Protocol, Msi, Mesi, Op, Step, Ask, Order, Respond, CacheEvent, CacheState, I, MemEvent, Request, PutM, arrival, arrival_at_memory, asked, at_memory, seen_by, takes_payload, Did, Item, Open, Reply, Refused, BusTaken, Line, Picture, held_at, held_by, nothing_held, Situation, picture_of, reset, state_of, ConsultsCache, ConsultsMemory, ArrivesFor, IsAbsent, Asks, IsWithin, Responds, TakesFirst, GoesFirst, Invariant, get_or-set_same, Cell, Stalled, NothingWaiting, NoTransaction, Settles, Takes, Frame, FramesFrom, event_asked, lines_of_step, of_arrival_at_memory, of_ask, of_holder, of_memory, of_requestor, of_waiting_memory, refused_by, unless_i, FitsStep, HasAllLines, ShowsRows, HasTakenRows, Taken, Core, Memory}
 use denote.Enum.Bare.{same_true, sameb}
 use Rattle.snoop_rules.specs.{declared.names.CacheAction.{CacheAction, TheVariants.{Drop, Hit, Issue, Stall}}, contracts.names.CacheState.the_type}
 use Rattle.snoop_rules.{specs.{declared.names.MemAction.MemAction, MemoryCell.MemoryCell}, proofs.Every.{all_protocols, all_states, all_events}}
@@ -9,28 +9,18 @@ use Rattle.snoop_model.{specs.Moves.Refuses.Refuses, proofs.{OneBlock.AfterMoves
 use Rattle.snoop_model.proofs.Runs.GoOn.{reset_steady, IsSteady, steady_on}
 use Rattle.snoop_engine.proofs.{AllLines.{all_listed, asker_listed}, TakenLemmas.goes_alike}
 
-abbrev is_stall : CacheAction → Bool
-is_stall Stall = true
-is_stall _ = false
-
 -- a stall leaves the state
-stalls_stay : each_row (λ p s e row. not (is_stall row.action) || sameb the_type row.next s) ≡ true
-unfolding each_row all_protocols all_states all_events
-stalls_stay = refl
+stall_stays : (p : Protocol) (asking : Op) (s next : CacheState) → Cell p s (asked asking) Stall next → next ≡ s
+stall_stays p asking s next h = grind (arith, common_steps)
 
 -- an Ask that has a row is an event
 asked_event : (p : Protocol) (asking : Op) (s : CacheState) (a : CacheAction) (n : CacheState) → Cell p s (asked asking) a n → event_asked asking s ≡ Some (asked asking)
-asked_event Msi Evict I a n h = cc
-asked_event Mesi Evict I a n h = cc
-asked_event p asking s a n h = refl
+asked_event p asking s a n h = grind (arith, common_steps)
 
 -- where an Ask leads its core
 taken_state : (act : CacheAction) (next : CacheState) (log : List Item) (core block word : ℕ) (asking : Op) (old new : Line) (answer : Reply) (entry : Option Item)
     → Takes act next log core block word asking old new answer entry → new.state ≡ next
-taken_state Hit next log core block word asking old new answer entry t = ap (λ (l : Line). l.state) t.1.0.held
-taken_state (Issue request) next log core block word asking old new answer entry t = ap (λ (l : Line). l.state) t.0
-taken_state Drop next log core block word asking old new answer entry t = ap (λ (l : Line). l.state) t.0
-taken_state _ next log core block word asking old new answer entry t = absurd t
+taken_state act next log core block word asking old new answer entry t = grind (arith, common_steps)
 
 -- an Evict in I is no event
 no_event : (asking : Op) (s : CacheState) → asking ≡ Evict → s ≡ I → event_asked asking s ≡ None
@@ -115,12 +105,11 @@ asker_looks s core block word asking met = (refl, refl, (λ absent. let none = n
 refused_fits : (old new : Situation) (step : Step) (cause : Refused) → Refuses old step cause → new ≡ old → All (FitsStep (here old new step (Err cause))) (refused_by old step cause)
 refused_fits old new (Ask core block word asking) (Stalled held) refuses same =
     let next = refuses.2.0 in
-    let stays : next ≡ state_of old core block = same_true the_type tt next (state_of old core block) (each_row-at _ stalls_stay old.protocol (state_of old core block) (asked asking) Stall next refuses.2.1) in
+    let stays = stall_stays old.protocol asking (state_of old core block) next refuses.2.1 in
     asked_fits old new (Ask core block word asking) (Err (Stalled held)) block tt core asking Stall next refuses.2.1 (rw same (sym stays)) (asker_looks old core block word asking)
 refused_fits old new (Order core) (BusTaken block) refuses same =
     let P : Taken → Type 0 = FitsStep (here old new (Order core) (Err (BusTaken block))) in
     all_if P _ _ (λ before. Core core block None before ∷ []) (all_one P _ (record { before = refl; after = rw same }))
-refused_fits old new (Order core) NothingWaiting refuses same = all_one (FitsStep (here old new (Order core) (Err NothingWaiting))) _ tt
 refused_fits old new (Respond block) NoTransaction refuses same = all_one (FitsStep (here old new (Respond block) (Err NoTransaction))) _ tt
 refused_fits old new step cause refuses same = all_one (FitsStep (here old new step (Err cause))) _ tt
 
