@@ -3,16 +3,12 @@ use Rattle.snoop_engine.proofs.Common.{common_steps, ◌≡◌, ◌==◌, ℕ, �
 use Rattle.std.proofs.lemmas.List.Folds.{sum_by-replicate}
 use Rattle.snoop_engine.proofs.{Fewer.leaves_fewer, TakenLemmas.{run_more, same_shape}}
 
--- a core's Asks, one step more at the head
-asks_first : (core : ℕ) (step : Step) (steps : List Step) → option_to_list (ask_of core step) ++ asks_of steps core ≡ asks_of (step ∷ steps) core
-asks_first core step steps = grind (arith, common_steps)
-
 -- a driver of rows leads on by its step
 pub driver_leads : (old new : Progress) (step : Step) (answer : Reply) → Advances old step answer new → LeadsOn (IsAtTheEnd old) step (Ok answer) (IsAtTheEnd new)
 driver_leads old new step answer follows steps outcomes final h = record {
   run = (new.situation, (follows.move, h.run));
   taken = All-cons IsOk (Ok answer) outcomes refl h.taken;
-  asked = λ core. rw (follows.takes_up core, h.asked core) (asks_first core step steps);
+  asked = λ core. rw (follows.takes_up core, h.asked core) (grind (arith, common_steps));
   quiet = h.quiet;
   few = omega (arith, follows.fewer, h.few);
 }
@@ -44,10 +40,6 @@ pub driver_serves : {protocol : Protocol} {shape : Extent} {rows : List Row} {st
     → IsAtTheStart protocol shape rows start → IsAtTheEnd start steps outcomes final → StepsServe protocol shape rows steps
 driver_serves {outcomes = outcomes} {final = final} begins end = let served = driver_served begins end in record { outcomes = outcomes; final = final; run = served.0; serves = served.1 }
 
--- an Ask pays for three steps
-paid_asks : (step : Step) → steps_paid step ≡ 3 * length (all_asks (step ∷ []))
-paid_asks step = grind (arith, common_steps)
-
 module _ (old new : InOrder) (step : Step) (answer : Reply) (follows : FollowsInOrder old step answer new) where
   -- fewer steps may still come
   pub fewer_in_order : remaining_in_order new < remaining_in_order old
@@ -55,7 +47,8 @@ module _ (old new : InOrder) (step : Step) (answer : Reply) (follows : FollowsIn
       let pays = turn_rule.pays old.situation new.situation step answer follows.move in
       let asked : length (all_asks (step ∷ [])) ≡ length follows.takes_up.first = rw follows.takes_up.asked (length-map follows.takes_up.first (ask_for old.situation.shape)) in
       let left : length old.left ≡ length follows.takes_up.first + length new.left = rw follows.takes_up.left (length-append follows.takes_up.first new.left) in
-      omega (arith, pays, paid_asks step, asked, left)
+      let paid : steps_paid step ≡ 3 * length (all_asks (step ∷ [])) = grind (arith, common_steps) in
+      omega (arith, pays, asked, left)
 
   module _ (steps : List Step) (outcomes : List (Result Reply Refused)) (final : Situation) (h : EndsInOrder new steps outcomes final) where
     at_rest : (before after : List Step) (x : Step) → step ∷ steps ≡ before ++ x ∷ after → is_ask x ≡ true → LeadsToRest old.situation before

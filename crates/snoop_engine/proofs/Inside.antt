@@ -2,10 +2,6 @@
 use Rattle.snoop_engine.proofs.Common.{common_steps, ◌≡◌, ℕ, ◌<◌, Bool, Option, Some, None, true, false, cond, refl, sym, ap, ◌∙◌, arith, ◌&&◌, IfSome, IsSome, is_some, nat_lt, option_map, if◌then◌else◌, nat_tests, same_Some, CacheState, Open, Situation, state_of, state_at, List, [], ◌∷◌, length, ◌==◌, count_by, flat_map, range_with_len, sum_by-cons, word_at, waiting_request, queue_of, held_by, picture_of, keeps, position_or_len, le-ltb, kept_at, kept_text, place_text, value_text}
 use Rattle.{snoop_model.specs.Pictures.InQueue.IsInQueue, snoop_engine.proofs.RangeLemmas.range_stops}
 
--- where a requestor is named, a transaction is open
-pub is_opened : (transaction : Option Open) (requestor : Option ℕ) (named : Bool) → named ≡ is_some requestor → requestor ≡ option_map (λ opened. opened.core) transaction → named ≡ true → IsSome transaction
-is_opened transaction requestor named e is t = grind (arith, common_steps)
-
 -- a state that is found is the core's
 pub state_there : (s : Situation) (core block : ℕ) (state : CacheState) → state_at s core block ≡ Some state → state_of s core block ≡ state
 state_there s core block state is = grind (arith, common_steps, nat_tests)

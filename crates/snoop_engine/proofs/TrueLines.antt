@@ -13,18 +13,10 @@ use Rattle.snoop_engine.proofs.{AllLines.{all_listed, asker_listed}, TakenLemmas
 stall_stays : (p : Protocol) (asking : Op) (s next : CacheState) → Cell p s (asked asking) Stall next → next ≡ s
 stall_stays p asking s next h = grind (arith, common_steps)
 
--- an Ask that has a row is an event
-asked_event : (p : Protocol) (asking : Op) (s : CacheState) (a : CacheAction) (n : CacheState) → Cell p s (asked asking) a n → event_asked asking s ≡ Some (asked asking)
-asked_event p asking s a n h = grind (arith, common_steps)
-
 -- where an Ask leads its core
 taken_state : (act : CacheAction) (next : CacheState) (log : List Item) (core block word : ℕ) (asking : Op) (old new : Line) (answer : Reply) (entry : Option Item)
     → Takes act next log core block word asking old new answer entry → new.state ≡ next
 taken_state act next log core block word asking old new answer entry t = grind (arith, common_steps)
-
--- an Evict in I is no event
-no_event : (asking : Op) (s : CacheState) → asking ≡ Evict → s ≡ I → event_asked asking s ≡ None
-no_event asking s evict idle = rw (evict, idle)
 
 -- what holds of the lines of a value holds where the value may be missing
 all_if : {A : Type 0} (P : Taken → Type 0) (b : Bool) (v : A) (f : A → List Taken) → All P (f v) → All P (option_map_or f (if b then Some v else None) [])
@@ -66,7 +58,7 @@ module _ (old new : Situation) (step : Step) (outcome : Result Reply Refused) wh
         → (event_asked asking (state_of old core block) ≡ Some (asked asking) → ConsultsCache old step core block (Some (asked asking)))
         → All (FitsStep here) (of_ask old core block asking)
     asked_fits core asking act next row is looks =
-        let met : event_asked asking (state_of old core block) ≡ Some (asked asking) = asked_event old.protocol asking (state_of old core block) act next row in
+        let met : event_asked asking (state_of old core block) ≡ Some (asked asking) = grind (arith, common_steps) in
         asker_fits core block asking (Some (asked asking)) met (row_fits core (asked asking) act next row is (looks met))
 
     memory_fits : (event : MemEvent) (act : MemAction)
@@ -83,8 +75,7 @@ module _ (old new : Situation) (step : Step) (outcome : Result Reply Refused) wh
     requestor_fits PutM closing did next within now f looks = All-nil (FitsStep here)
     requestor_fits _ closing did next within now f looks =
         let is : state_of new closing.core block ≡ f.fills.row.next =
-        ap (λ (p : Picture). (held_by p closing.core).state) now
-        ∙ ap (λ (l : Line). l.state) (ap (λ (l : List Line). held_at l closing.core) f.held ∙ get_or-set_same (picture_of old block).caches closing.core f.line nothing_held within ∙ f.fills.held) in
+        grind (arith, common_steps, now, f.held, f.fills.held, get_or-set_same (picture_of old block).caches closing.core f.line nothing_held within) in
         rw f.fills.arrives
         (all_if (FitsStep here) _ _ (λ before. Core closing.core block (Some f.fills.event) before ∷ [])
         (all_one (FitsStep here) _ (row_fits closing.core f.fills.event f.fills.row.action f.fills.row.next f.fills.is_row is (looks (λ h. cc) f.fills.event (sym f.fills.arrives)))))
@@ -99,7 +90,7 @@ module _ (old new : Situation) (step : Step) (outcome : Result Reply Refused) wh
 
 -- an Ask that is an event is looked up
 asker_looks : (s : Situation) (core block word : ℕ) (asking : Op) → event_asked asking (state_of s core block) ≡ Some (asked asking) → ConsultsCache s (Ask core block word asking) core block (Some (asked asking))
-asker_looks s core block word asking met = (refl, refl, (λ absent. let none = no_event asking (state_of s core block) absent.0 absent.1 in cc), refl)
+asker_looks s core block word asking met = (refl, refl, (λ absent. let none = rw (absent.0, absent.1) at met in cc), refl)
 
 -- the lines of a refused step
 refused_fits : (old new : Situation) (step : Step) (cause : Refused) → Refuses old step cause → new ≡ old → All (FitsStep (here old new step (Err cause))) (refused_by old step cause)
@@ -122,7 +113,7 @@ step_fits old new (Ask core block word asking) (Ok answer) g goes =
     let moves : IsAbsent old core block asking answer new ⊎ Asks old core block word asking answer new = rw m.on_block m.moves in
     elim moves [
       | inl absent ↦
-          asker_fits old new (Ask core block word asking) (Ok answer) core block asking None (no_event asking (state_of old core block) absent.0 absent.1)
+          asker_fits old new (Ask core block word asking) (Ok answer) core block asking None (rw (absent.0, absent.1))
           (record { before = refl; after = rw absent.3 })
       | inr a ↦
           asked_fits old new (Ask core block word asking) (Ok answer) block tt core asking a.row.action a.row.next a.is_row
