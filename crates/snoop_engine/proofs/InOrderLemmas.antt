@@ -1,5 +1,5 @@
 -- A driver that serves rows one after another: what its steps need, and what they keep.
-use Rattle.snoop_engine.proofs.Common.{arith, common_steps, nat_tests, ask_of, ◌≡◌, ℕ, ◌/◌, true, false, cond, Option, Some, None, List, [], ◌∷◌, refl, sym, ◌∙◌, ◌==◌, IfNone, IfSome, lt-ltb, subst, All-head, All-tail, Extent, IsRowWithin, word_asked, Op, Row, Step, Ask, Respond, Request, waiting_request, Open, Reply, FirstMove, Situation, picture_of, state_of, IsQuiet, IsUnderWay, turn_of, turn_rule, eq-eqb, ne_eqb, block_at, word_there, step_under_way, InOrder, IsInOrder, TakesUpNext, row_under_way, ServesOnly, nothing, only, IsEnabled, ask_for, is_ask}
+use Rattle.snoop_engine.proofs.Common.{arith, common_steps, nat_tests, ask_of, ◌≡◌, ℕ, ◌/◌, true, false, Option, Some, None, List, [], ◌∷◌, refl, sym, ◌∙◌, IfNone, IfSome, subst, All-head, All-tail, Extent, IsRowWithin, word_asked, Op, Row, Step, Ask, Reply, FirstMove, Situation, IsQuiet, IsUnderWay, turn_of, turn_rule, eq-eqb, ne_eqb, block_at, word_there, InOrder, IsInOrder, TakesUpNext, row_under_way, ServesOnly, nothing, only, IsEnabled, ask_for, is_ask}
 use Rattle.snoop_engine.proofs.TakenLemmas.{same_shape}
 
 -- a core whose block is under way

@@ -1,8 +1,7 @@
 -- Packed steps, one more, and steps that all ask.
-use Rattle.snoop_engine.proofs.Common.{common_steps, ◌≡◌, ℕ, ◌+◌, ◌≤◌, List, [], ◌∷◌, ◌++◌, length, length-append, drop, slice_index_or, refl, arith, length-drop, step_by, step_of_head, steps_in, stored_by, stored_in, worded_by, worded_in, ◌<◌, ◌^◌, map, sym, ◌∙◌, ap, Result, Ok, Err, OnOk, OnErr, length-map, map-append, Asked, Step, Ask, step_of, asked_by}
+use Rattle.snoop_engine.proofs.Common.{common_steps, ◌≡◌, ℕ, ◌+◌, ◌≤◌, List, [], ◌∷◌, ◌++◌, length, length-append, drop, slice_index_or, refl, arith, length-drop, step_by, step_of_head, steps_in, stored_by, stored_in, worded_by, worded_in, map, sym, ◌∙◌, ap, Result, Ok, Err, OnOk, OnErr, length-map, map-append, Asked, Step, Ask, step_of, asked_by}
 use Rattle.std.proofs.lemmas.List.{drop-append-le, get_or_append_left}
 use Rattle.snoop_engine.specs.declared.packed.{Kind.Kind, Head.Head}
-use Rattle.snoop_engine.specs.declared.packed.Kind.TheVariants as kind
 
 -- a head's step is the same with more words and values after its own
 step_on : (k : Kind) (h : Head) (ws mw vs mv : List ℕ) → worded_by k ≤ length ws → stored_by k ≤ length vs

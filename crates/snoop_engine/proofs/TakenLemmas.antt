@@ -1,5 +1,5 @@
 -- Steps and runs: what they keep, and one step more.
-use Rattle.snoop_engine.proofs.Common.{◌≡◌, List, [], ◌∷◌, ◌++◌, refl, Result, Ok, Err, Step, Reply, Refused, Situation, FirstMove, FirstRunFrom, GoesFirst}
+use Rattle.snoop_engine.proofs.Common.{◌≡◌, List, [], ◌∷◌, ◌++◌, Result, Ok, Err, Step, Reply, Refused, Situation, FirstMove, FirstRunFrom, GoesFirst}
 use Rattle.snoop_model.proofs.Runs.Along as along
 use Rattle.snoop_model.proofs.Runs.Shape.{IsAlike, move_stays, same_alike}
 

@@ -1,7 +1,7 @@
 -- Counters, one of which goes up.
-use Rattle.snoop_engine.proofs.Common.{I, ◌≡◌, ℕ, ◌+◌, ◌*◌, ◌<◌, Bool, true, false, ◌&&◌, List, [], ◌∷◌, ◌++◌, cond, filter, length, length-append, get_or, set, replicate, sym, ◌∙◌, arith, ◌==◌, Some, nat_tests, common_steps, CacheState, CacheEvent, MemState, MemEvent, ne_eqb, length-replicate, length-set, get_or-replicate, get_or-set_other, get_or-set_same, filter-append, takes_memory_row, takes_row, Tallies, core_place, memory_place, Taken, Core, Memory}
+use Rattle.snoop_engine.proofs.Common.{◌≡◌, ℕ, ◌+◌, ◌<◌, Bool, List, [], ◌∷◌, ◌++◌, filter, length, length-append, get_or, set, replicate, sym, ◌∙◌, arith, ◌==◌, Some, nat_tests, common_steps, CacheState, CacheEvent, MemState, MemEvent, ne_eqb, length-replicate, length-set, get_or-replicate, get_or-set_other, get_or-set_same, filter-append, takes_memory_row, takes_row, Tallies, core_place, memory_place, Taken, Core, Memory}
 use Rattle.snoop_history.specs.Totals.{capped}
-use Rattle.snoop_engine.specs.Numbers.{event_number, memory_event_number, memory_state_number, state_number}
+use Rattle.snoop_engine.specs.Numbers.{event_number, memory_event_number}
 
 -- the numbers are within the tables
 event_within : (e : CacheEvent) → event_number e < 11

@@ -1,5 +1,5 @@
 -- What views show of frames: of each by its number, or nothing before the end; their counts, and their states.
-use Rattle.snoop_engine.proofs.Common.{◌≡◌, ℕ, ◌+◌, List, [], ◌∷◌, ◌++◌, length, refl, ap, arith, flat_map, length_push, Situation, Frame, Numbered, numbered_from, shown, view_text, flat_map_more, Protocol, all_lines, counts_text, frames_counts_text, lines_of_step, Tallies, counts_in, memory_counts_in, true, false, ◌∙◌, append-nil, Extent, Chosen, is_shown, header_text, shown_text, states_text, step_fields, taken_text, IsNextSeen, frame_seen, Seen}
+use Rattle.snoop_engine.proofs.Common.{◌≡◌, ℕ, ◌+◌, List, [], ◌∷◌, ◌++◌, length, refl, ap, arith, flat_map, length_push, Situation, Frame, Numbered, numbered_from, shown, view_text, flat_map_more, Protocol, all_lines, counts_text, frames_counts_text, lines_of_step, Tallies, counts_in, memory_counts_in, true, false, Chosen, is_shown, shown_text, step_fields, taken_text, IsNextSeen, frame_seen, Seen}
 
 -- what is shown of each frame by its number
 pub shown_numbered : (shows : ℕ → Frame → List ℕ) (before frames : List Frame)
