@@ -30,12 +30,9 @@ module _ (old new : Situation) (core block : ℕ) (idle : state_of old core bloc
   -- what a response brings to the caches
   in_i_after_arrival : (request : Request) (b : ℕ) (closing : Open) (did : Option Did) (next : List Line) → block ≡ b → ArrivesFor request closing old.protocol old.log (picture_of old b).caches next did → (held_at next core).state ≡ I
   in_i_after_arrival PutM b closing did next same f = rw f.0 (idle_in b same)
-  in_i_after_arrival _ b closing did next same f = rw f.held (elim (set_cases (picture_of old b).caches closing.core core f.line nothing_held) [
-    | inl p ↦
-        let here = rw p.0 at (idle_in b same) in
-        absurd (no_fill old.protocol closing.payload f.fills.event f.fills.row f.fills.arrives (rw here at f.fills.is_row))
-    | inr e ↦ rw e (idle_in b same)
-  ])
+  in_i_after_arrival _ b closing did next same f =
+      let row = no_row old.protocol closing.payload in
+      rw f.held (grind (arith, common_steps, idle_in b same, set_cases (picture_of old b).caches closing.core core f.line nothing_held, f.fills.arrives, f.fills.is_row))
 
 -- the step is the core's Ask for the block
 abbrev IsAskOf : Step → ℕ → ℕ → Type 0
@@ -47,10 +44,8 @@ stays_in_i old new (Ask asker on word asking) answer goes core block another idl
   | inl absent ↦ rw absent.3 idle
   | inr a ↦
       let before : Picture = picture_of old goes.0 in
-      rw a.after (in_i_of_picture old new core block idle goes.0 (with_line before asker a.held) (λ same. elim (set_cases before.caches asker core a.held nothing_held) [
-        | inl p ↦ absurd (another (p.0, same ∙ sym goes.1.1.on_block))
-        | inr e ↦ rw e (idle_in old new core block idle goes.0 same)
-      ]))
+      rw a.after (in_i_of_picture old new core block idle goes.0 (with_line before asker a.held)
+      (λ same. grind (arith, common_steps, set_cases before.caches asker core a.held nothing_held, another, idle_in old new core block idle goes.0 same, goes.1.1.on_block)))
 ]
 stays_in_i old new (Order requestor) answer goes core block another idle =
     let o = goes.1.1.orders in
@@ -92,15 +87,7 @@ no_line_in_i s requestor block request core is = grind (arith, common_steps)
 pub no_line_past : (s : Situation) (requestor block : ℕ) (request : Request) (core : ℕ) → s.shape.cores ≤ core → of_holder s requestor block request core ≡ []
 no_line_past s requestor block request core past = rw (le-ltb core s.shape.cores past) refl
 
-has_nothing : (core : ℕ) → has [] core ≡ false
+-- no core is in the set that nothing was put into
+pub has_nothing : (core : ℕ) → has [] core ≡ false
 unfolding has
 has_nothing core = ap (λ (b : ℕ). b == 1) (bit_at-zero (core % 64))
-
--- the set of a block, by what the table answers
-pub asked_by_none : (s : Situation) (sets : List (List ℕ)) (block : ℕ) → AreAskers s sets → slice_get sets block ≡ None → (core : ℕ) → state_of s core block ≡ I
-asked_by_none s sets block are none core =
-    let nothing = rw none at (sym (unwrap_or-slice_get sets block [])) in
-    are.others block core (rw nothing (has_nothing core))
-
-pub asked_by : (s : Situation) (sets : List (List ℕ)) (block : ℕ) (set : List ℕ) → AreAskers s sets → slice_get sets block ≡ Some set → AreOthersInI s block set
-asked_by s sets block set are some core out = are.others block core (rw (get_or_from_slice_get sets block set [] some) out)

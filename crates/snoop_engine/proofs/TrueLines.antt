@@ -11,11 +11,6 @@ use Rattle.snoop_engine.proofs.{AllLines.{all_listed, asker_listed}, TakenLemmas
 stall_stays : (p : Protocol) (asking : Op) (s next : CacheState) → Cell p s (asked asking) Stall next → next ≡ s
 stall_stays p asking s next h = grind (arith, common_steps)
 
--- where an Ask leads its core
-taken_state : (act : CacheAction) (next : CacheState) (log : List Item) (core block word : ℕ) (asking : Op) (old new : Line) (answer : Reply) (entry : Option Item)
-    → Takes act next log core block word asking old new answer entry → new.state ≡ next
-taken_state act next log core block word asking old new answer entry t = grind (arith, common_steps)
-
 -- what holds of the lines of a value holds where the value may be missing
 all_if : {A : Type 0} (P : Taken → Type 0) (b : Bool) (v : A) (f : A → List Taken) → All P (f v) → All P (option_map_or f (if b then Some v else None) [])
 all_if P true v f h = h
@@ -115,8 +110,7 @@ step_fits old new (Ask core block word asking) (Ok answer) g goes =
           (record { before = refl; after = rw absent.3 })
       | inr a ↦
           asked_fits old new (Ask core block word asking) (Ok answer) block tt core asking a.row.action a.row.next a.is_row
-          (ap (λ (l : Line). l.state) (ask_line old core block word asking answer new g within a)
-          ∙ taken_state a.row.action a.row.next old.log core block word asking (held_by (picture_of old block) core) a.held answer a.entry a.taken)
+          (grind (arith, common_steps, ask_line old core block word asking answer new g within a, a.taken))
           (asker_looks old core block word asking)
     ]
 step_fits old new (Order core) (Ok answer) g goes =
