@@ -32,7 +32,8 @@ module _ (old new : Situation) (core block : ℕ) (idle : state_of old core bloc
   in_i_after_arrival PutM b closing did next same f = rw f.0 (idle_in b same)
   in_i_after_arrival _ b closing did next same f =
       let row = no_row old.protocol closing.payload in
-      rw f.held (grind (arith, common_steps, idle_in b same, set_cases (picture_of old b).caches closing.core core f.line nothing_held, f.fills.arrives, f.fills.is_row))
+      let cases = set_cases (picture_of old b).caches closing.core core f.line nothing_held in
+      rw f.held (grind (arith, common_steps, idle_in b same, cases, f.fills.arrives, f.fills.is_row))
 
 -- the step is the core's Ask for the block
 abbrev IsAskOf : Step → ℕ → ℕ → Type 0
@@ -45,7 +46,8 @@ stays_in_i old new (Ask asker on word asking) answer goes core block another idl
   | inr a ↦
       let before : Picture = picture_of old goes.0 in
       rw a.after (in_i_of_picture old new core block idle goes.0 (with_line before asker a.held)
-      (λ same. grind (arith, common_steps, set_cases before.caches asker core a.held nothing_held, another, idle_in old new core block idle goes.0 same, goes.1.1.on_block)))
+      (λ same. let held = idle_in old new core block idle goes.0 same in
+      grind (arith, common_steps, set_cases before.caches asker core a.held nothing_held, another, held, goes.1.1.on_block)))
 ]
 stays_in_i old new (Order requestor) answer goes core block another idle =
     let o = goes.1.1.orders in

@@ -8,7 +8,8 @@ use Rattle.snoop_engine.proofs.InOrderLemmas as order
 
 -- a step that no cause refuses is taken, and then those that lead to the end from there
 by_step : (leads : Leading) (s : Situation) → IsSteady s → (step : Step) → IsEnabled s step
-    → ((answer : Reply) (t : Situation) → FirstMove s step answer t → IsSteady t → (next : Leading) × (LeadsOn leads step (Ok answer) next × CanEnd next)) → CanEnd leads
+    → ((answer : Reply) (t : Situation) → FirstMove s step answer t → IsSteady t
+    → (next : Leading) × (LeadsOn leads step (Ok answer) next × CanEnd next)) → CanEnd leads
 by_step leads s steady step enabled on =
     let one = moves_on s steady.0 steady.1.queued step enabled in
     let to = on one.0 one.1.0 one.1.1 (steady_on keeps_well s step (Ok one.0) one.1.0 steady one.1.1) in
@@ -87,7 +88,8 @@ module _ {s : Situation} {lanes : List Todo} {core : ℕ} {turns : List ℕ} (fi
       let own = under_way_asks_nothing s core work.block work.word work.op (Some step) is in
       by lanes step fit (own.1 (lanes_under_way lanes)) (goes_on fit has_core read works (Some step) is) (λ k. rw (own.2 k))
 
-driver_ends : (s : Situation) (lanes : List Todo) (turns : List ℕ) → (let d : Progress = record { situation = s; lanes = lanes; turns = turns } in ((e : Progress) → turns_left e < turns_left d → DriverEnds e) → DriverEnds d)
+driver_ends : (s : Situation) (lanes : List Todo) (turns : List ℕ)
+    → (let d : Progress = record { situation = s; lanes = lanes; turns = turns } in ((e : Progress) → turns_left e < turns_left d → DriverEnds e) → DriverEnds d)
 driver_ends s lanes [] on fit steady =
     let done = all_done fit None refl in
     record { steps = []; outcomes = []; final = s; way = record { run = refl; taken = All-nil IsOk; asked = done.0; quiet = done.1; few = omega arith } }
@@ -98,7 +100,8 @@ abbrev InOrderEnds : InOrder → Type 0
 InOrderEnds d = IsInOrder d.situation d.left d.row → IsSteady d.situation → CanEnd (EndsInOrder d)
 
 module _ (s : Situation) (left : List Row) (row : Option Row)
-    (on : (e : InOrder) → remaining_in_order e < remaining_in_order (record { situation = s; left = left; row = row }) → InOrderEnds e) (fit : IsInOrder s left row) (steady : IsSteady s) where
+    (on : (e : InOrder) → remaining_in_order e < remaining_in_order (record { situation = s; left = left; row = row }) → InOrderEnds e)
+    (fit : IsInOrder s left row) (steady : IsSteady s) where
   abbrev there : InOrder
   there = record { situation = s; left = left; row = row }
 
@@ -125,7 +128,8 @@ module _ (s : Situation) (left : List Row) (row : Option Row)
 -- wherever a run has led, such drivers can go on to their ends
 pub driver_can_end : (d : Progress) → IsFit d.situation d.lanes d.turns → (protocol : Protocol) (shape : Extent) (steps : List Step) (outcomes : List (Result Reply Refused)) → TheRun protocol shape steps outcomes d.situation → CanEnd (IsAtTheEnd d)
 driver_can_end d fit protocol shape steps outcomes run =
-    by_less turns_left DriverEnds (λ d. driver_ends d.situation d.lanes d.turns) (suc (turns_left d)) d (omega arith) fit (run_steady steps outcomes (reset protocol shape) d.situation (reset_steady protocol shape) run)
+    by_less turns_left DriverEnds (λ d. driver_ends d.situation d.lanes d.turns) (suc (turns_left d)) d (omega arith) fit
+    (run_steady steps outcomes (reset protocol shape) d.situation (reset_steady protocol shape) run)
 
 pub in_order_can_end : (d : InOrder) → IsInOrder d.situation d.left d.row → (protocol : Protocol) (shape : Extent) (steps : List Step) (outcomes : List (Result Reply Refused)) → TheRun protocol shape steps outcomes d.situation → CanEnd (EndsInOrder d)
 in_order_can_end d fit protocol shape steps outcomes run =

@@ -31,7 +31,9 @@ module _ (p : Taken → Bool) (lines : List Taken) (line : Taken) where
   counted_more : (counters new : List ℕ) (place here : ℕ) → place < length counters → new ≡ set counters place (capped (get_or counters place 0 + 1))
       → p line ≡ (place == here) → get_or counters here 0 ≡ capped (length (filter p lines)) → get_or new here 0 ≡ capped (length (filter p (lines ++ line ∷ [])))
   counted_more counters new place here lt is test before =
-      grind (arith, common_steps, nat_tests, filter-append p lines (line ∷ []), length-append (filter p lines) (filter p (line ∷ [])), get_or-set_same counters place (capped (get_or counters place 0 + 1)) 0 lt, get_or-set_other counters place here (capped (get_or counters place 0 + 1)) 0)
+      let longer = filter-append p lines (line ∷ []) in
+      let long = length-append (filter p lines) (filter p (line ∷ [])) in
+      grind (arith, common_steps, nat_tests, get_or-set_same counters place (capped (get_or counters place 0 + 1)) 0 lt, get_or-set_other counters place here (capped (get_or counters place 0 + 1)) 0)
 
 -- a line is counted at one place
 tallies_at : (lines : List Taken) (line : Taken) (place : ℕ) (counters new : List ℕ) → place < 203 → new ≡ set counters place (capped (get_or counters place 0 + 1))

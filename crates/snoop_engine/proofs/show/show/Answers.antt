@@ -14,8 +14,10 @@ pub loop-step-init : goal.loop-step-init
 loop-step-init g c =
     let s = g.C.Course.situation c.args.course.now in
     let blocks = rw (c.shape.ensures, c.machine.ensures) at c.blocks-2.ensures.value in (
-      record { so_far = gathering_none _ _ _ _ _ _ _ _ c.requires (c.can_end.ensures s.protocol s.shape [] [] c.requires) (refl, rw c.machine-2.ensures at c.in_ok-begin.ensures.begins)
-      (rw append-nil (rw (c.machine-2.ensures, c.new-chunk.ensures.items) at c.in_ok-begin.ensures.text)) },
+      record {
+        so_far = gathering_none _ _ _ _ _ _ _ _ c.requires (c.can_end.ensures s.protocol s.shape [] [] c.requires) (refl, rw c.machine-2.ensures at c.in_ok-begin.ensures.begins)
+            (rw append-nil (rw (c.machine-2.ensures, c.new-chunk.ensures.items) at c.in_ok-begin.ensures.text));
+      },
       (λ none. none),
       rw c.requires (c.in_ok-askers.ensures s.protocol s.shape (sym blocks)),
     )
