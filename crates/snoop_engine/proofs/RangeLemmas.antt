@@ -1,5 +1,5 @@
 -- Ranges: a list that grows piece by piece, over the numbers from 0; which numbers of a range are kept.
-use Rattle.snoop_engine.proofs.Common.{common_steps, ◌≡◌, ℕ, zero, suc, ◌+◌, ◌<◌, ◌≤◌, Bool, List, [], ◌∷◌, ◌++◌, append-nil, filter, refl, sym, ap, ◌∙◌, inl, inr, arith, flat_map, range_with_len, cases_lt, flat_map_more, map-id}
+use Rattle.snoop_engine.proofs.Common.{common_steps, ◌≡◌, ℕ, zero, suc, ◌+◌, ◌<◌, ◌≤◌, Bool, List, [], ◌∷◌, ◌++◌, filter, refl, sym, ap, ◌∙◌, inl, inr, arith, flat_map, range_with_len, cases_lt, flat_map_more, map-id}
 use Rattle.std.proofs.lemmas.List.FromFn.{map-range_with_len_more}
 
 -- one number more

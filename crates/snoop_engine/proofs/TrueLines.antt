@@ -1,5 +1,5 @@
 -- Each line of the frames of a run fits its step.
-use Rattle.snoop_engine.proofs.Common.{common_steps, ◌≡◌, ◌⊎◌, ℕ, ◌<◌, ◌+◌, Bool, true, false, zero, suc, List, [], ◌∷◌, length, Option, Some, None, refl, sym, ap, ◌∙◌, inl, inr, arith, ◌≢◌, All, IsSomeAnd, MatchBool, Result, Ok, Err, if◌then◌else◌, flat_map, range_with_len, option_map_or, All-append, All-cons, All-nil, Extent, Protocol, Op, Step, Ask, Order, Respond, CacheEvent, CacheState, I, MemEvent, Request, PutM, arrival, arrival_at_memory, asked, at_memory, seen_by, takes_payload, Did, Item, Open, Reply, Refused, BusTaken, Line, Picture, held_by, nothing_held, Situation, picture_of, reset, state_of, ConsultsCache, ConsultsMemory, ArrivesFor, IsAbsent, Asks, IsWithin, Responds, TakesFirst, GoesFirst, Invariant, get_or-set_same, Cell, Stalled, NoTransaction, Settles, Takes, Frame, FramesFrom, event_asked, lines_of_step, of_arrival_at_memory, of_ask, of_holder, of_memory, of_requestor, of_waiting_memory, refused_by, unless_i, FitsStep, HasAllLines, ShowsRows, HasTakenRows, Taken, Core, Memory}
+use Rattle.snoop_engine.proofs.Common.{common_steps, ◌≡◌, ◌⊎◌, ℕ, ◌<◌, ◌+◌, Bool, true, false, zero, suc, List, [], ◌∷◌, length, Option, Some, None, refl, sym, ap, ◌∙◌, inl, inr, arith, ◌≢◌, All, IsSomeAnd, MatchBool, Result, Ok, Err, if◌then◌else◌, flat_map, range_with_len, option_map_or, All-append, All-cons, All-nil, Extent, Protocol, Op, Step, Ask, Order, Respond, CacheEvent, CacheState, I, MemEvent, Request, PutM, arrival, arrival_at_memory, asked, at_memory, seen_by, takes_payload, Did, Open, Reply, Refused, BusTaken, Line, Picture, held_by, nothing_held, Situation, picture_of, reset, state_of, ConsultsCache, ConsultsMemory, ArrivesFor, IsAbsent, Asks, IsWithin, Responds, TakesFirst, GoesFirst, Invariant, get_or-set_same, Cell, Stalled, NoTransaction, Settles, Frame, FramesFrom, event_asked, lines_of_step, of_arrival_at_memory, of_ask, of_holder, of_memory, of_requestor, of_waiting_memory, refused_by, unless_i, FitsStep, HasAllLines, ShowsRows, HasTakenRows, Taken, Core, Memory}
 use Rattle.snoop_rules.specs.{declared.names.CacheAction.{CacheAction, TheVariants.{Stall}}}
 use Rattle.snoop_rules.{specs.{declared.names.MemAction.MemAction, MemoryCell.MemoryCell}}
 use Rattle.snoop_rules.specs.declared.names.MemAction.TheVariants as mem_action
