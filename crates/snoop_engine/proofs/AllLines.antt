@@ -1,8 +1,5 @@
 -- No row of a step that is taken is left out of its lines.
-use Rattle.snoop_engine.proofs.Common.{Evict, ◌≡◌, ℕ, ◌<◌, ◌≤◌, ◌+◌, true, zero, suc, List, [], ◌∷◌, Some, refl, sym, subst, ◌∙◌, inl, inr, lt-ltb, arith, Contains, Ok, flat_map, ap, range_with_len, cases_eq, cases_lt, get_or_past, Contains-append_left, Contains-append_right, Contains-push, same_Some, Op, Step, Ask, Order, Respond, CacheEvent, CacheState, I, MemEvent, Request, PutM, arrival, asked, at_memory, takes_payload, Open, Reply, Line, nothing_held, Situation, picture_of, state_of, ConsultsCache, ConsultsMemory, IsWithin, TakesFirst, GoesFirst, Invariant, event_asked, of_ask, of_core, of_holder, of_memory, of_requestor, of_waiting_memory, taken_by, unless_i, DoesNothing, Taken, Core, Memory}
-
-has_one : (line : Taken) → Contains (line ∷ []) line
-has_one line = Contains-push [] line
+use Rattle.snoop_engine.proofs.Common.{common_steps, Evict, ◌≡◌, ℕ, ◌<◌, ◌≤◌, ◌+◌, true, zero, suc, List, [], Some, refl, sym, subst, ◌∙◌, inl, inr, lt-ltb, arith, Contains, Ok, flat_map, ap, range_with_len, cases_eq, cases_lt, get_or_past, Contains-append_left, Contains-append_right, Contains-push, same_Some, Op, Step, Ask, Order, Respond, CacheEvent, CacheState, I, MemEvent, Request, PutM, arrival, asked, at_memory, takes_payload, Open, Reply, Line, nothing_held, Situation, picture_of, state_of, ConsultsCache, IsWithin, TakesFirst, GoesFirst, Invariant, event_asked, of_ask, of_core, of_holder, of_memory, of_requestor, of_waiting_memory, unless_i, DoesNothing, HasAllLines, Taken, Core, Memory}
 
 has_in_range : (f : ℕ → List Taken) (line : Taken) (a n k : ℕ) → a ≤ k → k < a + n → Contains (f k) line → Contains (flat_map f (range_with_len a n)) line
 has_in_range f line a zero k low high has = absurd (omega arith)
@@ -13,18 +10,17 @@ has_in_range f line a (suc n) k low high has = elim (cases_eq k a) [
 
 has_unless_i : (requestor : ℕ) (s : CacheState) (line : Taken) → (DoesNothing (Order requestor) s → ⊥) → Contains (unless_i s line) line
 has_unless_i requestor I line h = absurd (h tt)
-has_unless_i requestor _ line h = has_one line
+has_unless_i requestor _ line h = Contains-push [] line
 
 event_unless : (asking : Op) (s : CacheState) → ((asking ≡ Evict) × (s ≡ I) → ⊥) → event_asked asking s ≡ Some (asked asking)
-event_unless Evict I h = absurd (h (refl, refl))
-event_unless _ _ h = refl
+event_unless asking s h = grind (arith, common_steps)
 
 module _ (s : Situation) where
   core_listed : (core block : ℕ) (event : CacheEvent) → core < s.shape.cores → block < s.shape.blocks → Contains (of_core s core block (Some event)) (Core core block (Some event) (state_of s core block))
-  core_listed core block event x y = rw (lt-ltb core s.shape.cores x, lt-ltb block s.shape.blocks y) (has_one _)
+  core_listed core block event x y = rw (lt-ltb core s.shape.cores x, lt-ltb block s.shape.blocks y) (Contains-push [] _)
 
   memory_listed : (block : ℕ) (event : MemEvent) → block < s.shape.blocks → Contains (of_memory s block event) (Memory block event (picture_of s block).memory.state)
-  memory_listed block event y = rw (lt-ltb block s.shape.blocks y) (has_one _)
+  memory_listed block event y = rw (lt-ltb block s.shape.blocks y) (Contains-push [] _)
 
   -- a core that holds something is there
   holder_in : Invariant s → (requestor core block : ℕ) → block < s.shape.blocks → (DoesNothing (Order requestor) (state_of s core block) → ⊥) → core < s.shape.cores
@@ -46,45 +42,40 @@ module _ (s : Situation) where
       → Contains (of_ask s asker on asking) (Core core block (Some event) (state_of s core block))
   asker_listed asker on word asking within core block event looks =
       rw (same_Some _ _ looks.3, looks.0, looks.1, lt-ltb asker s.shape.cores within.0, lt-ltb on s.shape.blocks within.1, ← event_unless asking (state_of s asker on) (rw (looks.0, looks.1) at looks.2))
-      (has_one _)
+      (Contains-push [] _)
 
-module _ (s new : Situation) (answer : Reply) (g : Invariant s) where
-  -- the block of an Order is there
-  order_within : (requestor : ℕ) → GoesFirst s (Order requestor) (Ok answer) new → (block : ℕ) → TakesFirst s (Order requestor) block → block < s.shape.blocks
-  order_within requestor goes block first = rw (same_Some _ _ (sym goes.1.0 ∙ first)) at goes.1.1.within.1
-
-  -- where the move of a step is, each row that a core looks up is listed
-  pub cores_listed : (step : Step) → GoesFirst s step (Ok answer) new → (core block : ℕ) (event : CacheEvent) → TakesFirst s step block → ConsultsCache s step core block (Some event)
-      → (DoesNothing step (state_of s core block) → ⊥) → Contains (taken_by s step) (Core core block (Some event) (state_of s core block))
-  cores_listed (Ask asker on word asking) goes core block event first looks held =
-      asker_listed s asker on word asking (subst (λ (b : ℕ). IsWithin s asker b) (sym goes.1.1.on_block) goes.1.1.within) core block event looks
-  cores_listed (Order requestor) goes core block event first looks held =
-      let y = order_within requestor goes block first in
-      let x = holder_in s g requestor core block y held in
-      rw (same_Some _ _ looks.1.1, first, looks.1.0.0)
-      (Contains-append_left (flat_map (of_holder s requestor block looks.0) (range_with_len 0 s.shape.cores)) (of_memory s block (at_memory looks.0)) _
-      (has_in_range (of_holder s requestor block looks.0) _ 0 s.shape.cores core (omega arith) (omega arith)
-      (rw (lt-ltb core s.shape.cores x, lt-ltb block s.shape.blocks y) (has_unless_i requestor (state_of s core block) _ held))))
-  cores_listed (Respond on) goes core block event first looks held =
-      let y : on < s.shape.blocks = rw goes.1.1.on_block goes.1.1.within in
-      let closing : Open = looks.0 in
-      let opened : (picture_of s on).transaction ≡ Some closing = rw (← looks.1.0) looks.1.1 in
-      rw (looks.1.2, looks.1.0, opened)
-      (Contains-append_left (of_requestor closing.request s on closing) (of_waiting_memory s on closing) _
-      (requestor_listed s closing.request on closing event looks.1.3 ((g.blocks on y).requestor_in closing opened) y looks.1.4))
-
-  -- and each of memory's
-  pub memory_rows_listed : (step : Step) → GoesFirst s step (Ok answer) new → (block : ℕ) (event : MemEvent) → TakesFirst s step block → ConsultsMemory s step block (Some event)
-      → Contains (taken_by s step) (Memory block event (picture_of s block).memory.state)
-  memory_rows_listed (Ask asker on word asking) goes block event first looks = absurd looks
-  memory_rows_listed (Order requestor) goes block event first looks =
-      rw (same_Some _ _ looks.1.1, first, looks.1.0.0)
-      (Contains-append_right (flat_map (of_holder s requestor block looks.0) (range_with_len 0 s.shape.cores)) (of_memory s block (at_memory looks.0)) _
-      (memory_listed s block (at_memory looks.0) (order_within requestor goes block first)))
-  memory_rows_listed (Respond on) goes block event first looks =
-      let y : on < s.shape.blocks = rw goes.1.1.on_block goes.1.1.within in
-      let closing : Open = looks.0 in
-      let opened : (picture_of s on).transaction ≡ Some closing = rw (← looks.1.0) looks.1.1 in
-      let takes : takes_payload closing.request (picture_of s on).memory.state ≡ true = rw (← looks.1.0) looks.1.2 in
-      rw (looks.1.0, opened)
-      (Contains-append_right (of_requestor closing.request s on closing) (of_waiting_memory s on closing) _ (rw (lt-ltb on s.shape.blocks y, takes, ← looks.1.3) (memory_listed s on event y)))
+-- where a step is taken, each row that a core looks up is listed, and each of memory's
+pub all_listed : (s new : Situation) (step : Step) (answer : Reply) → Invariant s → GoesFirst s step (Ok answer) new → HasAllLines (record { step = step; outcome = Ok answer; before = s; after = new })
+all_listed s new (Ask asker on word asking) answer g goes = record {
+  cores = λ core block event first looks held. asker_listed s asker on word asking (subst (λ (b : ℕ). IsWithin s asker b) (sym goes.1.1.on_block) goes.1.1.within) core block event looks;
+  memory = λ block event first looks. absurd looks;
+}
+all_listed s new (Order requestor) answer g goes =
+    let within : (block : ℕ) → TakesFirst s (Order requestor) block → block < s.shape.blocks = λ block first. rw (same_Some _ _ (sym goes.1.0 ∙ first)) at goes.1.1.within.1 in
+    record {
+      cores = λ core block event first looks held.
+          let y = within block first in
+          let x = holder_in s g requestor core block y held in
+          rw (same_Some _ _ looks.1.1, first, looks.1.0.0)
+          (Contains-append_left (flat_map (of_holder s requestor block looks.0) (range_with_len 0 s.shape.cores)) (of_memory s block (at_memory looks.0)) _
+          (has_in_range (of_holder s requestor block looks.0) _ 0 s.shape.cores core (omega arith) (omega arith)
+          (rw (lt-ltb core s.shape.cores x, lt-ltb block s.shape.blocks y) (has_unless_i requestor (state_of s core block) _ held))));
+      memory = λ block event first looks.
+          rw (same_Some _ _ looks.1.1, first, looks.1.0.0)
+          (Contains-append_right (flat_map (of_holder s requestor block looks.0) (range_with_len 0 s.shape.cores)) (of_memory s block (at_memory looks.0)) _
+          (memory_listed s block (at_memory looks.0) (within block first)));
+    }
+all_listed s new (Respond on) answer g goes =
+    let y : on < s.shape.blocks = rw goes.1.1.on_block goes.1.1.within in
+    record {
+      cores = λ core block event first looks held.
+          let opened : (picture_of s on).transaction ≡ Some looks.0 = rw (← looks.1.0) looks.1.1 in
+          rw (looks.1.2, looks.1.0, opened)
+          (Contains-append_left (of_requestor looks.0.request s on looks.0) (of_waiting_memory s on looks.0) _
+          (requestor_listed s looks.0.request on looks.0 event looks.1.3 ((g.blocks on y).requestor_in looks.0 opened) y looks.1.4));
+      memory = λ block event first looks.
+          let opened : (picture_of s on).transaction ≡ Some looks.0 = rw (← looks.1.0) looks.1.1 in
+          let takes : takes_payload looks.0.request (picture_of s on).memory.state ≡ true = rw (← looks.1.0) looks.1.2 in
+          rw (looks.1.0, opened)
+          (Contains-append_right (of_requestor looks.0.request s on looks.0) (of_waiting_memory s on looks.0) _ (rw (lt-ltb on s.shape.blocks y, takes, ← looks.1.3) (memory_listed s on event y)));
+    }

@@ -1,6 +1,6 @@
 -- Only an Ask moves its core out of I.
-use Rattle.snoop_engine.proofs.Common.{◌≡◌, ℕ, ◌≤◌, Bool, true, false, List, [], length, Some, None, Option, refl, sym, ap, ◌∙◌, inl, inr, arith, ◌==◌, ◌&&◌, ◌%◌, Ok, nat_lt, slice_get, slice_index_or, slice_set, if◌then◌else◌, option_map_or, cases_lt, get_or_past, Protocol, Msi, Mesi, Op, Step, Ask, Order, Respond, CacheCell, CacheEvent, CacheState, I, Request, GetS, PutM, arrival, seen_by, Did, Open, Situation, picture_of, state_of, Reply, Line, Picture, held_at, held_by, nothing_held, ArrivesFor, GoesFirst, le-ltb, cell_of, other, own, nothing_there, with_line, get_or_from_slice_get, unwrap_or-slice_get, AreAskers, AreOthersInI, of_holder, unless_i, Taken, Core}
-use Rattle.snoop_rules.specs.declared.names.Payload.{Payload, TheVariants.Data}
+use Rattle.snoop_engine.proofs.Common.{common_steps, ◌≡◌, ℕ, ◌≤◌, Bool, true, false, List, [], length, Some, None, Option, refl, sym, ap, ◌∙◌, inl, inr, arith, ◌==◌, ◌%◌, Ok, slice_index_or, slice_set, if◌then◌else◌, option_map_or, cases_lt, get_or_past, Protocol, Op, Step, Ask, Order, Respond, CacheCell, CacheEvent, I, Request, PutM, arrival, Did, Open, Situation, picture_of, state_of, Reply, Line, Picture, held_at, held_by, nothing_held, ArrivesFor, GoesFirst, le-ltb, cell_of, other, own, nothing_there, with_line, AreAskers, of_holder}
+use Rattle.snoop_rules.specs.declared.names.Payload.{Payload}
 use Rattle.snoop_blocks.specs.CoreSet.{Puts, has, set_of}
 use Rattle.snoop_model.proofs.Lists.Writes.{set_cases}
 use Rattle.std.proofs.lemmas.Nat.Bits.{bit_at-zero}
@@ -8,17 +8,11 @@ use Rattle.snoop_engine.proofs.TakenLemmas.{same_shape}
 
 -- a request that a core in I sees leaves it there
 seen_row : (p : Protocol) (own_one : Bool) (request : Request) (row : CacheCell) → cell_of p I (if own_one then own request else other request) ≡ Some row → row.next ≡ I
-seen_row Msi true GetS row h = cc
-seen_row Msi false GetS row h = cc
-seen_row Mesi true GetS row h = cc
-seen_row Mesi false GetS row h = cc
-seen_row _ _ _ row h = cc
+seen_row p own_one request row h = grind (arith, common_steps)
 
 -- no data comes to a core in I
 no_row : (p : Protocol) (payload : Payload) → option_map_or (λ event. cell_of p I event) (arrival payload) None ≡ None
-no_row Msi Data = refl
-no_row Mesi Data = refl
-no_row _ _ = refl
+no_row p payload = grind (arith, common_steps)
 
 no_fill : (p : Protocol) (payload : Payload) (event : CacheEvent) (row : CacheCell) → arrival payload ≡ Some event → cell_of p I event ≡ Some row → ⊥
 no_fill p payload event row comes is =
@@ -36,12 +30,10 @@ module _ (old new : Situation) (core block : ℕ) (idle : state_of old core bloc
   -- what a response brings to the caches
   in_i_after_arrival : (request : Request) (b : ℕ) (closing : Open) (did : Option Did) (next : List Line) → block ≡ b → ArrivesFor request closing old.protocol old.log (picture_of old b).caches next did → (held_at next core).state ≡ I
   in_i_after_arrival PutM b closing did next same f = rw f.0 (idle_in b same)
-  in_i_after_arrival _ b closing did next same f = rw f.held (elim (set_cases (picture_of old b).caches closing.core core f.line nothing_held) [
-    | inl p ↦
-        let here = rw p.0 at (idle_in b same) in
-        absurd (no_fill old.protocol closing.payload f.fills.event f.fills.row f.fills.arrives (rw here at f.fills.is_row))
-    | inr e ↦ rw e (idle_in b same)
-  ])
+  in_i_after_arrival _ b closing did next same f =
+      let row = no_row old.protocol closing.payload in
+      let cases = set_cases (picture_of old b).caches closing.core core f.line nothing_held in
+      rw f.held (grind (arith, common_steps, idle_in b same, cases, f.fills.arrives, f.fills.is_row))
 
 -- the step is the core's Ask for the block
 abbrev IsAskOf : Step → ℕ → ℕ → Type 0
@@ -53,10 +45,9 @@ stays_in_i old new (Ask asker on word asking) answer goes core block another idl
   | inl absent ↦ rw absent.3 idle
   | inr a ↦
       let before : Picture = picture_of old goes.0 in
-      rw a.after (in_i_of_picture old new core block idle goes.0 (with_line before asker a.held) (λ same. elim (set_cases before.caches asker core a.held nothing_held) [
-        | inl p ↦ absurd (another (p.0, same ∙ sym goes.1.1.on_block))
-        | inr e ↦ rw e (idle_in old new core block idle goes.0 same)
-      ]))
+      rw a.after (in_i_of_picture old new core block idle goes.0 (with_line before asker a.held)
+      (λ same. let held = idle_in old new core block idle goes.0 same in
+      grind (arith, common_steps, set_cases before.caches asker core a.held nothing_held, another, held, goes.1.1.on_block)))
 ]
 stays_in_i old new (Order requestor) answer goes core block another idle =
     let o = goes.1.1.orders in
@@ -91,27 +82,14 @@ follow_ask old new asker on word asking answer sets next are few goes puts =
     }
 
 -- a core in I has no line at an Order
-idle_line : (there : Bool) (state : CacheState) (line : CacheState → Taken) → state ≡ I → option_map_or (λ before. unless_i before (line before)) (if there then Some state else None) [] ≡ []
-idle_line true state line is = ap (λ (before : CacheState). unless_i before (line before)) is
-idle_line false state line is = refl
-
 pub no_line_in_i : (s : Situation) (requestor block : ℕ) (request : Request) (core : ℕ) → state_of s core block ≡ I → of_holder s requestor block request core ≡ []
-no_line_in_i s requestor block request core is =
-    idle_line (nat_lt core s.shape.cores && nat_lt block s.shape.blocks) (state_of s core block) (λ before. Core core block (Some (seen_by core requestor request)) before) is
+no_line_in_i s requestor block request core is = grind (arith, common_steps)
 
 -- nor has a core that is not there
 pub no_line_past : (s : Situation) (requestor block : ℕ) (request : Request) (core : ℕ) → s.shape.cores ≤ core → of_holder s requestor block request core ≡ []
 no_line_past s requestor block request core past = rw (le-ltb core s.shape.cores past) refl
 
-has_nothing : (core : ℕ) → has [] core ≡ false
+-- no core is in the set that nothing was put into
+pub has_nothing : (core : ℕ) → has [] core ≡ false
 unfolding has
 has_nothing core = ap (λ (b : ℕ). b == 1) (bit_at-zero (core % 64))
-
--- the set of a block, by what the table answers
-pub asked_by_none : (s : Situation) (sets : List (List ℕ)) (block : ℕ) → AreAskers s sets → slice_get sets block ≡ None → (core : ℕ) → state_of s core block ≡ I
-asked_by_none s sets block are none core =
-    let nothing = rw none at (sym (unwrap_or-slice_get sets block [])) in
-    are.others block core (rw nothing (has_nothing core))
-
-pub asked_by : (s : Situation) (sets : List (List ℕ)) (block : ℕ) (set : List ℕ) → AreAskers s sets → slice_get sets block ≡ Some set → AreOthersInI s block set
-asked_by s sets block set are some core out = are.others block core (rw (get_or_from_slice_get sets block set [] some) out)

@@ -1,74 +1,14 @@
 -- Courses, step by step, and the rows that they serve.
-use Rattle.snoop_engine.proofs.Common.{◌≡◌, ◌==◌, ℕ, ◌+◌, ◌*◌, ◌<◌, true, cond, Option, Some, None, List, [], ◌∷◌, ◌++◌, length, length-append, map, refl, sym, ◌∙◌, ap, arith, append_assoc, append-nil, inl, inr, Result, Ok, IsOk, IfNone, option_to_list, length-map, map-append, All-cons, All-nil, Extent, Row, Step, Ask, Work, Protocol, Reply, Refused, Picture, Situation, reset, FirstMove, GoesFirst, TheRun, IsQuiet, steps_paid, turn_rule, cons_option, cases_Bool, untouched, has_transaction, steps_owed, CanEnd, LeadsToEndWith, Leading, LeadsOn, EndsInOrder, FindsInOrder, FollowsInOrder, InOrder, LeadsToRest, remaining_in_order, StepsServe, StepsServeSerially, IsAtTheEnd, IsAtTheStart, Finds, Advances, Progress, ServesSerially, all_asks, ask_for, is_ask, Serves, ask_of, asks_of, work_of, works_of}
+use Rattle.snoop_engine.proofs.Common.{common_steps, ◌≡◌, ℕ, ◌+◌, ◌*◌, ◌<◌, true, cond, Option, Some, None, List, [], ◌∷◌, ◌++◌, length, length-append, map, refl, sym, ◌∙◌, ap, arith, Result, Ok, IsOk, IfNone, filter-append, length-map, map-append, All-cons, All-nil, Extent, Row, Step, Protocol, Reply, Refused, Picture, Situation, reset, FirstMove, TheRun, IsQuiet, steps_paid, turn_rule, untouched, has_transaction, steps_owed, LeadsOn, EndsInOrder, FindsInOrder, FollowsInOrder, InOrder, LeadsToRest, remaining_in_order, StepsServe, StepsServeSerially, IsAtTheEnd, IsAtTheStart, Finds, Advances, Progress, ServesSerially, all_asks, ask_for, is_ask, Serves, asks_of, works_of}
 use Rattle.std.proofs.lemmas.List.Folds.{sum_by-replicate}
-use Rattle.snoop_engine.proofs.{Fewer.leaves_fewer, TakenLemmas.{run_more, same_shape}}
-
--- what leads on from here leads on from the first place too, after these steps
-abbrev pub LeadsFrom : Leading → Leading → List Step → List (Result Reply Refused) → Type 0
-LeadsFrom first now steps outcomes =
-    (rest : List Step) (more : List (Result Reply Refused)) (final : Situation) → now rest more final → first (steps ++ rest) (outcomes ++ more) final
-
-pub leads_more : (first now next : Leading) (steps : List Step) (outcomes : List (Result Reply Refused)) (step : Step) (outcome : Result Reply Refused)
-    → LeadsFrom first now steps outcomes → LeadsOn now step outcome next → LeadsFrom first next (steps ++ step ∷ []) (outcomes ++ outcome ∷ [])
-leads_more first now next steps outcomes step outcome far on rest more final h =
-    rw (append_assoc steps (step ∷ []) rest, append_assoc outcomes (outcome ∷ []) more) (far (step ∷ rest) (outcome ∷ more) final (on rest more final h))
-
--- some steps of a course were taken, from reset to here, and it can go on to its end
-pub record Along (protocol : Protocol) (shape : Extent) (first now : Leading) (here : Situation) : Type 0 where
-  pub steps : List Step
-  pub outcomes : List (Result Reply Refused)
-  pub run : TheRun protocol shape steps outcomes here
-  pub leads : LeadsFrom first now steps outcomes
-  pub can_end : CanEnd now
-
-unfoldable pub along_none : (protocol : Protocol) (shape : Extent) (first : Leading) (here : Situation) → here ≡ reset protocol shape → CanEnd first
-    → Along protocol shape first first here
-along_none protocol shape first here at end = record { steps = []; outcomes = []; run = at; leads = λ rest more final h. h; can_end = end }
-
-module _ {protocol : Protocol} {shape : Extent} {first now : Leading} {here : Situation} (along : Along protocol shape first now here) where
-  unfoldable pub along_more : (next : Leading) (step : Step) (outcome : Result Reply Refused) (after : Situation) → GoesFirst here step outcome after
-      → LeadsOn now step outcome next
-      → ((steps : List Step) (outcomes : List (Result Reply Refused)) → TheRun protocol shape steps outcomes after → CanEnd next)
-      → Along protocol shape first next after
-  along_more next step outcome after goes on can_end =
-      let run = run_more along.steps along.outcomes (reset protocol shape) here after step outcome along.run goes in
-      record {
-        steps = along.steps ++ step ∷ [];
-        outcomes = along.outcomes ++ outcome ∷ [];
-        run = run;
-        leads = leads_more first now next along.steps along.outcomes step outcome along.leads on;
-        can_end = can_end (along.steps ++ step ∷ []) (along.outcomes ++ outcome ∷ []) run;
-      }
-
-  -- what holds of these steps and then others to the end
-  pub ends_on : (all : Leading) → (let end = along.can_end in all (along.steps ++ end.steps) (along.outcomes ++ end.outcomes) end.final) → LeadsToEndWith first all
-  ends_on all holds =
-      let end = along.can_end in
-      record {
-        steps = along.steps ++ end.steps;
-        outcomes = along.outcomes ++ end.outcomes;
-        final = end.final;
-        way = along.leads end.steps end.outcomes end.final end.way;
-        holds = holds;
-      }
-
-  -- what holds of these steps, which are all
-  pub ends_here : (all : Leading) (final : Situation) → now [] [] final → all along.steps along.outcomes final → LeadsToEndWith first all
-  ends_here all final over holds =
-      let way = rw (append-nil along.steps, append-nil along.outcomes) at (along.leads [] [] final over) in
-      record { steps = along.steps; outcomes = along.outcomes; final = final; way = way; holds = holds }
-
--- a core's Asks, one step more at the head
-asks_first : (core : ℕ) (step : Step) (steps : List Step) → option_to_list (ask_of core step) ++ asks_of steps core ≡ asks_of (step ∷ steps) core
-asks_first core step steps =
-    elim (ask_of core step) as (λ asked. option_to_list asked ++ asks_of steps core ≡ cons_option asked (asks_of steps core)) [ None ↦ refl | Some work ↦ refl ]
+use Rattle.snoop_engine.proofs.{Fewer.leaves_fewer, TakenLemmas.{same_shape}}
 
 -- a driver of rows leads on by its step
 pub driver_leads : (old new : Progress) (step : Step) (answer : Reply) → Advances old step answer new → LeadsOn (IsAtTheEnd old) step (Ok answer) (IsAtTheEnd new)
 driver_leads old new step answer follows steps outcomes final h = record {
   run = (new.situation, (follows.move, h.run));
   taken = All-cons IsOk (Ok answer) outcomes refl h.taken;
-  asked = λ core. rw (follows.takes_up core, h.asked core) (asks_first core step steps);
+  asked = λ core. rw (follows.takes_up core, h.asked core) (grind (arith, common_steps));
   quiet = h.quiet;
   few = omega (arith, follows.fewer, h.few);
 }
@@ -100,16 +40,6 @@ pub driver_serves : {protocol : Protocol} {shape : Extent} {rows : List Row} {st
     → IsAtTheStart protocol shape rows start → IsAtTheEnd start steps outcomes final → StepsServe protocol shape rows steps
 driver_serves {outcomes = outcomes} {final = final} begins end = let served = driver_served begins end in record { outcomes = outcomes; final = final; run = served.0; serves = served.1 }
 
--- an Ask pays for three steps
-paid_asks : (step : Step) → steps_paid step ≡ 3 * length (all_asks (step ∷ []))
-paid_asks (Ask core block word asking) = refl
-paid_asks _ = refl
-
--- the Asks of one step more at the head
-all_asks_first : (step : Step) (steps : List Step) → all_asks (step ∷ steps) ≡ all_asks (step ∷ []) ++ all_asks steps
-all_asks_first (Ask core block word asking) steps = refl
-all_asks_first _ steps = refl
-
 module _ (old new : InOrder) (step : Step) (answer : Reply) (follows : FollowsInOrder old step answer new) where
   -- fewer steps may still come
   pub fewer_in_order : remaining_in_order new < remaining_in_order old
@@ -117,7 +47,8 @@ module _ (old new : InOrder) (step : Step) (answer : Reply) (follows : FollowsIn
       let pays = turn_rule.pays old.situation new.situation step answer follows.move in
       let asked : length (all_asks (step ∷ [])) ≡ length follows.takes_up.first = rw follows.takes_up.asked (length-map follows.takes_up.first (ask_for old.situation.shape)) in
       let left : length old.left ≡ length follows.takes_up.first + length new.left = rw follows.takes_up.left (length-append follows.takes_up.first new.left) in
-      omega (arith, pays, paid_asks step, asked, left)
+      let paid : steps_paid step ≡ 3 * length (all_asks (step ∷ [])) = grind (arith, common_steps) in
+      omega (arith, pays, asked, left)
 
   module _ (steps : List Step) (outcomes : List (Result Reply Refused)) (final : Situation) (h : EndsInOrder new steps outcomes final) where
     at_rest : (before after : List Step) (x : Step) → step ∷ steps ≡ before ++ x ∷ after → is_ask x ≡ true → LeadsToRest old.situation before
@@ -133,7 +64,7 @@ module _ (old new : InOrder) (step : Step) (answer : Reply) (follows : FollowsIn
     in_order_leads = record {
       run = (new.situation, (follows.move, h.run));
       taken = All-cons IsOk (Ok answer) outcomes refl h.taken;
-      asked = rw (all_asks_first step steps, follows.takes_up.asked, h.asked, same_shape old.situation new.situation step answer follows.move, follows.takes_up.left) (sym (map-append (ask_for old.situation.shape) follows.takes_up.first new.left));
+      asked = rw (filter-append is_ask (step ∷ []) steps, follows.takes_up.asked, h.asked, same_shape old.situation new.situation step answer follows.move, follows.takes_up.left) (sym (map-append (ask_for old.situation.shape) follows.takes_up.first new.left));
       apart = at_rest;
       quiet = h.quiet;
       few = omega (arith, fewer_in_order, h.few);
@@ -152,15 +83,13 @@ in_order_ends old none quiet = record {
 -- a core's Asks are among the Asks of all cores
 asks_among : (core : ℕ) (steps : List Step) → asks_of steps core ≡ asks_of (all_asks steps) core
 asks_among core [] = refl
-asks_among core (Ask c block word asking ∷ steps) = ap (cons_option (ask_of core (Ask c block word asking))) (asks_among core steps)
-asks_among core (_ ∷ steps) = asks_among core steps
+asks_among core (step ∷ steps) = grind (arith, common_steps, asks_among core steps)
 
 -- those of the rows are the core's works
 asks_of_rows : (shape : Extent) (core : ℕ) (rows : List Row) → asks_of (map (ask_for shape) rows) core ≡ works_of shape rows core
 asks_of_rows shape core [] = refl
 asks_of_rows shape core (row ∷ rows) =
-    let rest = asks_of_rows shape core rows in
-    elim (cases_Bool (row.core == core)) [ inl own ↦ rw own (ap (λ (l : List Work). work_of shape row ∷ l) rest) | inr other ↦ rw other rest ]
+    grind (arith, common_steps, asks_of_rows shape core rows)
 
 module _ {protocol : Protocol} {shape : Extent} {rows : List Row} {start : InOrder} (at : start.situation ≡ reset protocol shape) (left : start.left ≡ rows)
     {steps : List Step} {outcomes : List (Result Reply Refused)} {final : Situation} (end : EndsInOrder start steps outcomes final) where

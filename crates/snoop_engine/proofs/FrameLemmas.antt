@@ -1,9 +1,9 @@
 -- Frames: as a run, and one after another.
 use Rattle.snoop_engine.proofs.Common.{◌≡◌, List, [], ◌∷◌, ◌++◌, refl, ap, Result, Step, Reply, Refused, Situation, reset, FirstRunFrom, Frame, FramesAreTheRun, FramesFrom, outcomes_of, steps_of}
-use Rattle.snoop_engine.proofs.TakenLemmas.{run_alike}
+use Rattle.{snoop_model.proofs.Runs.Shape.{alike_on, same_alike}, snoop_engine.proofs.TakenLemmas.goes_alike}
 
 -- frames are a run
-frames_run : (frames : List Frame) (old new : Situation) → FramesFrom old frames new → FirstRunFrom old (steps_of frames) (outcomes_of frames) new
+pub frames_run : (frames : List Frame) (old new : Situation) → FramesFrom old frames new → FirstRunFrom old (steps_of frames) (outcomes_of frames) new
 frames_run [] old new run = run
 frames_run (f ∷ fs) old new run = (f.after, (rw run.0.before at run.0.goes, frames_run fs f.after new run.1))
 
@@ -26,4 +26,6 @@ frames_on (f ∷ fs) rest old middle new run later = (run.0, frames_on fs rest f
 
 -- frames keep the protocol and the shape
 pub frames_keep : (frames : List Frame) (old new : Situation) → FramesFrom old frames new → (new.protocol ≡ old.protocol) × (new.shape ≡ old.shape)
-frames_keep frames old new run = run_alike (steps_of frames) (outcomes_of frames) old new (frames_run frames old new run)
+frames_keep [] old new run = same_alike old new run
+frames_keep (f ∷ fs) old new run =
+    alike_on old f.after new (rw run.0.before at (goes_alike f.before f.step f.outcome f.after run.0.goes)) (frames_keep fs f.after new run.1)

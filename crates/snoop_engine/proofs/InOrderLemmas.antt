@@ -1,5 +1,5 @@
 -- A driver that serves rows one after another: what its steps need, and what they keep.
-use Rattle.snoop_engine.proofs.Common.{ask_of, ◌≡◌, ℕ, ◌/◌, true, false, cond, Option, Some, None, List, [], ◌∷◌, refl, sym, ◌∙◌, ◌==◌, IfNone, IfSome, lt-ltb, subst, All-head, All-tail, Extent, IsRowWithin, word_asked, Op, Row, Step, Ask, Respond, Request, waiting_request, Open, Reply, FirstMove, Situation, picture_of, state_of, IsQuiet, IsUnderWay, turn_of, turn_rule, eq-eqb, ne_eqb, block_at, word_there, step_under_way, InOrder, IsInOrder, TakesUpNext, row_under_way, ServesOnly, nothing, only, IsEnabled, ask_for, is_ask}
+use Rattle.snoop_engine.proofs.Common.{arith, common_steps, nat_tests, ask_of, ◌≡◌, ℕ, ◌/◌, true, false, Option, Some, None, List, [], ◌∷◌, refl, sym, ◌∙◌, IfNone, IfSome, subst, All-head, All-tail, Extent, IsRowWithin, word_asked, Op, Row, Step, Ask, Reply, FirstMove, Situation, IsQuiet, IsUnderWay, turn_of, turn_rule, eq-eqb, ne_eqb, block_at, word_there, InOrder, IsInOrder, TakesUpNext, row_under_way, ServesOnly, nothing, only, IsEnabled, ask_for, is_ask}
 use Rattle.snoop_engine.proofs.TakenLemmas.{same_shape}
 
 -- a core whose block is under way
@@ -10,25 +10,15 @@ here core block = rw (eq-eqb core core refl)
 abbrev pub AsksNothing : Step → Type 0
 AsksNothing step = (is_ask step ≡ false) × ((under_way : ℕ → Option ℕ) → IsUnderWay under_way step) × ((core : ℕ) → ask_of core step ≡ None)
 
-asks_nothing : (request : Option Request) (open_there : Option Open) (core block : ℕ) → IfSome (step_under_way request open_there core block) AsksNothing
-asks_nothing None None core block = tt
-asks_nothing None (Some transaction) core block =
-    elim (transaction.core == core) as (λ own. IfSome (cond {A = Option Step} own (Some (Respond block)) None) AsksNothing) [ true ↦ (refl, λ under_way. tt, λ core. refl) | false ↦ tt ]
-asks_nothing (Some request) None core block = (refl, λ under_way. tt, λ core. refl)
-asks_nothing (Some request) (Some transaction) core block = (refl, λ under_way. tt, λ core. refl)
-
 pub under_way_asks_nothing : (s : Situation) (core block word : ℕ) (asking : Op) (r : Option Step) → r ≡ turn_of s core block word asking true
     → IfSome r AsksNothing
-under_way_asks_nothing s core block word asking r is = rw is (asks_nothing (waiting_request (state_of s core block)) (picture_of s block).transaction core block)
+under_way_asks_nothing s core block word asking r is = grind (arith, common_steps)
 
 -- a machine that waits for nothing waits only for what is under way, whatever that is
 pub serves_any : (s : Situation) (some : ℕ → Option ℕ) → ServesOnly nothing s → ServesOnly some s
 serves_any s some serves = record {
   kept = serves.kept;
-  serving = record {
-    waits = λ core i d lt. cc (serves.serving.waits core i d lt);
-    opened = λ block transaction is. cc (serves.serving.opened block transaction is);
-  };
+  serving = record { waits = λ core i d lt. cc (serves.serving.waits core i d lt); opened = λ block transaction is. cc (serves.serving.opened block transaction is) };
 }
 
 -- nothing waits and nothing is open
@@ -66,9 +56,6 @@ module _ {s : Situation} {left : List Row} {old : Option Row} (fit : IsInOrder s
     serves = serves_any s (row_under_way s.shape (Some row)) serves;
   }
 
-  pub begun_under_way : IsUnderWay (row_under_way s.shape (Some row)) (ask_for s.shape row)
-  begun_under_way = here row.core (row.address / s.shape.block_bytes)
-
   pub begun_enabled : IsEnabled s (ask_for s.shape row)
   begun_enabled =
       turn_rule.never_refused s nothing row.core (row.address / s.shape.block_bytes) (word_asked s.shape row.address row.op) row.op false (ask_for s.shape row) serves.serving serves.kept
@@ -79,9 +66,7 @@ module _ {s : Situation} {left : List Row} {old : Option Row} (fit : IsInOrder s
 
 -- the block of a row's address
 pub block_is : (shape : Extent) (row : Row) → IsRowWithin shape row → (found : Option ℕ) (block : ℕ) → found ≡ block_at shape row.address → found ≡ Some block → block ≡ row.address / shape.block_bytes
-block_is shape row within found block at is =
-    let there : block_at shape row.address ≡ Some (row.address / shape.block_bytes) = rw (lt-ltb (row.address / shape.block_bytes) shape.blocks within.1) in
-    cc
+block_is shape row within found block at is = grind (arith, common_steps, nat_tests, within.1)
 
 -- its Ask, by the block and the word that the shape answers
 pub asks_row : (shape : Extent) (row : Row) → IsRowWithin shape row → (found : Option ℕ) (block word : ℕ) → found ≡ block_at shape row.address → found ≡ Some block → word ≡ word_asked shape row.address row.op

@@ -1,45 +1,15 @@
 -- What a getter answers that answers inside a shape alone, and what a core's line says nothing of: values in a state that may not be read, a place where no request waits.
-use Rattle.snoop_engine.proofs.Common.{◌≡◌, ℕ, ◌<◌, Bool, Option, Some, None, true, false, cond, refl, sym, ap, ◌∙◌, arith, ◌&&◌, IfSome, IsSome, is_some, nat_lt, option_map, if◌then◌else◌, nat_tests, same_Some, CacheState, Open, Situation, state_of, state_at, List, [], ◌∷◌, length, ◌==◌, count_by, flat_map, range_with_len, sum_by-cons, word_at, waiting_request, queue_of, held_by, picture_of, keeps, position_or_len, le-ltb, kept_at, kept_text, place_text, value_text}
-use Rattle.snoop_model.specs.Pictures.InQueue.{IsInQueue}
-
-pub inside_one : {A : Type 0} (r v : Option A) (n b : ℕ) → (b < n → r ≡ v) → IfSome r (λ _. b < n) → r ≡ (if nat_lt b n then v else None)
-inside_one None v n b inside outside = grind (arith, nat_tests, inside)
-inside_one (Some x) v n b inside outside = grind (arith, nat_tests, inside)
-
-pub inside_two : {A : Type 0} (r v : Option A) (m n a b : ℕ) → (a < m → b < n → r ≡ v) → IfSome r (λ _. (a < m) × (b < n)) → r ≡ (if nat_lt a m && nat_lt b n then v else None)
-inside_two None v m n a b inside outside = grind (arith, nat_tests, inside)
-inside_two (Some x) v m n a b inside outside = grind (arith, nat_tests, inside)
-
-pub inside_three : {A : Type 0} (r v : Option A) (l m n a b c : ℕ) → (a < l → b < m → c < n → r ≡ v) → IfSome r (λ _. (a < l) × (b < m) × (c < n))
-    → r ≡ (if nat_lt a l && nat_lt b m && nat_lt c n then v else None)
-inside_three None v l m n a b c inside outside = grind (arith, nat_tests, inside)
-inside_three (Some x) v l m n a b c inside outside = grind (arith, nat_tests, inside)
-
--- where a requestor is named, a transaction is open
-pub is_opened : (transaction : Option Open) (requestor : Option ℕ) (named : Bool) → named ≡ is_some requestor → requestor ≡ option_map (λ opened. opened.core) transaction → named ≡ true → IsSome transaction
-is_opened (Some opened) requestor named e is t = refl
-is_opened None requestor named e is t = sym (e ∙ ap is_some is) ∙ t
+use Rattle.snoop_engine.proofs.Common.{common_steps, ◌≡◌, ℕ, Some, false, cond, refl, sym, arith, is_some, nat_tests, CacheState, Situation, state_of, state_at, List, [], ◌∷◌, length, ◌==◌, count_by, sum_by-cons, waiting_request, queue_of, held_by, picture_of, keeps, position_or_len, le-ltb, kept_at, kept_text, place_text, value_text}
+use Rattle.{snoop_model.specs.Pictures.InQueue.IsInQueue, snoop_engine.proofs.RangeLemmas.range_stops}
 
 -- a state that is found is the core's
 pub state_there : (s : Situation) (core block : ℕ) (state : CacheState) → state_at s core block ≡ Some state → state_of s core block ≡ state
-state_there s core block state =
-    elim (nat_lt core s.shape.cores && nat_lt block s.shape.blocks) as (λ there. cond {A = Option CacheState} there (Some (state_of s core block)) None ≡ Some state → state_of s core block ≡ state)
-    [ true ↦ λ e. same_Some _ _ e | false ↦ λ e. cc ]
-
-no_texts : (f : ℕ → List ℕ) → ((k : ℕ) → f k ≡ []) → (ks : List ℕ) → flat_map f ks ≡ []
-no_texts f none [] = refl
-no_texts f none (k ∷ ks) = rw (none k) (no_texts f none ks)
+state_there s core block state is = grind (arith, common_steps, nat_tests)
 
 pub none_kept : (s : Situation) (core block : ℕ) (state : CacheState) → Some state ≡ state_at s core block → is_some (held_by (picture_of s block) core).kept ≡ keeps (state_of s core block) → keeps state ≡ false → kept_text s core block ≡ []
 none_kept s core block state at kept unread =
     let hidden : is_some (held_by (picture_of s block) core).kept ≡ false = rw (kept, state_there s core block state (sym at)) unread in
-    no_texts (λ word. value_text word (kept_at s core block word)) (λ word. ap (value_text word) (of_kept (held_by (picture_of s block) core).kept (nat_lt core s.shape.cores && nat_lt block s.shape.blocks && nat_lt word s.shape.words) word hidden))
-    (range_with_len 0 s.shape.words)
-  where
-    of_kept : (kept : Option (List ℕ)) (within : Bool) (word : ℕ) → is_some kept ≡ false → cond {A = Option ℕ} within (option_map (λ ws. word_at ws word) kept) None ≡ None
-    of_kept None true word hidden = refl
-    of_kept None false word hidden = refl
-    of_kept (Some ws) within word hidden = cc
+    range_stops (λ word. value_text word (kept_at s core block word)) 0 s.shape.words (omega arith) (λ word low high. grind (arith, common_steps, hidden))
 
 none_before : (block : ℕ) (queue : List ℕ) → count_by (λ b. b == block) queue ≡ 0 → position_or_len (λ b. b == block) queue ≡ length queue
 none_before block [] none = refl

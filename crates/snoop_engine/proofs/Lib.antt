@@ -7,6 +7,7 @@ pub mod Dealing
 pub mod WrittenLemmas
 pub mod Packing
 pub mod FrameLemmas
+pub mod Gathering
 pub mod RangeLemmas
 pub mod Inside
 pub mod AllLines

@@ -1,5 +1,5 @@
 -- Frames with their numbers, when one frame more is seen, and which of them are shown.
-use Rattle.snoop_engine.proofs.Common.{◌≡◌, ℕ, ◌+◌, true, false, List, [], ◌∷◌, ◌++◌, Option, Some, None, length, refl, ap, ◌∙◌, arith, is_none, Situation, and_left, and_parts, Chosen, is_chosen, is_shown, is_in_range, Frame, Numbered, led_to, numbered_from}
+use Rattle.snoop_engine.proofs.Common.{common_steps, ◌≡◌, ℕ, ◌+◌, true, false, List, [], ◌∷◌, ◌++◌, Option, length, refl, ap, ◌∙◌, arith, Situation, Chosen, is_shown, is_in_range, Frame, Numbered, led_to, numbered_from}
 
 -- a frame with its number
 abbrev pub numbered : ℕ → Frame → Numbered
@@ -19,10 +19,8 @@ led_on here (f ∷ fs) frame = led_on f.after fs frame
 
 -- a step whose number is not chosen is not shown
 pub not_within : (choice : Chosen) (of : Option ℕ) (number : ℕ) → is_in_range choice number ≡ false → is_shown choice of number ≡ false
-not_within choice None number off = and_left (is_in_range choice number) (is_none choice.block) off
-not_within choice (Some block) number off = and_left (is_in_range choice number) (is_chosen choice.block block) off
+not_within choice of number off = grind (arith, common_steps)
 
 -- and the number of one that is shown is chosen
 pub within_of_shown : (choice : Chosen) (of : Option ℕ) (number : ℕ) → is_shown choice of number ≡ true → is_in_range choice number ≡ true
-within_of_shown choice None number on = (and_parts (is_in_range choice number) (is_none choice.block) on).0
-within_of_shown choice (Some block) number on = (and_parts (is_in_range choice number) (is_chosen choice.block block) on).0
+within_of_shown choice of number on = grind (arith, common_steps)

@@ -1,17 +1,12 @@
 -- Packed steps, one more, and steps that all ask.
-use Rattle.snoop_engine.proofs.Common.{◌≡◌, ℕ, ◌+◌, ◌≤◌, List, [], ◌∷◌, ◌++◌, length, length-append, drop, slice_index_or, refl, arith, length-drop, step_by, step_of_head, steps_in, stored_by, stored_in, worded_by, worded_in, ◌<◌, ◌^◌, map, sym, ◌∙◌, ap, Result, Ok, Err, OnOk, OnErr, length-map, map-append, Asked, Step, Ask, step_of, asked_by}
+use Rattle.snoop_engine.proofs.Common.{common_steps, ◌≡◌, ℕ, ◌+◌, ◌≤◌, List, [], ◌∷◌, ◌++◌, length, length-append, drop, slice_index_or, refl, arith, length-drop, step_by, step_of_head, steps_in, stored_by, stored_in, worded_by, worded_in, map, sym, ◌∙◌, ap, Result, Ok, Err, OnOk, OnErr, length-map, map-append, Asked, Step, Ask, step_of, asked_by}
 use Rattle.std.proofs.lemmas.List.{drop-append-le, get_or_append_left}
 use Rattle.snoop_engine.specs.declared.packed.{Kind.Kind, Head.Head}
-use Rattle.snoop_engine.specs.declared.packed.Kind.TheVariants as kind
 
 -- a head's step is the same with more words and values after its own
 step_on : (k : Kind) (h : Head) (ws mw vs mv : List ℕ) → worded_by k ≤ length ws → stored_by k ≤ length vs
     → step_by k h (slice_index_or (ws ++ mw) 0 0) (slice_index_or (vs ++ mv) 0 0) ≡ step_by k h (slice_index_or ws 0 0) (slice_index_or vs 0 0)
-step_on kind.Store h ws mw vs mv w v = rw (get_or_append_left vs mv 0 0 v)
-step_on kind.LoadOfWord h ws mw vs mv w v = rw (get_or_append_left ws mw 0 0 w)
-step_on kind.StoreOfWord h ws mw vs mv w v = rw (get_or_append_left ws mw 0 0 w, get_or_append_left vs mv 0 0 v)
-step_on kind.EvictOfWord h ws mw vs mv w v = rw (get_or_append_left ws mw 0 0 w)
-step_on _ h ws mw vs mv w v = refl
+step_on k h ws mw vs mv w v = grind (arith, common_steps, get_or_append_left ws mw 0 0, get_or_append_left vs mv 0 0)
 
 -- a head at the end, with its word and what it stores
 pub steps_more : (hs : List Head) (ws vs : List ℕ) (h : Head) (mw mv : List ℕ) → worded_in hs ≡ length ws → stored_in hs ≡ length vs
@@ -39,18 +34,15 @@ steps_counted [] ws vs = refl
 steps_counted (h ∷ hs) ws vs = let more = steps_counted hs (drop (worded_by h.kind) ws) (drop (stored_by h.kind) vs) in omega arith
 
 -- one more Ask asks for one thing more
-pub asked_more : (old new : List Step) (asked : Asked) → new ≡ old ++ step_of asked ∷ [] → asked_by new ≡ asked_by old ++ asked ∷ []
-asked_more old new asked is = ap asked_by is ∙ go old
-  where
-    go : (steps : List Step) → asked_by (steps ++ step_of asked ∷ []) ≡ asked_by steps ++ asked ∷ []
-    go [] = refl
-    go (Ask core block word asking ∷ steps) = ap (λ (l : List Asked). record { core = core; work = record { block = block; word = word; op = asking } } ∷ l) (go steps)
-    go (_ ∷ steps) = go steps
+pub asked_on : (steps : List Step) (asked : Asked) → asked_by (steps ++ step_of asked ∷ []) ≡ asked_by steps ++ asked ∷ []
+asked_on [] asked = refl
+asked_on (step ∷ steps) asked = grind (arith, common_steps, asked_on steps asked)
 
--- and all steps ask still
-pub all_ask : (old new : List Step) (asked : Asked) → old ≡ map step_of (asked_by old) → new ≡ old ++ step_of asked ∷ [] → new ≡ map step_of (asked_by new)
-all_ask old new asked kept is =
-    rw (is, asked_more old (old ++ step_of asked ∷ []) asked refl, map-append step_of (asked_by old) (asked ∷ []), ← kept)
+-- and all steps ask still, also where there was no memory for it
+pub still_ask : {E : Type 0} (r : Result (Unit {0}) E) (old new : List Step) (asked : Asked) → old ≡ map step_of (asked_by old)
+    → OnOk r (new ≡ old ++ step_of asked ∷ []) → OnErr r (new ≡ old) → new ≡ map step_of (asked_by new)
+still_ask (Ok u) old new asked kept ok err = rw (ok, asked_on old asked, map-append step_of (asked_by old) (asked ∷ []), ← kept)
+still_ask (Err e) old new asked kept ok err = rw err kept
 
 -- there is an Ask for each
 pub asked_counted : (steps : List Step) → steps ≡ map step_of (asked_by steps) → length (asked_by steps) ≡ length steps
@@ -62,18 +54,3 @@ pub first_asks : (steps rest : List Step) (step : Step) → steps ≡ map step_o
 first_asks steps rest step kept first none =
     (elim (asked_by steps) as (λ asks. step ∷ rest ≡ map step_of asks → ⊥) [ [] ↦ λ e. cc | asked ∷ asks ↦ λ e. none asked.core asked.work.block asked.work.word asked.work.op (cc) ])
     (sym first ∙ kept)
-
--- the same where there may have been no memory for it
-pub still_ask : {E : Type 0} (r : Result (Unit {0}) E) (old new : List Step) (asked : Asked) → old ≡ map step_of (asked_by old) → OnOk r (new ≡ old ++ step_of asked ∷ []) → OnErr r (new ≡ old)
-    → new ≡ map step_of (asked_by new)
-still_ask (Ok u) old new asked kept ok err = all_ask old new asked kept ok
-still_ask (Err e) old new asked kept ok err = rw err kept
-
-pub one_more : {E : Type 0} (r : Result (Unit {0}) E) (old new : List Step) (asked : Asked) (shown : List Asked) → asked_by old ≡ shown → OnOk r (new ≡ old ++ step_of asked ∷ [])
-    → OnOk r (asked_by new ≡ shown ++ asked ∷ [])
-one_more (Ok u) old new asked shown view ok = asked_more old new asked ok ∙ ap (λ (l : List Asked). l ++ asked ∷ []) view
-one_more (Err e) old new asked shown view ok = tt
-
-pub few_asks : {E : Type 0} (r : Result (Unit {0}) E) (new : List Step) → new ≡ map step_of (asked_by new) → OnOk r (length new < 2 ^ 63) → OnOk r (length (asked_by new) < 2 ^ 63)
-few_asks (Ok u) new kept few = rw (asked_counted new kept) few
-few_asks (Err e) new kept few = tt

@@ -1,5 +1,5 @@
 -- Ranges: a list that grows piece by piece, over the numbers from 0; which numbers of a range are kept.
-use Rattle.snoop_engine.proofs.Common.{◌≡◌, ℕ, zero, suc, ◌+◌, ◌<◌, ◌≤◌, Bool, List, [], ◌∷◌, ◌++◌, append-nil, filter, refl, sym, ap, ◌∙◌, inl, inr, arith, flat_map, range_with_len, cases_lt, flat_map_more, map-id}
+use Rattle.snoop_engine.proofs.Common.{common_steps, ◌≡◌, ℕ, zero, suc, ◌+◌, ◌<◌, ◌≤◌, Bool, List, [], ◌∷◌, ◌++◌, filter, refl, sym, ap, ◌∙◌, inl, inr, arith, flat_map, range_with_len, cases_lt, flat_map_more, map-id}
 use Rattle.std.proofs.lemmas.List.FromFn.{map-range_with_len_more}
 
 -- one number more
@@ -14,14 +14,10 @@ range_piece f i before now next far e = rw (e, far, more_from_zero i) (flat_map_
 -- numbers that give nothing may be left out at the end
 pub range_stops : {A : Type 0} (f : ℕ → List A) (a b : ℕ) → a ≤ b → ((k : ℕ) → a ≤ k → k < b → f k ≡ []) → flat_map f (range_with_len 0 b) ≡ flat_map f (range_with_len 0 a)
 range_stops {A} f a zero le none = let same : 0 ≡ a = omega arith in ap (λ (n : ℕ). flat_map f (range_with_len 0 n)) same
-range_stops {A} f a (suc b) le none = elim (cases_lt b a) [
-  | inl below ↦ let same : suc b ≡ a = omega arith in ap (λ (n : ℕ). flat_map f (range_with_len 0 n)) same
-  | inr up ↦
-      let next : suc b ≡ b + 1 = omega arith in
-      let last : b < suc b = omega arith in
-      ap (λ (n : ℕ). flat_map f (range_with_len 0 n)) next
-      ∙ rw (more_from_zero b, ← flat_map_more f [] (range_with_len 0 b) b, none b up last, append-nil) (range_stops f a b up (λ k low high. none k low (omega arith)))
-]
+range_stops {A} f a (suc b) le none =
+    let below : (k : ℕ) → a ≤ k → k < b → f k ≡ [] = λ k low high. none k low (omega arith) in
+    let rest = λ (up : a ≤ b). range_stops f a b up below in
+    grind (arith, common_steps, more_from_zero b, flat_map_more f [] (range_with_len 0 b) b, none b, rest)
 
 -- ranges give the same up to two numbers, where each number from the lower one on gives nothing
 pub range_same : {A : Type 0} (f : ℕ → List A) (a b : ℕ) → ((k : ℕ) → a ≤ k → f k ≡ []) → ((k : ℕ) → b ≤ k → f k ≡ []) → flat_map f (range_with_len 0 a) ≡ flat_map f (range_with_len 0 b)

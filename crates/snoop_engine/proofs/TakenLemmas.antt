@@ -1,7 +1,7 @@
 -- Steps and runs: what they keep, and one step more.
-use Rattle.snoop_engine.proofs.Common.{◌≡◌, List, [], ◌∷◌, ◌++◌, refl, Result, Ok, Err, Step, Reply, Refused, Situation, FirstMove, FirstRunFrom, GoesFirst}
+use Rattle.snoop_engine.proofs.Common.{◌≡◌, List, [], ◌∷◌, ◌++◌, Result, Ok, Err, Step, Reply, Refused, Situation, FirstMove, FirstRunFrom, GoesFirst}
 use Rattle.snoop_model.proofs.Runs.Along as along
-use Rattle.snoop_model.proofs.Runs.Shape.{alike_on, IsAlike, move_stays, same_alike}
+use Rattle.snoop_model.proofs.Runs.Shape.{IsAlike, move_stays, same_alike}
 
 -- a step keeps the shape
 pub same_shape : (s t : Situation) (step : Step) (answer : Reply) → FirstMove s step answer t → t.shape ≡ s.shape
@@ -11,11 +11,6 @@ same_shape s t step answer m = (move_stays s t step answer m).1
 pub goes_alike : (s : Situation) (step : Step) (outcome : Result Reply Refused) (t : Situation) → GoesFirst s step outcome t → IsAlike s t
 goes_alike s step (Ok answer) t goes = move_stays s t step answer goes
 goes_alike s step (Err cause) t goes = same_alike s t goes.1
-
--- and so does a run
-pub run_alike : (steps : List Step) (outcomes : List (Result Reply Refused)) (old new : Situation) → FirstRunFrom old steps outcomes new → IsAlike old new
-run_alike steps outcomes old new =
-    along.kept_along GoesFirst (IsAlike old) (λ s step outcome t far goes. alike_on old s t far (goes_alike s step outcome t goes)) steps outcomes old new (refl, refl)
 
 -- one more step of a run
 pub run_more : (steps : List Step) (outcomes : List (Result Reply Refused)) (old middle new : Situation) (step : Step) (outcome : Result Reply Refused)

@@ -1,25 +1,20 @@
 -- Counters, one of which goes up.
-use Rattle.snoop_engine.proofs.Common.{I, ◌≡◌, ℕ, ◌+◌, ◌*◌, ◌<◌, Bool, true, false, ◌&&◌, List, [], ◌∷◌, ◌++◌, cond, filter, length, length-append, get_or, set, replicate, sym, ◌∙◌, arith, ◌==◌, Some, nat_tests, common_steps, CacheState, CacheEvent, MemState, MemEvent, ne_eqb, length-replicate, length-set, get_or-replicate, get_or-set_other, get_or-set_same, filter-append, takes_memory_row, takes_row, Tallies, core_place, memory_place, Taken, Core, Memory}
-use Rattle.snoop_rules.specs.declared.names.{CacheEvent.TheVariants.Load, MemEvent.TheVariants.GetS, MemState.TheVariants.IorS}
+use Rattle.snoop_engine.proofs.Common.{◌≡◌, ℕ, ◌+◌, ◌<◌, Bool, List, [], ◌∷◌, ◌++◌, filter, length, length-append, get_or, set, replicate, sym, ◌∙◌, arith, ◌==◌, Some, nat_tests, common_steps, CacheState, CacheEvent, MemState, MemEvent, ne_eqb, length-replicate, length-set, get_or-replicate, get_or-set_other, get_or-set_same, filter-append, takes_memory_row, takes_row, Tallies, core_place, memory_place, Taken, Core, Memory}
 use Rattle.snoop_history.specs.Totals.{capped}
-use Rattle.snoop_engine.specs.Numbers.{event_number, memory_event_number, memory_state_number, state_number}
+use Rattle.snoop_engine.specs.Numbers.{event_number, memory_event_number}
 
 -- the numbers are within the tables
 event_within : (e : CacheEvent) → event_number e < 11
-event_within Load = omega arith
-event_within _ = omega arith
+event_within e = grind arith
 
 memory_event_within : (e : MemEvent) → memory_event_number e < 6
-memory_event_within GetS = omega arith
-memory_event_within _ = omega arith
+memory_event_within e = grind arith
 
 core_below : (s : CacheState) (e : CacheEvent) → core_place s e < 143
-core_below I e = let within = event_within e in omega arith
-core_below _ e = let within = event_within e in omega arith
+core_below s e = grind (arith, event_within e)
 
 memory_below : (s : MemState) (e : MemEvent) → memory_place s e < 203
-memory_below IorS e = let within = memory_event_within e in omega arith
-memory_below _ e = let within = memory_event_within e in omega arith
+memory_below s e = grind (arith, memory_event_within e)
 
 -- nothing is counted yet
 pub tallies_none : Tallies (replicate 203 0) []
@@ -31,23 +26,14 @@ tallies_none =
       memory = λ s e. get_or-replicate 203 (memory_place s e) none none (memory_below s e);
     }
 
--- two pairs of numbers are the same exactly if their places in rows of this width are
-same_pair_of_11 : (a b c d : ℕ) → b < 11 → d < 11 → (a == c && b == d) ≡ (a * 11 + b == c * 11 + d)
-same_pair_of_11 a b c d x y = grind (arith, common_steps, nat_tests)
-
-same_pair_of_6 : (a b c d : ℕ) → b < 6 → d < 6 → (a == c && b == d) ≡ (143 + a * 6 + b == 143 + c * 6 + d)
-same_pair_of_6 a b c d x y = grind (arith, common_steps, nat_tests)
-
 -- one line more, of which the test says whether its counter is the one here
 module _ (p : Taken → Bool) (lines : List Taken) (line : Taken) where
-  one_more : (b : Bool) → p line ≡ b → length (filter p (lines ++ line ∷ [])) ≡ length (filter p lines) + cond b 1 0
-  one_more true e = rw (filter-append p lines (line ∷ []), e) (length-append (filter p lines) (line ∷ []))
-  one_more false e = rw (filter-append p lines (line ∷ []), e) (length-append (filter p lines) [])
-
   counted_more : (counters new : List ℕ) (place here : ℕ) → place < length counters → new ≡ set counters place (capped (get_or counters place 0 + 1))
       → p line ≡ (place == here) → get_or counters here 0 ≡ capped (length (filter p lines)) → get_or new here 0 ≡ capped (length (filter p (lines ++ line ∷ [])))
   counted_more counters new place here lt is test before =
-      grind (arith, common_steps, nat_tests, one_more true, one_more false, get_or-set_same counters place (capped (get_or counters place 0 + 1)) 0 lt, get_or-set_other counters place here (capped (get_or counters place 0 + 1)) 0)
+      let longer = filter-append p lines (line ∷ []) in
+      let long = length-append (filter p lines) (filter p (line ∷ [])) in
+      grind (arith, common_steps, nat_tests, get_or-set_same counters place (capped (get_or counters place 0 + 1)) 0 lt, get_or-set_other counters place here (capped (get_or counters place 0 + 1)) 0)
 
 -- a line is counted at one place
 tallies_at : (lines : List Taken) (line : Taken) (place : ℕ) (counters new : List ℕ) → place < 203 → new ≡ set counters place (capped (get_or counters place 0 + 1))
@@ -67,7 +53,7 @@ pub tallies_core : (lines : List Taken) (core block : ℕ) (met : CacheEvent) (a
 tallies_core lines core block met at counters new is =
     let below = core_below at met in
     tallies_at lines (Core core block (Some met) at) (core_place at met) counters new (omega arith) is
-    (λ s e. same_pair_of_11 (state_number at) (event_number met) (state_number s) (event_number e) (event_within met) (event_within e))
+    (λ s e. let own = event_within met in let other = event_within e in grind (arith, common_steps, nat_tests))
     (λ s e. sym (ne_eqb (core_place at met) (memory_place s e) (λ q. omega arith)))
 
 pub tallies_memory : (lines : List Taken) (block : ℕ) (met : MemEvent) (at : MemState) (counters new : List ℕ) → new ≡ set counters (memory_place at met) (capped (get_or counters (memory_place at met) 0 + 1))
@@ -75,14 +61,4 @@ pub tallies_memory : (lines : List Taken) (block : ℕ) (met : MemEvent) (at : M
 tallies_memory lines block met at counters new is =
     tallies_at lines (Memory block met at) (memory_place at met) counters new (memory_below at met) is
     (λ s e. let other = core_below s e in sym (ne_eqb (memory_place at met) (core_place s e) (λ q. omega arith)))
-    (λ s e. same_pair_of_6 (memory_state_number at) (memory_event_number met) (memory_state_number s) (memory_event_number e) (memory_event_within met) (memory_event_within e))
-
--- a line without a row is not counted
-pub tallies_more : (lines : List Taken) (line : Taken) (counters : List ℕ) → ((s : CacheState) (e : CacheEvent) → takes_row s e line ≡ false)
-    → ((s : MemState) (e : MemEvent) → takes_memory_row s e line ≡ false)
-    → Tallies counters lines → Tallies counters (lines ++ line ∷ [])
-tallies_more lines line counters no_row no_memory_row far = record {
-  long = far.long;
-  cores = λ s e. (let n = one_more (takes_row s e) lines line false (no_row s e) in omega (arith, n, far.cores s e));
-  memory = λ s e. (let n = one_more (takes_memory_row s e) lines line false (no_memory_row s e) in omega (arith, n, far.memory s e));
-}
+    (λ s e. let own = memory_event_within met in let other = memory_event_within e in grind (arith, common_steps, nat_tests))

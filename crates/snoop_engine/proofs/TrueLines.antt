@@ -1,40 +1,15 @@
 -- Each line of the frames of a run fits its step.
-use Rattle.snoop_engine.proofs.Common.{Evict, ◌≡◌, ◌⊎◌, ℕ, ◌<◌, ◌+◌, Bool, true, false, zero, suc, List, [], ◌∷◌, length, Option, Some, None, refl, sym, ap, ◌∙◌, inl, inr, arith, ◌≢◌, ◌||◌, All, IsSomeAnd, MatchBool, Result, Ok, Err, not, if◌then◌else◌, flat_map, range_with_len, option_map_or, All-append, All-cons, All-nil, Extent, Protocol, Msi, Mesi, Op, Step, Ask, Order, Respond, CacheEvent, CacheState, I, MemEvent, Request, PutM, arrival, arrival_at_memory, asked, at_memory, seen_by, takes_payload, Did, Item, Open, Reply, Refused, BusTaken, Line, Picture, held_at, held_by, nothing_held, Situation, picture_of, reset, state_of, ConsultsCache, ConsultsMemory, ArrivesFor, IsAbsent, Asks, IsWithin, Responds, TakesFirst, GoesFirst, Invariant, get_or-set_same, Cell, Stalled, NothingWaiting, NoTransaction, Settles, Takes, Frame, FramesFrom, event_asked, lines_of_step, of_arrival_at_memory, of_ask, of_holder, of_memory, of_requestor, of_waiting_memory, refused_by, unless_i, FitsStep, HasAllLines, ShowsRows, HasTakenRows, Taken, Core, Memory}
-use denote.Enum.Bare.{same_true, sameb}
-use Rattle.snoop_rules.specs.{declared.names.CacheAction.{CacheAction, TheVariants.{Drop, Hit, Issue, Stall}}, contracts.names.CacheState.the_type}
-use Rattle.snoop_rules.{specs.{declared.names.MemAction.MemAction, MemoryCell.MemoryCell}, proofs.Every.{all_protocols, all_states, all_events}}
+use Rattle.snoop_engine.proofs.Common.{common_steps, ◌≡◌, ◌⊎◌, ℕ, ◌<◌, ◌+◌, Bool, true, false, zero, suc, List, [], ◌∷◌, length, Option, Some, None, refl, sym, ap, ◌∙◌, inl, inr, arith, ◌≢◌, All, IsSomeAnd, MatchBool, Result, Ok, Err, if◌then◌else◌, flat_map, range_with_len, option_map_or, All-append, All-cons, All-nil, Extent, Protocol, Op, Step, Ask, Order, Respond, CacheEvent, CacheState, I, MemEvent, Request, PutM, arrival, arrival_at_memory, asked, at_memory, seen_by, takes_payload, Did, Open, Reply, Refused, BusTaken, Line, Picture, held_by, nothing_held, Situation, picture_of, reset, state_of, ConsultsCache, ConsultsMemory, ArrivesFor, IsAbsent, Asks, IsWithin, Responds, TakesFirst, GoesFirst, Invariant, get_or-set_same, Cell, Stalled, NoTransaction, Settles, Frame, FramesFrom, event_asked, lines_of_step, of_arrival_at_memory, of_ask, of_holder, of_memory, of_requestor, of_waiting_memory, refused_by, unless_i, FitsStep, HasAllLines, ShowsRows, HasTakenRows, Taken, Core, Memory}
+use Rattle.snoop_rules.specs.{declared.names.CacheAction.{CacheAction, TheVariants.{Stall}}}
+use Rattle.snoop_rules.{specs.{declared.names.MemAction.MemAction, MemoryCell.MemoryCell}}
 use Rattle.snoop_rules.specs.declared.names.MemAction.TheVariants as mem_action
-use Rattle.snoop_rules.proofs.Rows.{each_row, each_row-at}
 use Rattle.snoop_model.{specs.Moves.Refuses.Refuses, proofs.{OneBlock.AfterMoves.{ask_line, order_here, respond_here}, Queues.Moves.keeps_well}}
 use Rattle.snoop_model.proofs.Runs.GoOn.{reset_steady, IsSteady, steady_on}
-use Rattle.snoop_engine.proofs.{AllLines.{asker_listed, cores_listed, memory_rows_listed}, TakenLemmas.goes_alike}
-
-abbrev is_stall : CacheAction → Bool
-is_stall Stall = true
-is_stall _ = false
+use Rattle.snoop_engine.proofs.{AllLines.{all_listed, asker_listed}, TakenLemmas.goes_alike}
 
 -- a stall leaves the state
-stalls_stay : each_row (λ p s e row. not (is_stall row.action) || sameb the_type row.next s) ≡ true
-unfolding each_row all_protocols all_states all_events
-stalls_stay = refl
-
--- an Ask that has a row is an event
-asked_event : (p : Protocol) (asking : Op) (s : CacheState) (a : CacheAction) (n : CacheState) → Cell p s (asked asking) a n → event_asked asking s ≡ Some (asked asking)
-asked_event Msi Evict I a n h = cc
-asked_event Mesi Evict I a n h = cc
-asked_event p asking s a n h = refl
-
--- where an Ask leads its core
-taken_state : (act : CacheAction) (next : CacheState) (log : List Item) (core block word : ℕ) (asking : Op) (old new : Line) (answer : Reply) (entry : Option Item)
-    → Takes act next log core block word asking old new answer entry → new.state ≡ next
-taken_state Hit next log core block word asking old new answer entry t = ap (λ (l : Line). l.state) t.1.0.held
-taken_state (Issue request) next log core block word asking old new answer entry t = ap (λ (l : Line). l.state) t.0
-taken_state Drop next log core block word asking old new answer entry t = ap (λ (l : Line). l.state) t.0
-taken_state _ next log core block word asking old new answer entry t = absurd t
-
--- an Evict in I is no event
-no_event : (asking : Op) (s : CacheState) → asking ≡ Evict → s ≡ I → event_asked asking s ≡ None
-no_event asking s evict idle = rw (evict, idle)
+stall_stays : (p : Protocol) (asking : Op) (s next : CacheState) → Cell p s (asked asking) Stall next → next ≡ s
+stall_stays p asking s next h = grind (arith, common_steps)
 
 -- what holds of the lines of a value holds where the value may be missing
 all_if : {A : Type 0} (P : Taken → Type 0) (b : Bool) (v : A) (f : A → List Taken) → All P (f v) → All P (option_map_or f (if b then Some v else None) [])
@@ -76,7 +51,7 @@ module _ (old new : Situation) (step : Step) (outcome : Result Reply Refused) wh
         → (event_asked asking (state_of old core block) ≡ Some (asked asking) → ConsultsCache old step core block (Some (asked asking)))
         → All (FitsStep here) (of_ask old core block asking)
     asked_fits core asking act next row is looks =
-        let met : event_asked asking (state_of old core block) ≡ Some (asked asking) = asked_event old.protocol asking (state_of old core block) act next row in
+        let met : event_asked asking (state_of old core block) ≡ Some (asked asking) = grind (arith, common_steps) in
         asker_fits core block asking (Some (asked asking)) met (row_fits core (asked asking) act next row is (looks met))
 
     memory_fits : (event : MemEvent) (act : MemAction)
@@ -93,8 +68,7 @@ module _ (old new : Situation) (step : Step) (outcome : Result Reply Refused) wh
     requestor_fits PutM closing did next within now f looks = All-nil (FitsStep here)
     requestor_fits _ closing did next within now f looks =
         let is : state_of new closing.core block ≡ f.fills.row.next =
-        ap (λ (p : Picture). (held_by p closing.core).state) now
-        ∙ ap (λ (l : Line). l.state) (ap (λ (l : List Line). held_at l closing.core) f.held ∙ get_or-set_same (picture_of old block).caches closing.core f.line nothing_held within ∙ f.fills.held) in
+        grind (arith, common_steps, now, f.held, f.fills.held, get_or-set_same (picture_of old block).caches closing.core f.line nothing_held within) in
         rw f.fills.arrives
         (all_if (FitsStep here) _ _ (λ before. Core closing.core block (Some f.fills.event) before ∷ [])
         (all_one (FitsStep here) _ (row_fits closing.core f.fills.event f.fills.row.action f.fills.row.next f.fills.is_row is (looks (λ h. cc) f.fills.event (sym f.fills.arrives)))))
@@ -109,18 +83,17 @@ module _ (old new : Situation) (step : Step) (outcome : Result Reply Refused) wh
 
 -- an Ask that is an event is looked up
 asker_looks : (s : Situation) (core block word : ℕ) (asking : Op) → event_asked asking (state_of s core block) ≡ Some (asked asking) → ConsultsCache s (Ask core block word asking) core block (Some (asked asking))
-asker_looks s core block word asking met = (refl, refl, (λ absent. let none = no_event asking (state_of s core block) absent.0 absent.1 in cc), refl)
+asker_looks s core block word asking met = (refl, refl, (λ absent. let none = rw (absent.0, absent.1) at met in cc), refl)
 
 -- the lines of a refused step
 refused_fits : (old new : Situation) (step : Step) (cause : Refused) → Refuses old step cause → new ≡ old → All (FitsStep (here old new step (Err cause))) (refused_by old step cause)
 refused_fits old new (Ask core block word asking) (Stalled held) refuses same =
     let next = refuses.2.0 in
-    let stays : next ≡ state_of old core block = same_true the_type tt next (state_of old core block) (each_row-at _ stalls_stay old.protocol (state_of old core block) (asked asking) Stall next refuses.2.1) in
+    let stays = stall_stays old.protocol asking (state_of old core block) next refuses.2.1 in
     asked_fits old new (Ask core block word asking) (Err (Stalled held)) block tt core asking Stall next refuses.2.1 (rw same (sym stays)) (asker_looks old core block word asking)
 refused_fits old new (Order core) (BusTaken block) refuses same =
     let P : Taken → Type 0 = FitsStep (here old new (Order core) (Err (BusTaken block))) in
     all_if P _ _ (λ before. Core core block None before ∷ []) (all_one P _ (record { before = refl; after = rw same }))
-refused_fits old new (Order core) NothingWaiting refuses same = all_one (FitsStep (here old new (Order core) (Err NothingWaiting))) _ tt
 refused_fits old new (Respond block) NoTransaction refuses same = all_one (FitsStep (here old new (Respond block) (Err NoTransaction))) _ tt
 refused_fits old new step cause refuses same = all_one (FitsStep (here old new step (Err cause))) _ tt
 
@@ -133,12 +106,11 @@ step_fits old new (Ask core block word asking) (Ok answer) g goes =
     let moves : IsAbsent old core block asking answer new ⊎ Asks old core block word asking answer new = rw m.on_block m.moves in
     elim moves [
       | inl absent ↦
-          asker_fits old new (Ask core block word asking) (Ok answer) core block asking None (no_event asking (state_of old core block) absent.0 absent.1)
+          asker_fits old new (Ask core block word asking) (Ok answer) core block asking None (rw (absent.0, absent.1))
           (record { before = refl; after = rw absent.3 })
       | inr a ↦
           asked_fits old new (Ask core block word asking) (Ok answer) block tt core asking a.row.action a.row.next a.is_row
-          (ap (λ (l : Line). l.state) (ask_line old core block word asking answer new g within a)
-          ∙ taken_state a.row.action a.row.next old.log core block word asking (held_by (picture_of old block) core) a.held answer a.entry a.taken)
+          (grind (arith, common_steps, ask_line old core block word asking answer new g within a, a.taken))
           (asker_looks old core block word asking)
     ]
 step_fits old new (Order core) (Ok answer) g goes =
@@ -175,7 +147,7 @@ step_fits old new (Respond block) (Ok answer) g goes =
 
 -- none is left out
 step_whole : (old new : Situation) (step : Step) (outcome : Result Reply Refused) → Invariant old → GoesFirst old step outcome new → HasTakenRows outcome → HasAllLines (here old new step outcome)
-step_whole old new step (Ok answer) g goes takes = record { cores = cores_listed old new answer g step goes; memory = memory_rows_listed old new answer g step goes }
+step_whole old new step (Ok answer) g goes takes = all_listed old new step answer g goes
 step_whole old new (Ask asker on word asking) (Err (Stalled state)) g goes takes = record {
   cores = λ core block event first looks held. asker_listed old asker on word asking goes.0.0 core block event looks;
   memory = λ block event first looks. absurd looks;

@@ -1,5 +1,5 @@
 -- What views show of frames: of each by its number, or nothing before the end; their counts, and their states.
-use Rattle.snoop_engine.proofs.Common.{◌≡◌, ℕ, ◌+◌, List, [], ◌∷◌, ◌++◌, length, refl, ap, arith, flat_map, length_push, Situation, Frame, Numbered, numbered_from, shown, view_text, flat_map_more, Protocol, all_lines, counts_text, frames_counts_text, lines_of_step, Tallies, counts_in, memory_counts_in, true, false, ◌∙◌, append-nil, Extent, Chosen, is_shown, header_text, shown_text, states_text, step_fields, taken_text, IsNextSeen, frame_seen, Seen}
+use Rattle.snoop_engine.proofs.Common.{◌≡◌, ℕ, ◌+◌, List, [], ◌∷◌, ◌++◌, length, refl, ap, arith, flat_map, length_push, Situation, Frame, Numbered, numbered_from, shown, view_text, flat_map_more, Protocol, all_lines, counts_text, frames_counts_text, lines_of_step, Tallies, counts_in, memory_counts_in, true, false, Chosen, is_shown, shown_text, step_fields, taken_text, IsNextSeen, frame_seen, Seen}
 
 -- what is shown of each frame by its number
 pub shown_numbered : (shows : ℕ → Frame → List ℕ) (before frames : List Frame)
@@ -26,16 +26,6 @@ all_lines_more frames frame = flat_map_more (λ (f : Frame). lines_of_step f.bef
 pub text_of_frames : (protocol : Protocol) (frames : List Frame) (counters : List ℕ) → Tallies counters (all_lines frames)
     → counts_text protocol (counts_in counters) (memory_counts_in counters) ≡ frames_counts_text protocol frames
 text_of_frames protocol frames counters counted = λ i. counts_text protocol (λ state event. counted.cores state event i) (λ state event. counted.memory state event i)
-
-pub counts_view : (protocol : Protocol) (frames : List Frame) (final : Situation)
-    → view_text [] (λ (fs : List Frame) (f : Frame). []) (λ (fs : List Frame) (s : Situation). frames_counts_text protocol fs) frames final ≡ frames_counts_text protocol frames
-counts_view protocol frames final = quiet_view (λ (fs : List Frame) (s : Situation). frames_counts_text protocol fs) frames final
-
-pub states_view : (shape : Extent) (choice : Chosen) (frames : List Frame) (final : Situation)
-    → view_text header_text (λ (fs : List Frame) (f : Frame). shown_text shape choice (1 + length fs) f) (λ (fs : List Frame) (s : Situation). []) frames final ≡ states_text shape choice frames
-states_view shape choice frames final =
-    append-nil (header_text ++ shown (λ (fs : List Frame) (f : Frame). shown_text shape choice (1 + length fs) f) [] frames)
-    ∙ ap (λ (t : List ℕ). header_text ++ t) (shown_numbered (shown_text shape choice) [] frames)
 
 -- what is written of a step that is seen
 module _ (choice : Chosen) (frames : List Frame) (before : Situation) (seen : Seen) (after : Situation) (next : IsNextSeen after.protocol after.shape frames before seen after) where

@@ -5,6 +5,7 @@ ghost use Rattle.snoop_trace.specs.Grammar.{IsStepWithin};
 ghost use Rattle.snoop_engine.specs.Packed.{largest};
 
 use crate::packed::StepQueue;
+use crate::script::Script;
 use snoop_trace::streams::Entries;
 use snoop_trace::{Asked, NoMemory, Step, Work};
 use std::alloc::Global;
@@ -45,7 +46,7 @@ impl AskQueue {
         ensures first { self.old ≡ option_to_list result ++ self.new }
         ensures none { IfNone result (self.old ≡ []) }
     {
-        match self.steps.next()? {
+        match self.steps.take_first()? {
             Step::Ask {
                 core,
                 block,

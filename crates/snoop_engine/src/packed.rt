@@ -1,10 +1,11 @@
 //! The steps of a text, packed until they are taken.
-ghost use Rattle.std.specs.Prelude.{◌≡◌, ◌<◌, ◌^◌, ◌++◌, ◌∷◌, [], length, IfNone, OnOk, OnErr, option_to_list, slice_index_or};
+ghost use Rattle.std.specs.Prelude.{◌≡◌, ◌<◌, ◌^◌, ◌++◌, ◌∷◌, [], length, OnOk, OnErr, slice_index_or};
 ghost use Rattle.snoop_trace.specs.Grammar.{IsStepWithin};
 ghost use Rattle.snoop_trace.specs.declared.step.Step.TheVariants.{Ask};
 ghost use Rattle.snoop_engine.specs.declared.packed.Head.{Head};
 ghost use Rattle.snoop_engine.specs.Packed.{largest, step_by, step_of_head, stored_by, values_of, worded_by, words_of};
 
+use crate::script::Script;
 use snoop_trace::streams::Entries;
 use snoop_trace::{NoMemory, Op, Step};
 use std::alloc::Global;
@@ -142,20 +143,12 @@ impl StepQueue {
             values: VecDeque::new(alloc),
         }
     }
+}
 
-    /// How many steps there are.
-    #[tactic(auto, using(crate::proofs::Packing::steps_counted))]
-    pub(crate) fn len(&self) -> usize
-        ensures { result ≡ length self.now }
-    {
-        self.heads.len()
-    }
+impl Script for StepQueue {
+    ghost steps = { λ q. q };
 
-    /// Takes the first step away.
-    pub(crate) fn next(&mut self) -> Option<Step>
-        ensures first { self.old ≡ option_to_list result ++ self.new }
-        ensures none { IfNone result (self.old ≡ []) }
-    {
+    fn take_first(&mut self) -> Option<Step> {
         let head = self.heads.pop_front()?;
         let word = match head.kind {
             Kind::LoadOfWord | Kind::StoreOfWord | Kind::EvictOfWord => {

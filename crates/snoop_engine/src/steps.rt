@@ -1,10 +1,10 @@
 //! The command `steps`: the steps of a text, taken one after another.
-ghost use Rattle.std.specs.Prelude.{◌≡◌, ◌≢◌, true, Err, OnOk, OnErr};
+ghost use Rattle.std.specs.Prelude.{◌≡◌, ◌≢◌, true, Err};
 ghost use Rattle.snoop_trace.specs.Output.{BlamesWriter};
 ghost use Rattle.snoop_trace.specs.Text.{BlamesReader};
 ghost use Rattle.snoop_trace.specs.declared.fault.TextFault.{TextFault};
 ghost use Rattle.snoop_trace.specs.declared.fault.TextFault.TheVariants as text_fault;
-ghost use Rattle.snoop_engine.specs.Simulated.{Begins, Reports, Simulates};
+ghost use Rattle.snoop_engine.specs.Simulated.{Simulates};
 
 use crate::course::Listed;
 use crate::fault::SimFault;
@@ -12,8 +12,8 @@ use crate::lines::write_lines;
 use crate::packed::StepQueue;
 use snoop_machine::laws::runs_go_on;
 use snoop_rules::Protocol;
+use snoop_trace::Shape;
 use snoop_trace::streams::{Sink, Source, gather_steps};
-use snoop_trace::{Shape, WriteFault};
 use std::alloc::Global;
 
 /// Reads a text of steps for the protocol and the shape to its end, takes them in order on a machine at reset, and writes the line of each
@@ -37,24 +37,10 @@ pub fn simulate_steps<R: Source, W: Sink>(
     ensures blamed { BlamesWriter (W.failed writer.old) (W.failed writer.new) (result ≡ Err SimFault.Write) }
 {
     let steps = gather_steps(alloc, reader, protocol, shape, StepQueue::new(alloc))?;
-    write_output(alloc, writer, protocol, shape, steps)?;
-    Ok(())
-}
-
-/// Takes the steps on a machine at reset, and writes their lines and the report.
-fn write_output<W: Sink>(
-    alloc: Global,
-    writer: &mut W,
-    protocol: Protocol,
-    shape: Shape,
-    steps: StepQueue,
-) -> Result<(), WriteFault>
-    ensures ok { OnOk result (Reports protocol shape steps (W.contents writer.old) (W.contents writer.new)) }
-    ensures front { OnErr result (Begins protocol shape steps (W.contents writer.old) (W.contents writer.new)) }
-    ensures never_blamed { W.never_fails ≡ true → result ≢ Err WriteFault.Write }
-    ensures blamed { BlamesWriter (W.failed writer.old) (W.failed writer.new) (result ≡ Err WriteFault.Write) }
-{
     runs_go_on();
-    let mut course = Listed::new(alloc, protocol, shape, steps)?;
-    write_lines(alloc, writer, &mut course)
+    let Ok(mut course) = Listed::new(alloc, protocol, shape, steps) else {
+        return Err(SimFault::NoMemory);
+    };
+    write_lines(alloc, writer, &mut course)?;
+    Ok(())
 }

@@ -1,4 +1,4 @@
-use Rattle.snoop_engine.proofs.{Common.◌∷◌, Common.◌++◌, Common.[], CourseLemmas.leads_more}
+use Rattle.snoop_engine.proofs.{Common.◌∷◌, Common.◌++◌, Common.[], Gathering.leads_more}
 use Rattle.snoop_engine.proofs.gather.gather.Goals as goal
 
 pub loop-step-preserved : goal.loop-step-preserved

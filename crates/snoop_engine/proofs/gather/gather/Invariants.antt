@@ -1,4 +1,4 @@
-use Rattle.snoop_engine.proofs.{Common.{List, Result, Reply, Refused}, CourseLemmas.LeadsFrom}
+use Rattle.snoop_engine.proofs.{Common.{List, Result, Reply, Refused}, Gathering.LeadsFrom}
 use Rattle.snoop_engine.proofs.gather.gather.Given as goal
 
 -- what leads on from here leads on from the start, after the steps so far

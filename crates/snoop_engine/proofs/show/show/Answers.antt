@@ -1,5 +1,5 @@
-use Rattle.snoop_engine.proofs.Common.{◌∙◌, [], sym, on_err}
-use Rattle.snoop_engine.proofs.ShownLemmas.{ends_with_nothing, showing_cut, showing_cut_at_end, showing_done, showing_more, showing_none, showing_spilled, showing_stop}
+use Rattle.snoop_engine.proofs.{Common.◌∙◌, Common.{[], sym, on_err, refl, append-nil}, Gathering.{gathering_none, gathering_spilled}}
+use Rattle.snoop_engine.proofs.ShownLemmas.{ends_with_nothing, showing_cut, showing_cut_at_end, showing_done, showing_more, showing_stop}
 use Rattle.snoop_engine.proofs.show.show.Goals as goal
 
 pub returns-in_err-askers-clause-front : goal.returns-in_err-askers-clause-front
@@ -14,7 +14,10 @@ pub loop-step-init : goal.loop-step-init
 loop-step-init g c =
     let s = g.C.Course.situation c.args.course.now in
     let blocks = rw (c.shape.ensures, c.machine.ensures) at c.blocks-2.ensures.value in (
-      showing_none _ _ _ _ (λ p s frames. g.V.View.has_seen c.args.view.now p s frames c.begin.new.self) _ _ _ _ _ c.requires (c.can_end.ensures s.protocol s.shape [] [] c.requires) (rw c.machine-2.ensures at c.in_ok-begin.ensures.begins) c.new-chunk.ensures.items (rw c.machine-2.ensures at c.in_ok-begin.ensures.text),
+      record {
+        so_far = gathering_none _ _ _ _ _ _ _ _ c.requires (c.can_end.ensures s.protocol s.shape [] [] c.requires) (refl, rw c.machine-2.ensures at c.in_ok-begin.ensures.begins)
+            (rw append-nil (rw (c.machine-2.ensures, c.new-chunk.ensures.items) at c.in_ok-begin.ensures.text));
+      },
       (λ none. none),
       rw c.requires (c.in_ok-askers.ensures s.protocol s.shape (sym blocks)),
     )
@@ -34,7 +37,7 @@ loop-step-preserved g c =
     showing_more c.loop-step.invariant.0 (λ p s frames. g.V.View.has_seen c.args.view.now p s frames c.see.new.self) _ _ _ _ c.in_ok-number.ensures (rw c.in-Some.ensures.same at c.in_ok-outcome.ensures.goes)
     (c.deref.ensures.value ∙ (rw c.in-Some.ensures.same at c.in_ok-outcome.ensures.lines)) (c.block_of-block.ensures _ (rw (c.machine-in-Some.ensures, c.in-Some.ensures.same) at c.head_for-head.ensures))
     (c.in_ok-outcome.ensures.leads c.loop-step.course c.in-Some.ensures.found) (c.can_end-in-Some.ensures _ _) (rw c.machine-in-Some-2.ensures at (c.in_ok-see.ensures c.args.view.now)) in (
-      showing_spilled far _ _ c.in_ok-spill.ensures.ok,
+      record { so_far = gathering_spilled far.so_far _ _ c.in_ok-spill.ensures.ok },
       (λ none. (c.in_ok-spill.ensures.blamed (c.loop-step.invariant.1 none)).1 (λ failed. cc)),
       c.in_ok-outcome.ensures.askers,
     )
@@ -53,10 +56,10 @@ returns-in_err-end-clause-front g c = on_err c.from_residual-in_err-end.result _
 pub returns-in_err-write_whole-clause-front : goal.returns-in_err-write_whole-clause-front
 returns-in_err-write_whole-clause-front g c =
     on_err c.from_residual-in_err-write_whole.result _
-    (showing_cut_at_end c.loop-step.invariant.0 (g.V.View.ending c.args.view.now) c.end.new.out.items _ (rw c.in_default.is at c.find.ensures.end)
+    (showing_cut_at_end c.loop-step.invariant.0 (g.V.View.ending c.args.view.now) c.end.new.out.items (rw c.in_default.is at c.find.ensures.end)
     (rw (c.machine-3.ensures, c.find.ensures.same) at (c.in_ok-end.ensures c.args.view.now)) _ (rw c.deref-2.ensures.value at c.in_err-write_whole.ensures.front))
 
 pub returns-clause-ok : goal.returns-clause-ok
 returns-clause-ok g c =
-    showing_done c.loop-step.invariant.0 (g.V.View.ending c.args.view.now) c.end.new.out.items _ (rw c.in_default.is at c.find.ensures.end)
+    showing_done c.loop-step.invariant.0 (g.V.View.ending c.args.view.now) c.end.new.out.items (rw c.in_default.is at c.find.ensures.end)
     (rw (c.machine-3.ensures, c.find.ensures.same) at (c.in_ok-end.ensures c.args.view.now)) _ (rw c.deref-2.ensures.value at c.in_ok-write_whole.ensures.ok)

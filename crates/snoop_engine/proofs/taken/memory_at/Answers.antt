@@ -1,5 +1,5 @@
-use Rattle.snoop_engine.proofs.Inside.{inside_one}
+use Rattle.snoop_engine.proofs.Common.{arith, common_steps, nat_tests}
 use Rattle.snoop_engine.proofs.taken.memory_at.Goals as goal
 
 pub returns : goal.returns
-returns c = inside_one _ _ _ _ c.mem_state.ensures.inside c.mem_state.ensures.outside
+returns c = grind (arith, common_steps, nat_tests, c.mem_state.ensures.inside, c.mem_state.ensures.outside)

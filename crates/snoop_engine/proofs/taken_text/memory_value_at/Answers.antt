@@ -1,5 +1,5 @@
-use Rattle.snoop_engine.proofs.Inside.{inside_two}
+use Rattle.snoop_engine.proofs.Common.{arith, common_steps, nat_tests}
 use Rattle.snoop_engine.proofs.taken_text.memory_value_at.Goals as goal
 
 pub returns : goal.returns
-returns c = inside_two _ _ _ _ _ _ c.mem_value.ensures.inside c.mem_value.ensures.outside
+returns c = grind (arith, common_steps, nat_tests, c.mem_value.ensures.inside, c.mem_value.ensures.outside)
