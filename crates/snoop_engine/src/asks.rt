@@ -1,5 +1,5 @@
 //! What the rows of a text ask for, packed until it is taken up.
-ghost use Rattle.std.specs.Prelude.{◌≡◌, ◌++◌, [], length, IfNone, option_to_list};
+ghost use Rattle.std.specs.Prelude.{◌≡◌, ◌++◌, [], IfNone, option_to_list};
 ghost use Rattle.snoop_trace.specs.Asked.{step_of};
 ghost use Rattle.snoop_trace.specs.Grammar.{IsStepWithin};
 ghost use Rattle.snoop_engine.specs.Packed.{largest};

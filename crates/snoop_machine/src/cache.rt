@@ -1,16 +1,15 @@
 //! The lines of one core.
-ghost use Rattle.std.specs.Prelude.{◌≡◌, ℕ, ◌+◌, ◌<◌, ◌≤◌, ◌∷◌, ◌++◌, [], length, option_copied, option_map, unwrap_or, OnOk, OnErr, IfSome, IfNone, IsTrue, ◌↔◌, IsSome, false, is_some, nat_eq, Option, None, if◌then◌else◌};
-ghost use Rattle.snoop_trace.specs.Words.{Data, word_at, zero_words};
+ghost use Rattle.std.specs.Prelude.{◌≡◌, ℕ, ◌+◌, ◌<◌, ◌≤◌, ◌∷◌, ◌++◌, [], length, option_copied, option_map, unwrap_or, OnOk, OnErr, IfSome, IfNone, IsSome, false, is_some, nat_eq, Option, None, if◌then◌else◌};
+ghost use Rattle.snoop_trace.specs.Words.{word_at, zero_words};
 ghost use Rattle.std.specs.Map.{lookup};
 ghost use Rattle.snoop_rules.specs.declared.names.CacheState.TheVariants.{I};
-ghost use Rattle.snoop_model.specs.Pictures.Picture.{nothing_held, kept_on};
+ghost use Rattle.snoop_model.specs.Pictures.Picture.{nothing_held};
 ghost use Rattle.snoop_machine.specs.Cache.{line_in, line_or_nothing, blocks_of, changed, filled_line, IsOfWords, KeepsMapRoom, StaysByRow, MovesByRow};
 ghost use Rattle.snoop_machine.specs.declared.cache.LineChange.TheVariants.{Hit};
 ghost use Rattle.snoop_rules.specs.declared.names.CacheState.{CacheState};
 ghost use Rattle.snoop_rules.specs.declared.names.CacheAction.{CacheAction};
 ghost use Rattle.snoop_rules.specs.Cell.{Cell};
 ghost use Rattle.snoop_model.specs.Moves.LookUps.{HasRow};
-ghost use Rattle.snoop_model.specs.Moves.Move.{moves_to};
 
 use indexmap::IndexMap;
 use snoop_model::Access;
@@ -112,7 +111,7 @@ impl<B: Block> Entry<B> {
         };
     }
 
-    /// The line moves to its next state, and changes so. Kept words are given up where it comes to a state without any, unless by a hit.
+    /// The line moves to its next state, and changes so. In I, IM_AD and II_A kept words are given up; a hit keeps them.
     #[inline(always)]
     fn change(&mut self, next: CacheState, change: LineChange)
         requires { IsOfWords B.count change }

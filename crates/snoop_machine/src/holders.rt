@@ -1,9 +1,9 @@
 //! The cores of a block that another's request concerns.
-ghost use Rattle.std.specs.Prelude.{◌≡◌, ◌≢◌, ◌↔◌, ℕ, ◌<◌, true, false, length, slice_index_or, IsTrue};
+ghost use Rattle.std.specs.Prelude.{◌≡◌, ◌≢◌, ℕ, ◌<◌, true, false, length, slice_index_or};
 ghost use Rattle.snoop_model.specs.Pictures.Proper.{keeps};
 ghost use Rattle.snoop_model.specs.Invariant.Fits.{is_owner};
 ghost use Rattle.snoop_blocks.specs.CoreSet.{has};
-ghost use Rattle.snoop_machine.specs.Holders.{is_concerned, no_holders, HaveFollowed, HaveMoved, StandsAs};
+ghost use Rattle.snoop_machine.specs.Holders.{is_concerned, no_holders, HaveFollowed, StandsAs};
 
 use snoop_blocks::{BlockTable, CoreSet};
 use snoop_rules::{CacheState, Request};

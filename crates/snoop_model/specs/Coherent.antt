@@ -37,13 +37,13 @@ pub record IsCoherent (s : Situation) : Type 0 where
   pub waiting : (core block : ℕ) → option_map (λ access. request_for access.op) (held_by (picture_of s block) core).waiting ≡ missed_request (state_of s core block)
   -- a core is in IS_D exactly where it is the requestor of the block's open GetS, and in IM_D or SM_D exactly where it is that of the block's open GetM
   pub awaited : (core block : ℕ) (request : Request) → (awaited_request (state_of s core block) ≡ Some request) ↔ (HasOpen s core block request × (request ≢ PutM))
-  -- each core's queue has the blocks for which its request is not yet ordered, each once
+  -- each core's queue has the blocks for which its request is not yet ordered, each once, and no others
   pub queued : (core block : ℕ) → IsInQueue s core block
   -- an operation may be refused as stalled only where its core's own request for the block waits, or is open and no PutM
   pub stalls : (core block word : ℕ) (asking : Op) (state : CacheState) → Refuses s (Ask core block word asking) (Stalled state) → (request : Request) × (Waits s core block request ⊎ (HasOpen s core block request × (request ≢ PutM)))
-  -- an Ask that is taken hits exactly where the core may do at once what it asks
-  pub hits : (core block word : ℕ) (asking : Op) (answer : Reply) (new : Situation) → MoveOn block s (Ask core block word asking) answer new → IsHit answer ↔ MayHit s.protocol (state_of s core block) asking
-  -- an eviction that is answered Gone or Absent leaves the core in I, with no words kept and no operation waiting
+  -- an Ask that is taken next is answered by a hit exactly where its row in the core's state is a hit: a load where the core may load, a store where it may store, an eviction never
+  pub hits : (core block word : ℕ) (asking : Op) (answer : Reply) (new : Situation) → MoveOn block s (Ask core block word asking) answer new → (IsHit answer ↔ MayHit s.protocol (state_of s core block) asking)
+  -- an eviction taken next that is answered Gone or Absent leaves the core in I, with no words kept and no operation waiting
   pub gone : (core block word : ℕ) (answer : Reply) (new : Situation) → (answer ≡ Gone) ⊎ (answer ≡ Absent) → MoveOn block s (Ask core block word Evict) answer new → held_by (picture_of new block) core ≡ nothing_held
   -- a core whose PutM is open keeps no words of the block
   pub given_up : (core block : ℕ) → HasOpen s core block PutM → (held_by (picture_of s block) core).kept ≡ None
@@ -53,7 +53,7 @@ pub record IsCoherent (s : Situation) : Type 0 where
   pub orders : (core block : ℕ) (request : Request) → CanOrder s core block request → (new : Situation) × Orders s core block request new
   -- each Order that is taken next, of any block, goes by a line of the table of senders, `lines_of`
   pub by_table : (core block : ℕ) (request : Request) (new : Situation) (made : Orders s core block request new) → IsSenderLine s.protocol (picture_of s block) core request made.from made.payload made.next.memory.state
-  -- for some picture such a line gives the open transaction; a Respond taken next closes it and leaves memory in that line's last state
+  -- an open transaction is on such a line, for some picture of its block; a Respond taken next closes it and leaves memory in that line's last state
   pub on_table : (block : ℕ) → IfSome (picture_of s block).transaction (IsOpenByTable s block)
 
 -- what holds where these steps, with these outcomes, have led a machine of this protocol and shape from reset to this situation
@@ -62,7 +62,7 @@ pub record IsCoherentRun (protocol : Protocol) (shape : Extent) (steps : List St
   pub stays : (s.protocol ≡ protocol) × (s.shape ≡ shape)
   -- it is coherent
   pub coherent : IsCoherent s
-  -- the loads and stores in the history and those that wait are exactly those whose Asks were taken, each as often
+  -- of each core and block, the loads and stores in the history and the one that waits, if any, are exactly those whose Asks were taken, each as often
   pub once : Once steps outcomes s
   -- each step adds to the history what its outcome tells, and its reply is one that it may have: a load that hits replies the value that the history has for it
   pub told : RunBy Tells [] steps outcomes s.log

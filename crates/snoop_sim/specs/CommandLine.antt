@@ -187,12 +187,12 @@ IsSnoop app = (steps run threads states counts lint draw table : App) × IsSteps
 abbrev pub IsLocal : Command → Type 0
 IsLocal command = (out-Command command).has_globals ≡ false
 
--- a command with options of its own alone, and its description
+-- a command whose options no subcommand has too, and its description
 pub record Describes (command : Command) (app : App) : Type 0 where
   pub local : IsLocal command
   pub is : app_of command ≡ app
 
--- an option of a command alone, and its description
+-- an option that no subcommand has too, and its description
 pub record DescribesOption (arg : Arg) (rule : Rule) : Type 0 where
   pub local : arg.global ≡ false
   pub is : rule_of arg ≡ rule

@@ -6,7 +6,7 @@ use Rattle.snoop_model.specs.{Pictures.Situation.Situation, declared.replies.{Re
 use Rattle.snoop_engine.specs.{Line.outcome_text, Words.capitals, declared.taken.Taken.Taken, Chosen.Chosen}
 use Rattle.snoop_svg.specs.declared.{columns.{Column.Column, Subject.{Subject, TheVariants.{Core, Bus, Memory}}}, paper.Form.{Form, TheVariants.{Svg, Html}}}
 use Rattle.snoop_svg.specs.{declared.{paper.Paper.Paper, sizes.Sizes.Sizes}, Cells.{first_cells, next_cells}, Happenings.event_text, Legends.legend_text}
-use Rattle.snoop_svg.specs.{Elements.{box, line, number, size, text, text_closed, text_opened}, Styles.style, Titles.{row_title}}
+use Rattle.snoop_svg.specs.{Elements.{box, line, number, size, text, text_closed, text_opened}, Styles.style, Titles.row_title}
 
 -- what all sheets of a drawing share: its sizes and columns, where replies begin, which steps are drawn and how many, and what it is written for
 pub record Plan : Type 0 where

@@ -1,7 +1,7 @@
 -- The title of a row: the line of its step, and the rows of the tables that the controllers take.
 -- Source: this project's profile.
 use Rattle.std.specs.{Prelude.{ℕ, List, [], ◌++◌, codes, Some, None, Result}, Fmt.decimal, List.flat_map, Option.option_map_or}
-use Rattle.snoop_trace.specs.{Extent.Extent, Output.step_text, declared.{step.Step.Step}}
+use Rattle.snoop_trace.specs.{Extent.Extent, Output.step_text, declared.step.Step.Step}
 use Rattle.snoop_rules.specs.declared.names.{CacheEvent.CacheEvent, CacheState.CacheState, MemEvent.MemEvent, MemState.MemState}
 use Rattle.snoop_rules.specs.Names.{event_name, memory_event_name, memory_state_name, state_name}
 use Rattle.snoop_model.specs.{Pictures.Situation.Situation, declared.replies.{Refused.Refused, Reply.Reply}}

@@ -1,4 +1,4 @@
--- One record further in a text.
+-- Of a text that is read: a reader that is plain, the records that are left, what records say, and the heading that may come first.
 -- Source: this project's profile, over the records of the crate csv.
 use Rattle.std.specs.Prelude.{◌≡◌, ℕ, ◌+◌, List, length, Option, Some, None, Result, Ok}
 use Rattle.csv.specs.{Reading.{Ready, default_config, records_from, reader_config, reader_trim}, declared.parser.State.State}

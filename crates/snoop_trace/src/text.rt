@@ -44,7 +44,7 @@ fn take_text<E: Entry, C: Entries<E>, R: Read>(
         match text.read_byte_record(fields) {
             Ok(true) => {}
             Ok(false) => return Ok(()),
-            // A failed read too: `read_known` tells the two apart.
+            // Out of memory, or a failed read: `read_known` tells the two apart.
             Err(_) => return Err(TextFault::NoMemory),
         }
         match &protocol {

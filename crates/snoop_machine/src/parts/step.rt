@@ -1,14 +1,12 @@
 //! A step in its three stages: find, make room, make.
-ghost use Rattle.std.specs.Prelude.{◌≡◌, ◌≢◌, ◌<◌, ◌+◌, ◌++◌, ℕ, true, false, Option, OnOk, OnErr, IfOk, IfErr, IsOk, Err, slice_index, option_to_list};
+ghost use Rattle.std.specs.Prelude.{◌≡◌, ◌<◌, ◌+◌, ◌++◌, ℕ, true, false, Option, OnOk, OnErr, IfOk, IfErr, IsOk, Err, slice_index, option_to_list};
 ghost use Rattle.snoop_history.specs.declared.items.Item.{Item};
 ghost use Rattle.snoop_model.specs.declared.replies.Refused.TheVariants.{NoMemory as OutOfMemory};
 ghost use Rattle.snoop_model.specs.Moves.Move.{FirstMove};
 ghost use Rattle.snoop_model.specs.Moves.Refuses.{RefusedFor, Refuses};
-ghost use Rattle.snoop_rules.specs.declared.names.CacheState.TheVariants.{I};
-ghost use Rattle.snoop_model.specs.Pictures.Situation.{state_of};
-ghost use Rattle.snoop_machine.specs.Standing.{KeepsRoom, line_count, has_line};
+ghost use Rattle.snoop_machine.specs.Standing.{KeepsRoom, has_line};
 ghost use Rattle.snoop_machine.specs.Holding.{HoldsOn};
-ghost use Rattle.snoop_machine.specs.Prepared.{IsFull, IsPrepared, places, room_to_issue};
+ghost use Rattle.snoop_machine.specs.Prepared.{IsFull, IsPrepared, room_to_issue};
 ghost use Rattle.snoop_machine.specs.Following.{LosesLines, AddsLine, AddsLines};
 ghost use Rattle.snoop_machine.specs.Plan.{IsPlan, IsPlanFor, HasRoom, planned_step, room_for, entry_of};
 ghost use Rattle.snoop_model.specs.Invariant.Invariant.{Invariant};
@@ -18,7 +16,7 @@ use super::Parts;
 use crate::plan::{Asked, Plan};
 use snoop_history::{Item, Sent};
 use snoop_model::{Access, Refused, Reply};
-use snoop_trace::{Block, NoMemory, Op, Step};
+use snoop_trace::{Block, NoMemory, Step};
 
 impl<B: Block> Parts<B> {
     /// Takes one step: finds all that it will do, makes the room, and does it. A refused step changes nothing.

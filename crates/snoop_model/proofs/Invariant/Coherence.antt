@@ -1,4 +1,4 @@
--- What the invariant says of a situation: one writer, current copies and memory, all rows, one sender.
+-- What the invariant says of a situation: where nobody owns a block, what lies within the shape, which states a requestor is in, that all rows are found, that one sends.
 use Rattle.snoop_model.proofs.{OneBlock.OrderStep.{each_row, look, meant, meant_in, sender_told, sends, sends_if_meant, sent}, Tables.Rows.hit_keeps}
 use Rattle.snoop_model.proofs.{OneBlock.Facts.it_is, Tables.StateTests.{ask_rule, brings_data, fit_rule, is_hit-true, is_idle_evict, some_of}}
 use Rattle.snoop_model.proofs.{OneBlock.RespondStep.{answered, close, Closing}, Tables.OrderTests.{awaited-get, led_line, memory_row_for, row_for}}

@@ -8,10 +8,16 @@ use Rattle.snoop_model.proofs.Invariant.Runs.{reset_invariant, reset_open, nothi
 use Rattle.snoop_model.proofs.{Steps.GoesNext.order_made, Turns.Laws.busy_cases, OneBlock.Facts.owned_alone, Tables.StateTests.{ask_rule, fit_rule, is_hit-true}}
 use Rattle.snoop_rules.specs.declared.names.CacheEvent.TheVariants as event
 use Rattle.snoop_model.proofs.{Tables.StateTests.claims_rule, Lists.Facts.is_none}
+use Rattle.snoop_trace.specs.declared.protocol.Protocol.TheVariants as protocol
 
 -- each open transaction is on a line
 abbrev OnLine : Protocol → Picture → Type 0
 OnLine p picture = IfSome picture.transaction (λ o. (before : Picture) × IsSenderLine p before o.core o.request o.from o.payload picture.memory.state)
+
+-- no eviction hits in I, which has no row for one
+idle_no_hit : (p : Protocol) → ¬ MayHit p I Evict
+idle_no_hit protocol.Msi may = cc
+idle_no_hit protocol.Mesi may = cc
 
 module _ (s : Situation) (g : Invariant s) where
   -- each line keeps and awaits what its state says
@@ -38,9 +44,7 @@ module _ (s : Situation) (g : Invariant s) where
   -- a row that is no hit stands where the core may not hit
   no_hit : (core block : ℕ) (act : CacheAction) (next : CacheState) (asking : Op) → Cell s.protocol (state_of s core block) (asked asking) act next → act ≢ Hit
       → ¬ MayHit s.protocol (state_of s core block) asking
-  no_hit core block act next Load row other may = other (ap (λ (cell : CacheCell). cell.action) (same_Some _ _ (sym row ∙ may.1)))
-  no_hit core block act next (Store value) row other may = other (ap (λ (cell : CacheCell). cell.action) (same_Some _ _ (sym row ∙ may.1)))
-  no_hit core block act next Evict row other may = may
+  no_hit core block act next asking row other may = other (ap (λ (cell : CacheCell). cell.action) (same_Some _ _ (sym row ∙ may.1)))
 
   -- a hit is by a row that is one, and such a row is taken by a hit
   hits_may : (core block word : ℕ) (act : CacheAction) (next : CacheState) (asking : Op)
@@ -128,7 +132,7 @@ is_coherent s g on_lines well_kept = record {
         | inr awaits ↦ (awaits.0, inr ((data_awaited s g well_kept core block awaits.0).0 awaits.1))
       ];
   hits = λ core block word asking answer new m. elim m.moves [
-    | inl absent ↦ rw (absent.0, absent.2) ((λ hit. hit), (λ may. may))
+    | inl absent ↦ rw (absent.0, absent.1, absent.2) ((λ hit. absurd hit), idle_no_hit s.protocol)
     | inr a ↦ hits_may s g core block word a.row.action a.row.next asking a.is_row a.held answer a.entry a.taken
   ];
   gone = λ core block word answer new leaves m. elim m.moves [

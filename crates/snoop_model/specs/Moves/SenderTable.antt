@@ -8,7 +8,7 @@ use Rattle.snoop_bus.specs.Traffic.{Open}
 use Rattle.snoop_model.specs.{declared.replies.Reply.Reply, Pictures.{Picture.{Picture, held_by}, Situation.{Situation, picture_of, CanOrder}}}
 use Rattle.snoop_model.specs.{Moves.Move.{TakesMemRow, Settles, MoveOn}, Pictures.Sends.IsOnlySender}
 
--- the core's request is met as a line of the table says: from memory's state and the sender's before it, to memory's state after it, from which memory's row for the payload leads to `done` where memory takes it; else that is `done`
+-- the core's request is met as a line of the table says: from memory's state and the sender's before it, to memory's state after it, from which memory's row for the payload leads to `done`; where memory does not take the payload, `done` is memory's state after the Order
 pub record IsSenderLine (protocol : Protocol) (before : Picture) (core : ℕ) (request : Request) (from : Option ℕ) (payload : Payload) (next : MemState) : Type 0 where
   pub done : MemState
   pub line : Contains (lines_of protocol request before.memory.state) (sender_of core (λ k. (held_by before k).state) from, payload, next, done)
@@ -24,7 +24,7 @@ pub record FollowsSenderTable (protocol : Protocol) (before : Picture) (core : �
   pub ordered : TakesMemRow protocol (at_memory request) before.memory.state next
   pub is_line : IsSenderLine protocol before core request from payload next
 
--- the open transaction is on a line of the table, with this core as requestor, memory's state and the sender's in some picture, and memory's state now; and a Respond taken next closes it and leaves memory in that line's last state
+-- the open transaction is on a line of the table, with its core as requestor, for memory's state and the sender's in some picture, not necessarily that of its Order, and memory's state now; and a Respond taken next closes it and leaves memory in that line's last state
 pub record IsOpenByTable (s : Situation) (block : ℕ) (transaction : Open) : Type 0 where
   pub before : Picture
   pub on_line : IsSenderLine s.protocol before transaction.core transaction.request transaction.from transaction.payload (picture_of s block).memory.state

@@ -5,7 +5,7 @@ use Rattle.snoop_trace.specs.{Extent.Extent, declared.{step.Step.Step, protocol.
 use Rattle.snoop_model.specs.{declared.replies.{Reply.Reply, Refused.{Refused, TheVariants.NoMemory}}, Pictures.Situation.{Situation, reset}}
 use Rattle.snoop_model.specs.Moves.{Move.{MoveOn, FirstMove}, Refuses.Refuses}
 
--- one step of a run: a move, an Order being on any block, or a refusal, which leaves all equal; any step may be refused as out of memory
+-- one step of a run: a move, an Order being on any block, or a refusal, which leaves all as it was; any step may be refused as out of memory
 abbrev pub Goes : Situation → Step → Result Reply Refused → Situation → Type 0
 Goes old step (Ok answer) new = (block : ℕ) × MoveOn block old step answer new
 Goes old step (Err NoMemory) new = new ≡ old
