@@ -65,28 +65,31 @@ that is clean and the only one. Each cache has a controller, and so has memory, 
 
 A machine begins at **reset**, with empty caches and a memory of 0, and takes **steps** of three
 kinds. At an **Ask** a core asks its cache to load, to store or to give a block up. A load or store
-**hits** where the cache may do it at once, and misses elsewhere. Where it misses and is not
-stalled, and where a block in E or M is to be given up, the cache issues a request, which waits in
-the core's queue; a load or store waits until its data comes. A block in S is dropped silently, with
-no request. While the core's request for a block waits or its transaction is open, the cache may
-refuse a further operation on that block, which is a stall. An **Order** puts a waiting request on
-the bus: all controllers see it, one of them sends a message, and the block has an open
-**transaction**, whose **requestor** is the core of the request. A **Respond** brings the message,
-with data or without, to the requestor, to memory or to both, and closes the transaction; a block
-has at most one at a time. A step is taken, with a reply, or refused for a cause; a refused step
-changes nothing. The reply or the cause is its **outcome**.
+**hits** where the table's row for it is a hit; a core in a state with such a row may load the
+block, and is a reader, or may store, and is a writer. Elsewhere the operation is stalled, or it
+misses. Where it misses, and where a block in E or M is to be given up, the cache issues a request,
+which waits in the core's queue; a load or store that missed waits until its data comes. A block in
+S is dropped silently, with no request. While the core's request for a block waits, or its GetS or
+GetM is open, the cache may refuse a further operation on that block, which is a stall. An **Order**
+puts a waiting request on the bus: all controllers see it, one of them sends a message, and the
+block has an open **transaction**, whose **requestor** is the core of the request. A **Respond**
+brings the message, with data or without, to the requestor, to memory or to both, and closes the
+transaction; a block has at most one at a time. A step is taken, with a reply, or refused for a
+cause; a refused step changes nothing. The reply or the cause is its **outcome**.
 
 A **situation** is all that is seen of a machine: its protocol and shape (how many cores and blocks
 it has, and how large a block is); of each block its **picture**; each core's queue; and the
 **log**, the history of what was done, whose items are operations that hit, ordered requests, and
-responses with what they performed. A picture has a line for each core (its state, the words that it
-keeps, the operation that waits, if any), memory's line, and the open transaction, if any. Flat
-memory is what the stores of a history leave in a memory of 0. A core may load a block where the
-table has a hit for a load in the core's state, and store where it has one for a store.
+responses with what they performed: an operation is performed when its value is read or written and
+stands in the log. A picture has a line for each core (its state; its copy, which is the words that
+it keeps; the operation that waits, if any), memory's line, and the open transaction, if any. Flat
+memory is what the stores of a history leave in a memory of 0.
 
 The history's order is that of performance, at a hit or with the data that came, and not that of
 asking: a load may be performed before a store to the same word that its core asked for earlier, if
-the core does not wait for the store.
+the core does not wait for the store. Where each core asks for nothing while an operation of its own
+waits, the history has each core's operations in the order of asking (by `told`, `once` and
+`legal`), so such a run is sequentially consistent.
 
 The prover of the Rattle toolchain has checked the theorem, and docs/PROVED.md says what is trusted.
 
@@ -105,8 +108,10 @@ has no open transaction, and any step may be refused as out of memory. An Order 
 caches and memory move at once, each by its row of the tables, and the block's transaction is open
 until its Respond.
 
-While a core's store to a block in S waits for its request to be ordered, or for data, a load of the
-block may hit, and reads what was there before the store. To read its own store, a core must wait
+While a core's store to a block in S waits for its request to be ordered, or for data, loads of the
+block by this core hit as long as its copy lasts (SM_AD, SM_D), and read what was there before the
+store; once another core's GetM is ordered first, the copy is gone (IM_AD), and its loads stall.
+Loads and stores hit too while a PutM waits (MI_A, EI_A). To read its own store, a core must wait
 until it is performed. A core's hits stand in the order of their Asks, by `told`; those that it
 makes while another operation of its own waits, on this block or on another, stand before that one,
 if it is ever performed; and of two that wait on different blocks either may come first. Nothing is
@@ -119,30 +124,32 @@ open and no PutM.
 
 `given_up` is about words alone: a core whose PutM is open may have asked for the block anew.
 
-By `moves` each step for which no cause of `Refuses` holds has a move. Where a cause holds, the step
-may be refused; an Order of a core whose first block has an open transaction may be taken as well,
-of another free block on which the core waits.
+A **move** is a step that is taken. By `moves` each step for which no cause of `Refuses` holds has
+one; so a load or store within the shape that may hit does hit, out of memory aside. Where a cause
+holds, the step is refused; but an Order of a core whose first block has an open transaction may be
+taken instead, of another free block on which the core waits.
 
 A run is made of the moves below, so what they and the tables say of a step holds of each step of a
-run. No clause says again:
+run. `hits` follows from them alone, and says of a load or store that is taken that it hits or, by
+`told`, is issued. These things too the moves and the tables say, and no clause repeats them:
 
-- whether an eviction is answered Gone, Absent or by a request (a load or store that is taken hits
-  where `hits` says so, and else, by `told`, is issued);
+- whether an eviction is answered Gone, Absent or by a request;
 - which operations stall while their core's request waits or is open, and why else a step is
   refused;
-- to which states caches go, so how long a copy lasts, and that a state, as E, is ever reached;
+- to which states caches go (but see `gone`), so how long a copy lasts, and that a state, as E, is
+  ever reached;
 - that a step leaves other blocks as they were, and at an Ask other cores;
-- that an Order opens the transaction of the request that it took, and in which order the blocks
-  stand in a queue;
+- that an Order opens the transaction of the request that it took, in which order the blocks stand
+  in a queue, and that a PutM that was issued stands there;
 - whether a response performs an operation, and that the requestor and request which it has in the
   history are those of the open transaction. `told` says that the history has what was replied, that
   a response is of the block of its Respond, and that the operation which it performed is, on that
   block, of the requestor that the history has, and no hit. Which of that core's operations it is,
   and a load's value, follow from `legal` and from `once`, of this run and of each of its
   beginnings;
-- that the requestor takes the message of each GetS and GetM, and no cache that of a PutM. The
-  target that a row names is not looked at; of memory, `on_table` says its state;
-- that the lines of the table of senders are all reached.
+- that the requestor takes the message of each GetS and GetM, and no cache that of a PutM (memory's
+  state after a Respond is said by `on_table`; the target that a row names is not looked at);
+- that the lines of the table of senders (`lines_of`) are all reached.
 
 That the code takes such steps and no others is proved of `Machine::step` and `run_steps`
 (docs/PROVED.md), and why all this holds is in docs/COHERENCE.md. `tools/theorem.py --write` makes
@@ -157,7 +164,8 @@ arguments and of what it is; `Type 0` says that it is a fact or a type. Below st
 case by case, the first that fits, with `_` for any value. A record of facts holds where all of them
 do; a field that is no fact, as `done` of `IsSenderLine`, is a value that has to exist.
 `record s {{ .. }}` is s with these fields; with no `s` all of them stand there. `x.log` is a field,
-and binds before `f a`. In a case a small letter or word fits any value, as `_` does.
+and binds before `f a`. In a case a small letter or word fits any value, as `_` does; `One` of
+`RunBy` and `P` of `EveryRun` are such values too, which are facts of what stands behind them.
 `{{A : Type 0}}` is a type that follows from the other arguments. `--` begins a comment, `where` the
 parts of a record or a type. `declared.` stands before a type as the code declares it. A member of a
 type may stand with a short name of its type before it, as `op.Load`, `state.ImAd`, `event.Data`,
@@ -167,16 +175,20 @@ after the dot; a field has none), and what it carries follows it in order, as in
 `data` begins a type by its members. `∷`, `++`, `×`, `⊎` and `→` read from the right. `∷` and `++`
 bind more strongly than `≡`, `≢`, `<` and `≤`, these than `×` and `⊎`, and these than `→`; `==`
 binds more strongly than `&&`. `(x : T) ×`, `(x : T) →` and `λ x.` reach to the end of their
-brackets. Some words name several things, told apart by where they stand: `Data`, say, is the words
-of a block, a payload and an event, `I`, `S` and `M` are states of caches and of memory, `Load`,
-`Store` and `Evict` operations and events, `GetS`, `GetM` and `PutM` requests and events, `Hit` and
-`Came` several kinds of thing, `Requestor` and `Memory` senders and targets, `taken` a function and
-a field, and a line is a cache's, memory's or one of a table. From a row that is taken at an Order
-only the next state and a Send are used, and from memory's row at a Respond only the next state and
-a Write. States are printed with underscores elsewhere: `ImAd` is IM_AD. A block is free where no
-transaction is open on it, a copy clean where memory has the same words, and what a PutM is for is a
-writeback. The "oldest request" of a type's comment is the one that the code orders; the theorem is
-about Orders of any waiting request. What the types' comments say of texts is in docs/TEXTS.md.
+brackets. Some words name several things, told apart by where they stand: `Data`, for example, is
+the words of a block, a payload and an event, `I`, `S` and `M` are states of caches and of memory,
+`Load`, `Store` and `Evict` operations and events, `GetS`, `GetM` and `PutM` requests and events,
+`Hit` and `Came` several kinds of thing, `Requestor` and `Memory` senders and targets, `taken` a
+function and a field, and a line is a cache's, memory's or one of a table. From a row that is taken
+at an Order only the next state and a Send are used, and from memory's row at a Respond only the
+next state and a Write. In comments and in what is printed, states have underscores: `ImAd` is
+IM_AD. A block is free where no transaction is open on it, a copy clean where memory has the same
+words, and what a PutM is for is a writeback. The "oldest request" of a type's comment is the one
+that the code orders; the theorem is about Orders of any waiting request. What the types' comments
+say of texts is in docs/TEXTS.md. A core waits on a block (`Waits`) where its request for it is not
+yet ordered; an operation waits in a line until it is performed. `Extent` is the type of a shape.
+Each part below begins with what its file is about; of its definitions the page has those on which
+the theorem stands.
 
 `(a, b)` is a pair, `(a, b, c)` three and so on. Between facts `A × B` is "A and B", between types
 it is their pairs; `(x : T) × P` "there is an x with P" (`(x y : T)` has two of one type),
@@ -187,8 +199,8 @@ whose fields what it says exists can be spoken of; `¬ A` "not A", `⊥` what ne
 
 Look-ups have a default: outside a machine's shape a core holds nothing (state I), no transaction is
 open, and memory is in IorS with words of 0; the queue of such a core is empty. A block has 64
-places for words; an operation on a word past them is refused. How many bytes a block has is part of
-a shape, and no definition looks at it.
+places for words; a load or store of a word past them is refused. How many bytes a block has is part
+of a shape, and no definition looks at it.
 
 | Written | Means |
 |---|---|
