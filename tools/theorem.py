@@ -87,10 +87,9 @@ memory is what the stores of a history leave in a memory of 0.
 
 The history's order is that of performance, at a hit or with the data that came, and not that of
 asking: a load may be performed before a store to the same word that its core asked for earlier, if
-the core does not wait for the store. No clause says more of the order of asking, but this follows
-by hand from `told`, `once` and `legal`: where each core asks for nothing while an operation of its
-own waits, the history has each core's operations in the order of asking, so such a run is
-sequentially consistent.
+the core does not wait for the store. This stands in no clause, and follows by hand from `told`,
+`once` and `legal`: where each core asks for nothing while an operation of its own waits, the
+history has each core's operations in the order of asking, so such a run is sequentially consistent.
 
 The prover of the Rattle toolchain has checked the theorem, and docs/PROVED.md says what is trusted.
 
