@@ -38,6 +38,7 @@ impl Queue {
         ensures ok { OnOk result (0 < self.new.room) }
         ensures full { OnErr result (self.old.room ≡ 0) }
         ensures refused { OnErr result (self.new ≡ self.old) }
+        ensures idle { 0 < self.old.room → self.new ≡ self.old }
         ensures requests { self.new.requests ≡ self.old.requests }
         ensures room { self.old.room ≤ self.new.room }
     {
@@ -156,6 +157,7 @@ impl<K: Copy> Bus<K> {
         ensures ok { OnOk result (0 < (waiting_of self.new core).room) }
         ensures full { OnErr result ((waiting_of self.old core).room ≡ 0) }
         ensures refused { OnErr result (self.new ≡ self.old) }
+        ensures idle { 0 < (waiting_of self.old core).room → self.new ≡ self.old }
 
         // Nothing but the core's room changes, and it doesn't shrink.
         ensures room { (waiting_of self.old core).room ≤ (waiting_of self.new core).room }
