@@ -10,7 +10,7 @@ pub use Rattle.snoop_bus.specs.Traffic.{Open}
 pub use Rattle.snoop_model.specs.{Invariant.WellKept.IsWellKept, Moves.Move.{FirstMove, as_access, next_did}, Runs.Once.{asked_access, did_access, OnceMore}}
 pub use Rattle.snoop_model.specs.{Pictures.Situation.{picture_of, reset, Situation, state_of}, Runs.Owed.{IsLast, IsOwed}, Turns.Turn.{step_under_way, turn_of}}
 pub use Rattle.snoop_model.{specs.{Turns.TurnLaws.TurnLaws, declared.{access.Access.Access, replies.Reply.Reply}}, proofs.Invariant.Safety.well_kept_in}
-pub use Rattle.snoop_model.proofs.Once.Owed.{answers_after, one_or_none, owed_after, performed_by, waited_or_asked}
+pub use Rattle.snoop_model.proofs.Once.{answers_after, one_or_none, owed_after, performed_by, waited_or_asked}
 pub use Rattle.snoop_bench.specs.{Keeps.{AreUnderWay, locked}, Locked.{EndsWith, IsClosed, Locked, record_of}, Outcomes.{turn_asked, turn_over, works_asked}}
 pub use Rattle.snoop_bench.specs.{Recording.{IsRecorded, Recording, TakesAndPublishes}, Turns.{Asked, Case, case_of, case_under_way, Finishes, TurnsIn}}
 pub use Rattle.snoop_bench.specs.{Turns.Case.{ends, helps, orders, over}, Works.{access_of, Does, IsOp, work_at, works_under_way}}

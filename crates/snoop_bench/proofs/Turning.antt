@@ -6,10 +6,10 @@ use Rattle.snoop_trace.specs.{Words.HasWord, declared.protocol.Protocol.Protocol
 use Rattle.snoop_trace.specs.declared.step.Op.TheVariants as op
 use Rattle.snoop_model.{specs.{declared.replies.Refused.Refused, Turns.Serving.IsUnderWay, Moves.Refuses.Refuses}, proofs.Invariant.Runs.reset_line}
 use Rattle.snoop_model.specs.declared.replies.Reply.TheVariants as reply
-use Rattle.snoop_model.{proofs.{Turns.ClosedWorks.has_step, OneBlock.OfBlocks.{in_pictures, picture_here}}, specs.Pictures.Picture.{Picture, held_by}}
+use Rattle.snoop_model.{proofs.{OneBlock.AfterMoves.{in_pictures, picture_here}, Turns.has_step}, specs.Pictures.Picture.{held_by, Picture}}
 use Rattle.snoop_bench.{specs.Faults.IsInside, proofs.{Cases.{IsCase, IsCase.{ordering, ending}}, Waiting.{Stepped, AsksNothing, owed_still}}}
 use Rattle.snoop_bench.proofs.Places.{its_block, changed, unchanged, put_out, has_place, apart}
-use Rattle.snoop_model.proofs.Queues.Responds.{arrives_waits}
+use Rattle.snoop_model.proofs.Queues.{arrives_waits}
 
 -- the core and the block are within the shape, and so is the word that is loaded or stored
 abbrev pub IsWithin : Situation → ℕ → Work → Type 0

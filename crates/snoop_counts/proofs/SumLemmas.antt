@@ -6,7 +6,7 @@ use Rattle.std.specs.Prelude.{Err, is_some, IsSomeAnd, nat_lt, option_to_list, s
 use Rattle.snoop_trace.specs.Extent.{IsWithinLimits}
 use Rattle.snoop_rules.specs.declared.names.{CacheEvent.TheVariants.OtherGetM, CacheState.TheVariants.{S, SmAd}, Payload.{Payload, TheVariants.Data}}
 use Rattle.snoop_history.specs.{Totals.{how_many, is_put_m, performed, totals_of}, Within.{block_of, IsItemWithin}}
-use Rattle.snoop_model.proofs.{Queues.Moves.keeps_well, Runs.{GoOn.{IsSteady, reset_steady, steady_on}, Replies.move_tells}}
+use Rattle.snoop_model.proofs.{Queues.keeps_well, Runs.{GoOn.{IsSteady, reset_steady, steady_on}, Replies.move_tells}}
 use Rattle.snoop_model.specs.{Moves.Replies.Tells, Pictures.Situation.{IsShaped, nothing_there}}
 use Rattle.snoop_model.specs.declared.replies.Reply.TheVariants.{Absent, Came, Gone, Hit, Issued, Ordered, StoreHit}
 use Rattle.snoop_engine.proofs.Common.{All-append, All-cons, arrival, Ask, CacheEvent, CacheState, cases_lt, ConsultsCache, Contains, Extent, get_or_past, GoesFirst, held_by, I, IfSome, Invariant, Item, Line, nothing_held, Order, Picture, picture_of, Protocol, reset, Respond, ShowsRows, state_of, waiting_request}

@@ -17,7 +17,7 @@ pub use Rattle.snoop_rules.specs.{Takers.{arrival, arrival_at_memory, asked, at_
 pub use Rattle.snoop_rules.specs.declared.names.{CacheState.{CacheState, TheVariants.I}, MemState.MemState, Request.{Request, TheVariants.{GetM, GetS, PutM}}}
 pub use Rattle.snoop_history.specs.declared.items.{Did.Did, Item.Item}
 pub use Rattle.snoop_bus.specs.{Queues.queue_of, Traffic.Open}
-pub use Rattle.snoop_model.{proofs.Turns.Laws.turn_rule, specs.{Invariant.Invariant.Invariant, Moves.LookUps.{ConsultsCache, ConsultsMemory}}}
+pub use Rattle.snoop_model.{proofs.Turns.turn_rule, specs.{Invariant.Invariant.Invariant, Moves.LookUps.{ConsultsCache, ConsultsMemory}}}
 pub use Rattle.snoop_model.specs.Moves.Move.{ArrivesFor, Asks, FillsRequestor, FirstMove, IsAbsent, IsWithin, Orders, Responds, TakesFirst, Settles, Takes}
 pub use Rattle.snoop_model.specs.{Pictures.{Lines.Line, Picture.{Picture, held_at, held_by, nothing_held, with_line}, Proper.keeps}, Turns.Quiet.IsQuiet}
 pub use Rattle.snoop_model.specs.{Pictures.Situation.{Situation, picture_of, reset, state_of, nothing_there, untouched}, Turns.Turn.{turn_of, step_under_way}}

@@ -1,6 +1,6 @@
 -- Frames: as a run, and one after another.
 use Rattle.snoop_engine.proofs.Common.{◌≡◌, List, [], ◌∷◌, ◌++◌, refl, ap, Result, Step, Reply, Refused, Situation, reset, FirstRunFrom, Frame, FramesAreTheRun, FramesFrom, outcomes_of, steps_of}
-use Rattle.{snoop_model.proofs.Runs.Shape.{alike_on, same_alike}, snoop_engine.proofs.TakenLemmas.goes_alike}
+use Rattle.{snoop_engine.proofs.TakenLemmas.goes_alike, snoop_model.proofs.Runs.Replies.{alike_on, same_alike}}
 
 -- frames are a run
 pub frames_run : (frames : List Frame) (old new : Situation) → FramesFrom old frames new → FirstRunFrom old (steps_of frames) (outcomes_of frames) new

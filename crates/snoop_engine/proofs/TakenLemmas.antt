@@ -1,7 +1,7 @@
 -- Steps and runs: what they keep, and one step more.
 use Rattle.snoop_engine.proofs.Common.{◌≡◌, List, [], ◌∷◌, ◌++◌, Result, Ok, Err, Step, Reply, Refused, Situation, FirstMove, FirstRunFrom, GoesFirst}
 use Rattle.snoop_model.proofs.Runs.Along as along
-use Rattle.snoop_model.proofs.Runs.Shape.{IsAlike, move_stays, same_alike}
+use Rattle.snoop_model.proofs.Runs.Replies.{IsAlike, move_stays, same_alike}
 
 -- a step keeps the shape
 pub same_shape : (s t : Situation) (step : Step) (answer : Reply) → FirstMove s step answer t → t.shape ≡ s.shape

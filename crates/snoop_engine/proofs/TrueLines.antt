@@ -3,7 +3,7 @@ use Rattle.snoop_engine.proofs.Common.{common_steps, ◌≡◌, ◌⊎◌, ℕ, 
 use Rattle.snoop_rules.specs.{declared.names.CacheAction.{CacheAction, TheVariants.{Stall}}}
 use Rattle.snoop_rules.{specs.{declared.names.MemAction.MemAction, MemoryCell.MemoryCell}}
 use Rattle.snoop_rules.specs.declared.names.MemAction.TheVariants as mem_action
-use Rattle.snoop_model.{specs.Moves.Refuses.Refuses, proofs.{OneBlock.AfterMoves.{ask_line, order_here, respond_here}, Queues.Moves.keeps_well}}
+use Rattle.snoop_model.{proofs.{OneBlock.AfterMoves.{ask_line, order_here, respond_here}, Queues.keeps_well}, specs.Moves.Refuses.Refuses}
 use Rattle.snoop_model.proofs.Runs.GoOn.{reset_steady, IsSteady, steady_on}
 use Rattle.snoop_engine.proofs.{AllLines.{all_listed, asker_listed}, TakenLemmas.goes_alike}
 

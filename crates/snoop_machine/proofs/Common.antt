@@ -19,7 +19,7 @@ pub use Rattle.snoop_model.specs.Moves.Move.{ArrivesFor, Asks, Fills, FillsReque
 pub use Rattle.snoop_model.specs.Pictures.{Lines.{Line, MemLine}, Proper.{IsProper, keeps, missed_request, request_for}, Sends.{IsOnlySender, Sends}}
 pub use Rattle.snoop_model.specs.Pictures.Picture.{Picture, first_memory, free_picture, held_at, held_by, kept_on, nothing_held, with_line}
 pub use Rattle.snoop_model.specs.{Pictures.Situation.{IsHead, Situation, nothing_there, picture_of, state_of}, Runs.Run.{Goes, RunBy}}
-pub use Rattle.snoop_model.{specs.declared.{access.Access.Access, replies.{Refused.Refused, Reply.Reply}}, proofs.Lists.Facts.{replicated, if_some}}
+pub use Rattle.snoop_model.{proofs.Lists.{if_some, replicated}, specs.declared.{access.Access.Access, replies.{Refused.Refused, Reply.Reply}}}
 pub use Rattle.snoop_model.specs.declared.replies.Refused.TheVariants.{BusTaken, NoBlock, NoCore, NoMemory, NoTransaction, NothingWaiting, Stalled}
 pub use Rattle.snoop_machine.specs.{AnyParts.stand, Following.{AddsLines, LosesLines}, Holding.{HoldsOn, MovesToI, NeedsLine}, Memory.{MemTables, memory_line}}
 pub use Rattle.snoop_machine.specs.Cache.{Contents, KeepsMapRoom, blocks_of, changed, filled_line, line_in, line_or_nothing, lines_held, no_cache, words_after}
@@ -30,8 +30,8 @@ pub use Rattle.snoop_machine.specs.Plan.{HasRoom, HasRoomToAsk, IsClosing, IsPla
 pub use Rattle.snoop_machine.specs.{Prepared.{IsFull, IsPrepared, places, room_to}, Standing.{KeepsRoom, Standing, line_count}, declared.plan.Plan.Plan}
 pub use Rattle.snoop_machine.specs.declared.{plan.Asked.TheVariants.{Absent, Drop, Issue, Hit}, cache.LineChange.TheVariants.Wait, holders.Holders.Holders}
 pub use Rattle.snoop_model.proofs.{Invariant.Coherence.{finds_rows, orders_follow_sender_table, sender_within}, Runs.Along.{run_more, seen_along, kept_along}}
-pub use Rattle.snoop_model.proofs.{Invariant.Safety.{is_safe, move_keeps_all, kept_is_flat, reset_keeps}, Lines.EachRow.{Taking, Taking-more, Taking-past}}
-pub use Rattle.snoop_model.proofs.Lines.TheSender.{Silent-none, Silent-more, Silent-past, Silent-all, SilentBelow}
+pub use Rattle.snoop_model.proofs.{Invariant.Safety.{is_safe, kept_is_flat, move_keeps_all, reset_keeps}, Lines.{Taking, Taking-more, Taking-past}}
+pub use Rattle.snoop_model.proofs.Lines.{Silent-all, Silent-more, Silent-none, Silent-past, SilentBelow}
 pub use Rattle.snoop_model.proofs.Tables.Rows.{fill-waits, IsProper-fill, IsProper-order, issue-waits, drop-waits, IsProper-issue, IsProper-hit, IsProper-drop}
 unfoldable pub use Rattle.snoop_model.specs.Invariant.Fits.{is_owner}
 

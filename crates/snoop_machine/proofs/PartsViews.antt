@@ -1,6 +1,6 @@
 -- Queues, pictures and room as callers see them, that lines, queues and open transactions fit together after each change, and how many lines each map has then.
 use Rattle.snoop_machine.proofs.Common.{◌≡◌, ◌≢◌, ℕ, ◌<◌, true, not, filter, drop, List, [], ◌∷◌, ◌++◌, length, map, Option, Some, None, refl, sym, ◌∙◌, ap, arith, inl, inr, ◌+◌, ◌==◌, is_some, option_map, option_to_list, position, slice_get, slice_index_or, slice_set, if◌then◌else◌, prefix_len, get_or-map, map-set_same, cases_eq, cases_lt, eq-eqb, ne_eqb, false≢true, same_Some, slice_get-map, append-nil, get_or_past, length-map, map-append, map-set, filter-append, Extent, waiting_request, Request, queue_of, after_issue, after_order, place_in, Traffic, Waiting, no_queue, waiting_of, head_of, Line, line_at, queues_of, requests_for, IsSound, length-set, get_or-set_same, get_or-set_other, Data, Protocol, Payload, Open, Starts, transaction_on, TakesRows, held_at, nothing_held, IsProper, row_of, with_line_at, WaitsAs, IsProper-order, each_place, set-get_or, common_steps, zero, suc, replicate, zero_words, Picture, held_by, with_line, picture_of, state_of, nothing_there, memory_line, Fields, standing, pictures_of, IsSized, IsWhole, Standing, ◌≤◌, slice_index, Held, KeepsMapsRoom, shown_line_room, shown_line_rooms, KeepsRoom, MemTables, Journal, LinesGo, WritesLine, LosesLines}
-use Rattle.snoop_model.proofs.Queues.Orders.{own_waits, others_wait}
+use Rattle.snoop_model.proofs.Queues.{others_wait, own_waits}
 use Rattle.snoop_rules.specs.declared.names.MemState.{MemState, TheVariants.IorS}
 
 abbrev pub blocks_of : List (Request × ℕ) → List ℕ

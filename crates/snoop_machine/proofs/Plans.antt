@@ -2,7 +2,7 @@
 use Rattle.snoop_machine.proofs.Common.{◌≡◌, ℕ, ◌++◌, Option, append-nil, arith, ◌⊎◌, option_to_list, Step, Item, FirstMove, Refuses, Situation, Refused, Reply, IsPlan, IsPlanFor, HasRoom, planned_step, room_for, entry_of, IsFull, IsPrepared, Standing, Plan, ◌+◌, cases_eq, get_or-set_other, LosesLines, AddsLines, NeedsLine, MovesToI, HoldsOn, KeepsRoom, line_count, get_or-set_same}
 use Rattle.snoop_trace.specs.declared.step.Step.TheVariants as step
 use Rattle.snoop_machine.specs.declared.plan.Plan.TheVariants as plan
-use Rattle.snoop_model.proofs.Tables.EvictInI.{no_row}
+use Rattle.snoop_model.proofs.Tables.Rows.{no_row}
 
 -- a planned step is refused for no cause
 pub plan-allowed : (s : Situation) (x : Plan) → IsPlan s x → (cause : Refused) → ¬ Refuses s (planned_step x) cause

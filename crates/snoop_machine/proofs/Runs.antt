@@ -1,7 +1,7 @@
 -- What each step of a machine keeps, and one more of the steps that a machine takes.
 use Rattle.snoop_machine.proofs.Common.{◌≡◌, ℕ, List, refl, ap, Result, Ok, Err, IfOk, IfErr, Step, MachineKeeps, FirstMove, RefusedFor, RunBy, Refused, NoMemory, Reply, HoldsOn, IsFull, Answers, AnswersSafely, Standing, KeepsRoom, move_keeps_all, kept_along, ◌<◌, take, length, get_or, ◌+◌, [], ◌∷◌, ◌++◌, arith, is_ok, count_by, take_more, Invariant, Goes, HasRun, is_safe, run_more, seen_along, common_steps}
-use Rattle.snoop_model.{specs.Moves.Replies.Tells, proofs.Runs.{Replies.{move_tells, refusal_tells}, Shape.{IsAlike, alike_on, move_stays, same_alike}}}
-use Rattle.snoop_model.proofs.Once.Runs.{run_once}
+use Rattle.snoop_model.{proofs.Runs.Replies.{alike_on, IsAlike, move_stays, move_tells, refusal_tells, same_alike}, specs.Moves.Replies.Tells}
+use Rattle.snoop_model.proofs.Once.{run_once}
 
 module _ (old new : Standing) (step : Step) where
   -- what a machine's step answers

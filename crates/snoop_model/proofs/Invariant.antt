@@ -2,4 +2,3 @@
 pub mod Runs
 pub mod Coherence
 pub mod Safety
-pub mod Steps

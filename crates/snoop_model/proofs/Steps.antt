@@ -1,3 +1,380 @@
--- What a step comes to, as a function: each step of a run goes as it is computed, and in no other way.
-pub mod Next
-pub mod GoesNext
+-- What a step comes to, computed: what it is answered, and where it leads. Each step of a run goes so. Where a table has no row, which no run meets, the state stays.
+use Rattle.std.specs.Bool.{Decides}
+use Rattle.snoop_model.proofs.Common.{[], Access, after_order, ap, arith, arrival, arrival_at_memory, ArrivesFor, as_access, Ask, asked, at_memory, Bool, both_ways, BusTaken, CacheAction, CacheCell, CacheState, came_of, CanOrder, cases_Bool, cases_eq, cases_lt, Cell, cell_of, cond_both, Data, Decides-and, Decides-ltb, Did, Drop, Err, Evict, Extent, false, false_from_ne_true, fill_by_all, FillLoad, FillsRequestor, FillStore, FirstMove, free_picture, get_or-map-range_with_len, GoesFirst, HasWord, held_at, held_by, Hit, Hits, if◌then◌else◌, inl, inr, Invariant, is_load, is_put_m, is_some, IsOnlySender, IsProper, Issue, IsWithin, Item, le-ltb, length, length-map-range_with_len, Line, List, Load, lt-ltb, ltb, ltb-false, ltb-true, map, MemLine, memory_cell_of, moves_to, next_did, NoBlock, NoCore, None, none-some, none_from_not_some, nothing_held, NothingWaiting, NoTransaction, Ok, Op, Open, Option, option_and_then_some, option_map_or, option_to_list, Order, Orders, Payload, Performs, Picture, picture_of, Protocol, PutM, queue_of, queues_after, range_with_len, refl, Refused, Refuses, Reply, Request, request_for, Respond, Responds, Result, seen_by, Situation, slice_get, slice_set, Some, Stall, Stalled, state_of, Step, Store, suc, sym, Takes, takes_payload, true, unwrap_or, value_sent, waiting_request, with_line, with_picture, word_at, word_places, written, zero, zero_words, ℕ, ◌&&◌, ◌++◌, ◌<◌, ◌↔◌, ◌∙◌, ◌∷◌, ◌≡◌, ◌≤◌, ◌⊎◌}
+use Rattle.snoop_model.proofs.{Invariant.Coherence.{finds_rows, idle_evict, orders_follow_sender_table, waits_within}, Lines.{IsBelow, sends_below}}
+use Rattle.snoop_model.proofs.{Lists.{if_some, option_both}, OneBlock.{AfterMoves.changed, RespondStep.{answered, close}}}
+use Rattle.snoop_model.proofs.Queues.{AreQueued, first_waits, none_waits}
+use Rattle.snoop_model.proofs.Tables.{OrderTests.{data_rule, fills, row_for, settled_row, settled_so}, Rows.{action_rule, hit_keeps, is_evict, serving-asked}, SentBy.{payload_from, sends_is, sends_row}, StateTests.{ask_rule, is_idle_evict, some_of}}
+use Rattle.snoop_rules.specs.declared.names.MemAction.TheVariants as mem_action
+use Rattle.snoop_rules.specs.declared.names.Payload.TheVariants as payload
+use Rattle.snoop_history.specs.declared.items.Item.TheVariants as item
+use Rattle.snoop_model.specs.declared.replies.Reply.TheVariants as reply
+
+-- what a step is answered, and where it leads
+abbrev pub Next : Type 0
+Next = Result Reply Refused × Situation
+
+-- the value that an operation on a word loads or stores, and the block's words after it
+abbrev pub value_of : ℕ → Op → Data → ℕ
+value_of word (Store stored) before = stored
+value_of word _ before = word_at before word
+
+abbrev pub words_after : ℕ → Op → Data → Data
+words_after word (Store stored) before = slice_set before word stored
+words_after word _ before = before
+
+-- the operation may be of this word
+abbrev pub has_word : Extent → ℕ → Op → Bool
+has_word shape word Evict = true
+has_word shape word _ = ltb word shape.words && ltb word word_places
+
+-- An Ask by a row, and one within the shape: only an Evict in I has no row.
+module _ (s : Situation) (core block word : ℕ) (asking : Op) where
+  abbrev pub asker : Line
+  asker = held_by (picture_of s block) core
+
+  abbrev pub after_ask : CacheAction → Line → Option Item → Situation
+  after_ask act held entry =
+      changed s block (with_line (picture_of s block) core held) (queues_after act s.queues core block) (s.log ++ option_to_list entry)
+
+  abbrev pub by_row : CacheAction → CacheState → Next
+  by_row Hit next =
+      let before = unwrap_or asker.kept zero_words in
+      let value = value_of word asking before in
+      let held : Line = record { state = next; kept = Some (words_after word asking before); waiting = asker.waiting } in
+      let did : Item = item.Did (next_did s.log core block word asking value true) in
+      (Ok (if is_load asking then reply.Hit value else reply.StoreHit), after_ask Hit held (Some did))
+  by_row (Issue request) next =
+      let held : Line = record (moves_to next asker) { waiting = as_access word asking } in
+      (Ok (reply.Issued request), after_ask (Issue request) held None)
+  by_row Drop next = (Ok reply.Gone, after_ask Drop (moves_to next asker) None)
+  by_row _ next = (Err (Stalled asker.state), s)
+
+  abbrev pub next_asked : Next
+  next_asked = option_map_or (λ row. by_row row.action row.next) (cell_of s.protocol asker.state (asked asking)) (Ok reply.Absent, s)
+
+-- An Order seen by all caches and memory, each with its row.
+module _ (p : Protocol) (before : Picture) (core : ℕ) (request : Request) where
+  -- the last core below n whose row sends, else memory
+  abbrev pub sender_below : ℕ → Option ℕ
+  sender_below zero = None
+  sender_below (suc n) = if is_some (payload_from p before core request (Some n)) then Some n else sender_below n
+
+  abbrev pub line_after : ℕ → Line
+  line_after k =
+      let held = held_by before k in
+      moves_to (option_map_or (λ row. row.next) (cell_of p held.state (seen_by k core request)) held.state) held
+
+  abbrev pub next_picture : ℕ → Picture
+  next_picture block =
+      let from = sender_below (length before.caches) in
+      let payload = unwrap_or (payload_from p before core request from) payload.Data in
+      record {
+        caches = map line_after (range_with_len 0 (length before.caches));
+        memory = record {
+          state = option_map_or (λ row. row.next) (memory_cell_of p before.memory.state (at_memory request)) before.memory.state;
+          value = before.memory.value;
+        };
+        transaction = Some (record { core = core; request = request; block = block; payload = payload; value = value_sent before from payload; from = from });
+      }
+
+abbrev pub next_ordered : Situation → ℕ → ℕ → Request → Next
+next_ordered s core block request =
+    let sent : Item = item.Sent (record { core = core; request = request; block = block }) in
+    (Ok (reply.Ordered request), changed s block (next_picture s.protocol (picture_of s block) core request block) (after_order s.queues core block) (s.log ++ sent ∷ []))
+
+-- A Respond: what it brings to the lines, with the operation that it performs, and to memory.
+module _ (closing : Open) (p : Protocol) (log : List Item) (lines : List Line) where
+  abbrev pub filled : Option Access → List Line × Option Did
+  filled None = (lines, None)
+  filled (Some access) =
+      let held = held_at lines closing.core in
+      let next = option_map_or (λ row. row.next) (row_for p held.state (arrival closing.payload)) held.state in
+      let line : Line = record { state = next; kept = Some (words_after access.word access.op closing.value); waiting = None } in
+      let did = next_did log closing.core closing.block access.word access.op (value_of access.word access.op closing.value) false in
+      (slice_set lines closing.core line, Some did)
+
+  abbrev pub brought : Request → List Line × Option Did
+  brought PutM = (lines, None)
+  brought _ = filled (held_at lines closing.core).waiting
+
+abbrev pub next_closed : Situation → ℕ → Open → Next
+next_closed s block closing =
+    let before = picture_of s block in
+    let caches = brought closing s.protocol s.log before.caches closing.request in
+    let memory = unwrap_or (settled_row s.protocol closing.request before.memory.state closing.payload) (record { action = mem_action.None; next = before.memory.state }) in
+    let next = free_picture caches.0 (record { state = memory.next; value = written memory.action closing.value before.memory.value }) in
+    (Ok (reply.Came closing.payload closing.from caches.1), record (with_picture s block next) { log = s.log ++ item.Came (came_of closing) caches.1 ∷ [] })
+
+-- an Order of the block that stands first, if any
+abbrev pub next_first : Situation → ℕ → Option ℕ → Next
+next_first s core None = (Err NothingWaiting, s)
+next_first s core (Some block) =
+    if is_some (picture_of s block).transaction then (Err (BusTaken block), s)
+    else option_map_or (next_ordered s core block) (waiting_request (state_of s core block)) (Err NothingWaiting, s)
+
+abbrev pub next_of : Situation → Step → Next
+next_of s (Ask core block word asking) =
+    if ltb core s.shape.cores
+    then if ltb block s.shape.blocks && has_word s.shape word asking then next_asked s core block word asking else (Err NoBlock, s)
+    else (Err NoCore, s)
+next_of s (Order core) = if ltb core s.shape.cores then next_first s core (slice_get (queue_of s.queues core) 0) else (Err NoCore, s)
+next_of s (Respond block) = if ltb block s.shape.blocks then option_map_or (next_closed s block) (picture_of s block).transaction (Err NoTransaction, s) else
+    (Err NoBlock, s)
+
+-- a load or a store does one thing
+performs_is : (word : ℕ) (asking : Op) (before : List ℕ) (value : ℕ) (after : List ℕ)
+    → Performs word asking before value after
+    ↔ ((is_evict (asked asking) ≡ false) × (value ≡ value_of word asking before) × (after ≡ words_after word asking before))
+performs_is word Evict before value after = (λ h. absurd h, λ h. let no = h.0 in cc)
+performs_is word _ before value after = (λ h. (refl, h.0, h.1), λ h. (h.1, h.2))
+
+word_decides : (shape : Extent) (word : ℕ) (asking : Op) → Decides (has_word shape word asking) (HasWord shape word asking)
+word_decides shape word Evict = (λ h. tt, λ h. refl)
+word_decides shape word _ = Decides-and _ _ (Decides-ltb word shape.words) (Decides-ltb word word_places)
+
+-- An Ask.
+module _ (s : Situation) (core block word : ℕ) (asking : Op) where
+  takes_is : (act : CacheAction) (next : CacheState) (held : Line) (answer : Reply) (entry : Option Item)
+      → Takes act next s.log core block word asking (held_by (picture_of s block) core) held answer entry
+      → ◌≡◌ {A = Next} (Ok answer, after_ask s core block word asking act held entry) (by_row s core block word asking act next)
+  takes_is Hit next held answer entry t =
+      let does = (performs_is word asking t.1.0.before t.0 t.1.0.after).0 t.1.0.performed in
+      rw (t.1.0.held, t.1.1, t.1.2, t.1.0.kept, does.1, does.2) refl
+  takes_is (Issue r) next held answer entry t = rw (t.0, t.1, t.2) refl
+  takes_is Drop next held answer entry t = rw (t.0, t.1, t.2) refl
+  takes_is _ next held answer entry t = absurd t
+
+  place : Decides (ltb block s.shape.blocks && has_word s.shape word asking) ((block < s.shape.blocks) × HasWord s.shape word asking)
+  place = Decides-and _ _ (Decides-ltb block s.shape.blocks) (word_decides s.shape word asking)
+
+-- An Order.
+module _ (p : Protocol) (before : Picture) (core : ℕ) (q : Request) where
+  -- the only sender is found
+  sender_is : (n : ℕ) → n ≤ length before.caches → (from : Option ℕ) (payload : Payload) → IsOnlySender p before core q from payload → IsBelow n from
+      → sender_below p before core q n ≡ from
+  sender_is zero few None payload sent below = refl
+  sender_is zero few (Some k) payload sent below = absurd (omega arith)
+  sender_is (suc n) few from payload sent below = elim (cases_Bool (is_some (payload_from p before core q (Some n)))) [
+    | inl is ↦ let x = some_of _ is in rw is (sent.alone (Some n) x.0 (omega arith, sends_row _ x.0 x.1))
+    | inr none ↦ rw none (sender_is n (omega arith) from payload sent (if_some from (λ k. k < n) (λ k its.
+        let under : k < suc n = rw its at below in
+        let sends : payload_from p before core q (Some k) ≡ Some payload = rw its at (sends_is p before core q from payload sent.sends) in
+        elim (cases_eq k n) [ inl e ↦ (let clash = rw (← e, sends) at none in cc) | inr apart ↦ omega arith ])))
+  ]
+
+-- A Respond.
+module _ (closing : Open) (p : Protocol) (log : List Item) (old new : List Line) (did : Option Did) where
+  arrives_is : (q : Request) → ArrivesFor q closing p log old new did → (new, did) ≡ brought closing p log old q
+  arrives_is PutM a = rw (a.0, a.1) refl
+  arrives_is _ f =
+      let does = (performs_is f.asking.word f.asking.op closing.value f.value f.fills.after).0 f.fills.performed in
+      rw (f.held, f.logged, f.fills.held, f.fills.waited, f.fills.arrives, f.fills.is_row, does.1, does.2) refl
+
+-- a move comes to what is computed
+move_is : (s : Situation) (step : Step) (answer : Reply) (new : Situation) → FirstMove s step answer new
+    → ◌≡◌ {A = Next} (Ok answer, new) (next_of s step)
+move_is s (Ask core on word asking) answer new (block, (first, m)) =
+    rw (m.on_block, lt-ltb core s.shape.cores m.within.0, (place s core block word asking).1 (m.within.1, m.has_word)) (elim m.moves [
+      | inl a ↦ rw (a.2, a.3, a.1, a.0) refl
+      | inr a ↦ rw (a.after, a.is_row) (takes_is s core block word asking a.row.action a.row.next a.held answer a.entry a.taken)
+    ])
+move_is s (Order core) answer new (block, (first, m)) =
+    let p = s.protocol in
+    let q = m.request in
+    let o = m.orders in
+    let before : Picture = picture_of s block in
+    let from = sender_is p before core q (length before.caches) (omega arith) o.from o.payload o.sent (sends_below p before core q _ _ o.sent.sends) in
+    let caches = fill_by_all (line_after p before core q) o.next.caches (length before.caches) nothing_held o.taken.same_length
+    (λ k below. (let row = o.taken.rows k below in row.2 ∙ rw row.1 refl)) in
+    let after = next_picture p before core q block in
+    let state : o.next.memory.state ≡ after.memory.state = o.memory.2 ∙ rw o.memory.1 refl in
+    let opened : o.next.transaction ≡ after.transaction = o.opened ∙ rw (from, (sends_is p before core q o.from o.payload o.sent.sends)) refl in
+    let next : o.next ≡ after = λ i. record { caches = caches i; memory = record { state = state i; value = o.value i }; transaction = opened i } in
+    rw (m.answered, lt-ltb core s.shape.cores m.within.0, first, o.ready.1, o.ready.0, o.after, next) refl
+move_is s (Respond on) answer new (block, (first, m)) =
+    let r = m.responds in
+    let o = m.closing in
+    let before : Picture = picture_of s block in
+    let caches = arrives_is o s.protocol s.log before.caches r.next.caches m.did o.request r.requestor in
+    let memory = (settled_so (takes_payload o.request before.memory.state) s.protocol (arrival_at_memory o.payload) before.memory.state r.memory.act r.next.memory.state).0 r.memory.settled in
+    let line : MemLine = record { state = r.next.memory.state; value = written r.memory.act o.value before.memory.value } in
+    let next : r.next ≡ free_picture (brought o s.protocol s.log before.caches o.request).0 line =
+    λ i. record { caches = (caches i).0; memory = record { state = r.next.memory.state; value = r.memory.value i }; transaction = r.closed i } in
+    rw (m.on_block, m.answered, lt-ltb block s.shape.blocks m.within, r.opened, r.after, memory, next, ap (λ x. x.1) caches) refl
+
+-- and so does a refusal
+module _ (s : Situation) (queued : AreQueued s) where
+  refused_is : (step : Step) (cause : Refused) → Refuses s step cause → ◌≡◌ {A = Next} (Err cause, s) (next_of s step)
+  refused_is (Ask core block word asking) NoCore h = rw (le-ltb core s.shape.cores h) refl
+  refused_is (Ask core block word asking) NoBlock h =
+      let there = (place s core block word asking).0 in
+      let nowhere = false_from_ne_true _ (λ e. elim h.1 [ inl past ↦ let within = (there e).0 in absurd (omega arith) | inr none ↦ none (there e).1 ]) in
+      rw (lt-ltb core s.shape.cores h.0, nowhere) refl
+  refused_is (Ask core block word asking) (Stalled held) h =
+      rw (lt-ltb core s.shape.cores h.0.0, (place s core block word asking).1 (h.0.1, h.3), h.1, h.2.1) refl
+  refused_is (Order core) NoCore h = rw (le-ltb core s.shape.cores h) refl
+  refused_is (Order core) NothingWaiting h =
+      let empty = none_from_not_some (slice_get (queue_of s.queues core) 0)
+      (λ block is. let waits = first_waits s queued core block is in h.1 block waits.0 waits.1) in
+      rw (lt-ltb core s.shape.cores h.0, empty) refl
+  refused_is (Order core) (BusTaken block) h = rw (lt-ltb core s.shape.cores h.0, h.1, h.2) refl
+  refused_is (Respond block) NoBlock h = rw (le-ltb block s.shape.blocks h) refl
+  refused_is (Respond block) NoTransaction h = rw (lt-ltb block s.shape.blocks h.0, h.1) refl
+  refused_is _ _ h = absurd h
+
+  pub goes_is : (step : Step) (outcome : Result Reply Refused) (new : Situation) → GoesFirst s step outcome new → (outcome, new) ≡ next_of s step
+  goes_is step (Ok answer) new goes = move_is s step answer new goes
+  goes_is step (Err cause) new goes = rw goes.1 (refused_is step cause goes.0)
+
+module _ (s : Situation) (core block word : ℕ) (asking : Op) (within : IsWithin s core block) (has : HasWord s.shape word asking) where
+  taken : (act : CacheAction) (next : CacheState) → Cell s.protocol (state_of s core block) (asked asking) act next
+      → (held : Line) (answer : Reply) (entry : Option Item) → Takes act next s.log core block word asking (held_by (picture_of s block) core) held answer entry
+      → GoesFirst s (Ask core block word asking) (Ok answer) (after_ask s core block word asking act held entry)
+  taken act next row held answer entry takes =
+      let moves = inr (record { row = record { action = act; next = next }; is_row = row; held = held; entry = entry; taken = takes; after = refl }) in
+      (block, (tt, record { on_block = refl; within = within; moves = moves; has_word = has }))
+
+  goes_by : (act : CacheAction) (next : CacheState) → Cell s.protocol (state_of s core block) (asked asking) act next
+      → IsProper (held_by (picture_of s block) core)
+      → (let n = by_row s core block word asking act next in GoesFirst s (Ask core block word asking) n.0 n.1)
+  goes_by Hit next row proper =
+      let line = held_by (picture_of s block) core in
+      let ws = unwrap_or line.kept zero_words in
+      let asks = hit_keeps s.protocol line.state (asked asking) next row in
+      let hits : Hits next line _ word asking (value_of word asking ws) = record {
+        before = ws;
+        after = words_after word asking ws;
+        kept = rw (some_of line.kept (proper.kept ∙ asks.0)).1;
+        performed = (performs_is word asking ws _ _).1 (asks.1, refl, refl);
+        held = refl;
+      } in
+      taken Hit next row _ _ _ (value_of word asking ws, (hits, refl, refl))
+  goes_by Stall next row proper = ((within, refl, (next, row), has), refl)
+  goes_by (Issue r) next row proper = taken (Issue r) next row _ _ None (refl, refl, refl)
+  goes_by Drop next row proper = taken Drop next row _ _ None (refl, refl, refl)
+  goes_by _ next row proper = absurd (none-some _ (sym (action_rule s.protocol (state_of s core block) (asked asking) _ next row).0 ∙ serving-asked asking))
+
+  goes_within : Invariant s → (let n = next_asked s core block word asking in GoesFirst s (Ask core block word asking) n.0 n.1)
+  goes_within g =
+      let line = held_by (picture_of s block) core in
+      elim (cases_Bool (is_idle_evict line.state (asked asking))) [
+        | inl idle ↦
+            let is = idle_evict line.state asking idle in
+            rw (is.1, is.0) (block, (tt, record { on_block = refl; within = within; moves = inl (refl, is.1, refl, refl); has_word = tt }))
+        | inr busy ↦
+            let good = g.blocks block within.1 in
+            let row = (ask_rule _ _ _ _ _ asking (good.states core within.0)).0 busy in
+            rw row.1 (goes_by row.0.action row.0.next row.1 (good.proper core within.0))
+      ]
+
+module _ (s : Situation) (g : Invariant s) where
+  -- an Order of a request that can be ordered: each controller has its row
+  pub order_made : (core block : ℕ) (q : Request) → CanOrder s core block q → Orders s core block q (next_ordered s core block q).1
+  order_made core block q ready =
+      let p = s.protocol in
+      let before : Picture = picture_of s block in
+      let line = orders_follow_sender_table s g core block q ready in
+      let from = sender_is p before core q (length before.caches) (omega arith) line.from line.payload line.sent (sends_below p before core q _ _ line.sent.sends) in
+      record {
+        ready = ready;
+        from = line.from;
+        payload = line.payload;
+        sent = line.sent;
+        next = _;
+        taken = record {
+          same_length = length-map-range_with_len (line_after p before core q) 0 (length before.caches);
+          rows = λ k below.
+              let row = (finds_rows s g (Order core)).cache k block (Some (seen_by k core q)) (q, (ready, refl)) in
+              let is = get_or-map-range_with_len (line_after p before core q) 0 (length before.caches) k k nothing_held below (omega arith) in
+              (row.0, row.1, is ∙ rw row.1 refl);
+        };
+        memory = (line.ordered.0, line.ordered.1, rw line.ordered.1 refl);
+        value = refl;
+        opened = rw (from, sends_is p before core q line.from line.payload line.sent.sends) refl;
+        after = refl;
+      }
+
+-- an action that fills for the operation's request is the fill for the operation, which is no eviction
+fill_is : (asking : Op) (act : CacheAction) → fills (Some (request_for asking)) act ≡ true
+    → (act ≡ (if is_load asking then FillLoad else FillStore)) × (is_evict (asked asking) ≡ false)
+fill_is Load FillLoad h = (refl, refl)
+fill_is (Store v) FillStore h = (refl, refl)
+fill_is _ _ h = cc
+
+-- what the response brings to the caches
+module _ (p : Protocol) (log : List Item) (old : List Line) (o : Open) where
+  abbrev requestor : Line
+  requestor = held_at old o.core
+
+  fills_requestor : (row : CacheCell) → row_for p requestor.state (arrival o.payload) ≡ Some row → IsProper requestor → (let n = filled o p log old requestor.waiting in FillsRequestor o p log old n.0 n.1)
+  fills_requestor row found proper =
+      let fit = (data_rule p requestor.state o.payload row found).0 in
+      option_and_then_some (cell_of p requestor.state) (arrival o.payload) row found (λ e arrives is_row.
+      option_both requestor.waiting (λ waiting. let n = filled o p log old waiting in FillsRequestor o p log old n.0 n.1)
+      (λ none. let clash = rw (← proper.waiting, none) at fit in cc)
+      (λ access waits.
+      let so = fill_is access.op row.action (rw (← proper.waiting, waits) at fit) in
+      let performed = (performs_is access.word access.op o.value _ _).1 (so.1, refl, refl) in
+      rw found (record {
+        line = _;
+        asking = access;
+        value = _;
+        fills = record { event = e; row = row; after = _; arrives = arrives; is_row = is_row; waited = waits; fill = so.0; performed = performed; held = refl };
+        held = refl;
+        logged = refl;
+      })))
+
+  brings : (q : Request) → (is_put_m q ≡ false → (r : CacheCell) × (row_for p requestor.state (arrival o.payload) ≡ Some r)) → IsProper requestor
+      → (let n = brought o p log old q in ArrivesFor q o p log old n.0 n.1)
+  brings PutM row proper = (refl, refl)
+  brings _ row proper = let found = row refl in fills_requestor found.0 found.1 proper
+
+-- each step goes as it is computed
+module _ (s : Situation) (g : Invariant s) where
+  closes : (block : ℕ) → block < s.shape.blocks → (o : Open) → (picture_of s block).transaction ≡ Some o → (let n = next_closed s block o in GoesFirst s (Respond block) n.0 n.1)
+  closes block within o opened =
+      let before : Picture = picture_of s block in
+      let good = g.blocks block within in
+      let found = close good o opened in
+      let settles = (settled_so (takes_payload o.request before.memory.state) s.protocol (arrival_at_memory o.payload) before.memory.state found.memory.action found.memory.next).1 found.is_memory in
+      let responds : Responds s block o _ (next_closed s block o).1 = record {
+        opened = opened;
+        next = _;
+        requestor = brings s.protocol s.log before.caches o o.request (λ get. let (row, is_row, _) = answered found get in (row, is_row)) (good.proper o.core (good.requestor_in o opened));
+        memory = rw found.is_memory (record { act = found.memory.action; settled = settles; value = refl });
+        closed = refl;
+        after = refl;
+      } in
+      (block, (tt, record { closing = o; did = _; on_block = refl; within = within; answered = refl; responds = responds }))
+
+  pub goes_next : AreQueued s → (step : Step) → GoesFirst s step (next_of s step).0 (next_of s step).1
+  goes_next queued (Ask core block word asking) =
+      let Goes = λ (n : Next). GoesFirst s (Ask core block word asking) n.0 n.1 in
+      cond_both (ltb core s.shape.cores) _ _ Goes (λ below.
+      let in_cores = ltb-true core s.shape.cores below in
+      cond_both (ltb block s.shape.blocks && has_word s.shape word asking) _ _ Goes (λ there.
+      let (within, has) = (place s core block word asking).0 there in
+      goes_within s core block word asking (in_cores, within) has g) (λ nowhere.
+      let none : (s.shape.blocks ≤ block) ⊎ (¬ HasWord s.shape word asking) = elim (cases_lt block s.shape.blocks) [
+        | inl within ↦ inr (λ has. both_ways _ nowhere ((place s core block word asking).1 (within, has)))
+        | inr past ↦ inl past
+      ] in
+      ((in_cores, none), refl))) (λ past. (ltb-false core s.shape.cores past, refl))
+  goes_next queued (Order core) =
+      let Goes = λ (n : Next). GoesFirst s (Order core) n.0 n.1 in
+      cond_both (ltb core s.shape.cores) _ _ Goes (λ below.
+      let in_cores = ltb-true core s.shape.cores below in
+      option_both (slice_get (queue_of s.queues core) 0) (λ first. Goes (next_first s core first)) (λ none. ((in_cores, none_waits s queued core none), refl)) (λ block is.
+      let waits = first_waits s queued core block is in
+      let within = waits_within s g core block waits.0 waits.1 in
+      let ordered = option_map_or (next_ordered s core block) (waiting_request (state_of s core block)) (Err NothingWaiting, s) in
+      option_both (picture_of s block).transaction (λ found. Goes (if is_some found then (Err (BusTaken block), s) else ordered))
+      (λ free. rw waits.1 (block, (is, record { request = waits.0; within = within; answered = refl; orders = order_made s g core block waits.0 (waits.1, free) })))
+      (λ o busy. ((in_cores, is, rw busy refl), refl)))) (λ past. (ltb-false core s.shape.cores past, refl))
+  goes_next queued (Respond block) =
+      let Goes = λ (n : Next). GoesFirst s (Respond block) n.0 n.1 in
+      cond_both (ltb block s.shape.blocks) _ _ Goes (λ below.
+      let within = ltb-true block s.shape.blocks below in
+      option_both (picture_of s block).transaction (λ found. Goes (option_map_or (next_closed s block) found (Err NoTransaction, s)))
+      (λ none. ((within, none), refl)) (closes block within)) (λ past. (ltb-false block s.shape.blocks past, refl))

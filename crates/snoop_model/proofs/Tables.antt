@@ -3,5 +3,4 @@ pub mod Rows
 pub mod Tested
 pub mod StateTests
 pub mod OrderTests
-pub mod EvictInI
 pub mod SentBy

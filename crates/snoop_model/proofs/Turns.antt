@@ -1,3 +1,160 @@
--- Turns by the turn rule.
-pub mod Laws
-pub mod ClosedWorks
+-- All laws of turns that follow the turn rule: what they keep, that they are never refused, what they cost, and when a work is over.
+use Rattle.snoop_model.proofs.Common.{[], Access, All, All-contains, All-filter, All-push, All-weaker, ap, arith, Ask, asked, awaited_request, BusTaken, CacheAction, CacheState, cond_some, Contains-get_or, eq-eqb, false, FirstMove, has_transaction, held_by, I, inl, inr, is_some, IsServing, Issue, Issued, IsWellKept, Item, Line, missed_request, ne_eqb, NeverRefused, None, none-some, none_from_not_some, not, nothing_there, NothingWaiting, Op, Open, Option, or_cases, Order, Pays, Picture, picture_of, queue_of, queues_after, refl, Refused, Refuses, Reply, Request, Respond, same_Some, ServesOn, Situation, slice_index_or, slice_set, Some, Stall, Stalled, state_of, sym, Takes, true, TurnLaws, waiting_request, Waits, with_line, ℕ, ◌==◌, ◌↔◌, ◌∙◌, ◌≡◌, ◌≢◌, ◌⊎◌}
+use Rattle.snoop_model.specs.Turns.Turn.{step_under_way, turn_of}
+use Rattle.snoop_model.proofs.{Lists.{all_first, count_set, each_still, sum_asked, sum_ordered}, Once.owed_after}
+use Rattle.snoop_model.proofs.{Queues.{keeps_well, queued_waits, starts_well, waits_queued}, Tables.{Rows.{action_rule, is_busy}, StateTests.some_of}}
+
+-- for one of the two, or the other
+pub busy_cases : (s : CacheState) → is_busy s ≡ true → ((request : Request) × (waiting_request s ≡ Some request)) ⊎ ((request : Request) × (awaited_request s ≡ Some request))
+busy_cases s busy = elim (or_cases _ _ busy) [ inl waits ↦ inl (some_of _ waits) | inr awaits ↦ inr (some_of _ awaits) ]
+
+pub busy_under_way : (s : Situation) (under_way : ℕ → Option ℕ) → IsServing under_way s → IsWellKept s → (core block : ℕ) → is_busy (state_of s core block) ≡ true → under_way core ≡ Some block
+busy_under_way s under_way serving kept core block busy =
+    let queued = All-contains (λ b. under_way core ≡ Some b) (queue_of s.queues core) block (serving.waits core) in
+    grind (arith, busy_cases (state_of s core block) busy, waits_queued s kept.queued core block, queued, kept.awaits core block, serving.opened block)
+
+-- a core that has missed waits
+pub missed_busy : (s : CacheState) → is_some (missed_request s) ≡ true → is_busy s ≡ true
+missed_busy I h = cc
+missed_busy _ h = cc
+
+-- a work under way takes no step exactly where nothing of its core waits or is open
+no_step : (w : Option Request) (t : Option Open) (core block : ℕ)
+    → (step_under_way w t core block ≡ None) ↔ ((w ≡ None) × ((o : Open) → t ≡ Some o → o.core ≢ core))
+no_step (Some q) None core block = (λ h. cc, λ idle. cc)
+no_step (Some q) (Some o) core block = (λ h. cc, λ idle. cc)
+no_step None None core block = (λ h. (refl, λ o e. cc), λ idle. refl)
+no_step None (Some o) core block = (
+  λ h. (refl, λ p e own. (let clash = rw (eq-eqb o.core core (rw (same_Some _ _ e) own)) at h in cc)),
+  λ idle. rw (ne_eqb o.core core (idle.1 o refl)) refl,
+)
+
+never_refused : NeverRefused
+never_refused s under_way core block word asking false step serving kept has_core has_block has_word idle is cause refused = ask_goes cause (rw (← (same_Some _ _ is)) at refused)
+  where
+    ask_goes : (cause : Refused) → Refuses s (Ask core block word asking) cause → ⊥
+    ask_goes (Stalled state) h =
+        none-some block (sym idle ∙ busy_under_way s under_way serving kept core block (action_rule s.protocol (state_of s core block) (asked asking) Stall h.2.0 h.2.1))
+    ask_goes _ h = grind arith
+never_refused s under_way core block word asking true step serving kept has_core has_block has_word its is cause refused =
+    goes (waiting_request (state_of s core block)) (picture_of s block).transaction refl refl is
+  where
+    order_goes : (picture_of s block).transaction ≡ None → (q : Request) → Waits s core block q → (cause : Refused) → Refuses s (Order core) cause → ⊥
+    order_goes free q waits NothingWaiting h = h.1 block q waits
+    order_goes free q waits (BusTaken b) h =
+        let same : block ≡ b = same_Some _ _ (sym its ∙ all_first (λ x. under_way core ≡ Some x) (queue_of s.queues core) b (serving.waits core) h.1) in
+        let clash : false ≡ true = rw (← same, free) at h.2 in
+        cc
+    order_goes free q waits _ h = grind arith
+
+    respond_goes : (o : Open) → (picture_of s block).transaction ≡ Some o → (cause : Refused) → Refuses s (Respond block) cause → ⊥
+    respond_goes o open_here _ h = grind arith
+
+    goes : (w : Option Request) (found : Option Open) → waiting_request (state_of s core block) ≡ w → (picture_of s block).transaction ≡ found → step_under_way w found core block ≡ Some step → ⊥
+    goes (Some q) None waits free is = order_goes free q waits cause (rw (← same_Some _ _ is) at refused)
+    goes (Some q) (Some o) waits opened is = respond_goes o opened cause (rw (← same_Some _ _ is) at refused)
+    goes None None waits free is = cc
+    goes None (Some o) waits opened is = respond_goes o opened cause (rw (← (cond_some (o.core == core) (Respond block) step is).1) at refused)
+
+module _ {s : Situation} {under_way : ℕ → Option ℕ} (serving : IsServing under_way s) where
+  -- an open transaction where one block's picture was written
+  set_opened : (place : ℕ) (next : Picture) → ((o : Open) → next.transaction ≡ Some o → under_way o.core ≡ Some place)
+      → (block : ℕ) (o : Open) → (slice_index_or (slice_set s.pictures place next) block nothing_there).transaction ≡ Some o → under_way o.core ≡ Some block
+  set_opened place next its = each_still s.pictures place next nothing_there (λ b x. (o : Open) → x.transaction ≡ Some o → under_way o.core ≡ Some b) serving.opened its
+
+  -- an Ask, if one that issues is of a core that has the block under way
+  asked_serves : (core on word : ℕ) (asking : Op) (answer : Reply) (t : Situation) (m : FirstMove s (Ask core on word asking) answer t)
+      → ((request : Request) → answer ≡ Issued request → under_way core ≡ Some m.0) → IsServing under_way t
+  asked_serves core on word asking answer t m its = elim m.1.1.moves [
+    | inl absent ↦ rw absent.3 serving
+    | inr asks ↦ rw asks.after (record {
+      waits = queued asks.row.action asks.row.next asks.held asks.entry asks.taken;
+      opened = set_opened m.0 (with_line (picture_of s m.0) core asks.held) (serving.opened m.0);
+    })
+  ]
+    where
+      queued : (act : CacheAction) (next : CacheState) (held : Line) (entry : Option Item) → Takes act next s.log core m.0 word asking (held_by (picture_of s m.0) core) held answer entry
+          → (k : ℕ) → All (λ b. under_way k ≡ Some b) (queue_of (queues_after act s.queues core m.0) k)
+      queued (Issue request) next held entry taken = each_still s.queues core _ [] (λ k queue. All (λ b. under_way k ≡ Some b) queue) serving.waits
+          (All-push (λ b. under_way core ≡ Some b) (queue_of s.queues core) m.0 (serving.waits core) (its request taken.1))
+      queued _ next held entry taken = serving.waits
+
+-- more works may be under way
+more_served : {s : Situation} {before after : ℕ → Option ℕ} → IsServing before s → ((core block : ℕ) → before core ≡ Some block → after core ≡ Some block) → IsServing after s
+more_served {s} serving extends = record {
+  waits = λ k. All-weaker _ _ (extends k) (queue_of s.queues k) (serving.waits k);
+  opened = λ block o is. extends o.core block (serving.opened block o is);
+}
+
+serves_on : ServesOn
+serves_on s t before after (Ask core on word asking) answer serving move extends its =
+    asked_serves (more_served serving extends) core on word asking answer t move (λ request is. rw (← move.1.1.on_block) its)
+serves_on s t before after (Order core) answer serving move extends its =
+    let now = more_served serving extends in
+    let orders = move.1.1.orders in
+    rw orders.after (record {
+      waits = each_still s.queues core _ [] (λ k queue. All (λ b. after k ≡ Some b) queue) now.waits
+          (All-filter (λ b. not (b == move.0)) (λ b. after core ≡ Some b) (queue_of s.queues core) (now.waits core));
+      opened = set_opened now move.0 orders.next (λ o is. rw (ap (λ (x : Open). x.core) (same_Some _ _ (sym is ∙ orders.opened)))
+          (all_first (λ b. after core ≡ Some b) (queue_of s.queues core) move.0 (now.waits core) move.1.0));
+    })
+serves_on s t before after (Respond on) answer serving move extends its =
+    let now = more_served serving extends in
+    let responds = move.1.1.responds in
+    rw responds.after (record {
+      waits = now.waits;
+      opened = set_opened now move.0 responds.next (λ o is. absurd (none-some o (sym responds.closed ∙ is)));
+    })
+
+pays : Pays
+pays s t (Ask core on word asking) answer move = elim move.1.1.moves [
+  | inl absent ↦ rw absent.3 (omega arith)
+  | inr asks ↦
+      rw asks.after (omega (arith, sum_asked asks.row.action s.queues core move.0, count_set has_transaction s.pictures move.0 (with_line (picture_of s move.0) core asks.held) nothing_there refl))
+]
+pays s t (Order core) answer move =
+    let orders = move.1.1.orders in
+    rw orders.after (grind (arith, sum_ordered s.queues core move.0 move.1.0, count_set has_transaction s.pictures move.0 orders.next nothing_there refl))
+pays s t (Respond on) answer move =
+    let responds = move.1.1.responds in
+    rw responds.after (grind (arith, count_set has_transaction s.pictures move.0 responds.next nothing_there refl, responds.opened, responds.closed))
+
+-- a work whose operation waits has a step left
+pub has_step : (s : Situation) (core block word : ℕ) (asking : Op) (wanted : Access) → IsWellKept s → (held_by (picture_of s block) core).waiting ≡ Some wanted → turn_of s core block word asking true ≡ None → ⊥
+has_step s core block word asking wanted kept waits none =
+    let left = (no_step (waiting_request (state_of s core block)) (picture_of s block).transaction core block).0 none in
+    grind (arith, busy_cases (state_of s core block) (missed_busy (state_of s core block) (kept.operations core block wanted waits)), left.0, left.1, kept.awaits core block)
+
+pub turn_rule : TurnLaws
+turn_rule = record {
+  starts_well = starts_well;
+  keeps_well = keeps_well;
+  never_refused = never_refused;
+  serves_on = serves_on;
+  ends = λ s before after core block word asking serving kept works none others.
+      let left = (no_step (waiting_request (state_of s core block)) (picture_of s block).transaction core block).0 none in
+      record {
+        waits = λ k i d lt.
+            let w = queued_waits s kept.queued k (slice_index_or (queue_of s.queues k) i d) (Contains-get_or (queue_of s.queues k) i d lt) in
+            others k (λ e. none-some w.0 (cc (left.0, w.1, e, serving.waits k i d lt, works))) ∙ serving.waits k i d lt;
+        opened = λ b o is. others o.core (λ e. left.1 o (cc (serving.opened b o is, works, e, is)) e) ∙ serving.opened b o is;
+      };
+  comes_to_rest = λ s serving kept. record {
+    ordered = λ core block request waits. none-some block (All-contains (λ b. ◌≡◌ {A = Option ℕ} None (Some b)) (queue_of s.queues core) block
+        (serving.waits core) (waits_queued s kept.queued core block request waits));
+    closed = λ block. none_from_not_some (picture_of s block).transaction (λ o is. none-some block (serving.opened block o is));
+    performed = λ core block. none_from_not_some (held_by (picture_of s block) core).waiting
+        (λ o is. none-some block (busy_under_way s (λ _. None) serving kept core block (missed_busy _ (kept.operations core block o is))));
+  };
+  pays = pays;
+  owes = owed_after;
+  closed_is_last = λ s core block word asking wanted kept owed none.
+      elim owed [ inl waits ↦ absurd (has_step s core block word asking wanted kept waits none) | inr last ↦ last ];
+  ends_at_once = λ s t under_way core block word asking answer serving idle kept m other.
+      let now = asked_serves serving core block word asking answer t m (λ request is. absurd (other request is)) in
+      let queued = λ (r : Request) (w : Waits t core block r).
+      none-some block (sym idle ∙ All-contains (λ b. under_way core ≡ Some b) (queue_of t.queues core) block (now.waits core)
+      (waits_queued t kept.queued core block r w)) in
+      (no_step (waiting_request (state_of t core block)) (picture_of t block).transaction core block).1
+      (none_from_not_some (waiting_request (state_of t core block)) queued, λ o is c. none-some block (sym (ap under_way c ∙ idle) ∙ now.opened block o is));
+}

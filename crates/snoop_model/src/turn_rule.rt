@@ -5,7 +5,7 @@ ghost use Rattle.snoop_model.specs.Turns.TurnLaws.{TurnLaws};
 /// is over; with nothing under way nothing waits and no transaction is open; and each Ask is paid for by three steps at most.
 /// What a step asks, or what waited before it, waits after it or is its core's last operation; it is the last one where the
 /// core's work has no step left; and an Ask that issues no request is over at once.
-#[tactic(auto, using(crate::proofs::Turns::Laws::turn_rule))]
+#[tactic(auto, using(crate::proofs::Turns::turn_rule))]
 pub fn turns_are_served()
     ensures { TurnLaws }
 {}

@@ -1,8 +1,8 @@
 -- What the steps of some frames come to, computed one after another.
 use Rattle.std.proofs.Common.{◌≡◌, List, [], ◌∷◌, refl}
 use Rattle.snoop_trace.specs.{Extent.Extent, declared.{step.Step.Step, protocol.Protocol.Protocol}}
-use Rattle.snoop_model.{specs.{Pictures.Situation.{Situation, reset}, Runs.Run.FirstRunFrom}, proofs.{Queues.Moves.keeps_well, Steps.Next.next_of}}
-use Rattle.snoop_model.proofs.{Runs.GoOn.{IsSteady, reset_steady, steady_on}, Steps.GoesNext.goes_next}
+use Rattle.snoop_model.{proofs.{Queues.keeps_well, Steps.next_of}, specs.{Pictures.Situation.{reset, Situation}, Runs.Run.FirstRunFrom}}
+use Rattle.snoop_model.proofs.{Runs.GoOn.{IsSteady, reset_steady, steady_on}, Steps.goes_next}
 use Rattle.snoop_scenes.specs.Scene.{Frame, steps_of, outcomes_of, controllers, PassesFrom, IsPlayed}
 
 -- the frames of the steps, and where they lead

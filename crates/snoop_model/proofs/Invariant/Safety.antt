@@ -1,13 +1,12 @@
 -- What every machine keeps makes it safe, and its steps keep it.
-use Rattle.snoop_model.proofs.Common.{CacheEvent, both_ways, IsSome, Stall, Absent, Drop, E, EiA, Evict, Hit, I, Issue, Load, moves_to, PutM, Store, ap, arith, arrival_at_memory, Ask, asked, CacheAction, CacheCell, CacheState, Cell, Extent, flat, flat_words, Goes, Gone, held_by, IfSome, inl, inr, Invariant, is_clean, is_some, IsOpenByTable, IsProper, IsSenderLine, IsWellKept, Item, keeps, Line, List, MemCell, MoveOn, None, nothing_held, Op, Option, option_map, Order, Orders, Picture, picture_of, Protocol, refl, Refused, Reply, Request, reset, Respond, Result, RunBy, same_Some, Situation, Some, state_of, Step, sym, Takes, takes_payload, true, with_line, with_picture, word_at, ℕ, ◌<◌, ◌∙◌, ◌≡◌, ◌≤◌, ◌⊎◌, ◌↔◌, ◌≢◌}
-use Rattle.snoop_model.{specs.{Coherent.IsCoherent, Moves.Replies.{IsHit, MayHit}, Runs.Safe.{IsSafe, RowsAreFound}, Invariant.MachineKeeps.{AreOnSenderLines, MachineKeeps}}, proofs.Lists.Facts.if_some}
-use Rattle.snoop_model.proofs.{Tables.{Rows.{action_rule, IsProper-drop}, SentBy.sends_is, OrderTests.settled_so}, Queues.Moves.{on_kept, starts_well}}
-use Rattle.snoop_model.proofs.{OneBlock.{AfterMoves.{ask_line, respond_here}, OfBlocks.{in_pictures, each_picture}}, Runs.{Along.kept_along, GoOn.moves_on}}
-use Rattle.snoop_model.proofs.Invariant.Coherence.{data_awaited, data_is, each_line, finds_rows, held_within, hit_within, no_data, nobody_owns, opened_within, orders_follow_sender_table, requestor_fits, sender_within}
-use Rattle.snoop_model.proofs.Invariant.Runs.{reset_invariant, reset_open, nothing_proper, idle_line, goes_kept, word_flat, move_keeps}
-use Rattle.snoop_model.proofs.{Steps.GoesNext.order_made, Turns.Laws.busy_cases, OneBlock.Facts.owned_alone, Tables.StateTests.{ask_rule, fit_rule, is_hit-true}}
+use Rattle.snoop_model.proofs.Common.{Absent, ap, arith, arrival_at_memory, Ask, asked, both_ways, CacheAction, CacheCell, CacheEvent, CacheState, Cell, Drop, E, EiA, Evict, Extent, flat, flat_words, Goes, Gone, held_by, Hit, I, IfSome, inl, inr, Invariant, is_clean, is_some, IsOpenByTable, IsProper, IsSenderLine, IsSome, Issue, IsWellKept, Item, keeps, Line, List, Load, MemCell, MoveOn, moves_to, None, nothing_held, Op, Option, option_map, Order, Orders, Picture, picture_of, Protocol, PutM, refl, Refused, Reply, Request, reset, Respond, Result, RunBy, same_Some, Situation, Some, Stall, state_of, Step, Store, sym, Takes, takes_payload, true, with_line, with_picture, word_at, ℕ, ◌<◌, ◌↔◌, ◌∙◌, ◌≡◌, ◌≢◌, ◌≤◌, ◌⊎◌}
+use Rattle.snoop_model.specs.{Coherent.{IsCoherent, IsCoherentRun}, Invariant.MachineKeeps.{AreOnSenderLines, MachineKeeps}, Moves.Replies.{IsHit, MayHit}, Runs.{Run.EveryRun, Safe.{IsSafe, RowsAreFound}}}
+use Rattle.snoop_model.proofs.Invariant.{Coherence.{data_awaited, data_is, each_line, finds_rows, held_within, hit_within, no_data, nobody_owns, opened_within, orders_follow_sender_table, requestor_fits, sender_within}, Runs.{goes_kept, idle_line, move_keeps, nothing_proper, reset_invariant, reset_open, word_flat}}
+use Rattle.snoop_model.proofs.{Lists.{if_some, is_none}, OneBlock.{AfterMoves.{ask_line, each_picture, in_pictures, respond_here}, Facts.owned_alone}}
+use Rattle.snoop_model.proofs.{Once.run_asked_once, Queues.{on_kept, starts_well}, Runs.{Along.kept_along, GoOn.moves_on, Replies.{run_stays, run_tells}}, Steps.order_made}
+use Rattle.snoop_model.proofs.Tables.{OrderTests.settled_so, Rows.{action_rule, IsProper-drop}, SentBy.sends_is, StateTests.{ask_rule, claims_rule, fit_rule, is_hit-true}}
+use Rattle.snoop_model.proofs.Turns.{busy_cases}
 use Rattle.snoop_rules.specs.declared.names.CacheEvent.TheVariants as event
-use Rattle.snoop_model.proofs.{Tables.StateTests.claims_rule, Lists.Facts.is_none}
 use Rattle.snoop_trace.specs.declared.protocol.Protocol.TheVariants as protocol
 
 -- each open transaction is on a line
@@ -198,3 +197,13 @@ run_keeps_all = kept_along Goes MachineKeeps (goes_kept MachineKeeps (λ block s
 pub rows_are_found : RowsAreFound
 rows_are_found protocol shape steps outcomes new run =
     finds_rows new (run_keeps_all steps outcomes (reset protocol shape) new (reset_keeps protocol shape) run).inductive
+
+pub every_run_is_coherent : EveryRun IsCoherentRun
+every_run_is_coherent protocol shape steps outcomes new run =
+    let keeps = run_keeps_all steps outcomes (reset protocol shape) new (reset_keeps protocol shape) run in
+    record {
+      stays = run_stays steps outcomes (reset protocol shape) new run;
+      coherent = is_coherent new keeps.inductive keeps.on_lines keeps.well_kept;
+      once = run_asked_once protocol shape steps outcomes new run;
+      told = run_tells steps outcomes (reset protocol shape) new (reset_invariant protocol shape) run;
+    }

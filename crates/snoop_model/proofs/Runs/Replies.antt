@@ -1,7 +1,36 @@
--- What the outcome of a step tells of the history.
-use Rattle.snoop_model.proofs.Common.{[], ap, append-nil, Ask, asked, CacheAction, CacheState, Cell, Drop, Err, Evict, false, FirstMove, Goes, held_by, Hit, IfSome, inl, inr, Invariant, Issue, Item, Line, List, Load, Ok, Op, Option, option_to_list, Order, picture_of, Protocol, refl, Refused, Reply, Respond, Result, RunBy, same_Some, Situation, Step, Store, subst, sym, Takes, ℕ, ◌++◌, ◌∙◌, ◌∷◌, ◌≡◌}
-use Rattle.snoop_model.{specs.Moves.Replies.Tells, proofs.{OneBlock.AfterMoves.by_request, Tables.Rows.{action_rule, serving-asked, drop_evicts}}}
-use Rattle.snoop_model.proofs.Invariant.Runs.{refusal_same, goes_kept, move_keeps}
+-- Steps leave the protocol and the shape, and what they add to the history is what their outcomes tell.
+use Rattle.snoop_model.proofs.Common.{[], ap, append-nil, Ask, asked, CacheAction, CacheState, came_of, Cell, Drop, Err, Evict, false, FirstMove, Goes, held_by, Hit, IfSome, inl, inr, Invariant, Issue, Item, Line, List, Load, MoveOn, None, Ok, Op, Option, option_to_list, Order, picture_of, Protocol, refl, Refused, Reply, Respond, Result, RunBy, same_Some, Situation, Some, Step, Store, subst, sym, Takes, ℕ, ◌++◌, ◌∙◌, ◌∷◌, ◌≡◌}
+use Rattle.snoop_model.specs.Moves.Replies.{Tells}
+use Rattle.snoop_model.proofs.{Invariant.Runs.{goes_kept, move_keeps, refusal_same}, OneBlock.AfterMoves.by_request, Runs.Along.kept_along}
+use Rattle.snoop_model.proofs.Tables.Rows.{action_rule, drop_evicts, serving-asked}
+use Rattle.snoop_history.specs.declared.items.Item.TheVariants as item
+
+-- the protocol and the shape are as they were
+abbrev pub IsAlike : Situation → Situation → Type 0
+IsAlike old new = (new.protocol ≡ old.protocol) × (new.shape ≡ old.shape)
+
+pub same_alike : (old new : Situation) → new ≡ old → IsAlike old new
+same_alike old new same = rw same (refl, refl)
+
+-- a move leaves them, and adds at most one item to the log
+pub on_stays : (block : ℕ) (old new : Situation) (step : Step) (answer : Reply) → MoveOn block old step answer new
+    → IsAlike old new × ((entry : Option Item) × (new.log ≡ old.log ++ option_to_list entry))
+on_stays block old new (Ask core on word asking) answer m = elim m.moves [
+  | inl absent ↦ rw absent.3 ((refl, refl), (None, sym (append-nil old.log)))
+  | inr asks ↦ rw asks.after ((refl, refl), (asks.entry, refl))
+]
+on_stays block old new (Order core) answer m = rw m.orders.after ((refl, refl), (Some (item.Sent (record { core = core; request = m.request; block = block })), refl))
+on_stays block old new (Respond on) answer m = rw m.responds.after ((refl, refl), (Some (item.Came (came_of m.closing) m.did), refl))
+
+pub move_stays : (old new : Situation) (step : Step) (answer : Reply) → FirstMove old step answer new → IsAlike old new
+move_stays old new step answer m = (on_stays m.0 old new step answer m.1.1).0
+
+-- one after another
+pub alike_on : (old middle new : Situation) → IsAlike old middle → IsAlike middle new → IsAlike old new
+alike_on old middle new first rest = (rest.0 ∙ first.0, rest.1 ∙ first.1)
+
+pub run_stays : (steps : List Step) (outcomes : List (Result Reply Refused)) (old new : Situation) → RunBy Goes old steps outcomes new → IsAlike old new
+run_stays steps outcomes old new = kept_along Goes (IsAlike old) (goes_kept (IsAlike old) (λ block s step answer t far m. alike_on old s t far (on_stays block s t step answer m).0)) steps outcomes old new (refl, refl)
 
 -- what an Ask's row adds is what its reply tells
 module _ (p : Protocol) (next : CacheState) (log : List Item) (core block word : ℕ) (old new : Line) (answer : Reply) (entry : Option Item) where

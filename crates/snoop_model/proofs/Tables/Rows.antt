@@ -149,3 +149,7 @@ IsProper-drop p old e n proper row = let (kept, (missed, _)) = action_rule p old
 
 pub IsProper-order : (p : Protocol) (old : Line) (k core : ℕ) (q : Request) (a : CacheAction) (n : CacheState) → IsProper old → Cell p old.state (seen_by k core q) a n → IsProper (moves_to n old)
 IsProper-order p old k core q a n proper row = let (kept, (missed, _)) = order_rule p old.state k core q a n row in IsProper-move old n proper kept missed
+
+-- an Evict in I has no row
+pub no_row : (p : Protocol) (s : CacheState) (asking : Op) (a : CacheAction) (n : CacheState) → asking ≡ Evict → s ≡ I → Cell p s (asked asking) a n → ⊥
+no_row p s asking a n e i row = let none = rw (e, i) at row in cc

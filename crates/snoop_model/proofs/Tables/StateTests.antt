@@ -1,8 +1,7 @@
 -- What holds of the states, of the table of claims, and of the rows of an Ask, computed over all of them.
 use Rattle.snoop_model.proofs.Common.{all_events, all_events-at, all_memories, all_payloads, all_payloads-at, all_protocols, all_requests, all_requests-at, all_states, asked, awaited_request, Bool, CacheAction, CacheCell, CacheEvent, CacheState, carries_value, cell_of, claims_of, false, fits, Hit, I, IiA, ImAd, in_protocol, is_clean, is_owner, is_put_m, is_sharer, is_some, keeps, kept_on, List, None, Op, Option, option_map_or, Protocol, refl, Request, request_for, requests, same, Some, Talk, true, wait_fits, ℕ, ◌&&◌, ◌≡◌}
+use Rattle.snoop_model.proofs.Tables.{Rows.{serving, serving-asked}, Tested.{each_bool, each_fitting, each_memory, each_of, each_open, each_option, each_protocol, equal, fails, found, given, holds, provided, Tested, unless, ◌also◌}}
 use Rattle.snoop_rules.specs.declared.names.CacheEvent.TheVariants as event
-use Rattle.snoop_model.proofs.Tables.{Tested.◌also◌, Rows.{serving, serving-asked}}
-use Rattle.snoop_model.proofs.Tables.Tested.{Tested, each_bool, each_fitting, each_memory, each_of, each_open, each_option, each_protocol, equal, fails, found, given, holds, provided, unless}
 
 pub some_of : {A : Type 0} (o : Option A) → is_some o ≡ true → (a : A) × (o ≡ Some a)
 some_of None h = cc

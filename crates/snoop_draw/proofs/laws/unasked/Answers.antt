@@ -2,7 +2,7 @@ use Rattle.std.proofs.{Common.{◌≡◌, ℕ, List, [], ◌∷◌, length, get_
 use Rattle.snoop_engine.proofs.Common.{Ask, Extent, GoesFirst, I, Item, Did, Line, Open, Order, Protocol, PutM, Refused, Reply, Request, Respond, Step}
 use Rattle.snoop_engine.proofs.Common.{Option, cases_lt, get_or_past, get_or-replicate, length-replicate, nat_tests}
 use Rattle.snoop_model.proofs.Common.{ArrivesFor, Picture, Situation, held_at, held_by, nothing_held, nothing_there, picture_of, reset, state_of, with_line}
-use Rattle.snoop_model.proofs.Lists.Writes.{set_cases}
+use Rattle.snoop_model.proofs.Lists.{set_cases}
 use Rattle.snoop_engine.specs.Frames.{Frame, FramesFrom, steps_of}
 use Rattle.snoop_draw.specs.{Laws.HoldsNothing, Panels.{asks_somewhere, is_ask_for}}
 use Rattle.snoop_draw.proofs.laws.unasked.Goals as goal

@@ -1,4 +1,4 @@
-use Rattle.snoop_model.proofs.Runs.AllTaken.{taken_goes_on}
+use Rattle.snoop_model.proofs.Runs.GoOn.{taken_goes_on}
 use Rattle.snoop_model.proofs.laws.taken_goes_on.Goals as goal
 
 pub returns-clause-goes_on : goal.returns-clause-goes_on

@@ -1,7 +1,7 @@
 use Rattle.std.proofs.Common.{◌∙◌, rules, sym, ap, subst, ◌≡◌, ◌++◌, List}
 use Rattle.snoop_bench.proofs.Common.{All-push, IsReadableStep, IsRecorded, Item, option_to_list, Recording, Reply, Situation, Step, TakesAndPublishes}
 use Rattle.snoop_versions.specs.Readings.{Publishing}
-use Rattle.snoop_model.proofs.Runs.AllTaken.{taken_goes_on}
+use Rattle.snoop_model.proofs.Runs.GoOn.{taken_goes_on}
 use Rattle.snoop_bench.proofs.recorder.Recorder.take.Goals as goal
 
 -- a recorded run after one more step

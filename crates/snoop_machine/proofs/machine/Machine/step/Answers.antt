@@ -1,5 +1,5 @@
 use Rattle.snoop_machine.proofs.{Common.{stand, Answers, is_safe}, Runs.{answers, step_keeps, step_stays, step_tells}, machine.Machine.step.Goals.After-step}
-use Rattle.snoop_model.proofs.Invariant.Steps.{step_once}
+use Rattle.snoop_model.proofs.Once.{step_once}
 use Rattle.snoop_machine.proofs.machine.Machine.step.Goals as goal
 
 went : (c : After-step) → Answers (stand c.self.inside.parts) c.args.step c.step.result (stand c.step.new.self)
