@@ -1,14 +1,15 @@
 -- Each load and store that a run asks is done once, or waits; so what waited, or was asked, waits or is its core's last operation.
-use Rattle.snoop_model.proofs.Common.{[], Access, accesses_in, after_order, answers_of, ap, append-nil, append_assoc, append_cancel_left, arith, as_access, Ask, asked, asked_access, CacheAction, CacheState, came_of, cases_Bool, Cell, cond, cons_option, Contains, Contains-append_cases, Contains-append_left, Contains-append_right, Contains-permutation, Did, did_access, Drop, eq-eqb, eqb, eqb-true, Err, Extent, false, filter, filter-append, filter_map, filter_map-append, FirstMove, IfOk, Goes, held_at, held_by, Hit, IfSome, inl, inr, Invariant, IsLast, IsOwed, IsPermutation, IsPermutation-append_comm, IsPermutation-append_left, IsPermutation-append_right, IsPermutation-refl, IsPermutation-sym, IsPermutation-trans, IsProper, Issue, Item, last_or-append, length, Line, List, map, map-append, MoveOn, ne_eqb, None, nothing_held, of_core, Ok, Once, OnceMore, Op, operation_of, operations, Option, option_map, option_to_list, Order, Picture, picture_of, Protocol, queues_after, refl, Refused, Reply, reset, Respond, Result, RunBy, same_Some, Situation, slice_set, Some, Step, sym, taken, Takes, true, waiting_at, with_line, zero, ℕ, ◌&&◌, ◌++◌, ◌<◌, ◌==◌, ◌↔◌, ◌∙◌, ◌∷◌, ◌≡◌, ◌⊎◌}
+use Rattle.snoop_model.proofs.Common.{[], Access, accesses_in, after_order, answers_of, ap, append-nil, append_assoc, append_cancel_left, arith, as_access, Ask, asked, asked_access, CacheAction, CacheState, came_of, cases_Bool, Cell, cond, cons_option, Contains, Contains-append_cases, Contains-append_left, Contains-append_right, Contains-permutation, Did, did_access, Drop, eq-eqb, eqb, eqb-true, Err, Extent, false, filter, filter-append, filter_map, filter_map-append, FirstMove, IfOk, Goes, held_at, held_by, Hit, IfSome, inl, inr, Invariant, IsLast, IsOwed, IsPermutation, IsPermutation-append_comm, IsPermutation-append_left, IsPermutation-append_right, IsPermutation-refl, IsPermutation-sym, IsPermutation-trans, IsProper, Issue, Item, last_or-append, length, Line, List, map, map-append, MoveOn, ne_eqb, None, nothing_held, of_core, Ok, Once, OnceMore, Op, operation_of, operations, Option, option_map, option_to_list, Order, Picture, picture_of, Protocol, queues_after, refl, Refused, Reply, reset, Respond, Result, RunBy, same_Some, Situation, slice_set, Some, Step, sym, taken, Takes, true, waiting_at, with_line, zero, ℕ, ◌&&◌, ◌++◌, ◌<◌, ◌==◌, ◌↔◌, ◌∙◌, ◌∷◌, ◌≡◌, ◌⊎◌, operations-push}
 use Rattle.snoop_model.proofs.Invariant.Runs.{goes_kept, move_keeps, nothing_waits, refusal_same, reset_invariant, reset_line}
 use Rattle.snoop_model.proofs.Lists.{each_set, either_way}
-use Rattle.snoop_model.proofs.OneBlock.{AfterMoves.{by_request, changed, each_picture, each_taken, in_pictures}, Facts.{did_in, operations_moved, performed_so}}
+use Rattle.snoop_model.proofs.OneBlock.{AfterMoves.{by_request, changed, each_picture, each_taken, in_pictures}, Facts.{did_in, performed_so}}
 use Rattle.snoop_model.proofs.{Runs.Replies.on_stays, Tables.Rows.{drop_evicts, issue-missed}}
 use Rattle.snoop_history.specs.declared.items.Item.TheVariants as item
 
 -- a core's operations with one item more
 pub answers_are : (log : List Item) (entry : Option Item) (core : ℕ) → answers_of (log ++ option_to_list entry) core ≡ answers_of log core ++ of_core core (did_in entry)
-answers_are log entry core = rw operations_moved (filter-append (λ did. did.core == core) (operations log) (option_to_list (did_in entry)))
+answers_are log None core = rw (append-nil log, append-nil (answers_of log core)) refl
+answers_are log (Some entry) core = rw operations-push (filter-append (λ did. did.core == core) (operations log) (option_to_list (operation_of entry)))
 
 pub one_or_none : (core : ℕ) (o : Option Did) → (of_core core o ≡ []) ⊎ ((d : Did) × (of_core core o ≡ d ∷ []))
 one_or_none core None = inl refl

@@ -4,7 +4,7 @@ use Rattle.snoop_model.specs.{Coherent.{IsCoherent, IsCoherentRun}, Invariant.Ma
 use Rattle.snoop_model.proofs.Invariant.{Coherence.{data_awaited, data_is, each_line, finds_rows, held_within, hit_within, no_data, nobody_owns, opened_within, orders_follow_sender_table, requestor_fits, sender_within}, Runs.{goes_kept, idle_line, move_keeps, nothing_proper, reset_invariant, reset_open, word_flat}}
 use Rattle.snoop_model.proofs.{Lists.{if_some, is_none}, OneBlock.{AfterMoves.{ask_line, each_picture, in_pictures, respond_here}, Facts.owned_alone}}
 use Rattle.snoop_model.proofs.{Once.run_asked_once, Queues.{on_kept, starts_well}, Runs.{Along.kept_along, GoOn.moves_on, Replies.{run_stays, run_tells}}, Steps.order_made}
-use Rattle.snoop_model.proofs.Tables.{OrderTests.settled_so, Rows.{action_rule, IsProper-drop}, SentBy.sends_is, StateTests.{ask_rule, claims_rule, fit_rule, is_hit-true}}
+use Rattle.snoop_model.proofs.Tables.{OrderTests.settled_so, Rows.{action_rule, IsProper-drop, no_row}, SentBy.sends_is, StateTests.{ask_rule, claims_rule, fit_rule, is_hit-true}}
 use Rattle.snoop_model.proofs.Turns.{busy_cases}
 use Rattle.snoop_rules.specs.declared.names.CacheEvent.TheVariants as event
 use Rattle.snoop_trace.specs.declared.protocol.Protocol.TheVariants as protocol
@@ -12,11 +12,6 @@ use Rattle.snoop_trace.specs.declared.protocol.Protocol.TheVariants as protocol
 -- each open transaction is on a line
 abbrev OnLine : Protocol → Picture → Type 0
 OnLine p picture = IfSome picture.transaction (λ o. (before : Picture) × IsSenderLine p before o.core o.request o.from o.payload picture.memory.state)
-
--- no eviction hits in I, which has no row for one
-idle_no_hit : (p : Protocol) → ¬ MayHit p I Evict
-idle_no_hit protocol.Msi may = cc
-idle_no_hit protocol.Mesi may = cc
 
 module _ (s : Situation) (g : Invariant s) where
   -- each line keeps and awaits what its state says
@@ -52,8 +47,8 @@ module _ (s : Situation) (g : Invariant s) where
   hits_may core block word Hit next Load row held answer entry t = rw t.1.1 ((λ _. (next, row)), (λ _. tt))
   hits_may core block word Hit next (Store value) row held answer entry t = rw t.1.1 ((λ _. (next, row)), (λ _. tt))
   hits_may core block word Hit next Evict row held answer entry t = absurd t.1.0.performed
-  hits_may core block word (Issue request) next asking row held answer entry t = rw t.1 ((λ hit. absurd hit), no_hit core block (Issue request) next asking row (λ is. cc))
-  hits_may core block word Drop next asking row held answer entry t = rw t.1 ((λ hit. absurd hit), no_hit core block Drop next asking row (λ is. cc))
+  hits_may core block word (Issue request) next asking row held answer entry t = rw t.1 (absurd, no_hit core block (Issue request) next asking row (λ is. cc))
+  hits_may core block word Drop next asking row held answer entry t = rw t.1 (absurd, no_hit core block Drop next asking row (λ is. cc))
   hits_may core block word _ next asking row held answer entry t = absurd t
 
   -- an eviction that is answered Gone or Absent leaves nothing
@@ -61,7 +56,7 @@ module _ (s : Situation) (g : Invariant s) where
       → (act : CacheAction) (next : CacheState) → Cell s.protocol (state_of s core block) (asked Evict) act next → (held : Line) (entry : Option Item)
       → Takes act next s.log core block word Evict (held_by (picture_of s block) core) held answer entry → held ≡ nothing_held
   gone_leaves core block word answer leaves Hit next row held entry t = absurd t.1.0.performed
-  gone_leaves core block word answer leaves (Issue request) next row held entry t = elim leaves [ inl is ↦ (let clash = sym t.1 ∙ is in cc) | inr is ↦ (let clash = sym t.1 ∙ is in cc) ]
+  gone_leaves core block word answer leaves (Issue request) next row held entry t = elim leaves [ inl is ↦ cc | inr is ↦ cc ]
   gone_leaves core block word answer leaves Drop next row held entry t =
       let old = held_by (picture_of s block) core in
       let gone : next ≡ I = same_Some _ _ (action_rule s.protocol old.state (asked Evict) Drop next row).1.1.1.1 in
@@ -131,7 +126,7 @@ is_coherent s g on_lines well_kept = record {
         | inr awaits ↦ (awaits.0, inr ((data_awaited s g well_kept core block awaits.0).0 awaits.1))
       ];
   hits = λ core block word asking answer new m. elim m.moves [
-    | inl absent ↦ rw (absent.0, absent.1, absent.2) ((λ hit. absurd hit), idle_no_hit s.protocol)
+    | inl absent ↦ rw (absent.0, absent.1, absent.2) (λ hit. absurd hit, λ may. no_row s.protocol I Evict Hit may.0 refl refl may.1)
     | inr a ↦ hits_may s g core block word a.row.action a.row.next asking a.is_row a.held answer a.entry a.taken
   ];
   gone = λ core block word answer new leaves m. elim m.moves [

@@ -68,11 +68,6 @@ flat_after flat did = option_map_or (λ d. cond d.load flat (slice_set flat d.wo
 abbrev pub IsLawful : List ℕ → Option Did → Type 0
 IsLawful flat did = IfSome did (λ d. d.load ≡ true → d.value ≡ word_at flat d.word)
 
--- the operations with one item more
-pub operations_moved : (log : List Item) (entry : Option Item) → operations (log ++ option_to_list entry) ≡ operations log ++ option_to_list (did_in entry)
-operations_moved log None = rw (append-nil log, append-nil (operations log)) refl
-operations_moved log (Some entry) = operations-push log entry
-
 -- the operation that was done is the one that was asked, and no eviction
 pub performed_so : (word : ℕ) (asking : Op) (before : List ℕ) (value : ℕ) (after : List ℕ) (log : List Item) (core block : ℕ) (hit : Bool) → Performs word asking before value after
     → (did_access (next_did log core block word asking value hit) ≡ record { word = word; op = asking }) × (as_access word asking ≡ Some (record { word = word; op = asking }))

@@ -1,7 +1,7 @@
 -- What holds of every row, found by trying all.
-use Rattle.snoop_model.proofs.Common.{[], all_events, all_protocols, all_requests, all_states, all_states-at, and-false, and-true, asked, awaited_request, Bool, CacheAction, CacheEvent, CacheState, Cell, cell_of, Drop, each_row, Evict, false, FillLoad, FillStore, GetM, GetS, Hit, I, if◌then◌else◌, IiA, ImAd, is_load, is_some, IsProper, Issue, keeps, kept_on, as_access, Line, List, Load, missed_request, moves_to, None, not, Op, Option, option_map, other, own, Protocol, PutM, refl, Request, request_for, requests, same, seen_by, Some, Stall, states, sym, true, waiting_request, ℕ, ◌&&◌, ◌==◌, ◌||◌, ◌∙◌, ◌≡◌}
+use Rattle.snoop_model.proofs.Common.{[], all_events, all_protocols, all_requests, all_states, all_states-at, and-false, and-true, asked, awaited_request, Bool, CacheAction, CacheEvent, CacheState, Cell, cell_of, Drop, each_row, Evict, false, FillLoad, FillStore, GetM, GetS, Hit, I, if◌then◌else◌, IiA, ImAd, is_load, is_some, IsProper, Issue, keeps, kept_on, as_access, Line, List, Load, missed_request, moves_to, None, not, Op, Option, option_map, other, own, Protocol, PutM, refl, Request, request_for, requests, same, seen_by, Some, Stall, states, sym, true, waiting_request, ℕ, ◌&&◌, ◌==◌, ◌||◌, ◌∙◌, ◌≡◌, all_events-at}
 use Rattle.snoop_rules.specs.declared.names.CacheEvent.TheVariants as event
-use Rattle.snoop_model.proofs.Tables.Tested.{◌also◌, Tested, alike, each_bool, each_cell, each_of, each_protocol, each_request, equal, fails, given, holds}
+use Rattle.snoop_model.proofs.Tables.Tested.{◌also◌, Tested, alike, each_bool, each_of, each_protocol, each_request, equal, fails, given, holds}
 
 -- the same requests, or none
 abbrev pub same_request : Option Request → Option Request → Tested
@@ -45,16 +45,17 @@ action_claims s e n FillLoad = same_request (serving e) None also holds (keeps n
 action_claims s e n FillStore = same_request (serving e) None also holds (keeps n) also same_request (missed_request n) None also same_request (waiting_request n) (waiting_request s)
 action_claims s e n _ = same_request (serving e) None also holds true
 
--- what is claimed of a row: what its action does, and that after what is asked the core awaits what it awaited
-abbrev row_claims : Protocol → CacheState → CacheEvent → CacheAction → CacheState → Tested
-row_claims p s e a n = action_claims s e n a also given (serving e) (λ _. given (awaited_request n) (λ r. same_request (awaited_request s) (Some r)))
+-- of each row: what its action does, and that after what is asked the core awaits what it awaited
+abbrev every_row : Tested
+every_row = each_protocol λ p. each_of all_states all_states-at λ s. each_of all_events all_events-at λ e. given (cell_of p s e) λ row.
+    action_claims s e row.next row.action also given (serving e) (λ _. given (awaited_request row.next) (λ r. same_request (awaited_request s) (Some r)))
 
-rule : (each_cell row_claims).claim
-unfolding each_row all_protocols all_states all_events same
-rule = (each_cell row_claims).sound refl
+rule : every_row.claim
+unfolding all_protocols all_states all_events same
+rule = every_row.sound refl
 
 pub action_rule : (p : Protocol) (s : CacheState) (e : CacheEvent) (a : CacheAction) (n : CacheState) → Cell p s e a n → (action_claims s e n a).claim
-action_rule p s e a n row = (rule p s e a n row).0
+action_rule p s e a n row = (rule p s e (record { action = a; next = n }) row).0
 
 -- at an Order a core's own request ends its waiting, and only what it asks may be awaited then; another's leaves what waits
 abbrev pub order_claims : CacheState → Bool → Request → CacheState → Tested
@@ -93,7 +94,7 @@ serving-asked _ = refl
 
 -- an Ask leaves what its core awaits
 pub awaited-asked : (p : Protocol) (s : CacheState) (asking : Op) (a : CacheAction) (n : CacheState) → Cell p s (asked asking) a n → (r : Request) → awaited_request n ≡ Some r → awaited_request s ≡ Some r
-awaited-asked p s asking a n row = (rule p s (asked asking) a n row).1 (request_for asking) (serving-asked asking)
+awaited-asked p s asking a n row = (rule p s (asked asking) (record { action = a; next = n }) row).1 (request_for asking) (serving-asked asking)
 
 is_some-kept_on : (next : CacheState) (kept : Option (List ℕ)) (b : Bool) → is_some kept ≡ b → is_some (kept_on next kept) ≡ (b && not (given_up next))
 is_some-kept_on I kept b h = sym (and-false b)

@@ -101,14 +101,6 @@ each_request = each_of all_requests all_requests-at
 abbrev pub each_payload : (Payload → Tested) → Tested
 each_payload = each_of all_payloads all_payloads-at
 
--- a claim of each row
-abbrev pub each_cell : (Protocol → CacheState → CacheEvent → CacheAction → CacheState → Tested) → Tested
-each_cell c = record {
-  claim = (p : Protocol) (s : CacheState) (e : CacheEvent) (a : CacheAction) (n : CacheState) → Cell p s e a n → (c p s e a n).claim;
-  test = each_row (λ p s e row. (c p s e row.action row.next).test);
-  sound = λ h p s e a n row. (c p s e a n).sound (each_row-at (λ p s e row. (c p s e row.action row.next).test) h p s e a n row);
-}
-
 -- a claim of each state that fits, of a core that owns the block or not
 abbrev pub each_fitting : Protocol → Bool → Option Request → (CacheState → Bool → Tested) → Tested
 each_fitting p shared wait c = each_of all_states all_states-at (λ s. each_bool (λ owns. provided (fits p shared owns wait s) (λ _. c s owns)))
