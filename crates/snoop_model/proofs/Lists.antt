@@ -28,8 +28,7 @@ option_both None P none some = none refl
 option_both (Some a) P none some = some a refl
 
 pub is_none : {X : Type 0} (o : Option X) → is_some o ≡ false → o ≡ None
-is_none None h = refl
-is_none (Some x) h = cc
+is_none o h = grind arith
 
 -- what stands in a place after a write
 pub set_cases : {A : Type 0} (xs : List A) (i k : ℕ) (a d : A) → ((k ≡ i) × (slice_index_or (slice_set xs i a) k d ≡ a)) ⊎ (slice_index_or (slice_set xs i a) k d ≡ slice_index_or xs k d)

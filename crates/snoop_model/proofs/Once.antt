@@ -20,8 +20,7 @@ in_one None wanted = (λ h. absurd (omega (arith, h.1)), λ is. cc)
 in_one (Some x) wanted = (λ h. grind (arith, h), λ is. (zero, omega arith, same_Some x wanted is))
 
 pub cons_one : (o : Option Access) → cons_option o [] ≡ option_to_list o
-cons_one None = refl
-cons_one (Some x) = refl
+cons_one o = grind arith
 
 -- what a permutation of two lists has in one of them it has in one of the two others
 either_side : (xs ys zs ws : List Access) (wanted : Access) → IsPermutation (xs ++ ys) (zs ++ ws) → Contains xs wanted ⊎ Contains ys wanted → Contains zs wanted ⊎ Contains ws wanted

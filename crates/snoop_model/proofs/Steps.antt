@@ -298,9 +298,7 @@ module _ (s : Situation) (g : Invariant s) where
 -- an action that fills for the operation's request is the fill for the operation, which is no eviction
 fill_is : (asking : Op) (act : CacheAction) → fills (Some (request_for asking)) act ≡ true
     → (act ≡ (if is_load asking then FillLoad else FillStore)) × (is_evict (asked asking) ≡ false)
-fill_is Load FillLoad h = (refl, refl)
-fill_is (Store v) FillStore h = (refl, refl)
-fill_is _ _ h = cc
+fill_is asking act h = grind arith
 
 -- what the response brings to the caches
 module _ (p : Protocol) (log : List Item) (old : List Line) (o : Open) where

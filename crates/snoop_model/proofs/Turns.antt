@@ -15,8 +15,7 @@ busy_under_way s under_way serving kept core block busy =
 
 -- a core that has missed waits
 pub missed_busy : (s : CacheState) → is_some (missed_request s) ≡ true → is_busy s ≡ true
-missed_busy I h = cc
-missed_busy _ h = cc
+missed_busy s h = grind arith
 
 -- a work under way takes no step exactly where nothing of its core waits or is open
 no_step : (w : Option Request) (t : Option Open) (core block : ℕ)

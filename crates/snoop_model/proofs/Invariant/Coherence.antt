@@ -16,16 +16,13 @@ nobody_owns {p} {n} {value} {picture} g idle = sym g.is_owned ∙ false_from_ne_
     idle o (row.next, rw (← is_hit-true row.action hit) is_row))
 
 pub no_data : (found : Option Open) → data_under_way found ≡ None → brings_data (talk_of found) ≡ false
-no_data None none = refl
-no_data (Some o) none = false_from_ne_true (carries_value o.payload) (λ e. none-some o.value (sym (rw e at none)))
+no_data found none = grind arith
 
 pub data_is : (found : Option Open) (value : List ℕ) → ((o : Open) → found ≡ Some o → carries_value o.payload ≡ true → o.value ≡ value) → IfSome (data_under_way found) (λ sent. sent ≡ value)
-data_is None value carried = tt
-data_is (Some o) value carried = cond_both (carries_value o.payload) _ _ (λ found. IfSome found (λ sent. sent ≡ value)) (carried o refl) (λ none. tt)
+data_is found value carried = grind (arith, carried)
 
 pub idle_evict : (s : CacheState) (o : Op) → is_idle_evict s (asked o) ≡ true → (o ≡ Evict) × (s ≡ I)
-idle_evict I Evict h = (refl, refl)
-idle_evict _ _ h = cc
+idle_evict s o h = grind arith
 
 nothing_asked : (p : Protocol) (o : Op) → (¬ ((o ≡ Evict) × (I ≡ I))) → HasRow p I (asked o)
 nothing_asked p Evict busy = absurd (busy (refl, refl))
@@ -41,8 +38,7 @@ has_row rows none None row = let h = row.1 in cc
 has_row rows none (Some e) row = row
 
 not_put : (q : Request) → q ≢ PutM → is_put_m q ≡ false
-not_put PutM get = absurd (get refl)
-not_put _ get = refl
+not_put q get = grind arith
 
 module _ (s : Situation) (g : Invariant s) where
   -- a block outside the shape has nothing

@@ -30,8 +30,7 @@ flat_moved log (Some entry) b = sym (fill_by_all (flat (log ++ entry ∷ []) b) 
 
 -- an operation on a block leaves the words of each other
 flat_split : (ws : List ℕ) (did : Option Did) (block b : ℕ) → IfSome did (λ d. d.block ≡ block) → (b ≢ block → flat_on b ws did ≡ ws) × (flat_on block ws did ≡ flat_after ws did)
-flat_split ws None block b on = (λ apart. refl, refl)
-flat_split ws (Some did) block b on = (λ apart. grind (arith, eqb_tells did.block b), grind (arith, eqb_tells did.block block))
+flat_split ws did block b on = (λ apart. grind (arith, on, eqb_tells), grind (arith, on, eqb_tells))
 
 -- an operation on a word that there is, as it is performed, may come next, if its load gives the flat value
 next_lawful : (log : List Item) (core block word : ℕ) (asking : Op) (value : ℕ) (hit : Bool) → word < 64 → IsLawful (flat_words log block) (Some (next_did log core block word asking value hit)) → IsNext log (next_did log core block word asking value hit)
@@ -92,8 +91,7 @@ kept old new block next queues entry after shaped g k =
     })
 
 issued_access : (s : Situation) (word : ℕ) (asking : Op) (access : Access) → HasWord s.shape word asking → as_access word asking ≡ Some access → IsWord s.shape access.word
-issued_access s word Evict access within e = cc
-issued_access s word _ access within e = rw (← same_Some _ _ e) within
+issued_access s word asking access within e = grind (arith, within)
 
 -- what waits after an Ask, and its item
 module _ (s : Situation) (core block word : ℕ) (asking : Op) (next : CacheState) (old new : Line) (answer : Reply) (entry : Option Item) (there : HasWord s.shape word asking) where
@@ -166,8 +164,7 @@ nothing_proper = record { kept = refl; waiting = refl }
 
 -- in a line whose state has missed nothing no operation waits
 pub nothing_waits : (waiting : Option Access) → option_map (λ access. request_for access.op) waiting ≡ None → waiting ≡ None
-nothing_waits None h = refl
-nothing_waits (Some access) h = cc
+nothing_waits waiting h = grind arith
 
 -- a line in I holds nothing
 pub idle_line : (line : Line) → IsProper line → line.state ≡ I → line ≡ nothing_held
@@ -233,8 +230,7 @@ reset_invariant p shape = record {
 }
 
 pub refusal_same : (old : Situation) (step : Step) (cause : Refused) (new : Situation) → Goes old step (Err cause) new → new ≡ old
-refusal_same old step NoMemory new r = r
-refusal_same old step cause new r = r.1
+refusal_same old step cause new r = grind (arith, r)
 
 -- what each move keeps, each step keeps
 pub goes_kept : (Q : Situation → Type 0) → ((block : ℕ) (s : Situation) (step : Step) (answer : Reply) (t : Situation) → Q s → MoveOn block s step answer t → Q t)

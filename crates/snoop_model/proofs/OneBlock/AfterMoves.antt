@@ -71,8 +71,7 @@ pub respond_here : (old : Situation) (b : ℕ) (closing : Open) (did : Option Di
 respond_here old b closing did new g within r = rw r.after (get_or-set_same old.pictures b r.next nothing_there (in_pictures old b g.shaped within))
 
 as_many_after : (a : CacheAction) (queues : List (List ℕ)) (core block : ℕ) → length (queues_after a queues core block) ≡ length queues
-as_many_after (Issue r) queues core block = length-set queues core _
-as_many_after _ queues core block = refl
+as_many_after a queues core block = grind (arith, length-set queues core)
 
 -- a move leaves all lists as long as they are
 pub still_shaped : (block : ℕ) (old : Situation) (step : Step) (answer : Reply) (new : Situation) → IsShaped old → MoveOn block old step answer new → IsShaped new

@@ -3,8 +3,7 @@ use Rattle.snoop_model.proofs.Common.{append-nil, arith, BlockInvariant, Bool, c
 use Rattle.snoop_model.proofs.{Tables.{Tested.of_open, StateTests.{brings_data, carries, clean_reads, claims_rule}}}
 
 pub owns_owned : (owner : Option ℕ) (d : ℕ) (b : Bool) → is_some owner ≡ b → (not (owns owner d) || b) ≡ true
-owns_owned None d b e = refl
-owns_owned (Some o) d b e = rw (← e) (or_right (not (eqb d o)) true refl)
+owns_owned owner d b e = grind arith
 
 -- what the invariant says of one core's line, where the block's words and memory's are these
 pub record LineFits (p : Protocol) (shared owning : Bool) (wait : Option Request) (words memory : List ℕ) (line : Line) : Type 0 where
@@ -25,13 +24,11 @@ module _ {p : Protocol} {shared owning shared' owning' : Bool} {wait wait' : Opt
   still_fits same stays fit = record { fit = fit; kept = λ h. rw (same h) (was.kept h); clean = λ h. stays (was.clean h) ∙ sym (same (clean_reads old.state h)); proper = was.proper }
 
 pub owner_is : (owner : Option ℕ) (d : ℕ) → owns owner d ≡ true → owner ≡ Some d
-owner_is None d h = cc
-owner_is (Some o) d h = rw (eqb-true d o h) refl
+owner_is owner d h = grind (arith, eqb-true d)
 
 -- two cores do not both own
 pub owns_apart : (owner : Option ℕ) (c d : ℕ) → d ≢ c → not (owns owner d && owns owner c) ≡ true
-owns_apart None c d apart = refl
-owns_apart (Some o) c d apart = grind (arith, eqb_tells d o, eqb_tells c o)
+owns_apart owner c d apart = grind (arith, eqb-true d, eqb-true c)
 
 module _ {p : Protocol} {n : ℕ} {flat : List ℕ} {picture : Picture} (g : BlockInvariant p n flat picture) where
   pub line_of : (d : ℕ) → d < n → LineFits p g.claims.shared (owns g.owner d) (own_open picture.transaction d) flat picture.memory.value (held_by picture d)
@@ -71,6 +68,4 @@ IsLawful flat did = IfSome did (λ d. d.load ≡ true → d.value ≡ word_at fl
 -- the operation that was done is the one that was asked, and no eviction
 pub performed_so : (word : ℕ) (asking : Op) (before : List ℕ) (value : ℕ) (after : List ℕ) (log : List Item) (core block : ℕ) (hit : Bool) → Performs word asking before value after
     → (did_access (next_did log core block word asking value hit) ≡ record { word = word; op = asking }) × (as_access word asking ≡ Some (record { word = word; op = asking }))
-performed_so word Load before value after log core block hit h = (refl, refl)
-performed_so word (Store stored) before value after log core block hit h = rw h.0 (refl, refl)
-performed_so word Evict before value after log core block hit h = absurd h
+performed_so word asking before value after log core block hit h = grind (arith, h)

@@ -26,8 +26,7 @@ answered {p} {n} {flat} {before} {good} {o} found get =
     found.tests.1.1.1.1.1.0 get _ _ (rw (found.opened, eq-eqb o.core o.core refl) at (good.states o.core (good.requestor_in o found.opened)))
 
 written_flat : (a : MemAction) (v old flat : List ℕ) → (writes a ≡ true → v ≡ flat) → (writes a ≡ false → old ≡ flat) → written a v old ≡ flat
-written_flat Write v old flat new stays = new refl
-written_flat _ v old flat new stays = stays refl
+written_flat a v old flat new stays = grind (arith, new, stays)
 
 -- the words that the operation leaves are those in flat memory after it
 module _ (flat : List ℕ) (log : List Item) (core block word value : ℕ) (came after : List ℕ) where

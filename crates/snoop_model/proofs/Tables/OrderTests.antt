@@ -1,6 +1,6 @@
 -- Tests of the rows of an Order and of a Respond, and of the table of senders, computed over the whole tables.
 use Rattle.std.proofs.lemmas.Map.Views.{Contains-from_any}
-use Rattle.snoop_model.proofs.Common.{all_memories, all_payloads, all_protocols, all_requests, all_states, all_states-at, and_parts, ap, arrival, arrival_at_memory, at_memory, awaited_request, Bool, CacheAction, CacheCell, CacheEvent, CacheState, carries_value, cell_of, Claims, claims_of, cond, false, FillLoad, FillStore, fits, GetM, GetS, held_by, in_protocol, is_clean, is_get_m, is_owner, is_put_m, is_sharer, IsD, IsSenderLine, IsSomeAnd, keeps, lines_of, list_any, MatchBool, MemAction, MemCell, MemEvent, memories, Memory, memory_cell_of, MemoryCell, MemState, missed_request, None, not, Option, option_and_then, option_or, Other, other, own, Payload, payloads, Picture, Protocol, PutM, refl, Request, Requestor, requests, same, same_Some, same_true, sameb, Sender, sender_of, Some, states, sym, takes_payload, true, unwrap_or, wait_fits, waiting_request, ℕ, ◌&&◌, ◌||◌, ◌↔◌, ◌≡◌}
+use Rattle.snoop_model.proofs.Common.{all_memories, all_payloads, all_protocols, all_requests, all_states, all_states-at, and_parts, ap, arrival, arrival_at_memory, at_memory, awaited_request, Bool, CacheAction, CacheCell, CacheEvent, CacheState, carries_value, cell_of, Claims, claims_of, cond, false, FillLoad, FillStore, fits, GetM, GetS, held_by, in_protocol, is_clean, is_get_m, is_owner, is_put_m, is_sharer, IsD, IsSenderLine, IsSomeAnd, keeps, lines_of, list_any, MatchBool, MemAction, MemCell, MemEvent, memories, Memory, memory_cell_of, MemoryCell, MemState, missed_request, None, not, Option, option_and_then, option_or, Other, other, own, Payload, payloads, Picture, Protocol, PutM, refl, Request, Requestor, requests, same, same_Some, same_true, sameb, Sender, sender_of, Some, states, sym, takes_payload, true, unwrap_or, wait_fits, waiting_request, ℕ, ◌&&◌, ◌||◌, ◌↔◌, ◌≡◌, arith}
 use Rattle.snoop_model.proofs.Tables.{SentBy.{sent_by, sent_by_memory}, StateTests.carries, Tested.{alike, each_fitting, each_memory, each_of, each_open, each_payload, each_protocol, each_request, equal, fails, found, given, holds, provided, Tested, unless, ◌also◌}}
 use Rattle.snoop_rules.specs.declared.names.MemAction.TheVariants as mem_action
 use Rattle.snoop_rules.specs.declared.names.Payload.TheVariants as payload
@@ -86,8 +86,7 @@ data_rule = every_data.sound refl
 
 -- no data comes for a PutM
 pub awaited-get : (s : CacheState) → awaited_request s ≡ Some PutM → ⊥
-awaited-get IsD awaits = cc
-awaited-get _ awaits = cc
+awaited-get s awaits = grind arith
 
 abbrev same_sender : Sender → Sender → Bool
 same_sender Memory Memory = true

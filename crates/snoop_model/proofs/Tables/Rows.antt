@@ -1,5 +1,5 @@
 -- What holds of every row, found by trying all.
-use Rattle.snoop_model.proofs.Common.{[], all_events, all_protocols, all_requests, all_states, all_states-at, and-false, and-true, asked, awaited_request, Bool, CacheAction, CacheEvent, CacheState, Cell, cell_of, Drop, each_row, Evict, false, FillLoad, FillStore, GetM, GetS, Hit, I, if◌then◌else◌, IiA, ImAd, is_load, is_some, IsProper, Issue, keeps, kept_on, as_access, Line, List, Load, missed_request, moves_to, None, not, Op, Option, option_map, other, own, Protocol, PutM, refl, Request, request_for, requests, same, seen_by, Some, Stall, states, sym, true, waiting_request, ℕ, ◌&&◌, ◌==◌, ◌||◌, ◌∙◌, ◌≡◌, all_events-at}
+use Rattle.snoop_model.proofs.Common.{[], all_events, all_protocols, all_requests, all_states, all_states-at, and-false, and-true, asked, awaited_request, Bool, CacheAction, CacheEvent, CacheState, Cell, cell_of, Drop, each_row, Evict, false, FillLoad, FillStore, GetM, GetS, Hit, I, if◌then◌else◌, IiA, ImAd, is_load, is_some, IsProper, Issue, keeps, kept_on, as_access, Line, List, Load, missed_request, moves_to, None, not, Op, Option, option_map, other, own, Protocol, PutM, refl, Request, request_for, requests, same, seen_by, Some, Stall, states, sym, true, waiting_request, ℕ, ◌&&◌, ◌==◌, ◌||◌, ◌∙◌, ◌≡◌, all_events-at, arith}
 use Rattle.snoop_rules.specs.declared.names.CacheEvent.TheVariants as event
 use Rattle.snoop_model.proofs.Tables.Tested.{◌also◌, Tested, alike, each_bool, each_of, each_protocol, each_request, equal, fails, given, holds}
 
@@ -89,18 +89,14 @@ module _ (p : Protocol) (s : CacheState) (e : CacheEvent) (a : CacheAction) (n :
   IsProper-fill asking after fill row = let f = fill_facts asking fill row in record { kept = sym f.1.0; waiting = sym f.1.1.0 }
 
 pub serving-asked : (asking : Op) → serving (asked asking) ≡ Some (request_for asking)
-serving-asked Evict = refl
-serving-asked _ = refl
+serving-asked asking = grind arith
 
 -- an Ask leaves what its core awaits
 pub awaited-asked : (p : Protocol) (s : CacheState) (asking : Op) (a : CacheAction) (n : CacheState) → Cell p s (asked asking) a n → (r : Request) → awaited_request n ≡ Some r → awaited_request s ≡ Some r
 awaited-asked p s asking a n row = (rule p s (asked asking) (record { action = a; next = n }) row).1 (request_for asking) (serving-asked asking)
 
 is_some-kept_on : (next : CacheState) (kept : Option (List ℕ)) (b : Bool) → is_some kept ≡ b → is_some (kept_on next kept) ≡ (b && not (given_up next))
-is_some-kept_on I kept b h = sym (and-false b)
-is_some-kept_on ImAd kept b h = sym (and-false b)
-is_some-kept_on IiA kept b h = sym (and-false b)
-is_some-kept_on _ kept b h = h ∙ sym (and-true b)
+is_some-kept_on next kept b h = grind (arith, and-false b, and-true b)
 
 -- a move that keeps what the next state keeps, and leaves what has missed
 IsProper-move : (old : Line) (n : CacheState) → IsProper old → keeps n ≡ (keeps old.state && not (given_up n)) → missed_request old.state ≡ missed_request n
@@ -117,8 +113,7 @@ module _ (p : Protocol) (s : CacheState) (e : CacheEvent) (q : Request) (n : Cac
   issue-missed = (action_rule p s e (Issue q) n row).1.1.0
 
 pub asked_missed : (word : ℕ) (asking : Op) → option_map (λ access. request_for access.op) (as_access word asking) ≡ missed_at (asked asking)
-asked_missed word Evict = refl
-asked_missed word _ = refl
+asked_missed word asking = grind arith
 
 pub IsProper-issue : (p : Protocol) (old : Line) (word : ℕ) (asking : Op) (q : Request) (n : CacheState) → IsProper old → Cell p old.state (asked asking) (Issue q) n
     → IsProper (record { state = n; kept = kept_on n old.kept; waiting = as_access word asking })
@@ -142,8 +137,7 @@ IsProper-hit p old e n after proper row =
 
 -- only an Evict drops a line
 pub drop_evicts : (p : Protocol) (s : CacheState) (asking : Op) (n : CacheState) → Cell p s (asked asking) Drop n → asking ≡ Evict
-drop_evicts p s Evict n row = refl
-drop_evicts p s _ n row = let evicts = (action_rule p s _ Drop n row).1.1.1.0 in cc
+drop_evicts p s asking n row = grind (arith, (action_rule p s (asked asking) Drop n row).1.1.1.0)
 
 pub IsProper-drop : (p : Protocol) (old : Line) (e : CacheEvent) (n : CacheState) → IsProper old → Cell p old.state e Drop n → IsProper (moves_to n old)
 IsProper-drop p old e n proper row = let (kept, (missed, _)) = action_rule p old.state e Drop n row in IsProper-move old n proper kept missed

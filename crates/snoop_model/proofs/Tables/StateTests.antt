@@ -1,5 +1,5 @@
 -- What holds of the states, of the table of claims, and of the rows of an Ask, computed over all of them.
-use Rattle.snoop_model.proofs.Common.{all_events, all_events-at, all_memories, all_payloads, all_payloads-at, all_protocols, all_requests, all_requests-at, all_states, asked, awaited_request, Bool, CacheAction, CacheCell, CacheEvent, CacheState, carries_value, cell_of, claims_of, false, fits, Hit, I, IiA, ImAd, in_protocol, is_clean, is_owner, is_put_m, is_sharer, is_some, keeps, kept_on, List, None, Op, Option, option_map_or, Protocol, refl, Request, request_for, requests, same, Some, Talk, true, wait_fits, ℕ, ◌&&◌, ◌≡◌}
+use Rattle.snoop_model.proofs.Common.{all_events, all_events-at, all_memories, all_payloads, all_payloads-at, all_protocols, all_requests, all_requests-at, all_states, asked, awaited_request, Bool, CacheAction, CacheCell, CacheEvent, CacheState, carries_value, cell_of, claims_of, false, fits, Hit, I, IiA, ImAd, in_protocol, is_clean, is_owner, is_put_m, is_sharer, is_some, keeps, kept_on, List, None, Op, Option, option_map_or, Protocol, refl, Request, request_for, requests, same, Some, Talk, true, wait_fits, ℕ, ◌&&◌, ◌≡◌, arith}
 use Rattle.snoop_model.proofs.Tables.{Rows.{serving, serving-asked}, Tested.{each_bool, each_fitting, each_memory, each_of, each_open, each_option, each_protocol, equal, fails, found, given, holds, provided, Tested, unless, ◌also◌}}
 use Rattle.snoop_rules.specs.declared.names.CacheEvent.TheVariants as event
 
@@ -14,15 +14,11 @@ carries s next = provided (keeps next) (λ _. holds (keeps s)) also provided (is
 -- a clean owner reads
 pub clean_reads : (s : CacheState) → is_clean s ≡ true → keeps s ≡ true
 unfolding is_clean
-clean_reads I h = cc
-clean_reads _ h = cc
+clean_reads s h = grind arith
 
 -- a state that may read keeps the value
 pub kept_reader : (s : CacheState) (kept : Option (List ℕ)) → keeps s ≡ true → kept_on s kept ≡ kept
-kept_reader I kept h = cc
-kept_reader ImAd kept h = cc
-kept_reader IiA kept h = cc
-kept_reader _ kept h = refl
+kept_reader s kept h = grind arith
 
 -- the talk brings data
 abbrev pub brings_data : Option Talk → Bool
@@ -66,8 +62,7 @@ abbrev pub ask_claims : Protocol → Bool → Bool → Option Request → CacheS
 ask_claims p shared ow w s e = unless (is_idle_evict s e) (λ _. found (cell_of p s e) (λ r. holds true)) also given (cell_of p s e) (asked_row p shared ow w s e)
 
 pub is_hit-true : (a : CacheAction) → is_hit a ≡ true → a ≡ Hit
-is_hit-true Hit h = refl
-is_hit-true _ h = cc
+is_hit-true a h = grind arith
 
 -- a core whose state fits may store where it owns the block, and load where it keeps words;
 -- after its own GetS or GetM it awaits the data, and after its own PutM it keeps nothing; and its row for what is asked is as claimed
