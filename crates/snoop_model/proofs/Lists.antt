@@ -19,24 +19,18 @@ of_choice f t x y = grind arith
 
 -- what holds of the value, if there is one
 pub if_some : {A : Type 0} (o : Option A) (P : A → Type 0) → ((a : A) → o ≡ Some a → P a) → IfSome o P
-if_some None P each = tt
-if_some (Some a) P each = each a refl
+if_some o P each = grind (arith, each)
 
 -- what holds of none where there is none, and of the value that there is, holds of an option
 pub option_both : {A : Type 0} (o : Option A) (P : Option A → Type 0) → (o ≡ None → P None) → ((a : A) → o ≡ Some a → P (Some a)) → P o
-option_both None P none some = none refl
-option_both (Some a) P none some = some a refl
+option_both o P none some = grind (arith, none, some)
 
 pub is_none : {X : Type 0} (o : Option X) → is_some o ≡ false → o ≡ None
 is_none o h = grind arith
 
 -- what stands in a place after a write
 pub set_cases : {A : Type 0} (xs : List A) (i k : ℕ) (a d : A) → ((k ≡ i) × (slice_index_or (slice_set xs i a) k d ≡ a)) ⊎ (slice_index_or (slice_set xs i a) k d ≡ slice_index_or xs k d)
-set_cases [] i k a d = inr refl
-set_cases (x ∷ xs) zero zero a d = inl (refl, refl)
-set_cases (x ∷ xs) zero (suc k) a d = inr refl
-set_cases (x ∷ xs) (suc i) zero a d = inr refl
-set_cases (x ∷ xs) (suc i) (suc k) a d = elim (set_cases xs i k a d) [ inl p ↦ inl (ap suc p.0, p.1) | inr e ↦ inr e ]
+set_cases xs i k a d = grind (arith, get_or-set_same xs i a d, get_or-set_other xs i k a d, set_past xs i a)
 
 -- what holds of the new value in its place, and of each other, holds of each then
 pub each_set : {A : Type 0} (xs : List A) (i : ℕ) (a d : A) (P : ℕ → A → Type 0) → i < length xs → P i a → ((k : ℕ) → k ≢ i → P k (slice_index_or xs k d)) → (k : ℕ) → P k (slice_index_or (slice_set xs i a) k d)

@@ -24,9 +24,8 @@ cons_one o = grind arith
 
 -- what a permutation of two lists has in one of them it has in one of the two others
 either_side : (xs ys zs ws : List Access) (wanted : Access) → IsPermutation (xs ++ ys) (zs ++ ws) → Contains xs wanted ⊎ Contains ys wanted → Contains zs wanted ⊎ Contains ws wanted
-either_side xs ys zs ws wanted same now =
-    let before : Contains (xs ++ ys) wanted = elim now [ inl l ↦ Contains-append_left xs ys wanted l | inr r ↦ Contains-append_right xs ys wanted r ] in
-    Contains-append_cases zs ws wanted (Contains-permutation _ _ wanted same before)
+either_side xs ys zs ws wanted same now = Contains-append_cases zs ws wanted (Contains-permutation _ _ wanted same
+    (grind (arith, now, Contains-append_left xs ys wanted, Contains-append_right xs ys wanted)))
 
 -- the operation that a move performs, if any
 abbrev pub performed_by : (s t : Situation) (step : Step) (answer : Reply) → FirstMove s step answer t → Option Did
@@ -86,8 +85,7 @@ IsBy core block did = IfSome did (λ d. (d.core ≡ core) × (d.block ≡ block)
 -- what an item has of a core and block: its operation, if it is by this core on this block
 accesses_one : (core block c b : ℕ) (did : Option Did) → IsBy c b did
     → map did_access (filter (λ d. d.block == block) (of_core core did)) ≡ option_to_list (cond (eqb b block && eqb c core) (done did) None)
-accesses_one core block c b None by = ap option_to_list (either_way (eqb b block && eqb c core) None)
-accesses_one core block c b (Some did) by = rw (← by.0, ← by.1) (grind arith)
+accesses_one core block c b did by = grind (arith, by)
 
 -- an operation waits on, and what is asked is done; or what waited is done, and what is asked begins to wait
 abbrev Evens : Option Access → Option Access → Option Access → Option Access → Type 0

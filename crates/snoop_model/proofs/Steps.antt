@@ -206,22 +206,17 @@ move_is s (Respond on) answer new (block, (first, m)) =
 -- and so does a refusal
 module _ (s : Situation) (queued : AreQueued s) where
   refused_is : (step : Step) (cause : Refused) → Refuses s step cause → ◌≡◌ {A = Next} (Err cause, s) (next_of s step)
-  refused_is (Ask core block word asking) NoCore h = rw (le-ltb core s.shape.cores h) refl
   refused_is (Ask core block word asking) NoBlock h =
       let there = (place s core block word asking).0 in
       let nowhere = false_from_ne_true _ (λ e. elim h.1 [ inl past ↦ let within = (there e).0 in absurd (omega arith) | inr none ↦ none (there e).1 ]) in
       rw (lt-ltb core s.shape.cores h.0, nowhere) refl
   refused_is (Ask core block word asking) (Stalled held) h =
       rw (lt-ltb core s.shape.cores h.0.0, (place s core block word asking).1 (h.0.1, h.3), h.1, h.2.1) refl
-  refused_is (Order core) NoCore h = rw (le-ltb core s.shape.cores h) refl
   refused_is (Order core) NothingWaiting h =
       let empty = none_from_not_some (slice_get (queue_of s.queues core) 0)
       (λ block is. let waits = first_waits s queued core block is in h.1 block waits.0 waits.1) in
       rw (lt-ltb core s.shape.cores h.0, empty) refl
-  refused_is (Order core) (BusTaken block) h = rw (lt-ltb core s.shape.cores h.0, h.1, h.2) refl
-  refused_is (Respond block) NoBlock h = rw (le-ltb block s.shape.blocks h) refl
-  refused_is (Respond block) NoTransaction h = rw (lt-ltb block s.shape.blocks h.0, h.1) refl
-  refused_is _ _ h = absurd h
+  refused_is step cause h = grind (arith, h, lt-ltb, le-ltb)
 
   pub goes_is : (step : Step) (outcome : Result Reply Refused) (new : Situation) → GoesFirst s step outcome new → (outcome, new) ≡ next_of s step
   goes_is step (Ok answer) new goes = move_is s step answer new goes

@@ -20,13 +20,7 @@ missed_busy s h = grind arith
 -- a work under way takes no step exactly where nothing of its core waits or is open
 no_step : (w : Option Request) (t : Option Open) (core block : ℕ)
     → (step_under_way w t core block ≡ None) ↔ ((w ≡ None) × ((o : Open) → t ≡ Some o → o.core ≢ core))
-no_step (Some q) None core block = (λ h. cc, λ idle. cc)
-no_step (Some q) (Some o) core block = (λ h. cc, λ idle. cc)
-no_step None None core block = (λ h. (refl, λ o e. cc), λ idle. refl)
-no_step None (Some o) core block = (
-  λ h. (refl, λ p e own. (let clash = rw (eq-eqb o.core core (rw (same_Some _ _ e) own)) at h in cc)),
-  λ idle. rw (ne_eqb o.core core (idle.1 o refl)) refl,
-)
+no_step w t core block = (λ h. (grind arith, λ o e own. grind arith), λ idle. grind (arith, idle.0, idle.1))
 
 never_refused : NeverRefused
 never_refused s under_way core block word asking false step serving kept has_core has_block has_word idle is cause refused = ask_goes cause (rw (← (same_Some _ _ is)) at refused)

@@ -42,8 +42,7 @@ IsLogged s did = IsWithin s did.core did.block × IsWord s.shape did.word
 
 -- what holds of the value, if there is one, holds of the list of it
 all_one : {A : Type 0} (P : A → Type 0) (found : Option A) → IfSome found P → All P (option_to_list found)
-all_one P None here = All-nil P
-all_one P (Some a) here = All-cons P a [] here (All-nil P)
+all_one P found here = grind (arith, here, All-nil P, All-cons P)
 
 -- a log stays legal and within the shape where the item's operation, if it has one, may come next and is within it
 logged_more : (s : Situation) (entry : Option Item) → Invariant s → IfSome (did_in entry) (λ did. IsNext s.log did × IsLogged s did)

@@ -47,9 +47,7 @@ is_it sender None = not (is_some sender)
 is_it sender (Some d) = owns sender d
 
 pub it_is : (sender from : Option ℕ) → (is_it sender from ≡ true) ↔ (from ≡ sender)
-it_is None None = (λ h. refl, λ h. refl)
-it_is (Some o) None = (λ h. cc, λ h. cc)
-it_is sender (Some d) = (λ h. sym (owner_is sender d h), λ h. rw (← h) (eq-eqb d d refl))
+it_is sender from = (λ h. grind (arith, owner_is sender), λ h. grind arith)
 
 -- an owner is one of the cores below n
 abbrev pub OwnerIn : ℕ → Option ℕ → Type 0

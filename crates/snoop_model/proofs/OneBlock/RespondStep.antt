@@ -34,9 +34,7 @@ module _ (flat : List ℕ) (log : List Item) (core block word value : ℕ) (came
   done asking = Some (next_did log core block word asking value false)
 
   filled_words : (a : CacheAction) (asking : Op) → came ≡ flat → a ≡ (if is_load asking then FillLoad else FillStore) → Performs word asking came value after → (after ≡ flat_after flat (done asking)) × IsLawful flat (done asking) × (fills_store a ≡ false → flat_after flat (done asking) ≡ flat)
-  filled_words a Load same fill did = (did.1 ∙ same, λ h. did.0 ∙ ap (λ (ws : List ℕ). word_at ws word) same, λ h. refl)
-  filled_words a (Store stored) same fill did = (did.1 ∙ rw (same, did.0) refl, λ h. cc, λ h. let stores : fills_store a ≡ true = ap fills_store fill in cc)
-  filled_words a Evict same fill did = absurd did
+  filled_words a asking same fill did = grind (arith, same, fill, did)
 
 -- a Respond of a picture that keeps its invariant
 module _ (s : Situation) (block : ℕ) (o : Open) (did : Option Did) (new : Situation) (r : Responds s block o did new) (n : ℕ) (flat : List ℕ) (g : BlockInvariant s.protocol n flat (picture_of s block)) (in_row : o.core < length (picture_of s block).caches) where

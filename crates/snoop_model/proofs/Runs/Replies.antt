@@ -1,5 +1,5 @@
 -- Steps leave the protocol and the shape, and what they add to the history is what their outcomes tell.
-use Rattle.snoop_model.proofs.Common.{[], ap, append-nil, Ask, asked, CacheAction, CacheState, came_of, Cell, Drop, Err, Evict, false, FirstMove, Goes, held_by, Hit, IfSome, inl, inr, Invariant, Issue, Item, Line, List, Load, MoveOn, None, Ok, Op, Option, option_to_list, Order, picture_of, Protocol, refl, Refused, Reply, Respond, Result, RunBy, same_Some, Situation, Some, Step, Store, subst, sym, Takes, ℕ, ◌++◌, ◌∙◌, ◌∷◌, ◌≡◌}
+use Rattle.snoop_model.proofs.Common.{[], ap, append-nil, Ask, asked, CacheAction, CacheState, came_of, Cell, Drop, Err, Evict, false, FirstMove, Goes, held_by, Hit, IfSome, inl, inr, Invariant, Issue, Item, Line, List, Load, MoveOn, None, Ok, Op, Option, option_to_list, Order, picture_of, Protocol, refl, Refused, Reply, Respond, Result, RunBy, same_Some, Situation, Some, Step, Store, subst, sym, Takes, ℕ, ◌++◌, ◌∙◌, ◌∷◌, ◌≡◌, arith}
 use Rattle.snoop_model.specs.Moves.Replies.{Tells}
 use Rattle.snoop_model.proofs.{Invariant.Runs.{goes_kept, move_keeps, refusal_same}, OneBlock.AfterMoves.by_request, Runs.Along.kept_along}
 use Rattle.snoop_model.proofs.Tables.Rows.{action_rule, drop_evicts, serving-asked}
@@ -46,8 +46,7 @@ module _ (p : Protocol) (next : CacheState) (log : List Item) (core block word :
 
 -- a refusal tells of nothing
 pub refusal_tells : {past log : List Item} (step : Step) (cause : Refused) → log ≡ past → Tells past step (Err cause) log
-refusal_tells (Ask core block word Evict) cause same = same
-refusal_tells _ cause same = same
+refusal_tells step cause same = grind (arith, same)
 
 -- what a step adds to the log is what its outcome tells
 pub goes_tells : (old : Situation) (step : Step) (outcome : Result Reply Refused) (new : Situation) → Invariant old → Goes old step outcome new → Tells old.log step outcome new.log

@@ -18,10 +18,7 @@ settled_if takes p found old = cond takes (memory_row_for p old found) (Some (re
 
 pub settled_so : (takes : Bool) (p : Protocol) (found : Option MemEvent) (old : MemState) (act : MemAction) (new : MemState)
     → MatchBool takes (IsSomeAnd found (λ event. MemoryCell p old event act new)) ((act ≡ mem_action.None) × (new ≡ old)) ↔ (settled_if takes p found old ≡ Some (record { action = act; next = new }))
-settled_so true p None old act new = (λ settled. absurd settled, λ h. cc)
-settled_so true p (Some event) old act new = (λ settled. settled, λ h. h)
-settled_so false p found old act new =
-    (λ settled. cc, λ h. let same = same_Some _ _ h in (ap (λ (row : MemCell). row.action) (sym same), ap (λ (row : MemCell). row.next) (sym same)))
+settled_so takes p found old act new = (λ settled. grind (arith, settled), λ h. grind (arith, h))
 
 -- the row by which memory takes the message of a transaction
 abbrev pub settled_row : Protocol → Request → MemState → Payload → Option MemCell
@@ -95,10 +92,7 @@ same_sender (Other s) (Other t) = sameb states s t
 same_sender _ _ = false
 
 same_sender-true : (x y : Sender) → same_sender x y ≡ true → x ≡ y
-same_sender-true Memory Memory h = refl
-same_sender-true (Requestor s) (Requestor t) h = ap Requestor (same_true states tt s t h)
-same_sender-true (Other s) (Other t) h = ap Other (same_true states tt s t h)
-same_sender-true _ _ h = cc
+same_sender-true x y h = grind (arith, same_true states tt)
 
 -- who sends, the payload, and memory's state after the Order and after the Respond
 abbrev Row : Type 0

@@ -1,5 +1,5 @@
 -- What a row sends, as a test.
-use Rattle.snoop_model.proofs.Common.{ap, at_memory, CacheAction, CacheCell, CacheState, cell_of, held_by, MemAction, MemCell, memory_cell_of, MemState, None, Option, option_and_then, Payload, Picture, Protocol, Request, same_Some, seen_by, Sends, Some, Target, ℕ, ◌≡◌}
+use Rattle.snoop_model.proofs.Common.{ap, at_memory, CacheAction, CacheCell, CacheState, cell_of, held_by, MemAction, MemCell, memory_cell_of, MemState, None, Option, option_and_then, Payload, Picture, Protocol, Request, same_Some, seen_by, Sends, Some, Target, ℕ, ◌≡◌, arith}
 use Rattle.snoop_rules.specs.declared.names.CacheAction.TheVariants as action
 use Rattle.snoop_rules.specs.declared.names.MemAction.TheVariants as mem_action
 
@@ -28,8 +28,7 @@ sending (action.Send sent target) payload h = (target, ap (λ (x : Payload). act
 sending _ payload h = cc
 
 pub sending_memory : (act : MemAction) (payload : Payload) → memory_payload act ≡ Some payload → act ≡ mem_action.Send payload
-sending_memory (mem_action.Send sent) payload h = ap (λ (x : Payload). mem_action.Send x) (same_Some _ _ h)
-sending_memory _ payload h = cc
+sending_memory act payload h = grind arith
 
 -- a row that sends
 pub sends_row : (found : Option CacheCell) (payload : Payload) → sent_by found ≡ Some payload → (target : Target) × ((next : CacheState) × (found ≡ Some (record { action = action.Send payload target; next = next })))
@@ -47,5 +46,4 @@ module _ (p : Protocol) (before : Picture) (core : ℕ) (q : Request) where
   payload_from (Some k) = sent_by (cell_of p (held_by before k).state (seen_by k core q))
 
   pub sends_is : (from : Option ℕ) (payload : Payload) → Sends p before core q from payload → payload_from from ≡ Some payload
-  sends_is None payload sends = ap sent_by_memory sends.1
-  sends_is (Some k) payload sends = ap sent_by sends.1.1.1
+  sends_is from payload sends = grind (arith, sends)

@@ -73,8 +73,7 @@ abbrev pub either : (Bool → Bool) → Bool
 either f = f true && f false
 
 pub either-at : (f : Bool → Bool) → either f ≡ true → (x : Bool) → f x ≡ true
-either-at f h true = (and_parts _ _ h).0
-either-at f h false = (and_parts _ _ h).1
+either-at f h x = grind arith
 
 abbrev pub each_bool : (Bool → Tested) → Tested
 each_bool = each_of either either-at
@@ -83,8 +82,7 @@ abbrev pub all_options : {A : Type 0} → ((A → Bool) → Bool) → (Option A 
 all_options all test = test None && all (λ a. test (Some a))
 
 pub all_options-at : {A : Type 0} (all : (A → Bool) → Bool) → ((f : A → Bool) → all f ≡ true → (a : A) → f a ≡ true) → (test : Option A → Bool) → all_options all test ≡ true → (o : Option A) → test o ≡ true
-all_options-at all at test h None = (and_parts _ _ h).0
-all_options-at all at test h (Some a) = at _ (and_parts (test None) _ h).1 a
+all_options-at all at test h o = grind (arith, at (λ a. test (Some a)))
 
 abbrev pub each_option : {A : Type 0} (all : (A → Bool) → Bool) → ((f : A → Bool) → all f ≡ true → (a : A) → f a ≡ true) → (Option A → Tested) → Tested
 each_option all at = each_of (all_options all) (all_options-at all at)
