@@ -46,8 +46,7 @@ SilentBelow p before core request n = (other : Option ℕ) (payload : Payload) �
 
 module _ (p : Protocol) (before : Picture) (core : ℕ) (request : Request) where
   pub sends_below : (other : Option ℕ) (payload : Payload) → Sends p before core request other payload → IsBelow (length before.caches) other
-  sends_below None payload sends = tt
-  sends_below (Some k) payload sends = sends.0
+  sends_below other payload sends = grind (arith, sends)
 
   -- memory does not send
   pub Silent-none : (act : MemAction) (next : MemState) → MemoryCell p before.memory.state (at_memory request) act next → ((payload : Payload) → act ≢ mem_action.Send payload) → SilentBelow p before core request 0
@@ -62,11 +61,10 @@ module _ (p : Protocol) (before : Picture) (core : ℕ) (request : Request) wher
   pub Silent-more : (n : ℕ) (act : CacheAction) (next : CacheState) → SilentBelow p before core request n
       → Cell p (held_by before n).state (seen_by n core request) act next
       → ((payload : Payload) (target : Target) → act ≡ action.Send payload target → ⊥) → SilentBelow p before core request (n + 1)
-  Silent-more n act next so_far row silent None payload below sends = so_far None payload tt sends
-  Silent-more n act next so_far row silent (Some k) payload below sends = grind (arith, so_far (Some k) payload, sends, row, silent payload, sending act payload, sends_is p before core request (Some k) payload sends)
+  Silent-more n act next so_far row silent other payload below sends =
+      grind (arith, so_far other payload, below, sends, row, silent payload, sending act payload, sends_is p before core request other payload sends)
 
   -- cores that have nothing to do are passed over
   pub Silent-past : (n to : ℕ) → n ≤ to → ((k : ℕ) → n ≤ k → k < to → Cell p (held_by before k).state (seen_by k core request) action.None (held_by before k).state)
       → SilentBelow p before core request n → SilentBelow p before core request to
-  Silent-past n to up idle silent None payload below sends = silent None payload tt sends
-  Silent-past n to up idle silent (Some k) payload below sends = grind (arith, silent (Some k) payload, sends, idle k, sends_is p before core request (Some k) payload sends)
+  Silent-past n to up idle silent other payload below sends = grind (arith, silent other payload, below, sends, idle, sends_is p before core request other payload sends)

@@ -55,9 +55,8 @@ sum_set f xs i a d none = grind (arith, sum_by-set f xs i a d, set_past xs i a, 
 
 -- an Ask puts at most one request more into the queues, and an Order takes one away
 pub sum_asked : (act : CacheAction) (lines : List (List ℕ)) (core block : ℕ) → sum_by length (queues_after act lines core block) ≤ sum_by length lines + 1
-sum_asked (Issue request) lines core block =
-    omega (arith, sum_set (λ (line : List ℕ). length line) lines core (queue_of lines core ++ block ∷ []) [] refl, length_push (queue_of lines core) block)
-sum_asked _ lines core block = omega arith
+sum_asked act lines core block =
+    grind (arith, sum_set (λ (line : List ℕ). length line) lines core (queue_of lines core ++ block ∷ []) [] refl, length_push (queue_of lines core) block)
 
 left_shorter : (line : List ℕ) (block : ℕ) → slice_get line 0 ≡ Some block → length (filter (λ b. not (b == block)) line) + 1 ≤ length line
 left_shorter [] block h = cc

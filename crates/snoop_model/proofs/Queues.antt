@@ -107,10 +107,8 @@ pub arrives_waits : (closing : Open) (p : Protocol) (log : List Item) (old new :
     → (k : ℕ) → waiting_request (held_at new k).state ≡ waiting_request (held_at old k).state
 arrives_waits closing p log old new did arrives k = elim (by_request closing.request arrives) [
   | inl put ↦ rw put.1 refl
-  | inr (_, f) ↦ elim (filled_or_same f k) [
-    | inl e ↦ rw (e.1, f.fills.held, e.0) (fill-waits p (held_at old closing.core).state f.fills.event f.fills.row.action f.fills.row.next f.asking.op f.fills.fill f.fills.is_row)
-    | inr e ↦ rw e.0 refl
-  ]
+  | inr (_, f) ↦ grind (arith, filled_or_same f k, f.fills.held,
+      fill-waits p (held_at old closing.core).state f.fills.event f.fills.row.action f.fills.row.next f.asking.op f.fills.fill f.fills.is_row)
 ]
 
 -- no core awaits data of the block once a response has come

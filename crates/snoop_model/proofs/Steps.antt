@@ -126,8 +126,7 @@ next_of s (Respond block) = if ltb block s.shape.blocks then option_map_or (next
 performs_is : (word : ℕ) (asking : Op) (before : List ℕ) (value : ℕ) (after : List ℕ)
     → Performs word asking before value after
     ↔ ((is_evict (asked asking) ≡ false) × (value ≡ value_of word asking before) × (after ≡ words_after word asking before))
-performs_is word Evict before value after = (λ h. absurd h, λ h. let no = h.0 in cc)
-performs_is word _ before value after = (λ h. (refl, h.0, h.1), λ h. (h.1, h.2))
+performs_is word asking before value after = (λ h. grind (arith, h), λ h. grind (arith, h))
 
 word_decides : (shape : Extent) (word : ℕ) (asking : Op) → Decides (has_word shape word asking) (HasWord shape word asking)
 word_decides shape word Evict = (λ h. tt, λ h. refl)
@@ -206,10 +205,7 @@ move_is s (Respond on) answer new (block, (first, m)) =
 -- and so does a refusal
 module _ (s : Situation) (queued : AreQueued s) where
   refused_is : (step : Step) (cause : Refused) → Refuses s step cause → ◌≡◌ {A = Next} (Err cause, s) (next_of s step)
-  refused_is (Ask core block word asking) NoBlock h =
-      let there = (place s core block word asking).0 in
-      let nowhere = false_from_ne_true _ (λ e. elim h.1 [ inl past ↦ let within = (there e).0 in absurd (omega arith) | inr none ↦ none (there e).1 ]) in
-      rw (lt-ltb core s.shape.cores h.0, nowhere) refl
+  refused_is (Ask core block word asking) NoBlock h = grind (arith, h, lt-ltb core s.shape.cores, (place s core block word asking).0)
   refused_is (Ask core block word asking) (Stalled held) h =
       rw (lt-ltb core s.shape.cores h.0.0, (place s core block word asking).1 (h.0.1, h.3), h.1, h.2.1) refl
   refused_is (Order core) NothingWaiting h =
@@ -343,17 +339,8 @@ module _ (s : Situation) (g : Invariant s) where
 
   pub goes_next : AreQueued s → (step : Step) → GoesFirst s step (next_of s step).0 (next_of s step).1
   goes_next queued (Ask core block word asking) =
-      let Goes = λ (n : Next). GoesFirst s (Ask core block word asking) n.0 n.1 in
-      cond_both (ltb core s.shape.cores) _ _ Goes (λ below.
-      let in_cores = ltb-true core s.shape.cores below in
-      cond_both (ltb block s.shape.blocks && has_word s.shape word asking) _ _ Goes (λ there.
-      let (within, has) = (place s core block word asking).0 there in
-      goes_within s core block word asking (in_cores, within) has g) (λ nowhere.
-      let none : (s.shape.blocks ≤ block) ⊎ (¬ HasWord s.shape word asking) = elim (cases_lt block s.shape.blocks) [
-        | inl within ↦ inr (λ has. both_ways _ nowhere ((place s core block word asking).1 (within, has)))
-        | inr past ↦ inl past
-      ] in
-      ((in_cores, none), refl))) (λ past. (ltb-false core s.shape.cores past, refl))
+      let goes = λ (within : IsWithin s core block) (has : HasWord s.shape word asking). goes_within s core block word asking within has g in
+      grind (arith, ltb-true core s.shape.cores, ltb-false core s.shape.cores, place s core block word asking, goes)
   goes_next queued (Order core) =
       let Goes = λ (n : Next). GoesFirst s (Order core) n.0 n.1 in
       cond_both (ltb core s.shape.cores) _ _ Goes (λ below.
@@ -365,9 +352,4 @@ module _ (s : Situation) (g : Invariant s) where
       option_both (picture_of s block).transaction (λ found. Goes (if is_some found then (Err (BusTaken block), s) else ordered))
       (λ free. rw waits.1 (block, (is, record { request = waits.0; within = within; answered = refl; orders = order_made s g core block waits.0 (waits.1, free) })))
       (λ o busy. ((in_cores, is, rw busy refl), refl)))) (λ past. (ltb-false core s.shape.cores past, refl))
-  goes_next queued (Respond block) =
-      let Goes = λ (n : Next). GoesFirst s (Respond block) n.0 n.1 in
-      cond_both (ltb block s.shape.blocks) _ _ Goes (λ below.
-      let within = ltb-true block s.shape.blocks below in
-      option_both (picture_of s block).transaction (λ found. Goes (option_map_or (next_closed s block) found (Err NoTransaction, s)))
-      (λ none. ((within, none), refl)) (closes block within)) (λ past. (ltb-false block s.shape.blocks past, refl))
+  goes_next queued (Respond block) = grind (arith, ltb-true block s.shape.blocks, ltb-false block s.shape.blocks, closes block)

@@ -33,12 +33,8 @@ never_refused s under_way core block word asking true step serving kept has_core
     goes (waiting_request (state_of s core block)) (picture_of s block).transaction refl refl is
   where
     order_goes : (picture_of s block).transaction ≡ None → (q : Request) → Waits s core block q → (cause : Refused) → Refuses s (Order core) cause → ⊥
-    order_goes free q waits NothingWaiting h = h.1 block q waits
-    order_goes free q waits (BusTaken b) h =
-        let same : block ≡ b = same_Some _ _ (sym its ∙ all_first (λ x. under_way core ≡ Some x) (queue_of s.queues core) b (serving.waits core) h.1) in
-        let clash : false ≡ true = rw (← same, free) at h.2 in
-        cc
-    order_goes free q waits _ h = grind arith
+    order_goes free q waits (BusTaken b) h = grind (arith, its, free, h.2, all_first (λ x. under_way core ≡ Some x) (queue_of s.queues core) b (serving.waits core) h.1)
+    order_goes free q waits _ h = grind (arith, h, waits)
 
     respond_goes : (o : Open) → (picture_of s block).transaction ≡ Some o → (cause : Refused) → Refuses s (Respond block) cause → ⊥
     respond_goes o open_here _ h = grind arith

@@ -1,5 +1,5 @@
 -- An Order finds all its rows and one sender, and keeps the invariant.
-use Rattle.snoop_model.proofs.Common.{and_from, ap, at_memory, BlockInvariant, Bool, CacheCell, carries_value, cases_eq, cell_of, Claims, claims_of, cond, cond_both, cond_some, eq-eqb, eqb, false, fits, held_by, inl, inr, is_put_m, is_some, keeps, length, List, MemCell, memory_cell_of, ne_eqb, None, not, Open, Option, or_cases, Orders, own, own_open, owns, Payload, Picture, picture_of, Protocol, refl, Request, same_Some, seen_by, sender_of, Sends, Situation, Some, sym, true, value_sent, waiting_request, ℕ, ◌<◌, ◌∙◌, ◌≡◌}
+use Rattle.snoop_model.proofs.Common.{and_from, ap, at_memory, BlockInvariant, Bool, CacheCell, carries_value, cases_eq, cell_of, Claims, claims_of, cond, cond_both, cond_some, eq-eqb, eqb, false, fits, held_by, inl, inr, is_put_m, is_some, keeps, length, List, MemCell, memory_cell_of, ne_eqb, None, not, Open, Option, or_cases, Orders, own, own_open, owns, Payload, Picture, picture_of, Protocol, refl, Request, same_Some, seen_by, sender_of, Sends, Situation, Some, sym, true, value_sent, waiting_request, ℕ, ◌<◌, ◌∙◌, ◌≡◌, arith}
 use Rattle.snoop_model.proofs.{Lines.{IsBelow, sends_below}, Lists.of_choice}
 use Rattle.snoop_model.proofs.OneBlock.Facts.{carried_line, is_it, it_is, line_of, LineFits, OwnerIn, owns_apart, owns_owned}
 use Rattle.snoop_model.proofs.Tables.{OrderTests.{end_claims, follows_sender_table, payload_of, sends_rule, sends_so}, Rows.IsProper-order, SentBy.{memory_sends_row, payload_from, sends_is, sends_row}, StateTests.{carries, kept_reader}, Tested.Tested}
@@ -78,8 +78,7 @@ module _ {p : Protocol} {flat : List ℕ} {before : Picture} {good : BlockInvari
       ((it_is meant from).0 is, sym same, λ carrying. words from carrying ((so.1 is).1 (rw same carrying)) does)
     where
       words : (from : Option ℕ) → carries_value payload ≡ true → has_words from ≡ true → Sends p before c q from payload → value_sent before from payload ≡ flat
-      words None carrying has does = rw carrying (good.fresh has)
-      words (Some d) carrying has does = rw (carrying, good.kept d does.0 has) refl
+      words from carrying has does = grind (arith, carrying, has, does, good.fresh, good.kept)
 
 -- an Order keeps the invariant of a picture
 pub order_keeps : (s : Situation) (core block : ℕ) (q : Request) (new : Situation) (flat : List ℕ) → BlockInvariant s.protocol (length (picture_of s block).caches) flat (picture_of s block) → core < length (picture_of s block).caches

@@ -25,9 +25,6 @@ pub answered : {p : Protocol} {n : ℕ} {flat : List ℕ} {before : Picture} {go
 answered {p} {n} {flat} {before} {good} {o} found get =
     found.tests.1.1.1.1.1.0 get _ _ (rw (found.opened, eq-eqb o.core o.core refl) at (good.states o.core (good.requestor_in o found.opened)))
 
-written_flat : (a : MemAction) (v old flat : List ℕ) → (writes a ≡ true → v ≡ flat) → (writes a ≡ false → old ≡ flat) → written a v old ≡ flat
-written_flat a v old flat new stays = grind (arith, new, stays)
-
 -- the words that the operation leaves are those in flat memory after it
 module _ (flat : List ℕ) (log : List Item) (core block word value : ℕ) (came after : List ℕ) where
   abbrev done : Op → Option Did
@@ -58,7 +55,9 @@ module _ (s : Situation) (block : ℕ) (o : Open) (did : Option Did) (new : Situ
 
   -- memory is written with the block's words, or has them where it had
   memory_flat : (writes r.memory.act ≡ false → before.memory.value ≡ flat) → r.next.memory.value ≡ flat
-  memory_flat stays = r.memory.value ∙ written_flat r.memory.act o.value before.memory.value flat (λ w. g.carried o r.opened (found.tests.1.1.1.0 (rw memory_is w))) stays
+  memory_flat stays =
+      let new : writes r.memory.act ≡ true → o.value ≡ flat = λ w. g.carried o r.opened (found.tests.1.1.1.0 (rw memory_is w)) in
+      grind (arith, r.memory.value, new, stays)
 
   -- a core that is not answered keeps its line, which fits then, if the block's words change only at a GetM
   stays : (words : List ℕ) → (is_get_m o.request ≡ false → words ≡ flat) → (d : ℕ) → d < n

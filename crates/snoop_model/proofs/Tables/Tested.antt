@@ -28,9 +28,7 @@ same_option D (Some a) (Some b) = sameb D a b
 same_option D _ _ = false
 
 pub same_option-true : (D : Declared) → Bare D.parts → (a b : Option D.D) → same_option D a b ≡ true → a ≡ b
-same_option-true D bare None None h = refl
-same_option-true D bare (Some a) (Some b) h = ap (λ (x : D.D). Some x) (same_true D bare a b h)
-same_option-true D bare _ _ h = cc
+same_option-true D bare a b h = grind (arith, same_true D bare)
 
 abbrev pub equal : (D : Declared) → Bare D.parts → Option D.D → Option D.D → Tested
 equal D bare a b = record { claim = a ≡ b; test = same_option D a b; sound = same_option-true D bare a b }
