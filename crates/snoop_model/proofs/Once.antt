@@ -50,11 +50,8 @@ module _ (s t : Situation) (step : Step) (answer : Reply) (move : FirstMove s st
   -- an operation that the move performs, or that waits after it, waited before it or is asked by it
   pub waited_or_asked : Contains done_here wanted ⊎ ((held_by (picture_of t block) core).waiting ≡ Some wanted)
       → ((held_by (picture_of s block) core).waiting ≡ Some wanted) ⊎ (asked_access core block step ≡ Some wanted)
-  waited_or_asked now = elim (either_side _ _ _ _ wanted (IsPermutation-sym _ _ balance)
-      (elim now [ inl did ↦ inl did | inr waits ↦ inr ((in_one _ wanted).1 waits) ])) [
-        | inl waited ↦ inl ((in_one _ wanted).0 waited)
-        | inr asked ↦ inr ((in_one _ wanted).0 asked)
-      ]
+  waited_or_asked now = grind (arith, now, in_one, either_side done_here (waiting_at t core block) (waiting_at s core block) (option_to_list (asked_access core block step)) wanted
+      (IsPermutation-sym _ _ balance))
 
   -- what the move performs is then the core's last operation
   is_last : Contains done_here wanted → IsLast t core block wanted
@@ -68,11 +65,9 @@ module _ (s t : Situation) (step : Step) (answer : Reply) (move : FirstMove s st
 
   -- and what waited before it, or is asked by it, is performed by it or waits
   pub owed_after : ((held_by (picture_of s block) core).waiting ≡ Some wanted) ⊎ (asked_access core block step ≡ Some wanted) → IsOwed t core block wanted
-  owed_after was = elim (either_side _ _ _ _ wanted balance
-      (elim was [ inl waited ↦ inl ((in_one _ wanted).1 waited) | inr asked ↦ inr ((in_one _ wanted).1 asked) ])) [
-        | inl here ↦ inr (is_last here)
-        | inr waits ↦ inl ((in_one _ wanted).0 waits)
-      ]
+  owed_after was = grind (arith, was, is_last, in_one (held_by (picture_of s block) core).waiting wanted, in_one (asked_access core block step) wanted,
+      in_one (held_by (picture_of t block) core).waiting wanted, either_side (waiting_at s core block) (option_to_list (asked_access core block step)) done_here
+      (waiting_at t core block) wanted balance)
 
 -- the operation that was done, if any
 abbrev done : Option Did → Option Access

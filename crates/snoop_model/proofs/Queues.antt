@@ -114,20 +114,13 @@ arrives_waits closing p log old new did arrives k = elim (by_request closing.req
 -- no core awaits data of the block once a response has come
 none_awaits : (s : Situation) (kept : IsWellKept s) (block : ℕ) (closing : Open) (did : Option Did) (t : Situation) (r : Responds s block closing did t)
     → (k : ℕ) (q : Request) → awaited_request (held_by r.next k).state ≡ Some q → ⊥
-none_awaits s kept block closing did t r k q h = elim (by_request closing.request r.requestor) [
-  | inl put ↦ let was = rw put.1 at h in awaited-get (state_of s k block) (cc (was, (its was).1, put.0))
-  | inr (_, f) ↦ elim (filled_or_same f k) [
-    | inl e ↦ none-some q (sym (data_rule s.protocol (state_of s closing.core block) closing.payload f.fills.row (rw f.fills.arrives f.fills.is_row)).1 ∙ rw (e.1, f.fills.held) at h)
-    | inr e ↦ let was = rw e.0 at h in none-some q (rw (e.1 (sym (its was).0)) at was)
-  ]
-]
-  where
-    -- what it awaited was of this transaction
-    its : awaited_request (state_of s k block) ≡ Some q → (closing.core ≡ k) × (closing.request ≡ q)
-    its was =
-        let had = kept.awaits k block q was in
-        let same : had.0 ≡ closing = same_Some _ _ (sym had.1.0 ∙ r.opened) in
-        rw (← same) (had.1.1, had.1.2)
+none_awaits s kept block closing did t r k q h =
+    let had = kept.awaits k block q in
+    elim (by_request closing.request r.requestor) [
+      | inl put ↦ grind (arith, put, h, had, r.opened, awaited-get (state_of s k block))
+      | inr (_, f) ↦ grind (arith, filled_or_same f k, f.fills.held, h, had, r.opened,
+          (data_rule s.protocol (state_of s closing.core block) closing.payload f.fills.row (rw f.fills.arrives f.fills.is_row)).1)
+    ]
 
 pub on_kept : (block : ℕ) (s t : Situation) (step : Step) (answer : Reply) → IsWellKept s → MoveOn block s step answer t → IsWellKept t
 on_kept block s t (Ask core on word asking) answer kept m = elim m.moves [

@@ -30,20 +30,7 @@ never_refused s under_way core block word asking false step serving kept has_cor
         none-some block (sym idle ∙ busy_under_way s under_way serving kept core block (action_rule s.protocol (state_of s core block) (asked asking) Stall h.2.0 h.2.1))
     ask_goes _ h = grind arith
 never_refused s under_way core block word asking true step serving kept has_core has_block has_word its is cause refused =
-    goes (waiting_request (state_of s core block)) (picture_of s block).transaction refl refl is
-  where
-    order_goes : (picture_of s block).transaction ≡ None → (q : Request) → Waits s core block q → (cause : Refused) → Refuses s (Order core) cause → ⊥
-    order_goes free q waits (BusTaken b) h = grind (arith, its, free, h.2, all_first (λ x. under_way core ≡ Some x) (queue_of s.queues core) b (serving.waits core) h.1)
-    order_goes free q waits _ h = grind (arith, h, waits)
-
-    respond_goes : (o : Open) → (picture_of s block).transaction ≡ Some o → (cause : Refused) → Refuses s (Respond block) cause → ⊥
-    respond_goes o open_here _ h = grind arith
-
-    goes : (w : Option Request) (found : Option Open) → waiting_request (state_of s core block) ≡ w → (picture_of s block).transaction ≡ found → step_under_way w found core block ≡ Some step → ⊥
-    goes (Some q) None waits free is = order_goes free q waits cause (rw (← same_Some _ _ is) at refused)
-    goes (Some q) (Some o) waits opened is = respond_goes o opened cause (rw (← same_Some _ _ is) at refused)
-    goes None None waits free is = cc
-    goes None (Some o) waits opened is = respond_goes o opened cause (rw (← (cond_some (o.core == core) (Respond block) step is).1) at refused)
+    grind (arith, is, refused, its, has_core, has_block, λ (b : ℕ). all_first (λ x. under_way core ≡ Some x) (queue_of s.queues core) b (serving.waits core))
 
 module _ {s : Situation} {under_way : ℕ → Option ℕ} (serving : IsServing under_way s) where
   -- an open transaction where one block's picture was written

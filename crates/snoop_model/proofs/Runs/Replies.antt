@@ -36,12 +36,9 @@ run_stays steps outcomes old new = kept_along Goes (IsAlike old) (goes_kept (IsA
 module _ (p : Protocol) (next : CacheState) (log : List Item) (core block word : ℕ) (old new : Line) (answer : Reply) (entry : Option Item) where
   taken_tells : (asking : Op) (a : CacheAction) → Cell p old.state (asked asking) a next → Takes a next log core block word asking old new answer entry
       → Tells log (Ask core block word asking) (Ok answer) (log ++ option_to_list entry)
-  taken_tells Load Hit row t = rw (t.1.1, t.1.2) refl
-  taken_tells (Store v) Hit row t = rw (t.1.1, t.1.2, t.1.0.performed.0) refl
-  taken_tells Evict Hit row t = absurd t.1.0.performed
-  taken_tells asking (Issue q) row t = rw (t.1, t.2) (same_Some _ _ ((action_rule p old.state (asked asking) (Issue q) next row).1.1.1 ∙ serving-asked asking), append-nil log)
-  taken_tells Evict Drop row t = rw (t.1, t.2) (append-nil log)
-  taken_tells asking Drop row t = let evicts = drop_evicts p old.state asking next row in cc
+  taken_tells asking Hit row t = grind (arith, t, t.1.0.performed)
+  taken_tells asking (Issue q) row t = grind (arith, t, append-nil log, (action_rule p old.state (asked asking) (Issue q) next row).1.1.1, serving-asked asking)
+  taken_tells asking Drop row t = grind (arith, t, append-nil log, drop_evicts p old.state asking next row)
   taken_tells asking _ row t = absurd t
 
 -- a refusal tells of nothing
