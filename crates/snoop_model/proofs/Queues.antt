@@ -134,9 +134,9 @@ on_kept block s t (Order core) answer kept m =
     let before : Picture = picture_of s block in
     let next : Picture = m.orders.next in
     let taken = m.orders.taken in
-    let queued = each_set s.queues core (filter (λ b. not (b == block)) (queue_of s.queues core)) []
+    let queued = λ (k : ℕ). each_set s.queues core (filter (λ b. not (b == block)) (queue_of s.queues core)) []
     (λ k queue. times block queue ≡ (if k == core then 0 else times block (queue_of s.queues k))) (rw kept.shaped.queues m.within.0)
-    (rw (eq-eqb core core refl) (times_left block block (queue_of s.queues core) ∙ rw (eq-eqb block block refl) refl)) (λ k apart. rw (ne_eqb k core apart) refl) in
+    (grind (arith, times_left block block (queue_of s.queues core))) (λ k apart. rw (ne_eqb k core apart) refl) k in
     well_after s t kept block next (after_order s.queues core block) _ m.orders.after
     (still_shaped block s (Order core) answer t kept.shaped m) m.within.1 (record {
       here = λ k. each_taken taken k

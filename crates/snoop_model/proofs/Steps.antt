@@ -1,6 +1,6 @@
 -- What a step comes to, computed: what it is answered, and where it leads. Each step of a run goes so. Where a table has no row, which no run meets, the state stays.
 use Rattle.std.specs.Bool.{Decides}
-use Rattle.snoop_model.proofs.Common.{[], Access, after_order, ap, arith, arrival, arrival_at_memory, ArrivesFor, as_access, Ask, asked, at_memory, Bool, both_ways, BusTaken, CacheAction, CacheCell, CacheState, came_of, CanOrder, cases_Bool, cases_eq, cases_lt, Cell, cell_of, cond_both, Data, Decides-and, Decides-ltb, Did, Drop, Err, Evict, Extent, false, false_from_ne_true, fill_by_all, FillLoad, FillsRequestor, FillStore, FirstMove, free_picture, get_or-map-range_with_len, GoesFirst, HasWord, held_at, held_by, Hit, Hits, if◌then◌else◌, inl, inr, Invariant, is_load, is_put_m, is_some, IsOnlySender, IsProper, Issue, IsWithin, Item, le-ltb, length, length-map-range_with_len, Line, List, Load, lt-ltb, ltb, ltb-false, ltb-true, map, MemLine, memory_cell_of, moves_to, next_did, NoBlock, NoCore, None, none-some, none_from_not_some, nothing_held, NothingWaiting, NoTransaction, Ok, Op, Open, Option, option_and_then_some, option_map_or, option_to_list, Order, Orders, Payload, Performs, Picture, picture_of, Protocol, PutM, queue_of, queues_after, range_with_len, refl, Refused, Refuses, Reply, Request, request_for, Respond, Responds, Result, seen_by, Situation, slice_get, slice_set, Some, Stall, Stalled, state_of, Step, Store, suc, sym, Takes, takes_payload, true, unwrap_or, value_sent, waiting_request, with_line, with_picture, word_at, word_places, written, zero, zero_words, ℕ, ◌&&◌, ◌++◌, ◌<◌, ◌↔◌, ◌∙◌, ◌∷◌, ◌≡◌, ◌≤◌, ◌⊎◌, StandsFirst}
+use Rattle.snoop_model.proofs.Common.{[], Access, after_order, ap, arith, arrival, arrival_at_memory, ArrivesFor, as_access, Ask, asked, at_memory, Bool, both_ways, BusTaken, CacheAction, CacheCell, CacheState, came_of, CanOrder, cases_Bool, cases_eq, cases_lt, Cell, cell_of, cond_both, Data, Decides-and, Decides-ltb, Did, Drop, Err, Evict, Extent, false, false_from_ne_true, fill_by_all, FillLoad, FillsRequestor, FillStore, FirstMove, free_picture, get_or-map-range_with_len, GoesFirst, HasWord, held_at, held_by, Hit, Hits, if◌then◌else◌, inl, inr, Invariant, is_load, is_put_m, is_some, IsOnlySender, IsProper, Issue, IsWithin, Item, le-ltb, length, length-map-range_with_len, Line, List, Load, lt-ltb, ltb, ltb-false, ltb-true, map, MemLine, memory_cell_of, moves_to, next_did, NoBlock, NoCore, None, none-some, none_from_not_some, nothing_held, NothingWaiting, NoTransaction, Ok, Op, Open, Option, option_and_then_some, option_map_or, option_to_list, Order, Orders, Payload, Performs, Picture, picture_of, Protocol, PutM, queue_of, queues_after, range_with_len, refl, Refused, Refuses, Reply, Request, request_for, Respond, Responds, Result, seen_by, Situation, slice_get, slice_set, Some, Stall, Stalled, state_of, Step, Store, suc, sym, Takes, takes_payload, true, unwrap_or, value_sent, waiting_request, with_line, with_picture, word_at, word_places, written, zero, zero_words, ℕ, ◌&&◌, ◌++◌, ◌<◌, ◌↔◌, ◌∙◌, ◌∷◌, ◌≡◌, ◌≤◌, ◌⊎◌, StandsFirst, I}
 use Rattle.snoop_model.proofs.{Invariant.Coherence.{finds_rows, idle_evict, orders_follow_sender_table, waits_within}, Lines.{IsBelow, sends_below}}
 use Rattle.snoop_model.proofs.{Lists.{if_some, option_both}, OneBlock.{AfterMoves.changed, RespondStep.{answered, close}}}
 use Rattle.snoop_model.proofs.Queues.{AreQueued, first_waits, none_waits}
@@ -128,24 +128,15 @@ performs_is : (word : ℕ) (asking : Op) (before : List ℕ) (value : ℕ) (afte
     ↔ ((is_evict (asked asking) ≡ false) × (value ≡ value_of word asking before) × (after ≡ words_after word asking before))
 performs_is word asking before value after = (λ h. grind (arith, h), λ h. grind (arith, h))
 
-word_decides : (shape : Extent) (word : ℕ) (asking : Op) → Decides (has_word shape word asking) (HasWord shape word asking)
-word_decides shape word Evict = (λ h. tt, λ h. refl)
-word_decides shape word _ = Decides-and _ _ (Decides-ltb word shape.words) (Decides-ltb word word_places)
-
 -- An Ask.
 module _ (s : Situation) (core block word : ℕ) (asking : Op) where
   takes_is : (act : CacheAction) (next : CacheState) (held : Line) (answer : Reply) (entry : Option Item)
       → Takes act next s.log core block word asking (held_by (picture_of s block) core) held answer entry
       → ◌≡◌ {A = Next} (Ok answer, after_ask s core block word asking act held entry) (by_row s core block word asking act next)
-  takes_is Hit next held answer entry t =
-      let does = (performs_is word asking t.1.0.before t.0 t.1.0.after).0 t.1.0.performed in
-      rw (t.1.0.held, t.1.1, t.1.2, t.1.0.kept, does.1, does.2) refl
-  takes_is (Issue r) next held answer entry t = rw (t.0, t.1, t.2) refl
-  takes_is Drop next held answer entry t = rw (t.0, t.1, t.2) refl
-  takes_is _ next held answer entry t = absurd t
+  takes_is act next held answer entry t = grind (arith, t)
 
   place : Decides (ltb block s.shape.blocks && has_word s.shape word asking) ((block < s.shape.blocks) × HasWord s.shape word asking)
-  place = Decides-and _ _ (Decides-ltb block s.shape.blocks) (word_decides s.shape word asking)
+  place = (λ h. grind (arith, h), λ h. grind (arith, h))
 
 -- An Order.
 module _ (p : Protocol) (before : Picture) (core : ℕ) (q : Request) where
@@ -201,14 +192,11 @@ move_is s (Respond on) answer new (block, (first, m)) =
 -- and so does a refusal
 module _ (s : Situation) (queued : AreQueued s) where
   refused_is : (step : Step) (cause : Refused) → Refuses s step cause → ◌≡◌ {A = Next} (Err cause, s) (next_of s step)
-  refused_is (Ask core block word asking) NoBlock h = grind (arith, h, lt-ltb core s.shape.cores, (place s core block word asking).0)
-  refused_is (Ask core block word asking) (Stalled held) h =
-      rw (lt-ltb core s.shape.cores h.0.0, (place s core block word asking).1 (h.0.1, h.3), h.1, h.2.1) refl
   refused_is (Order core) NothingWaiting h =
       let empty = none_from_not_some (slice_get (queue_of s.queues core) 0)
       (λ block is. let waits = first_waits s queued core block is in h.1 block waits.0 waits.1) in
       rw (lt-ltb core s.shape.cores h.0, empty) refl
-  refused_is step cause h = grind (arith, h, lt-ltb, le-ltb)
+  refused_is step cause h = grind (arith, h, lt-ltb, le-ltb, place s)
 
   pub goes_is : (step : Step) (outcome : Result Reply Refused) (new : Situation) → GoesFirst s step outcome new → (outcome, new) ≡ next_of s step
   goes_is step (Ok answer) new goes = move_is s step answer new goes
@@ -244,13 +232,12 @@ module _ (s : Situation) (core block word : ℕ) (asking : Op) (within : IsWithi
 
   goes_within : Invariant s → (let n = next_asked s core block word asking in GoesFirst s (Ask core block word asking) n.0 n.1)
   goes_within g =
-      let line = held_by (picture_of s block) core in
-      elim (cases_Bool (is_idle_evict line.state (asked asking))) [
+      let good = g.blocks block within.1 in
+      elim (cases_Bool (is_idle_evict (state_of s core block) (asked asking))) [
         | inl idle ↦
-            let is = idle_evict line.state asking idle in
+            let is = idle_evict (state_of s core block) asking idle in
             rw (is.1, is.0) (block, (tt, record { on_block = refl; within = within; moves = inl (refl, is.1, refl, refl); has_word = tt }))
         | inr busy ↦
-            let good = g.blocks block within.1 in
             let row = (ask_rule _ _ _ _ _ asking (good.states core within.0)).0 busy in
             rw row.1 (goes_by row.0.action row.0.next row.1 (good.proper core within.0))
       ]

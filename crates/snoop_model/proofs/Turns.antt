@@ -23,14 +23,9 @@ no_step : (w : Option Request) (t : Option Open) (core block : ℕ)
 no_step w t core block = (λ h. (grind arith, λ o e own. grind arith), λ idle. grind (arith, idle.0, idle.1))
 
 never_refused : NeverRefused
-never_refused s under_way core block word asking false step serving kept has_core has_block has_word idle is cause refused = ask_goes cause (rw (← (same_Some _ _ is)) at refused)
-  where
-    ask_goes : (cause : Refused) → Refuses s (Ask core block word asking) cause → ⊥
-    ask_goes (Stalled state) h =
-        none-some block (sym idle ∙ busy_under_way s under_way serving kept core block (action_rule s.protocol (state_of s core block) (asked asking) Stall h.2.0 h.2.1))
-    ask_goes _ h = grind arith
-never_refused s under_way core block word asking true step serving kept has_core has_block has_word its is cause refused =
-    grind (arith, is, refused, its, has_core, has_block, λ (b : ℕ). all_first (λ x. under_way core ≡ Some x) (queue_of s.queues core) b (serving.waits core))
+never_refused s under_way core block word asking begun step serving kept has_core has_block has_word its is cause refused =
+    grind (arith, is, refused, its, has_core, has_block, has_word, λ (b : ℕ). all_first (λ x. under_way core ≡ Some x) (queue_of s.queues core) b (serving.waits core),
+    busy_under_way s under_way serving kept core block, action_rule s.protocol (state_of s core block) (asked asking) Stall)
 
 module _ {s : Situation} {under_way : ℕ → Option ℕ} (serving : IsServing under_way s) where
   -- an open transaction where one block's picture was written

@@ -46,22 +46,19 @@ module _ (s : Situation) (g : Invariant s) where
       → Takes act next s.log core block word asking (held_by (picture_of s block) core) held answer entry → IsHit answer ↔ MayHit s.protocol (state_of s core block) asking
   hits_may core block word Hit next Load row held answer entry t = rw t.1.1 ((λ _. (next, row)), (λ _. tt))
   hits_may core block word Hit next (Store value) row held answer entry t = rw t.1.1 ((λ _. (next, row)), (λ _. tt))
-  hits_may core block word Hit next Evict row held answer entry t = absurd t.1.0.performed
   hits_may core block word (Issue request) next asking row held answer entry t = rw t.1 (absurd, no_hit core block (Issue request) next asking row (λ is. cc))
   hits_may core block word Drop next asking row held answer entry t = rw t.1 (absurd, no_hit core block Drop next asking row (λ is. cc))
-  hits_may core block word _ next asking row held answer entry t = absurd t
+  hits_may core block word _ next asking row held answer entry t = absurd (grind (arith, t))
 
   -- an eviction that is answered Gone or Absent leaves nothing
   gone_leaves : (core block word : ℕ) (answer : Reply) → (answer ≡ Gone) ⊎ (answer ≡ Absent)
       → (act : CacheAction) (next : CacheState) → Cell s.protocol (state_of s core block) (asked Evict) act next → (held : Line) (entry : Option Item)
       → Takes act next s.log core block word Evict (held_by (picture_of s block) core) held answer entry → held ≡ nothing_held
-  gone_leaves core block word answer leaves Hit next row held entry t = absurd t.1.0.performed
-  gone_leaves core block word answer leaves (Issue request) next row held entry t = elim leaves [ inl is ↦ cc | inr is ↦ cc ]
   gone_leaves core block word answer leaves Drop next row held entry t =
       let old = held_by (picture_of s block) core in
       let gone : next ≡ I = same_Some _ _ (action_rule s.protocol old.state (asked Evict) Drop next row).1.1.1.1 in
       rw t.0 (idle_line (moves_to next old) (IsProper-drop s.protocol old (asked Evict) next (all_proper core block) row) gone)
-  gone_leaves core block word answer leaves _ next row held entry t = absurd t
+  gone_leaves core block word answer leaves act next row held entry t = absurd (grind (arith, leaves, t))
 
   -- an Order is a line of the table
   pub order_is_line : (core block : ℕ) (q : Request) (new : Situation) (made : Orders s core block q new) → IsSenderLine s.protocol (picture_of s block) core q made.from made.payload made.next.memory.state

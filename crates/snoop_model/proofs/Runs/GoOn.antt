@@ -1,5 +1,5 @@
 -- From every situation of a run each step leads on, in one way: it is a move, or refused for a cause. And runs whose steps were all taken.
-use Rattle.snoop_model.proofs.Common.{[], ap, Err, Extent, FirstMove, FirstRunFrom, Goes, GoesFirst, Invariant, IsWellKept, KeepsWell, List, map, map-append, NoMemory, None, Ok, Protocol, refl, Refused, Refuses, Reply, reset, Result, rules, Situation, Step, sym, taken, TakenGoesOn, ◌++◌, ◌∙◌, ◌∷◌, ◌≡◌}
+use Rattle.snoop_model.proofs.Common.{[], ap, Err, Extent, FirstMove, FirstRunFrom, Goes, GoesFirst, Invariant, IsWellKept, KeepsWell, List, map, map-append, NoMemory, None, Ok, Protocol, refl, Refused, Refuses, Reply, reset, Result, rules, Situation, Step, sym, taken, TakenGoesOn, ◌++◌, ◌∙◌, ◌∷◌, ◌≡◌, arith}
 use Rattle.snoop_model.specs.Runs.{Run.RunsAreOne, TakenOnce.TakenOnce}
 use Rattle.snoop_model.proofs.{Invariant.Runs.{move_keeps, reset_invariant}, Once.run_asked_once, Queues.{AreQueued, keeps_well, starts_well}}
 use Rattle.snoop_model.proofs.{Runs.Along.{kept_along, run_more, seen_along}, Steps.{goes_is, goes_next, next_of}}
@@ -65,8 +65,7 @@ taken_goes_on protocol shape steps step answer middle new taken move =
 -- the same steps as a run on any block
 goes_on_any : (old : Situation) (step : Step) (outcome : Result Reply Refused) (new : Situation) → GoesFirst old step outcome new → Goes old step outcome new
 goes_on_any old step (Ok answer) new goes = (goes.0, goes.1.1)
-goes_on_any old step (Err NoMemory) new goes = goes.1
-goes_on_any old step (Err cause) new goes = goes
+goes_on_any old step (Err cause) new goes = grind (arith, goes)
 
 -- none of them was refused
 none_refused : (old new : Situation) (steps : List Step) (replies : List Reply) → FirstRunFrom old steps (all_ok replies) new → taken steps (all_ok replies) ≡ steps

@@ -117,10 +117,8 @@ asked_missed word asking = grind arith
 
 pub IsProper-issue : (p : Protocol) (old : Line) (word : ℕ) (asking : Op) (q : Request) (n : CacheState) → IsProper old → Cell p old.state (asked asking) (Issue q) n
     → IsProper (record { state = n; kept = kept_on n old.kept; waiting = as_access word asking })
-IsProper-issue p old word asking q n proper row = record {
-  kept = is_some-kept_on n old.kept (keeps old.state) proper.kept ∙ sym (action_rule p old.state (asked asking) (Issue q) n row).0;
-  waiting = asked_missed word asking ∙ sym (issue-missed p old.state (asked asking) q n row).1;
-}
+IsProper-issue p old word asking q n proper row =
+    grind (arith, proper, is_some-kept_on n old.kept (keeps old.state) proper.kept, action_rule p old.state (asked asking) (Issue q) n row, asked_missed word asking)
 
 -- a hit is no Evict, of words that are kept
 pub hit_keeps : (p : Protocol) (s : CacheState) (e : CacheEvent) (n : CacheState) → Cell p s e Hit n → (keeps s ≡ true) × (is_evict e ≡ false)
@@ -131,9 +129,7 @@ drop-waits p s e n row = (action_rule p s e Drop n row).1.1.0
 
 pub IsProper-hit : (p : Protocol) (old : Line) (e : CacheEvent) (n : CacheState) (after : List ℕ) → IsProper old → Cell p old.state e Hit n
     → IsProper (record { state = n; kept = Some after; waiting = old.waiting })
-IsProper-hit p old e n after proper row =
-    let (kept, (missed, _)) = action_rule p old.state e Hit n row in
-    record { kept = sym kept; waiting = proper.waiting ∙ missed }
+IsProper-hit p old e n after proper row = grind (arith, proper, action_rule p old.state e Hit n row)
 
 -- only an Evict drops a line
 pub drop_evicts : (p : Protocol) (s : CacheState) (asking : Op) (n : CacheState) → Cell p s (asked asking) Drop n → asking ≡ Evict
