@@ -96,13 +96,9 @@ even waited asked does waits (inr now) = rw (now.0, now.1) (IsPermutation-refl (
 module _ (p : Protocol) (next : CacheState) (log : List Item) (core block word : ℕ) (asking : Op) (old new : Line) (answer : Reply) (entry : Option Item) (proper : IsProper old) where
   line_once : (act : CacheAction) → Cell p old.state (asked asking) act next → Takes act next log core block word asking old new answer entry
       → IsBy core block (did_in entry) × Evens old.waiting (as_access word asking) (done (did_in entry)) new.waiting
-  line_once Hit row t =
-      let so = performed_so word asking t.1.0.before t.0 t.1.0.after log core block true t.1.0.performed in
-      rw (t.1.0.held, t.1.2, so.0, so.1) ((refl, refl), inl (refl, refl))
-  line_once (Issue q) row t =
-      let none = nothing_waits old.waiting (proper.waiting ∙ (issue-missed p old.state (asked asking) q next row).0) in
-      rw (t.0, t.2, none) (tt, inr (refl, refl))
-  line_once Drop row t = rw (t.0, t.2, drop_evicts p old.state asking next row) (tt, inl (refl, refl))
+  line_once Hit row t = grind (arith, t)
+  line_once (Issue q) row t = grind (arith, t, nothing_waits old.waiting, proper.waiting, (issue-missed p old.state (asked asking) q next row).0)
+  line_once Drop row t = grind (arith, t, drop_evicts p old.state asking next row)
   line_once _ row t = absurd t
 
 module _ (old : Situation) (b c : ℕ) where
@@ -115,10 +111,9 @@ module _ (old : Situation) (b c : ℕ) where
   balances : (held : Line) (asked : Option Access) (did : Option Did) → c < length (picture_of old b).caches
       → IsBy c b did × Evens (held_by (picture_of old b) c).waiting asked (done did) held.waiting → Balances asked did (slice_set (picture_of old b).caches c held)
   balances held asked did inside here =
-      let lines = each_set (picture_of old b).caches c held nothing_held
-      (λ k line. Evens (held_by (picture_of old b) k).waiting (cond (eqb c k) asked None) (cond (eqb c k) (done did) None) line.waiting) inside
-      (rw (eq-eqb c c refl) here.1) (λ k apart. rw (ne_eqb c k (λ e. apart (sym e))) (inl (refl, refl))) in
-      (here.0, lines)
+      (here.0, each_set (picture_of old b).caches c held nothing_held
+          (λ k line. Evens (held_by (picture_of old b) k).waiting (cond (eqb c k) asked None) (cond (eqb c k) (done did) None) line.waiting) inside
+          (rw (eq-eqb c c refl) here.1) (λ k apart. rw (ne_eqb c k (λ e. apart (sym e))) (inl (refl, refl))))
 
   -- a move that asks this, and whose lines balance, does each load and store once
   grown : (next : Picture) (queues : List (List ℕ)) (entry : Option Item) (asked : Option Access) (step : Step) (answer : Reply) → b < length old.pictures

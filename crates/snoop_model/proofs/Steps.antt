@@ -122,12 +122,6 @@ next_of s (Order core) = if ltb core s.shape.cores then next_first s core (slice
 next_of s (Respond block) = if ltb block s.shape.blocks then option_map_or (next_closed s block) (picture_of s block).transaction (Err NoTransaction, s) else
     (Err NoBlock, s)
 
--- a load or a store does one thing
-performs_is : (word : ℕ) (asking : Op) (before : List ℕ) (value : ℕ) (after : List ℕ)
-    → Performs word asking before value after
-    ↔ ((is_evict (asked asking) ≡ false) × (value ≡ value_of word asking before) × (after ≡ words_after word asking before))
-performs_is word asking before value after = (λ h. grind (arith, h), λ h. grind (arith, h))
-
 -- An Ask.
 module _ (s : Situation) (core block word : ℕ) (asking : Op) where
   takes_is : (act : CacheAction) (next : CacheState) (held : Line) (answer : Reply) (entry : Option Item)
@@ -152,10 +146,7 @@ module _ (p : Protocol) (before : Picture) (core : ℕ) (q : Request) where
 -- A Respond.
 module _ (closing : Open) (p : Protocol) (log : List Item) (old new : List Line) (did : Option Did) where
   arrives_is : (q : Request) → ArrivesFor q closing p log old new did → (new, did) ≡ brought closing p log old q
-  arrives_is PutM a = rw (a.0, a.1) refl
-  arrives_is _ f =
-      let does = (performs_is f.asking.word f.asking.op closing.value f.value f.fills.after).0 f.fills.performed in
-      rw (f.held, f.logged, f.fills.held, f.fills.waited, f.fills.arrives, f.fills.is_row, does.1, does.2) refl
+  arrives_is q a = grind (arith, a)
 
 -- a move comes to what is computed
 move_is : (s : Situation) (step : Step) (answer : Reply) (new : Situation) → FirstMove s step answer new
@@ -214,14 +205,13 @@ module _ (s : Situation) (core block word : ℕ) (asking : Op) (within : IsWithi
       → IsProper (held_by (picture_of s block) core)
       → (let n = by_row s core block word asking act next in GoesFirst s (Ask core block word asking) n.0 n.1)
   goes_by Hit next row proper =
-      let line = held_by (picture_of s block) core in
-      let ws = unwrap_or line.kept zero_words in
-      let asks = hit_keeps s.protocol line.state (asked asking) next row in
-      let hits : Hits next line _ word asking (value_of word asking ws) = record {
+      let ws = unwrap_or (asker s core block word asking).kept zero_words in
+      let asks = hit_keeps s.protocol (state_of s core block) (asked asking) next row in
+      let hits : Hits next (asker s core block word asking) _ word asking (value_of word asking ws) = record {
         before = ws;
         after = words_after word asking ws;
-        kept = rw (some_of line.kept (proper.kept ∙ asks.0)).1;
-        performed = (performs_is word asking ws _ _).1 (asks.1, refl, refl);
+        kept = rw (some_of _ (proper.kept ∙ asks.0)).1;
+        performed = grind (arith, asks.1);
         held = refl;
       } in
       taken Hit next row _ _ _ (value_of word asking ws, (hits, refl, refl))
@@ -269,11 +259,6 @@ module _ (s : Situation) (g : Invariant s) where
         after = refl;
       }
 
--- an action that fills for the operation's request is the fill for the operation, which is no eviction
-fill_is : (asking : Op) (act : CacheAction) → fills (Some (request_for asking)) act ≡ true
-    → (act ≡ (if is_load asking then FillLoad else FillStore)) × (is_evict (asked asking) ≡ false)
-fill_is asking act h = grind arith
-
 -- what the response brings to the caches
 module _ (p : Protocol) (log : List Item) (old : List Line) (o : Open) where
   abbrev requestor : Line
@@ -285,14 +270,21 @@ module _ (p : Protocol) (log : List Item) (old : List Line) (o : Open) where
       option_and_then_some (cell_of p requestor.state) (arrival o.payload) row found (λ e arrives is_row.
       option_both requestor.waiting (λ waiting. let n = filled o p log old waiting in FillsRequestor o p log old n.0 n.1)
       (λ none. let clash = rw (← proper.waiting, none) at fit in cc)
-      (λ access waits.
-      let so = fill_is access.op row.action (rw (← proper.waiting, waits) at fit) in
-      let performed = (performs_is access.word access.op o.value _ _).1 (so.1, refl, refl) in
-      rw found (record {
+      (λ access waits. rw found (record {
         line = _;
         asking = access;
-        value = _;
-        fills = record { event = e; row = row; after = _; arrives = arrives; is_row = is_row; waited = waits; fill = so.0; performed = performed; held = refl };
+        value = value_of access.word access.op o.value;
+        fills = record {
+          event = e;
+          row = row;
+          after = words_after access.word access.op o.value;
+          arrives = arrives;
+          is_row = is_row;
+          waited = waits;
+          fill = grind (arith, fit, proper.waiting, waits);
+          performed = grind (arith, fit, proper.waiting, waits);
+          held = refl;
+        };
         held = refl;
         logged = refl;
       })))

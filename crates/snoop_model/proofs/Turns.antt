@@ -93,8 +93,7 @@ pays s t (Respond on) answer move =
 -- a work whose operation waits has a step left
 pub has_step : (s : Situation) (core block word : ℕ) (asking : Op) (wanted : Access) → IsWellKept s → (held_by (picture_of s block) core).waiting ≡ Some wanted → turn_of s core block word asking true ≡ None → ⊥
 has_step s core block word asking wanted kept waits none =
-    let left = (no_step (waiting_request (state_of s core block)) (picture_of s block).transaction core block).0 none in
-    grind (arith, busy_cases (state_of s core block) (missed_busy (state_of s core block) (kept.operations core block wanted waits)), left.0, left.1, kept.awaits core block)
+    grind (arith, none, busy_cases (state_of s core block) (missed_busy (state_of s core block) (kept.operations core block wanted waits)), kept.awaits core block)
 
 pub turn_rule : TurnLaws
 turn_rule = record {

@@ -15,12 +15,6 @@ nobody_owns {p} {n} {value} {picture} g idle = sym g.is_owned ∙ false_from_ne_
     let (row, is_row, hit) = (fit_rule _ _ _ _ _ (g.states o (g.owner_in o is))).0 (owning o is) in
     idle o (row.next, rw (← is_hit-true row.action hit) is_row))
 
-pub no_data : (found : Option Open) → data_under_way found ≡ None → brings_data (talk_of found) ≡ false
-no_data found none = grind arith
-
-pub data_is : (found : Option Open) (value : List ℕ) → ((o : Open) → found ≡ Some o → carries_value o.payload ≡ true → o.value ≡ value) → IfSome (data_under_way found) (λ sent. sent ≡ value)
-data_is found value carried = grind (arith, carried)
-
 pub idle_evict : (s : CacheState) (o : Op) → is_idle_evict s (asked o) ≡ true → (o ≡ Evict) × (s ≡ I)
 idle_evict s o h = grind arith
 
@@ -34,11 +28,7 @@ nothing_seen p _ = (_, refl)
 
 -- where there is a row, there is an event that has it
 has_row : {E R : Type 0} (rows : Option E → Option R) → rows None ≡ None → (found : Option E) → (r : R) × (rows found ≡ Some r) → IsSomeAnd found (λ e. (r : R) × (rows (Some e) ≡ Some r))
-has_row rows none None row = let h = row.1 in cc
-has_row rows none (Some e) row = row
-
-not_put : (q : Request) → q ≢ PutM → is_put_m q ≡ false
-not_put q get = grind arith
+has_row rows none found row = grind (arith, none, row)
 
 module _ (s : Situation) (g : Invariant s) where
   -- a block outside the shape has nothing
@@ -82,7 +72,7 @@ module _ (s : Situation) (g : Invariant s) where
   pub data_awaited : IsWellKept s → (core block : ℕ) (q : Request) → (awaited_request (state_of s core block) ≡ Some q) ↔ (HasOpen s core block q × (q ≢ PutM))
   data_awaited kept core block q = (
     λ waits. (kept.awaits core block q waits, λ put. awaited-get (state_of s core block) (rw put at waits)),
-    λ open_get. (requestor_fits core block q open_get.0).1.0 (not_put q open_get.1),
+    λ open_get. (requestor_fits core block q open_get.0).1.0 (grind (arith, open_get.1)),
   )
 
   -- a core that waits is within the shape, and so is its block
@@ -133,7 +123,7 @@ module _ (s : Situation) (g : Invariant s) where
       (λ same. rw same ready.0))
   finds_cache (Respond on) core block event (closing, looks) =
       rw (looks.4, looks.2) (has_row (row_for s.protocol (state_of s closing.core block)) refl (arrival closing.payload)
-      (let (row, is_row, _) = answered (respond_rows block closing looks.1) (not_put closing.request looks.3) in (row, is_row)))
+      (let (row, is_row, _) = answered (respond_rows block closing looks.1) (grind (arith, looks.3)) in (row, is_row)))
 
   finds_memory : (step : Step) (block : ℕ) (event : Option MemEvent) → ConsultsMemory s step block event → IsSomeAnd event (HasMemRow s.protocol (picture_of s block).memory.state)
   finds_memory (Ask asker on word asking) block event looks = absurd looks

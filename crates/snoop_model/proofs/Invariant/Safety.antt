@@ -1,7 +1,7 @@
 -- What every machine keeps makes it safe, and its steps keep it.
 use Rattle.snoop_model.proofs.Common.{Absent, ap, arith, arrival_at_memory, Ask, asked, both_ways, CacheAction, CacheCell, CacheEvent, CacheState, Cell, Drop, E, EiA, Evict, Extent, flat, flat_words, Goes, Gone, held_by, Hit, I, IfSome, inl, inr, Invariant, is_clean, is_some, IsOpenByTable, IsProper, IsSenderLine, IsSome, Issue, IsWellKept, Item, keeps, Line, List, Load, MemCell, MoveOn, moves_to, None, nothing_held, Op, Option, option_map, Order, Orders, Picture, picture_of, Protocol, PutM, refl, Refused, Reply, Request, reset, Respond, Result, RunBy, same_Some, Situation, Some, Stall, state_of, Step, Store, sym, Takes, takes_payload, true, with_line, with_picture, word_at, ℕ, ◌<◌, ◌↔◌, ◌∙◌, ◌≡◌, ◌≢◌, ◌≤◌, ◌⊎◌}
 use Rattle.snoop_model.specs.{Coherent.{IsCoherent, IsCoherentRun}, Invariant.MachineKeeps.{AreOnSenderLines, MachineKeeps}, Moves.Replies.{IsHit, MayHit}, Runs.{Run.EveryRun, Safe.{IsSafe, RowsAreFound}}}
-use Rattle.snoop_model.proofs.Invariant.{Coherence.{data_awaited, data_is, each_line, finds_rows, held_within, hit_within, no_data, nobody_owns, opened_within, orders_follow_sender_table, requestor_fits, sender_within}, Runs.{goes_kept, idle_line, move_keeps, nothing_proper, reset_invariant, reset_open, word_flat}}
+use Rattle.snoop_model.proofs.Invariant.{Coherence.{data_awaited, each_line, finds_rows, held_within, hit_within, nobody_owns, opened_within, orders_follow_sender_table, requestor_fits, sender_within}, Runs.{goes_kept, idle_line, move_keeps, nothing_proper, reset_invariant, reset_open, word_flat}}
 use Rattle.snoop_model.proofs.{Lists.{if_some, is_none}, OneBlock.{AfterMoves.{ask_line, each_picture, in_pictures, respond_here}, Facts.owned_alone}}
 use Rattle.snoop_model.proofs.{Once.run_asked_once, Queues.{on_kept, starts_well}, Runs.{Along.kept_along, GoOn.moves_on, Replies.{run_stays, run_tells}}, Steps.order_made}
 use Rattle.snoop_model.proofs.Tables.{OrderTests.settled_so, Rows.{action_rule, IsProper-drop, no_row}, SentBy.sends_is, StateTests.{ask_rule, claims_rule, fit_rule, is_hit-true}}
@@ -107,10 +107,10 @@ is_coherent s g on_lines well_kept = record {
       let (row, is_row, hit) = (fit_rule _ _ _ _ _ (good.states core within.0)).1.0 (sym (good.proper core within.0).kept ∙ is) in
       (row.next, rw (← is_hit-true row.action hit) is_row);
   current = λ core block reads. let (keeping, within) = hit_within s g core block event.Load reads in (g.blocks block within.1).kept core within.0 keeping;
-  carried = λ block within. data_is (picture_of s block).transaction (flat_words s.log block) (g.blocks block within).carried;
+  carried = λ block within. grind (arith, (g.blocks block within).carried);
   memory = λ block within idle none.
       let it = g.blocks block within in
-      it.fresh ((claims_rule s.protocol _ _ it.claims it.is_claims).1 (nobody_owns it idle) (no_data _ none));
+      it.fresh ((claims_rule s.protocol _ _ it.claims it.is_claims).1 (nobody_owns it idle) (grind (arith, none)));
   clean = clean_in_memory s g;
   opened = λ block. if_some (picture_of s block).transaction _ (λ o is.
       (g.opened block o is, (g.blocks block (opened_within s g block o is)).requestor_in o is, if_some o.from _ (sender_within s g block o is)));

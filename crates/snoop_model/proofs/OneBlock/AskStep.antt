@@ -1,5 +1,5 @@
 -- An Ask keeps the invariant, and a load that it performs gives the flat value.
-use Rattle.snoop_model.proofs.Common.{asked, Asks, BlockInvariant, Bool, both_ways, CacheAction, Cell, Drop, Evict, false, held_by, Hit, inl, inr, Issue, length, Line, List, Load, nothing_held, Op, own_open, owns, Picture, picture_of, refl, Reply, same_Some, Situation, Store, sym, Takes, true, with_line, ℕ, ◌<◌, ◌∙◌, ◌≡◌, ◌⊎◌}
+use Rattle.snoop_model.proofs.Common.{asked, Asks, BlockInvariant, Bool, both_ways, CacheAction, Cell, Drop, Evict, false, held_by, Hit, inl, inr, Issue, length, Line, List, Load, nothing_held, Op, own_open, owns, Picture, picture_of, refl, Reply, same_Some, Situation, Store, sym, Takes, true, with_line, ℕ, ◌<◌, ◌∙◌, ◌≡◌, ◌⊎◌, arith}
 use Rattle.snoop_rules.specs.declared.names.CacheEvent.TheVariants as event
 use Rattle.snoop_model.proofs.{Lists.each_set, OneBlock.Facts.{carried_line, did_in, flat_after, IsLawful, line_of, LineFits, owned_alone, still_fits}}
 use Rattle.snoop_model.proofs.Tables.{Rows.{hit_keeps, IsProper-issue, IsProper-hit, IsProper-drop}, StateTests.{ask_rule, asked_row}, StateTests.kept_reader}
@@ -29,14 +29,13 @@ module _ (s : Situation) (core block word : ℕ) (asking : Op) (answer : Reply) 
       let (owning, unclean) = stores refl in
       let proper = IsProper-hit s.protocol old event.Store asks.row.next hit.after (g.proper core asker_in) row in
       rw (hit.held, entry) (record { fit = fit; kept = λ h. cc; clean = λ h. absurd (both_ways _ unclean h); proper = proper }, inr owning, λ e. cc)
-  asker Hit Evict row so took = absurd took.1.0.performed
   asker (Issue r) o row (fit, (carry, _)) (held, _, entry) =
       let proper = IsProper-issue s.protocol old word o r asks.row.next (g.proper core asker_in) row in
       rw (held, entry) (carried_line old (line_of g core asker_in) _ (kept_reader asks.row.next old.kept) fit (carry refl) proper, inl refl, tt)
   asker Drop o row (fit, (carry, _)) (held, _, entry) =
       let proper = IsProper-drop s.protocol old (asked o) asks.row.next (g.proper core asker_in) row in
       rw (held, entry) (carried_line old (line_of g core asker_in) _ (kept_reader asks.row.next old.kept) fit (carry refl) proper, inl refl, tt)
-  asker _ o row so took = absurd took
+  asker a o row so took = absurd (grind (arith, took))
 
   -- an Ask keeps the invariant of a picture, and a load that it performs gives the flat value
   pub ask_keeps : BlockInvariant s.protocol n (flat_after flat (did_in asks.entry)) (with_line before core asks.held) × IsLawful flat (did_in asks.entry)
