@@ -173,18 +173,15 @@ pub starts_well : StartsWell
 starts_well protocol shape under_way = (
   record {
     shaped = reset_shaped protocol shape;
-    queued = λ k b. rw (queue_is k, reset_line protocol shape k b, waiting_request) refl;
+    queued = λ k b. rw (replicated {X = List ℕ} shape.cores k [], reset_line protocol shape k b, waiting_request) refl;
     awaits = λ k b q h. absurd (none-some q (rw (reset_line protocol shape k b, awaited_request) at h));
     operations = λ k b access h. absurd (none-some access (rw (reset_line protocol shape k b) at h));
   },
   record {
-    waits = λ k. rw (queue_is k) (λ i d lt. absurd (omega arith));
+    waits = λ k. rw (replicated {X = List ℕ} shape.cores k []) (λ i d lt. absurd (omega arith));
     opened = λ b o h. absurd (none-some o (sym (reset_open protocol shape b) ∙ h));
   },
 )
-  where
-    queue_is : (k : ℕ) → queue_of (reset protocol shape).queues k ≡ []
-    queue_is k = replicated shape.cores k []
 
 -- each core's queue has the blocks on which it waits
 abbrev pub AreQueued : Situation → Type 0

@@ -164,10 +164,8 @@ move_is s (Order core) answer new (block, (first, m)) =
     let from = sender_is p before core q (length before.caches) (omega arith) o.from o.payload o.sent (sends_below p before core q _ _ o.sent.sends) in
     let caches = fill_by_all (line_after p before core q) o.next.caches (length before.caches) nothing_held o.taken.same_length
     (λ k below. (let row = o.taken.rows k below in row.2 ∙ rw row.1 refl)) in
-    let after = next_picture p before core q block in
-    let state : o.next.memory.state ≡ after.memory.state = o.memory.2 ∙ rw o.memory.1 refl in
-    let opened : o.next.transaction ≡ after.transaction = o.opened ∙ rw (from, (sends_is p before core q o.from o.payload o.sent.sends)) refl in
-    let next : o.next ≡ after = λ i. record { caches = caches i; memory = record { state = state i; value = o.value i }; transaction = opened i } in
+    let next : o.next ≡ next_picture p before core q block =
+    grind (arith, caches, from, sends_is p before core q o.from o.payload o.sent.sends, o.memory.1, o.memory.2, o.value, o.opened) in
     rw (m.answered, lt-ltb core s.shape.cores m.within.0, first, o.ready.1, o.ready.0, o.after, next) refl
 move_is s (Respond on) answer new (block, (first, m)) =
     let r = m.responds in
@@ -177,7 +175,7 @@ move_is s (Respond on) answer new (block, (first, m)) =
     let memory = (settled_so (takes_payload o.request before.memory.state) s.protocol (arrival_at_memory o.payload) before.memory.state r.memory.act r.next.memory.state).0 r.memory.settled in
     let line : MemLine = record { state = r.next.memory.state; value = written r.memory.act o.value before.memory.value } in
     let next : r.next ≡ free_picture (brought o s.protocol s.log before.caches o.request).0 line =
-    λ i. record { caches = (caches i).0; memory = record { state = r.next.memory.state; value = r.memory.value i }; transaction = r.closed i } in
+    grind (arith, caches, r.memory.value, r.closed) in
     rw (m.on_block, m.answered, lt-ltb block s.shape.blocks m.within, r.opened, r.after, memory, next, ap (λ x. x.1) caches) refl
 
 -- and so does a refusal

@@ -17,11 +17,6 @@ busy_under_way s under_way serving kept core block busy =
 pub missed_busy : (s : CacheState) → is_some (missed_request s) ≡ true → is_busy s ≡ true
 missed_busy s h = grind arith
 
--- a work under way takes no step exactly where nothing of its core waits or is open
-no_step : (w : Option Request) (t : Option Open) (core block : ℕ)
-    → (step_under_way w t core block ≡ None) ↔ ((w ≡ None) × ((o : Open) → t ≡ Some o → o.core ≢ core))
-no_step w t core block = (λ h. (grind arith, λ o e own. grind arith), λ idle. grind (arith, idle.0, idle.1))
-
 never_refused : NeverRefused
 never_refused s under_way core block word asking begun step serving kept has_core has_block has_word its is cause refused =
     grind (arith, is, refused, its, has_core, has_block, has_word, λ (b : ℕ). all_first (λ x. under_way core ≡ Some x) (queue_of s.queues core) b (serving.waits core),
@@ -101,14 +96,12 @@ turn_rule = record {
   keeps_well = keeps_well;
   never_refused = never_refused;
   serves_on = serves_on;
-  ends = λ s before after core block word asking serving kept works none others.
-      let left = (no_step (waiting_request (state_of s core block)) (picture_of s block).transaction core block).0 none in
-      record {
-        waits = λ k i d lt.
-            let w = queued_waits s kept.queued k (slice_index_or (queue_of s.queues k) i d) (Contains-get_or (queue_of s.queues k) i d lt) in
-            others k (λ e. none-some w.0 (cc (left.0, w.1, e, serving.waits k i d lt, works))) ∙ serving.waits k i d lt;
-        opened = λ b o is. others o.core (λ e. left.1 o (cc (serving.opened b o is, works, e, is)) e) ∙ serving.opened b o is;
-      };
+  ends = λ s before after core block word asking serving kept works none others. record {
+    waits = λ k i d lt.
+        let w = queued_waits s kept.queued k (slice_index_or (queue_of s.queues k) i d) (Contains-get_or (queue_of s.queues k) i d lt) in
+        others k (λ e. grind (arith, none, w.1, e, works, serving.waits k i d lt)) ∙ serving.waits k i d lt;
+    opened = λ b o is. others o.core (λ e. grind (arith, none, works, e, is, serving.opened b o is)) ∙ serving.opened b o is;
+  };
   comes_to_rest = λ s serving kept. record {
     ordered = λ core block request waits. none-some block (All-contains (λ b. ◌≡◌ {A = Option ℕ} None (Some b)) (queue_of s.queues core) block
         (serving.waits core) (waits_queued s kept.queued core block request waits));
@@ -123,8 +116,6 @@ turn_rule = record {
   ends_at_once = λ s t under_way core block word asking answer serving idle kept m other.
       let now = asked_serves serving core block word asking answer t m (λ request is. absurd (other request is)) in
       let queued = λ (r : Request) (w : Waits t core block r).
-      none-some block (sym idle ∙ All-contains (λ b. under_way core ≡ Some b) (queue_of t.queues core) block (now.waits core)
-      (waits_queued t kept.queued core block r w)) in
-      (no_step (waiting_request (state_of t core block)) (picture_of t block).transaction core block).1
-      (none_from_not_some (waiting_request (state_of t core block)) queued, λ o is c. none-some block (sym (ap under_way c ∙ idle) ∙ now.opened block o is));
+      All-contains (λ b. under_way core ≡ Some b) (queue_of t.queues core) block (now.waits core) (waits_queued t kept.queued core block r w) in
+      grind (arith, idle, queued, now.opened block);
 }

@@ -167,10 +167,7 @@ nothing_waits waiting h = grind arith
 
 -- a line in I holds nothing
 pub idle_line : (line : Line) → IsProper line → line.state ≡ I → line ≡ nothing_held
-idle_line line proper idle =
-    let kept = is_none line.kept (proper.kept ∙ ap keeps idle) in
-    let waiting = nothing_waits line.waiting (proper.waiting ∙ ap missed_request idle) in
-    λ i. record { state = idle i; kept = kept i; waiting = waiting i }
+idle_line line proper idle = grind (arith, proper.kept, proper.waiting, idle, is_none line.kept, nothing_waits line.waiting)
 
 -- where the block's value is at reset: with memory, and with each sharer under MSI
 first_claims : (p : Protocol) → (shared : Bool)
