@@ -158,9 +158,7 @@ move_once b old (Respond on) answer new g m =
       | inl put ↦ rw (put.2, put.1) (tt, λ k. inl (refl, refl))
       | inr (_, f) ↦
           (let so = performed_so f.asking.word f.asking.op m.closing.value f.value f.fills.after old.log c m.closing.block false f.fills.performed in
-          let done_once : Evens (held_by (picture_of old b) c).waiting None (done m.did) f.line.waiting =
-          rw (f.fills.held, f.fills.waited, f.logged, so.0) (inr (refl, refl)) in
-          rw f.held (balances old b c f.line None m.did in_row (rw f.logged (refl, g.opened b m.closing r.opened), done_once)))
+          rw f.held (balances old b c f.line None m.did in_row (rw f.logged (refl, g.opened b m.closing r.opened), grind (arith, f.fills.held, f.fills.waited, f.logged, so.0))))
     ] in
     rw r.after (grown old b c r.next old.queues (Some (item.Came (came_of m.closing) m.did)) None (Respond on) answer
     (in_pictures old b g.shaped m.within) (λ core block. either_way (eqb b block && eqb c core) None) balanced)

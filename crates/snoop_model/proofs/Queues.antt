@@ -63,31 +63,22 @@ module _ (s : Situation) (kept : IsWellKept s) (core block word : ℕ) (asking :
     elsewhere = elsewhere;
   }
 
-  -- what waits and what has missed are as before
-  still : (act : CacheAction) → Cell s.protocol line.state (asked asking) act next → held.state ≡ next → held.waiting ≡ line.waiting
-      → missed_request line.state ≡ missed_request next → waiting_request next ≡ waiting_request line.state → KeepsOn s block (with_line (picture_of s block) core held) s.queues
-  still act row is same missed waiting = one_line act s.queues row is (rw waiting (kept.queued core block)) (λ k apart. refl) (λ k b apart. refl)
-      (λ access h. rw (← missed) (kept.operations core block access (sym same ∙ h)))
-
   kept_taken : (act : CacheAction) → Cell s.protocol line.state (asked asking) act next → Takes act next s.log core block word asking line held answer entry
       → KeepsOn s block (with_line (picture_of s block) core held) (queues_after act s.queues core block)
-  kept_taken Hit row taken =
-      let (_, (missed, (waits, _))) = action_rule s.protocol line.state (asked asking) Hit next row in
-      still Hit row (rw taken.1.0.held refl) (rw taken.1.0.held refl) missed waits
-  kept_taken Drop row taken =
-      let (_, (missed, (waits, _))) = action_rule s.protocol line.state (asked asking) Drop next row in
-      still Drop row (rw taken.0 refl) (rw taken.0 refl) missed waits
   kept_taken (Issue request) row taken =
       let (was, is) = issue-waits s.protocol line.state (asked asking) request next row in
       let queue = queue_of s.queues core in
       let own = get_or-set_same s.queues core (queue ++ block ∷ []) [] (rw kept.shaped.queues within.0) in
-      let missed = (issue-missed s.protocol line.state (asked asking) request next row).1 in
       one_line (Issue request) (after_issue s.queues core block) row (rw taken.0 refl)
       (rw (is, own, times_push block block queue, eq-eqb block block refl, kept.queued core block, was) refl)
       (λ k apart. get_or-set_other s.queues core k _ [] apart)
       (λ k b apart. same_set (times b) s.queues core _ [] (rw (times_push b block queue, ne_eqb block b (λ e. apart (sym e))) (omega arith)) k)
-      (rw taken.0 (λ access h. rw (missed, ← asked_missed word asking, h) refl))
-  kept_taken _ row taken = absurd taken
+      (λ access h. grind (arith, taken, h, (issue-missed s.protocol line.state (asked asking) request next row).1, asked_missed word asking))
+  -- else what waits and what has missed are as before
+  kept_taken act row taken =
+      let rule = action_rule s.protocol line.state (asked asking) act next row in
+      one_line act s.queues row (grind (arith, taken)) (grind (arith, taken, rule, kept.queued core block)) (λ k apart. refl) (λ k b apart. refl)
+      (λ access h. grind (arith, taken, rule, h, kept.operations core block access))
 
 -- who waits once each core has taken its row: the requestor no longer, each other core as before
 module _ (p : Protocol) (core : ℕ) (request : Request) (old new : List Line) (taken : TakesRows p core request old new) where

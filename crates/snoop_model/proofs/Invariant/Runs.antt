@@ -40,10 +40,6 @@ next_lawful log core block word asking value hit inside lawful = record { number
 abbrev IsLogged : Situation → Did → Type 0
 IsLogged s did = IsWithin s did.core did.block × IsWord s.shape did.word
 
--- what holds of the value, if there is one, holds of the list of it
-all_one : {A : Type 0} (P : A → Type 0) (found : Option A) → IfSome found P → All P (option_to_list found)
-all_one P found here = grind (arith, here, All-nil P, All-cons P)
-
 -- a log stays legal and within the shape where the item's operation, if it has one, may come next and is within it
 logged_more : (s : Situation) (entry : Option Item) → Invariant s → IfSome (did_in entry) (λ did. IsNext s.log did × IsLogged s did)
     → Legal (s.log ++ option_to_list entry) × All (IsLogged s) (operations (s.log ++ option_to_list entry))
@@ -51,7 +47,7 @@ logged_more s None g next = rw append-nil (g.legal, g.logged)
 logged_more s (Some entry) g next = (
   legal-grows s.log entry g.legal (IfSome_then (operation_of entry) next (λ did h. h.0)),
   rw operations-push (All-append (IsLogged s) (operations s.log) _ g.logged
-      (all_one (IsLogged s) (operation_of entry) (IfSome_then (operation_of entry) next (λ did h. h.1)))),
+      (grind (arith, next, All-nil (IsLogged s), All-cons (IsLogged s)))),
 )
 
 -- the item of a move on a block: its operation, if it has one, is on the block, may come next, and is of a core and a word that there are

@@ -72,7 +72,6 @@ module _ (s : Situation) (block : ℕ) (o : Open) (did : Option Did) (new : Situ
       → ((d : ℕ) → d < n → LineFits p found.next.shared (owns (cond gained (Some o.core) g.owner) d) None words r.next.memory.value (held_at r.next.caches d))
       → BlockInvariant p n words r.next
   closed words same lines =
-      let nothing : (x : Open) → r.next.transaction ≡ Some x → ⊥ = λ x is_x. none-some x (sym r.closed ∙ is_x) in
       record {
         claims = found.next;
         is_claims = simp r.closed (rw memory_is at found.is_next);
@@ -85,9 +84,9 @@ module _ (s : Situation) (block : ℕ) (o : Open) (did : Option Did) (new : Situ
         fresh = λ h.
             let (get_s, from) = found.tests.1.1.1.1.0 h in
             memory_flat (λ w. g.fresh (from (rw memory_is w))) ∙ sym (same get_s);
-        carried = λ x is_x. absurd (nothing x is_x);
-        requestor_in = λ x is_x. absurd (nothing x is_x);
-        sender_in = λ x is_x. absurd (nothing x is_x);
+        carried = λ x is_x carries. cc (r.closed, is_x);
+        requestor_in = λ x is_x. cc (r.closed, is_x);
+        sender_in = λ x is_x. cc (r.closed, is_x);
         proper = λ d d_in. (lines d d_in).proper;
       }
 
