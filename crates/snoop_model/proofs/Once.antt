@@ -3,7 +3,7 @@ use Rattle.snoop_model.proofs.Common.{[], Access, accesses_in, after_order, answ
 use Rattle.snoop_model.proofs.Invariant.Runs.{goes_kept, move_keeps, nothing_waits, refusal_same, reset_invariant, reset_line}
 use Rattle.snoop_model.proofs.Lists.{each_set, either_way}
 use Rattle.snoop_model.proofs.OneBlock.{AfterMoves.{by_request, changed, each_picture, each_taken, in_pictures}, Facts.{did_in, performed_so}}
-use Rattle.snoop_model.proofs.{Runs.Replies.on_stays, Tables.Rows.{drop_evicts, issue-missed}}
+use Rattle.snoop_model.proofs.{Runs.Replies.on_stays, Tables.Rows.{action_rule, drop_evicts, issue-missed}}
 use Rattle.snoop_history.specs.declared.items.Item.TheVariants as item
 
 -- a core's operations with one item more
@@ -97,9 +97,7 @@ module _ (p : Protocol) (next : CacheState) (log : List Item) (core block word :
   line_once : (act : CacheAction) → Cell p old.state (asked asking) act next → Takes act next log core block word asking old new answer entry
       → IsBy core block (did_in entry) × Evens old.waiting (as_access word asking) (done (did_in entry)) new.waiting
   line_once Hit row t = grind (arith, t)
-  line_once (Issue q) row t = grind (arith, t, nothing_waits old.waiting, proper.waiting, (issue-missed p old.state (asked asking) q next row).0)
-  line_once Drop row t = grind (arith, t, drop_evicts p old.state asking next row)
-  line_once _ row t = absurd t
+  line_once act row t = grind (arith, t, nothing_waits old.waiting, proper.waiting, action_rule p old.state (asked asking) act next row)
 
 module _ (old : Situation) (b c : ℕ) where
   -- the core's operation on the block is done, and so it is in each of its lines, the core's own or not

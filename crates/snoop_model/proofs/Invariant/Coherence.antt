@@ -11,8 +11,7 @@ use Rattle.snoop_rules.specs.Takers.{other as another}
 pub nobody_owns : {p : Protocol} {n : ℕ} {value : List ℕ} {picture : Picture} (g : BlockInvariant p n value picture) → ((core : ℕ) → ¬ MayStore p (held_by picture core).state) → g.claims.owned ≡ false
 nobody_owns {p} {n} {value} {picture} g idle = sym g.is_owned ∙ false_from_ne_true (is_some g.owner) (λ e.
     let (o, is) = some_of g.owner e in
-    let owning : (x : ℕ) → g.owner ≡ Some x → owns g.owner x ≡ true = λ x its. rw (its, eq-eqb x x refl) refl in
-    let (row, is_row, hit) = (fit_rule _ _ _ _ _ (g.states o (g.owner_in o is))).0 (owning o is) in
+    let (row, is_row, hit) = (fit_rule _ _ _ _ _ (g.states o (g.owner_in o is))).0 (grind (arith, is)) in
     idle o (row.next, rw (← is_hit-true row.action hit) is_row))
 
 pub idle_evict : (s : CacheState) (o : Op) → is_idle_evict s (asked o) ≡ true → (o ≡ Evict) × (s ≡ I)

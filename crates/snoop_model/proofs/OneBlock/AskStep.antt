@@ -20,12 +20,10 @@ module _ (s : Situation) (core block word : ℕ) (asking : Op) (answer : Reply) 
       × ((flat_after flat (did_in asks.entry) ≡ flat) ⊎ (owns g.owner core ≡ true)) × IsLawful flat (did_in asks.entry)
   asker Hit Load row (fit, (carry, _)) (value, (hit, _, entry)) =
       let same = same_Some _ _ (sym hit.kept ∙ g.kept core asker_in (hit_keeps _ _ _ _ row).0) in
-      let performed = hit.performed in
       let proper = IsProper-hit s.protocol old event.Load asks.row.next hit.after (g.proper core asker_in) row in
       rw (hit.held, entry) (carried_line old (line_of g core asker_in) _ (λ h. cc) fit (carry refl) proper, inl refl, λ e. cc)
   asker Hit (Store v) row (fit, (_, stores)) (value, (hit, _, entry)) =
       let same = same_Some _ _ (sym hit.kept ∙ g.kept core asker_in (hit_keeps _ _ _ _ row).0) in
-      let performed = hit.performed in
       let (owning, unclean) = stores refl in
       let proper = IsProper-hit s.protocol old event.Store asks.row.next hit.after (g.proper core asker_in) row in
       rw (hit.held, entry) (record { fit = fit; kept = λ h. cc; clean = λ h. absurd (both_ways _ unclean h); proper = proper }, inr owning, λ e. cc)

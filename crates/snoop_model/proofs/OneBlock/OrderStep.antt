@@ -75,10 +75,7 @@ module _ {p : Protocol} {flat : List ℕ} {before : Picture} {good : BlockInvari
   sender_told from payload does =
       let so = sends from (sends_below p before c q from payload does) in
       let (is, same) = cond_some _ sent payload (sym so.0 ∙ sends_is p before c q from payload does) in
-      ((it_is meant from).0 is, sym same, λ carrying. words from carrying ((so.1 is).1 (rw same carrying)) does)
-    where
-      words : (from : Option ℕ) → carries_value payload ≡ true → has_words from ≡ true → Sends p before c q from payload → value_sent before from payload ≡ flat
-      words from carrying has does = grind (arith, carrying, has, does, good.fresh, good.kept)
+      ((it_is meant from).0 is, sym same, λ carrying. grind (arith, carrying, (so.1 is).1 (rw same carrying), does, good.fresh, good.kept))
 
 -- an Order keeps the invariant of a picture
 pub order_keeps : (s : Situation) (core block : ℕ) (q : Request) (new : Situation) (flat : List ℕ) → BlockInvariant s.protocol (length (picture_of s block).caches) flat (picture_of s block) → core < length (picture_of s block).caches

@@ -25,14 +25,6 @@ pub answered : {p : Protocol} {n : ℕ} {flat : List ℕ} {before : Picture} {go
 answered {p} {n} {flat} {before} {good} {o} found get =
     found.tests.1.1.1.1.1.0 get _ _ (rw (found.opened, eq-eqb o.core o.core refl) at (good.states o.core (good.requestor_in o found.opened)))
 
--- the words that the operation leaves are those in flat memory after it
-module _ (flat : List ℕ) (log : List Item) (core block word value : ℕ) (came after : List ℕ) where
-  abbrev done : Op → Option Did
-  done asking = Some (next_did log core block word asking value false)
-
-  filled_words : (a : CacheAction) (asking : Op) → came ≡ flat → a ≡ (if is_load asking then FillLoad else FillStore) → Performs word asking came value after → (after ≡ flat_after flat (done asking)) × IsLawful flat (done asking) × (fills_store a ≡ false → flat_after flat (done asking) ≡ flat)
-  filled_words a asking same fill did = grind (arith, same, fill, did)
-
 -- a Respond of a picture that keeps its invariant
 module _ (s : Situation) (block : ℕ) (o : Open) (did : Option Did) (new : Situation) (r : Responds s block o did new) (n : ℕ) (flat : List ℕ) (g : BlockInvariant s.protocol n flat (picture_of s block)) (in_row : o.core < length (picture_of s block).caches) where
   abbrev p : Protocol
@@ -98,8 +90,7 @@ module _ (s : Situation) (block : ℕ) (o : Open) (did : Option Did) (new : Situ
       let (row, is_row, (fit, (clean, stores))) = answered found get in
       let row_is : row ≡ f.fills.row = same_Some _ _ (sym is_row ∙ rw f.fills.arrives f.fills.is_row) in
       let words : (f.fills.after ≡ flat_after flat did) × IsLawful flat did × (fills_store f.fills.row.action ≡ false → flat_after flat did ≡ flat) =
-      rw f.logged (filled_words flat s.log c o.block f.asking.word f.value o.value f.fills.after f.fills.row.action f.asking.op
-      (g.carried o r.opened (found.tests.0 get)) f.fills.fill f.fills.performed) in
+      grind (arith, f.logged, g.carried o r.opened (found.tests.0 get), f.fills.fill, f.fills.performed) in
       let same : is_get_m o.request ≡ false → flat_after flat did ≡ flat = λ h. words.2 (rw row_is at stores ∙ h) in
       let filled : LineFits p found.next.shared (owns (cond gained (Some c) g.owner) c) None (flat_after flat did) r.next.memory.value f.line = rw f.fills.held (record {
         fit = rw (of_choice (λ x. owns x c) gained (Some c) g.owner, eq-eqb c c refl) (rw row_is at fit);

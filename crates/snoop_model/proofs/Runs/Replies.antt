@@ -37,9 +37,7 @@ module _ (p : Protocol) (next : CacheState) (log : List Item) (core block word :
   taken_tells : (asking : Op) (a : CacheAction) → Cell p old.state (asked asking) a next → Takes a next log core block word asking old new answer entry
       → Tells log (Ask core block word asking) (Ok answer) (log ++ option_to_list entry)
   taken_tells asking Hit row t = grind (arith, t, t.1.0.performed)
-  taken_tells asking (Issue q) row t = grind (arith, t, append-nil log, (action_rule p old.state (asked asking) (Issue q) next row).1.1.1, serving-asked asking)
-  taken_tells asking Drop row t = grind (arith, t, append-nil log, drop_evicts p old.state asking next row)
-  taken_tells asking _ row t = absurd t
+  taken_tells asking act row t = grind (arith, t, append-nil log, action_rule p old.state (asked asking) act next row, serving-asked asking)
 
 -- a refusal tells of nothing
 pub refusal_tells : {past log : List Item} (step : Step) (cause : Refused) → log ≡ past → Tells past step (Err cause) log
