@@ -50,8 +50,8 @@ module _ (p : Protocol) (before : Picture) (core : ℕ) (request : Request) wher
 
   -- memory does not send
   pub Silent-none : (act : MemAction) (next : MemState) → MemoryCell p before.memory.state (at_memory request) act next → ((payload : Payload) → act ≢ mem_action.Send payload) → SilentBelow p before core request 0
-  Silent-none act next row none None payload below sends = none payload (sending_memory act payload (rw row at (sends_is p before core request None payload sends)))
-  Silent-none act next row none (Some k) payload below sends = absurd (omega arith)
+  Silent-none act next row none other payload below sends =
+      grind (arith, below, row, none payload, sending_memory act payload, sends_is p before core request other payload sends)
 
   -- not all can be silent
   pub Silent-all : SilentBelow p before core request (length before.caches) → ¬ FollowsSenderTable p before core request

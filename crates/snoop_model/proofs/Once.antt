@@ -2,7 +2,7 @@
 use Rattle.snoop_model.proofs.Common.{[], Access, accesses_in, after_order, answers_of, ap, append-nil, append_assoc, append_cancel_left, arith, as_access, Ask, asked, asked_access, CacheAction, CacheState, came_of, cases_Bool, Cell, cond, cons_option, Contains, Contains-append_cases, Contains-append_left, Contains-append_right, Contains-permutation, Did, did_access, Drop, eq-eqb, eqb, eqb-true, Err, Extent, false, filter, filter-append, filter_map, filter_map-append, FirstMove, IfOk, Goes, held_at, held_by, Hit, IfSome, inl, inr, Invariant, IsLast, IsOwed, IsPermutation, IsPermutation-append_comm, IsPermutation-append_left, IsPermutation-append_right, IsPermutation-refl, IsPermutation-sym, IsPermutation-trans, IsProper, Issue, Item, last_or-append, length, Line, List, map, map-append, MoveOn, ne_eqb, None, nothing_held, of_core, Ok, Once, OnceMore, Op, operation_of, operations, Option, option_map, option_to_list, Order, Picture, picture_of, Protocol, queues_after, refl, Refused, Reply, reset, Respond, Result, RunBy, same_Some, Situation, slice_set, Some, Step, sym, taken, Takes, true, waiting_at, with_line, zero, ℕ, ◌&&◌, ◌++◌, ◌<◌, ◌==◌, ◌↔◌, ◌∙◌, ◌∷◌, ◌≡◌, ◌⊎◌, operations-push}
 use Rattle.snoop_model.proofs.Invariant.Runs.{goes_kept, move_keeps, nothing_waits, refusal_same, reset_invariant, reset_line}
 use Rattle.snoop_model.proofs.Lists.{each_set, either_way}
-use Rattle.snoop_model.proofs.OneBlock.{AfterMoves.{by_request, changed, each_picture, each_taken, in_pictures}, Facts.{did_in, performed_so}}
+use Rattle.snoop_model.proofs.OneBlock.{AfterMoves.{by_request, changed, each_picture, each_taken, in_pictures}, Facts.{did_in}}
 use Rattle.snoop_model.proofs.{Runs.Replies.on_stays, Tables.Rows.{action_rule, drop_evicts, issue-missed}}
 use Rattle.snoop_history.specs.declared.items.Item.TheVariants as item
 
@@ -155,8 +155,7 @@ move_once b old (Respond on) answer new g m =
     let balanced : Balances old b c None m.did r.next.caches = elim (by_request m.closing.request r.requestor) [
       | inl put ↦ rw (put.2, put.1) (tt, λ k. inl (refl, refl))
       | inr (_, f) ↦
-          (let so = performed_so f.asking.word f.asking.op m.closing.value f.value f.fills.after old.log c m.closing.block false f.fills.performed in
-          rw f.held (balances old b c f.line None m.did in_row (rw f.logged (refl, g.opened b m.closing r.opened), grind (arith, f.fills.held, f.fills.waited, f.logged, so.0))))
+          rw f.held (balances old b c f.line None m.did in_row (rw f.logged (refl, g.opened b m.closing r.opened), grind (arith, f.fills.held, f.fills.waited, f.logged, f.fills.performed)))
     ] in
     rw r.after (grown old b c r.next old.queues (Some (item.Came (came_of m.closing) m.did)) None (Respond on) answer
     (in_pictures old b g.shaped m.within) (λ core block. either_way (eqb b block && eqb c core) None) balanced)

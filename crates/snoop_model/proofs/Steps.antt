@@ -124,11 +124,6 @@ next_of s (Respond block) = if ltb block s.shape.blocks then option_map_or (next
 
 -- An Ask.
 module _ (s : Situation) (core block word : ℕ) (asking : Op) where
-  takes_is : (act : CacheAction) (next : CacheState) (held : Line) (answer : Reply) (entry : Option Item)
-      → Takes act next s.log core block word asking (held_by (picture_of s block) core) held answer entry
-      → ◌≡◌ {A = Next} (Ok answer, after_ask s core block word asking act held entry) (by_row s core block word asking act next)
-  takes_is act next held answer entry t = grind (arith, t)
-
   place : Decides (ltb block s.shape.blocks && has_word s.shape word asking) ((block < s.shape.blocks) × HasWord s.shape word asking)
   place = (λ h. grind (arith, h), λ h. grind (arith, h))
 
@@ -143,18 +138,13 @@ module _ (p : Protocol) (before : Picture) (core : ℕ) (q : Request) where
     | inr none ↦ rw none (sender_is n (omega arith) from payload sent (grind (arith, none, below, sends_is p before core q from payload sent.sends)))
   ]
 
--- A Respond.
-module _ (closing : Open) (p : Protocol) (log : List Item) (old new : List Line) (did : Option Did) where
-  arrives_is : (q : Request) → ArrivesFor q closing p log old new did → (new, did) ≡ brought closing p log old q
-  arrives_is q a = grind (arith, a)
-
 -- a move comes to what is computed
 move_is : (s : Situation) (step : Step) (answer : Reply) (new : Situation) → FirstMove s step answer new
     → ◌≡◌ {A = Next} (Ok answer, new) (next_of s step)
 move_is s (Ask core on word asking) answer new (block, (first, m)) =
     rw (m.on_block, lt-ltb core s.shape.cores m.within.0, (place s core block word asking).1 (m.within.1, m.has_word)) (elim m.moves [
       | inl a ↦ rw (a.2, a.3, a.1, a.0) refl
-      | inr a ↦ rw (a.after, a.is_row) (takes_is s core block word asking a.row.action a.row.next a.held answer a.entry a.taken)
+      | inr a ↦ rw (a.after, a.is_row) (grind (arith, a.taken))
     ])
 move_is s (Order core) answer new (block, (first, m)) =
     let p = s.protocol in
@@ -171,7 +161,7 @@ move_is s (Respond on) answer new (block, (first, m)) =
     let r = m.responds in
     let o = m.closing in
     let before : Picture = picture_of s block in
-    let caches = arrives_is o s.protocol s.log before.caches r.next.caches m.did o.request r.requestor in
+    let caches : ◌≡◌ {A = List Line × Option Did} (r.next.caches, m.did) (brought o s.protocol s.log before.caches o.request) = grind (arith, r.requestor) in
     let memory = (settled_so (takes_payload o.request before.memory.state) s.protocol (arrival_at_memory o.payload) before.memory.state r.memory.act r.next.memory.state).0 r.memory.settled in
     let line : MemLine = record { state = r.next.memory.state; value = written r.memory.act o.value before.memory.value } in
     let next : r.next ≡ free_picture (brought o s.protocol s.log before.caches o.request).0 line =

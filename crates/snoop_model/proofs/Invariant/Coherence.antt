@@ -1,6 +1,6 @@
 -- What the invariant says of a situation: where nobody owns a block, what lies within the shape, which states a requestor is in, that all rows are found, that one sends.
 use Rattle.snoop_model.proofs.{OneBlock.OrderStep.{each_row, look, meant, meant_in, sender_told, sends, sends_if_meant, sent}, Tables.Rows.hit_keeps}
-use Rattle.snoop_model.proofs.{OneBlock.Facts.it_is, Tables.StateTests.{ask_rule, brings_data, fit_rule, is_hit-true, is_idle_evict, some_of}}
+use Rattle.snoop_model.proofs.{OneBlock.Facts.it_is, Tables.StateTests.{ask_rule, brings_data, fit_rule, is_idle_evict, some_of}}
 use Rattle.snoop_model.proofs.{OneBlock.RespondStep.{answered, close, Closing}, Tables.OrderTests.{awaited-get, led_line, memory_row_for, row_for}}
 use Rattle.snoop_model.{proofs.Lists.if_some, specs.Moves.LookUps.{ConsultsCache, ConsultsMemory, FindsRows, HasMemRow, HasRow}}
 use Rattle.snoop_rules.specs.Possible.{MayStore}
@@ -12,7 +12,7 @@ pub nobody_owns : {p : Protocol} {n : ℕ} {value : List ℕ} {picture : Picture
 nobody_owns {p} {n} {value} {picture} g idle = sym g.is_owned ∙ false_from_ne_true (is_some g.owner) (λ e.
     let (o, is) = some_of g.owner e in
     let (row, is_row, hit) = (fit_rule _ _ _ _ _ (g.states o (g.owner_in o is))).0 (grind (arith, is)) in
-    idle o (row.next, rw (← is_hit-true row.action hit) is_row))
+    idle o (row.next, grind (arith, is_row, hit)))
 
 pub idle_evict : (s : CacheState) (o : Op) → is_idle_evict s (asked o) ≡ true → (o ≡ Evict) × (s ≡ I)
 idle_evict s o h = grind arith

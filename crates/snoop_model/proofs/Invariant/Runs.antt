@@ -2,7 +2,7 @@
 use Rattle.snoop_history.proofs.Legal.{flat-grows, legal-grows}
 use Rattle.snoop_model.proofs.Common.{[], Access, after_order, All, All-append, All-cons, All-nil, ap, append-nil, arith, as_access, Ask, BlockInvariant, Bool, CacheAction, CacheState, came_of, claims_of, cond, Did, Drop, eqb_tells, Err, Evict, Extent, false, fill_by_all, first_memory, fits, flat, flat_words, get_or-map-range_with_len, get_or-replicate, get_or-set_other, get_or-set_same, get_or_past, Goes, HasWord, held_by, Hit, I, IfSome, IfSome_then, if◌then◌else◌, in_protocol, inl, inr, Invariant, is_clean, is_owner, is_sharer, is_store_to, IsNext, IsProper, IsShaped, Issue, IsWithin, IsWord, Item, keeps, Legal, length, length-map-range_with_len, length-replicate, length-set, Line, List, missed_request, MoveOn, next_did, NoMemory, None, none-some, not, nothing_held, nothing_there, Ok, Op, Open, operation_of, operations, operations-push, Option, option_map, option_map_or, option_to_list, Order, Picture, picture_of, Protocol, queues_after, refl, Refused, replicate, Reply, request_for, reset, Respond, Result, same, same_Some, Situation, slice_set, Some, Step, sym, Takes, true, untouched, wait_fits, with_line, word_at, ℕ, ◌&&◌, ◌++◌, ◌<◌, ◌==◌, ◌∙◌, ◌∷◌, ◌≡◌, ◌≢◌}
 use Rattle.snoop_model.proofs.Lists.{each_set, is_none, replicated}
-use Rattle.snoop_model.proofs.OneBlock.{AfterMoves.{by_request, changed, each_picture, each_taken, in_pictures, still_shaped, still_waiting}, AskStep.ask_keeps, Facts.{did_in, flat_after, IsLawful, performed_so}, OrderStep.order_keeps, RespondStep.respond_keeps}
+use Rattle.snoop_model.proofs.OneBlock.{AfterMoves.{by_request, changed, each_picture, each_taken, in_pictures, still_shaped, still_waiting}, AskStep.ask_keeps, Facts.{did_in, flat_after, IsLawful}, OrderStep.order_keeps, RespondStep.respond_keeps}
 use Rattle.snoop_history.specs.declared.items.Item.TheVariants as item
 use Rattle.snoop_trace.specs.declared.protocol.Protocol.TheVariants as protocol
 
@@ -93,11 +93,9 @@ module _ (s : Situation) (core block word : ℕ) (asking : Op) (next : CacheStat
   takes_so : (a : CacheAction) → Takes a next s.log core block word asking old new answer entry → AccessWithin s.shape old → IsWithin s core block → IsLawful (flat_words s.log block) (did_in entry)
       → AccessWithin s.shape new × IsNextOn s block entry
   takes_so Hit t was within lawful =
-      let has = issued_access s word asking _ there (performed_so word asking t.1.0.before t.0 t.1.0.after s.log core block true t.1.0.performed).1 in
+      let has : IsWord s.shape word = grind (arith, there, t.1.0.performed) in
       (rw t.1.0.held was, rw t.1.2 (refl, next_lawful s.log core block word asking t.0 true has.1 (rw t.1.2 at lawful), (within, has)))
-  takes_so (Issue r) t was within lawful = (rw t.0 (λ access. issued_access s word asking access there), rw t.2 tt)
-  takes_so Drop t was within lawful = (rw t.0 was, rw t.2 tt)
-  takes_so _ t was within lawful = absurd t
+  takes_so a t was within lawful = (λ access waits. grind (arith, t, waits, was access, issued_access s word asking access there), grind (arith, t))
 
 -- a move keeps the invariant
 pub move_keeps : (block : ℕ) (old : Situation) (step : Step) (answer : Reply) (new : Situation) → Invariant old → MoveOn block old step answer new → Invariant new

@@ -4,7 +4,7 @@ use Rattle.snoop_model.specs.{Coherent.{IsCoherent, IsCoherentRun}, Invariant.Ma
 use Rattle.snoop_model.proofs.Invariant.{Coherence.{data_awaited, each_line, finds_rows, held_within, hit_within, nobody_owns, opened_within, orders_follow_sender_table, requestor_fits, sender_within}, Runs.{goes_kept, idle_line, move_keeps, nothing_proper, reset_invariant, reset_open, word_flat}}
 use Rattle.snoop_model.proofs.{Lists.{if_some, is_none}, OneBlock.{AfterMoves.{ask_line, each_picture, in_pictures, respond_here}, Facts.owned_alone}}
 use Rattle.snoop_model.proofs.{Once.run_asked_once, Queues.{on_kept, starts_well}, Runs.{Along.kept_along, GoOn.moves_on, Replies.{run_stays, run_tells}}, Steps.order_made}
-use Rattle.snoop_model.proofs.Tables.{OrderTests.settled_so, Rows.{action_rule, IsProper-drop, no_row}, SentBy.sends_is, StateTests.{ask_rule, claims_rule, fit_rule, is_hit-true}}
+use Rattle.snoop_model.proofs.Tables.{OrderTests.settled_so, Rows.{action_rule, IsProper-drop, no_row}, SentBy.sends_is, StateTests.{ask_rule, claims_rule, fit_rule}}
 use Rattle.snoop_model.proofs.Turns.{busy_cases}
 use Rattle.snoop_rules.specs.declared.names.CacheEvent.TheVariants as event
 use Rattle.snoop_trace.specs.declared.protocol.Protocol.TheVariants as protocol
@@ -55,9 +55,8 @@ module _ (s : Situation) (g : Invariant s) where
       → (act : CacheAction) (next : CacheState) → Cell s.protocol (state_of s core block) (asked Evict) act next → (held : Line) (entry : Option Item)
       → Takes act next s.log core block word Evict (held_by (picture_of s block) core) held answer entry → held ≡ nothing_held
   gone_leaves core block word answer leaves Drop next row held entry t =
-      let old = held_by (picture_of s block) core in
-      let gone : next ≡ I = same_Some _ _ (action_rule s.protocol old.state (asked Evict) Drop next row).1.1.1.1 in
-      rw t.0 (idle_line (moves_to next old) (IsProper-drop s.protocol old (asked Evict) next (all_proper core block) row) gone)
+      let proper = IsProper-drop s.protocol (held_by (picture_of s block) core) (asked Evict) next (all_proper core block) row in
+      grind (arith, t, idle_line _ proper, action_rule s.protocol (state_of s core block) (asked Evict) Drop next row)
   gone_leaves core block word answer leaves act next row held entry t = absurd (grind (arith, leaves, t))
 
   -- an Order is a line of the table
@@ -105,7 +104,7 @@ is_coherent s g on_lines well_kept = record {
       let within = held_within s g core block (λ x. IsSome x.kept) (λ h. cc) is in
       let good = g.blocks block within.1 in
       let (row, is_row, hit) = (fit_rule _ _ _ _ _ (good.states core within.0)).1.0 (sym (good.proper core within.0).kept ∙ is) in
-      (row.next, rw (← is_hit-true row.action hit) is_row);
+      (row.next, grind (arith, is_row, hit));
   current = λ core block reads. let (keeping, within) = hit_within s g core block event.Load reads in (g.blocks block within.1).kept core within.0 keeping;
   carried = λ block within. grind (arith, (g.blocks block within).carried);
   memory = λ block within idle none.

@@ -66,15 +66,12 @@ pub respond_here : (old : Situation) (b : ℕ) (closing : Open) (did : Option Di
     → (r : Responds old b closing did new) → picture_of new b ≡ r.next
 respond_here old b closing did new g within r = rw r.after (get_or-set_same old.pictures b r.next nothing_there (in_pictures old b g.shaped within))
 
-as_many_after : (a : CacheAction) (queues : List (List ℕ)) (core block : ℕ) → length (queues_after a queues core block) ≡ length queues
-as_many_after a queues core block = grind (arith, length-set queues core)
-
 -- a move leaves all lists as long as they are
 pub still_shaped : (block : ℕ) (old : Situation) (step : Step) (answer : Reply) (new : Situation) → IsShaped old → MoveOn block old step answer new → IsShaped new
 still_shaped block old (Ask core on word asking) answer new shaped m = elim m.moves [
   | inl absent ↦ rw absent.3 shaped
   | inr a ↦ rw a.after (shaped_after old block (with_line (picture_of old block) core a.held) _ _
-      shaped (length-set _ core a.held) (as_many_after a.row.action old.queues core block))
+      shaped (length-set _ core a.held) (grind (arith, length-set old.queues core)))
 ]
 still_shaped block old (Order core) answer new shaped m =
     rw m.orders.after (shaped_after old block m.orders.next _ _ shaped m.orders.taken.same_length (length-set old.queues core _))

@@ -26,10 +26,6 @@ module _ {p : Protocol} {shared owning shared' owning' : Bool} {wait wait' : Opt
 pub owner_is : (owner : Option ℕ) (d : ℕ) → owns owner d ≡ true → owner ≡ Some d
 owner_is owner d h = grind (arith, eqb-true d)
 
--- two cores do not both own
-pub owns_apart : (owner : Option ℕ) (c d : ℕ) → d ≢ c → not (owns owner d && owns owner c) ≡ true
-owns_apart owner c d apart = grind (arith, eqb-true d, eqb-true c)
-
 module _ {p : Protocol} {n : ℕ} {flat : List ℕ} {picture : Picture} (g : BlockInvariant p n flat picture) where
   pub line_of : (d : ℕ) → d < n → LineFits p g.claims.shared (owns g.owner d) (own_open picture.transaction d) flat picture.memory.value (held_by picture d)
   line_of d d_in = record { fit = g.states d d_in; kept = g.kept d d_in; clean = g.clean d d_in; proper = g.proper d d_in }
@@ -62,8 +58,3 @@ flat_after flat did = option_map_or (λ d. cond d.load flat (slice_set flat d.wo
 -- a load gives flat memory's value
 abbrev pub IsLawful : List ℕ → Option Did → Type 0
 IsLawful flat did = IfSome did (λ d. d.load ≡ true → d.value ≡ word_at flat d.word)
-
--- the operation that was done is the one that was asked, and no eviction
-pub performed_so : (word : ℕ) (asking : Op) (before : List ℕ) (value : ℕ) (after : List ℕ) (log : List Item) (core block : ℕ) (hit : Bool) → Performs word asking before value after
-    → (did_access (next_did log core block word asking value hit) ≡ record { word = word; op = asking }) × (as_access word asking ≡ Some (record { word = word; op = asking }))
-performed_so word asking before value after log core block hit h = grind (arith, h)

@@ -1,7 +1,7 @@
 -- An Order finds all its rows and one sender, and keeps the invariant.
 use Rattle.snoop_model.proofs.Common.{and_from, ap, at_memory, BlockInvariant, Bool, CacheCell, carries_value, cases_eq, cell_of, Claims, claims_of, cond, cond_both, cond_some, eq-eqb, eqb, false, fits, held_by, inl, inr, is_put_m, is_some, keeps, length, List, MemCell, memory_cell_of, ne_eqb, None, not, Open, Option, or_cases, Orders, own, own_open, owns, Payload, Picture, picture_of, Protocol, refl, Request, same_Some, seen_by, sender_of, Sends, Situation, Some, sym, true, value_sent, waiting_request, ℕ, ◌<◌, ◌∙◌, ◌≡◌, arith}
 use Rattle.snoop_model.proofs.{Lines.{IsBelow, sends_below}, Lists.of_choice}
-use Rattle.snoop_model.proofs.OneBlock.Facts.{carried_line, is_it, it_is, line_of, LineFits, OwnerIn, owns_apart, owns_owned}
+use Rattle.snoop_model.proofs.OneBlock.Facts.{carried_line, is_it, it_is, line_of, LineFits, OwnerIn, owns_owned}
 use Rattle.snoop_model.proofs.Tables.{OrderTests.{end_claims, follows_sender_table, payload_of, sends_rule, sends_so}, Rows.IsProper-order, SentBy.{memory_sends_row, payload_from, sends_is, sends_row}, StateTests.{carries, kept_reader}, Tested.Tested}
 
 -- all that an Order looks up of a picture that keeps its invariant
@@ -56,8 +56,7 @@ module _ {p : Protocol} {flat : List ℕ} {before : Picture} {good : BlockInvari
       λ d d_in. elim (cases_eq d c) [
         | inl own ↦ rw (own, of_choice (λ x. owns x c) (is_put_m q) (Some c) good.owner, eq-eqb c c refl) (l.row, l.is_row, fit, carry, rw l.is_row sends)
         | inr apart ↦
-            let apart_owned = and_from _ _ (owns_apart good.owner c d apart) (owns_owned good.owner d _ good.is_owned) in
-            let (row, is_row, (fit, (carry, sends))) = others _ _ (rw l.calm at (good.states d d_in)) apart_owned in
+            let (row, is_row, (fit, (carry, sends))) = others _ _ (rw l.calm at (good.states d d_in)) (grind (arith, apart, good.is_owned)) in
             rw (of_choice (λ x. owns x d) (is_put_m q) (Some c) good.owner, ne_eqb d c apart) (row, is_row, fit, carry, rw is_row sends)
       ]
 

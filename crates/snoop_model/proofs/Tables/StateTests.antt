@@ -61,9 +61,6 @@ asked_row p shared ow w s e r =
 abbrev pub ask_claims : Protocol → Bool → Bool → Option Request → CacheState → CacheEvent → Tested
 ask_claims p shared ow w s e = unless (is_idle_evict s e) (λ _. found (cell_of p s e) (λ r. holds true)) also given (cell_of p s e) (asked_row p shared ow w s e)
 
-pub is_hit-true : (a : CacheAction) → is_hit a ≡ true → a ≡ Hit
-is_hit-true a h = grind arith
-
 -- a core whose state fits may store where it owns the block, and load where it keeps words;
 -- after its own GetS or GetM it awaits the data, and after its own PutM it keeps nothing; and its row for what is asked is as claimed
 abbrev every_fit : Tested
