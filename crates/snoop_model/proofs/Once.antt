@@ -3,7 +3,7 @@ use Rattle.snoop_model.proofs.Common.{[], Access, accesses_in, after_order, answ
 use Rattle.snoop_model.proofs.Invariant.Runs.{goes_kept, move_keeps, nothing_waits, refusal_same, reset_invariant, reset_line}
 use Rattle.snoop_model.proofs.Lists.{each_set, either_way}
 use Rattle.snoop_model.proofs.OneBlock.{AfterMoves.{by_request, changed, each_picture, each_taken, in_pictures}, Facts.{did_in}}
-use Rattle.snoop_model.proofs.{Runs.Replies.on_stays, Tables.Rows.{action_rule, drop_evicts, issue-missed}}
+use Rattle.snoop_model.proofs.{Runs.Replies.on_stays, Tables.Rows.{action_rule}}
 use Rattle.snoop_history.specs.declared.items.Item.TheVariants as item
 
 -- a core's operations with one item more

@@ -4,7 +4,7 @@ use Rattle.snoop_model.specs.Pictures.InQueue.{IsInQueue}
 use Rattle.snoop_model.proofs.Invariant.Runs.{reset_line, reset_open, reset_shaped}
 use Rattle.snoop_model.proofs.Lists.{counted_in, each_set, either_way, in_counted, of_choice, one_if, replicated, same_set, times, times_left, times_push}
 use Rattle.snoop_model.proofs.OneBlock.AfterMoves.{by_request, changed, each_picture, each_taken, filled_or_same, in_pictures, still_shaped, still_waiting}
-use Rattle.snoop_model.proofs.Tables.{OrderTests.{awaited-get, data_rule}, Rows.{action_rule, asked_missed, awaited-asked, fill-waits, issue-missed, issue-waits, order_rule}, StateTests.some_of}
+use Rattle.snoop_model.proofs.Tables.{OrderTests.{awaited-get, data_rule}, Rows.{action_rule, asked_missed, awaited-asked, fill-waits, issue-waits, order_rule}, StateTests.some_of}
 
 -- how often a core that holds the block in this state has it in its queue
 abbrev waits : CacheState → ℕ
@@ -73,7 +73,7 @@ module _ (s : Situation) (kept : IsWellKept s) (core block word : ℕ) (asking :
       (rw (is, own, times_push block block queue, eq-eqb block block refl, kept.queued core block, was) refl)
       (λ k apart. get_or-set_other s.queues core k _ [] apart)
       (λ k b apart. same_set (times b) s.queues core _ [] (rw (times_push b block queue, ne_eqb block b (λ e. apart (sym e))) (omega arith)) k)
-      (λ access h. grind (arith, taken, h, (issue-missed s.protocol line.state (asked asking) request next row).1, asked_missed word asking))
+      (λ access h. grind (arith, taken, h, action_rule s.protocol line.state (asked asking) (Issue request) next row, asked_missed word asking))
   -- else what waits and what has missed are as before
   kept_taken act row taken =
       let rule = action_rule s.protocol line.state (asked asking) act next row in

@@ -108,10 +108,6 @@ module _ (p : Protocol) (s : CacheState) (e : CacheEvent) (q : Request) (n : Cac
   pub issue-waits : (waiting_request s ≡ None) × (waiting_request n ≡ Some q)
   issue-waits = (action_rule p s e (Issue q) n row).1.0
 
-  -- where a request is issued no operation had missed, and then the one that is asked has
-  pub issue-missed : (missed_request s ≡ None) × (missed_request n ≡ missed_at e)
-  issue-missed = (action_rule p s e (Issue q) n row).1.1.0
-
 pub asked_missed : (word : ℕ) (asking : Op) → option_map (λ access. request_for access.op) (as_access word asking) ≡ missed_at (asked asking)
 asked_missed word asking = grind arith
 
@@ -130,10 +126,6 @@ drop-waits p s e n row = (action_rule p s e Drop n row).1.1.0
 pub IsProper-hit : (p : Protocol) (old : Line) (e : CacheEvent) (n : CacheState) (after : List ℕ) → IsProper old → Cell p old.state e Hit n
     → IsProper (record { state = n; kept = Some after; waiting = old.waiting })
 IsProper-hit p old e n after proper row = grind (arith, proper, action_rule p old.state e Hit n row)
-
--- only an Evict drops a line
-pub drop_evicts : (p : Protocol) (s : CacheState) (asking : Op) (n : CacheState) → Cell p s (asked asking) Drop n → asking ≡ Evict
-drop_evicts p s asking n row = grind (arith, (action_rule p s (asked asking) Drop n row).1.1.1.0)
 
 pub IsProper-drop : (p : Protocol) (old : Line) (e : CacheEvent) (n : CacheState) → IsProper old → Cell p old.state e Drop n → IsProper (moves_to n old)
 IsProper-drop p old e n proper row = let (kept, (missed, _)) = action_rule p old.state e Drop n row in IsProper-move old n proper kept missed
