@@ -4,7 +4,7 @@ use Rattle.snoop_model.specs.Pictures.InQueue.{IsInQueue}
 use Rattle.snoop_model.proofs.Invariant.Runs.{reset_line, reset_open, reset_shaped}
 use Rattle.snoop_model.proofs.Lists.{counted_in, each_set, either_way, in_counted, of_choice, one_if, replicated, same_set, times, times_left, times_push}
 use Rattle.snoop_model.proofs.OneBlock.AfterMoves.{by_request, changed, each_picture, each_taken, filled_or_same, in_pictures, still_shaped, still_waiting}
-use Rattle.snoop_model.proofs.Tables.{OrderTests.{awaited-get, data_rule}, Rows.{action_rule, asked_missed, awaited-asked, fill-waits, issue-waits, order_rule}, StateTests.some_of}
+use Rattle.snoop_model.proofs.Tables.{OrderTests.{awaited-get, data_rule}, Rows.{action_rule, asked_missed, awaited-asked, fill-waits, issue-waits, order_rule, some_of}}
 
 -- how often a core that holds the block in this state has it in its queue
 abbrev waits : CacheState → ℕ

@@ -1,6 +1,4 @@
 -- The rows of the tables, found by trying all.
 pub mod Rows
 pub mod Tested
-pub mod StateTests
 pub mod OrderTests
-pub mod SentBy

@@ -2,7 +2,7 @@
 use Rattle.snoop_model.proofs.Common.{[], Access, All, All-contains, All-filter, All-push, All-weaker, ap, arith, Ask, asked, awaited_request, BusTaken, CacheAction, CacheState, cond_some, Contains-get_or, eq-eqb, false, FirstMove, has_transaction, held_by, I, inl, inr, is_some, IsServing, Issue, Issued, IsWellKept, Item, Line, missed_request, ne_eqb, NeverRefused, None, none-some, none_from_not_some, not, nothing_there, NothingWaiting, Op, Open, Option, or_cases, Order, Pays, Picture, picture_of, queue_of, queues_after, refl, Refused, Refuses, Reply, Request, Respond, same_Some, ServesOn, Situation, slice_index_or, slice_set, Some, Stall, Stalled, state_of, sym, Takes, true, TurnLaws, waiting_request, Waits, with_line, ℕ, ◌==◌, ◌↔◌, ◌∙◌, ◌≡◌, ◌≢◌, ◌⊎◌}
 use Rattle.snoop_model.specs.Turns.Turn.{step_under_way, turn_of}
 use Rattle.snoop_model.proofs.{Lists.{all_first, count_set, each_still, sum_asked, sum_ordered}, Once.owed_after}
-use Rattle.snoop_model.proofs.{Queues.{keeps_well, queued_waits, starts_well, waits_queued}, Tables.{Rows.{action_rule, is_busy}, StateTests.some_of}}
+use Rattle.snoop_model.proofs.{Queues.{keeps_well, queued_waits, starts_well, waits_queued}, Tables.Rows.{action_rule, is_busy, some_of}}
 
 -- for one of the two, or the other
 pub busy_cases : (s : CacheState) → is_busy s ≡ true → ((request : Request) × (waiting_request s ≡ Some request)) ⊎ ((request : Request) × (awaited_request s ≡ Some request))

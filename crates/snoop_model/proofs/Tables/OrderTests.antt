@@ -1,9 +1,55 @@
--- Tests of the rows of an Order and of a Respond, and of the table of senders, computed over the whole tables.
+-- What a row sends, and tests of the rows of an Order and of a Respond, and of the table of senders, computed over the whole tables.
 use Rattle.std.proofs.lemmas.Map.Views.{Contains-from_any}
-use Rattle.snoop_model.proofs.Common.{all_memories, all_payloads, all_protocols, all_requests, all_states, all_states-at, and_parts, ap, arrival, arrival_at_memory, at_memory, awaited_request, Bool, CacheAction, CacheCell, CacheEvent, CacheState, carries_value, cell_of, Claims, claims_of, cond, false, FillLoad, FillStore, fits, GetM, GetS, held_by, in_protocol, is_clean, is_get_m, is_owner, is_put_m, is_sharer, IsD, IsSenderLine, IsSomeAnd, keeps, lines_of, list_any, MatchBool, MemAction, MemCell, MemEvent, memories, Memory, memory_cell_of, MemoryCell, MemState, missed_request, None, not, Option, option_and_then, option_or, Other, other, own, Payload, payloads, Picture, Protocol, PutM, refl, Request, Requestor, requests, same, same_Some, same_true, sameb, Sender, sender_of, Some, states, sym, takes_payload, true, unwrap_or, wait_fits, waiting_request, ℕ, ◌&&◌, ◌||◌, ◌↔◌, ◌≡◌, arith}
-use Rattle.snoop_model.proofs.Tables.{SentBy.{sent_by, sent_by_memory}, StateTests.carries, Tested.{alike, each_fitting, each_memory, each_of, each_open, each_payload, each_protocol, each_request, equal, fails, found, given, holds, provided, Tested, unless, ◌also◌}}
+use Rattle.snoop_model.proofs.Common.{all_memories, all_payloads, all_protocols, all_requests, all_states, all_states-at, and_parts, ap, arith, arrival, arrival_at_memory, at_memory, awaited_request, Bool, CacheAction, CacheCell, CacheEvent, CacheState, carries_value, cell_of, Claims, claims_of, cond, false, FillLoad, FillStore, fits, GetM, GetS, held_by, in_protocol, is_clean, is_get_m, is_owner, is_put_m, is_sharer, IsD, IsSenderLine, IsSomeAnd, keeps, lines_of, list_any, MatchBool, MemAction, MemCell, MemEvent, memories, Memory, memory_cell_of, MemoryCell, MemState, missed_request, None, not, Option, option_and_then, option_or, Other, other, own, Payload, payloads, Picture, Protocol, PutM, refl, Request, Requestor, requests, same, same_Some, same_true, sameb, seen_by, Sender, sender_of, Sends, Some, states, sym, takes_payload, Target, true, unwrap_or, wait_fits, waiting_request, ℕ, ◌&&◌, ◌||◌, ◌↔◌, ◌≡◌}
+use Rattle.snoop_model.proofs.Tables.{Rows.carries, Tested.{alike, each_fitting, each_memory, each_of, each_open, each_payload, each_protocol, each_request, equal, fails, found, given, holds, provided, Tested, unless, ◌also◌}}
+use Rattle.snoop_rules.specs.declared.names.CacheAction.TheVariants as action
 use Rattle.snoop_rules.specs.declared.names.MemAction.TheVariants as mem_action
-use Rattle.snoop_rules.specs.declared.names.Payload.TheVariants as payload
+use Rattle.snoop_rules.specs.declared.names.Payload.TheVariants as payload_kind
+
+-- the payload of a cache's action, if it sends
+abbrev pub payload_sent : CacheAction → Option Payload
+payload_sent (action.Send payload target) = Some payload
+payload_sent _ = None
+
+-- the payload of memory's action, if it sends
+abbrev pub memory_payload : MemAction → Option Payload
+memory_payload (mem_action.Send payload) = Some payload
+memory_payload _ = None
+
+-- the payload that a core's row sends, if there is a row and it sends
+abbrev pub sent_by : Option CacheCell → Option Payload
+sent_by None = None
+sent_by (Some row) = payload_sent row.action
+
+-- the payload that memory's row sends, if there is a row and it sends
+abbrev pub sent_by_memory : Option MemCell → Option Payload
+sent_by_memory found = option_and_then (λ row. memory_payload row.action) found
+
+-- an action that sends
+pub sending : (act : CacheAction) (payload : Payload) → payload_sent act ≡ Some payload → (target : Target) × (act ≡ action.Send payload target)
+sending (action.Send sent target) payload h = (target, ap (λ (x : Payload). action.Send x target) (same_Some _ _ h))
+sending _ payload h = cc
+
+pub sending_memory : (act : MemAction) (payload : Payload) → memory_payload act ≡ Some payload → act ≡ mem_action.Send payload
+sending_memory act payload h = grind arith
+
+-- a row that sends
+pub sends_row : (found : Option CacheCell) (payload : Payload) → sent_by found ≡ Some payload → (target : Target) × ((next : CacheState) × (found ≡ Some (record { action = action.Send payload target; next = next })))
+sends_row None payload h = cc
+sends_row (Some row) payload h = let (target, does) = sending row.action payload h in (target, (row.next, rw (← does)))
+
+pub memory_sends_row : (found : Option MemCell) (payload : Payload) → sent_by_memory found ≡ Some payload → (next : MemState) × (found ≡ Some (record { action = mem_action.Send payload; next = next }))
+memory_sends_row None payload h = cc
+memory_sends_row (Some row) payload h = (row.next, rw (← (sending_memory row.action payload h)))
+
+module _ (p : Protocol) (before : Picture) (core : ℕ) (q : Request) where
+  -- what the row of memory, or of a core, sends for the core's request
+  abbrev pub payload_from : Option ℕ → Option Payload
+  payload_from None = sent_by_memory (memory_cell_of p before.memory.state (at_memory q))
+  payload_from (Some k) = sent_by (cell_of p (held_by before k).state (seen_by k core q))
+
+  pub sends_is : (from : Option ℕ) (payload : Payload) → Sends p before core q from payload → payload_from from ≡ Some payload
+  sends_is from payload sends = grind (arith, sends)
 
 -- the row for an event, if there are both
 abbrev pub row_for : Protocol → CacheState → Option CacheEvent → Option CacheCell
@@ -128,7 +174,7 @@ sends_so sent meant pl on_line has_words =
 
 -- the payload of an Order, from the requestor's row, or memory's, or an owner's
 abbrev pub payload_of : CacheCell → MemCell → Payload
-payload_of row memory = unwrap_or (option_or (sent_by (Some row)) (sent_by_memory (Some memory))) payload.Data
+payload_of row memory = unwrap_or (option_or (sent_by (Some row)) (sent_by_memory (Some memory))) payload_kind.Data
 
 -- another core, which owns the block or not, has a row: its state fits after it, and carries over, and it sends where it owns and the request is no PutM
 abbrev pub other_claims : Protocol → MemState → Request → MemCell → Payload → Claims → CacheState → Bool → CacheCell → Tested

@@ -1,5 +1,5 @@
 use Rattle.snoop_machine.proofs.Common.{ℕ, ◌<◌, length, arith, sym, ap, ◌∙◌, Option, Some, None, Payload, free_picture, Sends, IsOnlySender, row_of, memory_line, Silent-none, Silent-more, Silent-past, Silent-all, Protocol, Picture, Request, ◌≤◌}
-use Rattle.snoop_model.proofs.Tables.SentBy.{sent_by, sends_row}
+use Rattle.snoop_model.proofs.Tables.OrderTests.{sends_row, sent_by}
 use Rattle.snoop_machine.proofs.ConcernedCores.{concerned_within, waits_within, Cell-passed}
 use Rattle.snoop_machine.proofs.lines.Lines.sender.Goals as goal
 use Rattle.snoop_machine.proofs.lines.Lines.sender.Goals.{In-Some-next}
