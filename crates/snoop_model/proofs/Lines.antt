@@ -1,5 +1,5 @@
 -- The loop in which each core takes its row, and the loop that looks for the one sender.
-use Rattle.snoop_model.proofs.Common.{ap, arith, at_memory, CacheAction, CacheState, Cell, FollowsSenderTable, get_or-set_other, held_at, held_by, IfSome, length, length-set, Line, List, MemAction, MemoryCell, MemState, moves_to, None, nothing_held, Option, Payload, Picture, Protocol, Request, seen_by, Sends, slice_set, Some, TakesRow, Target, ℕ, ◌+◌, ◌<◌, ◌∙◌, ◌≡◌, ◌≢◌, ◌≤◌}
+use Rattle.snoop_model.proofs.Common.{ap, arith, at_memory, CacheAction, CacheState, Cell, FollowsSenderTable, get_or-set_other, held_at, held_by, IfSome, length, length-set, Line, List, MemAction, MemoryCell, MemState, moves_to, nothing_held, Option, Payload, Picture, Protocol, Request, seen_by, Sends, slice_set, TakesRow, Target, ℕ, ◌+◌, ◌<◌, ◌∙◌, ◌≡◌, ◌≢◌, ◌≤◌}
 use Rattle.snoop_model.proofs.{Lists.each_set, Tables.OrderTests.{sending, sending_memory, sends_is}}
 use Rattle.snoop_rules.specs.declared.names.CacheAction.TheVariants as action
 use Rattle.snoop_rules.specs.declared.names.MemAction.TheVariants as mem_action

@@ -1,5 +1,5 @@
 -- Plain facts of lists and Booleans; what a write in one place does to a list and to sums over it; and how often a block stands in a queue.
-use Rattle.snoop_model.proofs.Common.{[], after_order, All, ap, arith, Bool, CacheAction, cond, cond_both, Contains, count_by, count_by-le-length, eq-eqb, eqb, eqb_tells, false, filter, get_or, get_or-le-sum_by, get_or-replicate, get_or-set_other, get_or-set_same, get_or_from_slice_get, get_or_past, IfSome, if◌then◌else◌, inl, inr, is_some, Issue, length, length-filter, length-replicate, length_push, List, None, not, Option, queue_of, queues_after, refl, replicate, set_past, slice_get, slice_get_within, slice_index_or, slice_set, Some, suc, sum_by, sum_by-cons, sum_by-set, sum_by_push, zero, zero-add, ℕ, ◌++◌, ◌+◌, ◌<◌, ◌==◌, ◌∷◌, ◌≡◌, ◌≢◌, ◌≤◌, ◌⊎◌}
+use Rattle.snoop_model.proofs.Common.{[], after_order, All, arith, Bool, CacheAction, cond, cond_both, Contains, count_by, count_by-le-length, eq-eqb, eqb, eqb_tells, false, filter, get_or, get_or-le-sum_by, get_or-replicate, get_or-set_other, get_or-set_same, get_or_from_slice_get, get_or_past, IfSome, if◌then◌else◌, inl, inr, is_some, length, length-filter, length-replicate, length_push, List, None, not, Option, queue_of, queues_after, refl, replicate, set_past, slice_get, slice_get_within, slice_index_or, slice_set, Some, suc, sum_by, sum_by-cons, sum_by-set, sum_by_push, zero-add, ℕ, ◌++◌, ◌+◌, ◌<◌, ◌==◌, ◌∷◌, ◌≡◌, ◌≢◌, ◌≤◌, ◌⊎◌}
 
 -- each place of a list of equal values has that value, and so has any place past its end
 pub replicated : {X : Type 0} (n i : ℕ) (x : X) → get_or (replicate n x) i x ≡ x

@@ -1,5 +1,5 @@
 -- Each load and store that a run asks is done once, or waits; so what waited, or was asked, waits or is its core's last operation.
-use Rattle.snoop_model.proofs.Common.{[], Access, accesses_in, after_order, answers_of, ap, append-nil, append_assoc, append_cancel_left, arith, as_access, Ask, asked, asked_access, CacheAction, CacheState, came_of, cases_Bool, Cell, cond, cons_option, Contains, Contains-append_cases, Contains-append_left, Contains-append_right, Contains-permutation, Did, did_access, Drop, eq-eqb, eqb, eqb-true, Err, Extent, false, filter, filter-append, filter_map, filter_map-append, FirstMove, IfOk, Goes, held_at, held_by, Hit, IfSome, inl, inr, Invariant, IsLast, IsOwed, IsPermutation, IsPermutation-append_comm, IsPermutation-append_left, IsPermutation-append_right, IsPermutation-refl, IsPermutation-sym, IsPermutation-trans, IsProper, Issue, Item, last_or-append, length, Line, List, map, map-append, MoveOn, ne_eqb, None, nothing_held, of_core, Ok, Once, OnceMore, Op, operation_of, operations, Option, option_map, option_to_list, Order, Picture, picture_of, Protocol, queues_after, refl, Refused, Reply, reset, Respond, Result, RunBy, same_Some, Situation, slice_set, Some, Step, sym, taken, Takes, true, waiting_at, with_line, zero, ℕ, ◌&&◌, ◌++◌, ◌<◌, ◌==◌, ◌↔◌, ◌∙◌, ◌∷◌, ◌≡◌, ◌⊎◌, operations-push}
+use Rattle.snoop_model.proofs.Common.{[], Access, accesses_in, after_order, answers_of, ap, append-nil, append_assoc, append_cancel_left, arith, as_access, Ask, asked, asked_access, CacheAction, CacheState, came_of, cases_Bool, Cell, cond, cons_option, Contains, Contains-append_cases, Contains-append_left, Contains-append_right, Contains-permutation, Did, did_access, eq-eqb, eqb, eqb-true, Err, Extent, filter, filter-append, filter_map, filter_map-append, FirstMove, IfOk, Goes, held_at, held_by, Hit, IfSome, inl, inr, Invariant, IsLast, IsOwed, IsPermutation, IsPermutation-append_comm, IsPermutation-append_left, IsPermutation-append_right, IsPermutation-refl, IsPermutation-sym, IsPermutation-trans, IsProper, Item, last_or-append, length, Line, List, map, map-append, MoveOn, ne_eqb, None, nothing_held, of_core, Ok, Once, OnceMore, Op, operation_of, operations, Option, option_map, option_to_list, Order, Picture, picture_of, Protocol, queues_after, refl, Refused, Reply, reset, Respond, Result, RunBy, same_Some, Situation, slice_set, Some, Step, sym, taken, Takes, waiting_at, with_line, zero, ℕ, ◌&&◌, ◌++◌, ◌<◌, ◌==◌, ◌↔◌, ◌∙◌, ◌∷◌, ◌≡◌, ◌⊎◌, operations-push}
 use Rattle.snoop_model.proofs.Invariant.Runs.{goes_kept, move_keeps, nothing_waits, refusal_same, reset_invariant, reset_line}
 use Rattle.snoop_model.proofs.Lists.{each_set, either_way}
 use Rattle.snoop_model.proofs.OneBlock.{AfterMoves.{by_request, changed, each_picture, each_taken, in_pictures}, Facts.{did_in}}
@@ -50,8 +50,10 @@ module _ (s t : Situation) (step : Step) (answer : Reply) (move : FirstMove s st
   -- an operation that the move performs, or that waits after it, waited before it or is asked by it
   pub waited_or_asked : Contains done_here wanted ⊎ ((held_by (picture_of t block) core).waiting ≡ Some wanted)
       → ((held_by (picture_of s block) core).waiting ≡ Some wanted) ⊎ (asked_access core block step ≡ Some wanted)
-  waited_or_asked now = grind (arith, now, in_one, either_side done_here (waiting_at t core block) (waiting_at s core block) (option_to_list (asked_access core block step)) wanted
-      (IsPermutation-sym _ _ balance))
+  waited_or_asked now =
+      let sides = either_side done_here (waiting_at t core block) (waiting_at s core block) (option_to_list (asked_access core block step)) wanted
+      (IsPermutation-sym _ _ balance) in
+      grind (arith, now, in_one, sides)
 
   -- what the move performs is then the core's last operation
   is_last : Contains done_here wanted → IsLast t core block wanted
@@ -65,9 +67,10 @@ module _ (s t : Situation) (step : Step) (answer : Reply) (move : FirstMove s st
 
   -- and what waited before it, or is asked by it, is performed by it or waits
   pub owed_after : ((held_by (picture_of s block) core).waiting ≡ Some wanted) ⊎ (asked_access core block step ≡ Some wanted) → IsOwed t core block wanted
-  owed_after was = grind (arith, was, is_last, in_one (held_by (picture_of s block) core).waiting wanted, in_one (asked_access core block step) wanted,
-      in_one (held_by (picture_of t block) core).waiting wanted, either_side (waiting_at s core block) (option_to_list (asked_access core block step)) done_here
-      (waiting_at t core block) wanted balance)
+  owed_after was =
+      let sides = either_side (waiting_at s core block) (option_to_list (asked_access core block step)) done_here (waiting_at t core block) wanted balance in
+      let waits = in_one (held_by (picture_of t block) core).waiting wanted in
+      grind (arith, was, is_last, in_one (held_by (picture_of s block) core).waiting wanted, in_one (asked_access core block step) wanted, waits, sides)
 
 -- the operation that was done, if any
 abbrev done : Option Did → Option Access
@@ -109,9 +112,10 @@ module _ (old : Situation) (b c : ℕ) where
   balances : (held : Line) (asked : Option Access) (did : Option Did) → c < length (picture_of old b).caches
       → IsBy c b did × Evens (held_by (picture_of old b) c).waiting asked (done did) held.waiting → Balances asked did (slice_set (picture_of old b).caches c held)
   balances held asked did inside here =
-      (here.0, each_set (picture_of old b).caches c held nothing_held
-          (λ k line. Evens (held_by (picture_of old b) k).waiting (cond (eqb c k) asked None) (cond (eqb c k) (done did) None) line.waiting) inside
-          (rw (eq-eqb c c refl) here.1) (λ k apart. rw (ne_eqb c k (λ e. apart (sym e))) (inl (refl, refl))))
+      let lines = each_set (picture_of old b).caches c held nothing_held
+      (λ k line. Evens (held_by (picture_of old b) k).waiting (cond (eqb c k) asked None) (cond (eqb c k) (done did) None) line.waiting) inside
+      (rw (eq-eqb c c refl) here.1) (λ k apart. rw (ne_eqb c k (λ e. apart (sym e))) (inl (refl, refl))) in
+      (here.0, lines)
 
   -- a move that asks this, and whose lines balance, does each load and store once
   grown : (next : Picture) (queues : List (List ℕ)) (entry : Option Item) (asked : Option Access) (step : Step) (answer : Reply) → b < length old.pictures

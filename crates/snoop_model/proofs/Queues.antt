@@ -1,5 +1,5 @@
 -- A machine is well kept at reset, and stays so at each kind of move; so a core waits on the blocks in its queue, and on no others.
-use Rattle.snoop_model.proofs.Common.{[], Access, after_issue, after_order, arith, ArrivesFor, Ask, asked, awaited_request, CacheAction, CacheState, Cell, Contains, Did, Drop, eq-eqb, eqb-true, filter, get_or-set_other, get_or-set_same, get_or_from_slice_get, held_at, held_by, Hit, if◌then◌else◌, inl, inr, is_some, IsShaped, IsSome, Issue, IsWellKept, IsWithin, Item, KeepsWell, length, Line, List, missed_request, MoveOn, ne_eqb, None, none-some, not, nothing_held, Op, Open, Option, option_to_list, Order, Picture, picture_of, Protocol, queue_of, queues_after, refl, Reply, Request, reset, Respond, Responds, same_Some, Situation, slice_get, slice_get-get_or, slice_get_within, Some, StandsFirst, StartsWell, state_of, Step, sym, Takes, TakesRows, waiting_request, Waits, WaitsOnNone, with_line, ℕ, ◌++◌, ◌<◌, ◌==◌, ◌∙◌, ◌∷◌, ◌≡◌, ◌≢◌}
+use Rattle.snoop_model.proofs.Common.{[], Access, after_issue, after_order, arith, ArrivesFor, Ask, asked, awaited_request, CacheAction, CacheState, Cell, Contains, Did, eq-eqb, eqb-true, filter, get_or-set_other, get_or-set_same, get_or_from_slice_get, held_at, held_by, if◌then◌else◌, inl, inr, is_some, IsShaped, IsSome, Issue, IsWellKept, IsWithin, Item, KeepsWell, length, Line, List, missed_request, MoveOn, ne_eqb, None, none-some, not, nothing_held, Op, Open, Option, option_to_list, Order, Picture, picture_of, Protocol, queue_of, queues_after, refl, Reply, Request, Respond, Responds, same_Some, Situation, slice_get, slice_get-get_or, slice_get_within, Some, StandsFirst, StartsWell, state_of, Step, sym, Takes, TakesRows, waiting_request, Waits, WaitsOnNone, with_line, ℕ, ◌++◌, ◌<◌, ◌==◌, ◌∙◌, ◌∷◌, ◌≡◌, ◌≢◌}
 use Rattle.snoop_model.specs.Pictures.InQueue.{IsInQueue}
 use Rattle.snoop_model.proofs.Invariant.Runs.{reset_line, reset_open, reset_shaped}
 use Rattle.snoop_model.proofs.Lists.{counted_in, each_set, either_way, in_counted, of_choice, one_if, replicated, same_set, times, times_left, times_push}
@@ -98,8 +98,9 @@ pub arrives_waits : (closing : Open) (p : Protocol) (log : List Item) (old new :
     → (k : ℕ) → waiting_request (held_at new k).state ≡ waiting_request (held_at old k).state
 arrives_waits closing p log old new did arrives k = elim (by_request closing.request arrives) [
   | inl put ↦ rw put.1 refl
-  | inr (_, f) ↦ grind (arith, filled_or_same f k, f.fills.held,
-      fill-waits p (held_at old closing.core).state f.fills.event f.fills.row.action f.fills.row.next f.asking.op f.fills.fill f.fills.is_row)
+  | inr (_, f) ↦
+      (let waits = fill-waits p (held_at old closing.core).state f.fills.event f.fills.row.action f.fills.row.next f.asking.op f.fills.fill f.fills.is_row in
+      grind (arith, filled_or_same f k, f.fills.held, waits))
 ]
 
 -- no core awaits data of the block once a response has come
@@ -109,8 +110,9 @@ none_awaits s kept block closing did t r k q h =
     let had = kept.awaits k block q in
     elim (by_request closing.request r.requestor) [
       | inl put ↦ grind (arith, put, h, had, r.opened, awaited-get (state_of s k block))
-      | inr (_, f) ↦ grind (arith, filled_or_same f k, f.fills.held, h, had, r.opened,
-          (data_rule s.protocol (state_of s closing.core block) closing.payload f.fills.row (rw f.fills.arrives f.fills.is_row)).1)
+      | inr (_, f) ↦
+          (let ends = (data_rule s.protocol (state_of s closing.core block) closing.payload f.fills.row (rw f.fills.arrives f.fills.is_row)).1 in
+          grind (arith, filled_or_same f k, f.fills.held, h, had, r.opened, ends))
     ]
 
 pub on_kept : (block : ℕ) (s t : Situation) (step : Step) (answer : Reply) → IsWellKept s → MoveOn block s step answer t → IsWellKept t

@@ -1,10 +1,10 @@
 -- What a step comes to, computed: what it is answered, and where it leads. Each step of a run goes so. Where a table has no row, which no run meets, the state stays.
 use Rattle.std.specs.Bool.{Decides}
-use Rattle.snoop_model.proofs.Common.{[], Access, after_order, ap, arith, arrival, arrival_at_memory, ArrivesFor, as_access, Ask, asked, at_memory, Bool, both_ways, BusTaken, CacheAction, CacheCell, CacheState, came_of, CanOrder, cases_Bool, cases_eq, cases_lt, Cell, cell_of, cond_both, Data, Decides-and, Decides-ltb, Did, Drop, Err, Evict, Extent, false, false_from_ne_true, fill_by_all, FillLoad, FillsRequestor, FillStore, FirstMove, free_picture, get_or-map-range_with_len, GoesFirst, HasWord, held_at, held_by, Hit, Hits, I, if◌then◌else◌, inl, inr, Invariant, is_load, is_put_m, is_some, IsOnlySender, IsProper, Issue, IsWithin, Item, le-ltb, length, length-map-range_with_len, Line, List, Load, lt-ltb, ltb, ltb-false, ltb-true, map, MemLine, memory_cell_of, moves_to, next_did, NoBlock, NoCore, None, none-some, none_from_not_some, nothing_held, NothingWaiting, NoTransaction, Ok, Op, Open, Option, option_and_then_some, option_map_or, option_to_list, Order, Orders, Payload, Performs, Picture, picture_of, Protocol, PutM, queue_of, queues_after, range_with_len, refl, Refused, Refuses, Reply, Request, request_for, Respond, Responds, Result, seen_by, Situation, slice_get, slice_set, Some, Stall, Stalled, StandsFirst, state_of, Step, Store, suc, sym, Takes, takes_payload, true, unwrap_or, value_sent, waiting_request, with_line, with_picture, word_at, word_places, written, zero, zero_words, ℕ, ◌&&◌, ◌++◌, ◌<◌, ◌↔◌, ◌∙◌, ◌∷◌, ◌≡◌, ◌≤◌, ◌⊎◌}
+use Rattle.snoop_model.proofs.Common.{[], Access, after_order, ap, arith, arrival, arrival_at_memory, ArrivesFor, as_access, Ask, asked, at_memory, Bool, BusTaken, CacheAction, CacheCell, CacheState, came_of, CanOrder, cases_Bool, Cell, cell_of, cond_both, Data, Did, Drop, Err, Evict, Extent, false, fill_by_all, FillsRequestor, FirstMove, free_picture, get_or-map-range_with_len, GoesFirst, HasWord, held_at, held_by, Hit, Hits, if◌then◌else◌, inl, inr, Invariant, is_load, is_put_m, is_some, IsOnlySender, IsProper, Issue, IsWithin, Item, le-ltb, length, length-map-range_with_len, Line, List, lt-ltb, ltb, ltb-false, ltb-true, map, MemLine, memory_cell_of, moves_to, next_did, NoBlock, NoCore, None, none-some, none_from_not_some, nothing_held, NothingWaiting, NoTransaction, Ok, Op, Open, Option, option_and_then_some, option_map_or, option_to_list, Order, Orders, Payload, Picture, picture_of, Protocol, PutM, queue_of, queues_after, range_with_len, refl, Refused, Refuses, Reply, Request, Respond, Responds, Result, seen_by, Situation, slice_get, slice_set, Some, Stall, Stalled, state_of, Step, Store, suc, sym, Takes, takes_payload, true, unwrap_or, value_sent, waiting_request, with_line, with_picture, word_at, word_places, written, zero, zero_words, ℕ, ◌&&◌, ◌++◌, ◌<◌, ◌∙◌, ◌∷◌, ◌≡◌, ◌≤◌}
 use Rattle.snoop_model.proofs.{Invariant.Coherence.{finds_rows, idle_evict, orders_follow_sender_table, waits_within}, Lines.{IsBelow, sends_below}}
-use Rattle.snoop_model.proofs.{Lists.{if_some, option_both}, OneBlock.{AfterMoves.changed, RespondStep.{answered, close}}}
+use Rattle.snoop_model.proofs.{Lists.{option_both}, OneBlock.{AfterMoves.changed, RespondStep.{answered, close}}}
 use Rattle.snoop_model.proofs.Queues.{AreQueued, first_waits, none_waits}
-use Rattle.snoop_model.proofs.Tables.{OrderTests.{data_rule, fills, payload_from, row_for, sends_is, sends_row, settled_row, settled_so}, Rows.{action_rule, ask_rule, hit_keeps, is_evict, is_idle_evict, serving-asked, some_of}}
+use Rattle.snoop_model.proofs.Tables.{OrderTests.{data_rule, payload_from, row_for, sends_is, sends_row, settled_row, settled_so}, Rows.{action_rule, ask_rule, hit_keeps, is_idle_evict, serving-asked, some_of}}
 use Rattle.snoop_rules.specs.declared.names.MemAction.TheVariants as mem_action
 use Rattle.snoop_rules.specs.declared.names.Payload.TheVariants as payload
 use Rattle.snoop_history.specs.declared.items.Item.TheVariants as item

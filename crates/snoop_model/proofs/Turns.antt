@@ -1,6 +1,6 @@
 -- All laws of turns that follow the turn rule: what they keep, that they are never refused, what they cost, and when a work is over.
-use Rattle.snoop_model.proofs.Common.{[], Access, All, All-contains, All-filter, All-push, All-weaker, ap, arith, Ask, asked, awaited_request, BusTaken, CacheAction, CacheState, cond_some, Contains-get_or, eq-eqb, false, FirstMove, has_transaction, held_by, I, inl, inr, is_some, IsServing, Issue, Issued, IsWellKept, Item, Line, missed_request, ne_eqb, NeverRefused, None, none-some, none_from_not_some, not, nothing_there, NothingWaiting, Op, Open, Option, or_cases, Order, Pays, Picture, picture_of, queue_of, queues_after, refl, Refused, Refuses, Reply, Request, Respond, same_Some, ServesOn, Situation, slice_index_or, slice_set, Some, Stall, Stalled, state_of, sym, Takes, true, TurnLaws, waiting_request, Waits, with_line, ℕ, ◌==◌, ◌↔◌, ◌∙◌, ◌≡◌, ◌≢◌, ◌⊎◌}
-use Rattle.snoop_model.specs.Turns.Turn.{step_under_way, turn_of}
+use Rattle.snoop_model.proofs.Common.{[], Access, All, All-contains, All-filter, All-push, All-weaker, ap, arith, Ask, asked, awaited_request, CacheAction, CacheState, Contains-get_or, FirstMove, has_transaction, held_by, inl, inr, is_some, IsServing, Issue, Issued, IsWellKept, Item, Line, missed_request, NeverRefused, None, none-some, none_from_not_some, not, nothing_there, Op, Open, Option, or_cases, Order, Pays, Picture, picture_of, queue_of, queues_after, refl, Reply, Request, Respond, same_Some, ServesOn, Situation, slice_index_or, slice_set, Some, Stall, state_of, sym, Takes, true, TurnLaws, waiting_request, Waits, with_line, ℕ, ◌==◌, ◌∙◌, ◌≡◌, ◌⊎◌}
+use Rattle.snoop_model.specs.Turns.Turn.{turn_of}
 use Rattle.snoop_model.proofs.{Lists.{all_first, count_set, each_still, sum_asked, sum_ordered}, Once.owed_after}
 use Rattle.snoop_model.proofs.{Queues.{keeps_well, queued_waits, starts_well, waits_queued}, Tables.Rows.{action_rule, is_busy, some_of}}
 
@@ -19,8 +19,9 @@ missed_busy s h = grind arith
 
 never_refused : NeverRefused
 never_refused s under_way core block word asking begun step serving kept has_core has_block has_word its is cause refused =
-    grind (arith, is, refused, its, has_core, has_block, has_word, λ (b : ℕ). all_first (λ x. under_way core ≡ Some x) (queue_of s.queues core) b (serving.waits core),
-    busy_under_way s under_way serving kept core block, action_rule s.protocol (state_of s core block) (asked asking) Stall)
+    let first = λ (b : ℕ). all_first (λ x. under_way core ≡ Some x) (queue_of s.queues core) b (serving.waits core) in
+    let busy = busy_under_way s under_way serving kept core block in
+    grind (arith, is, refused, its, has_core, has_block, has_word, first, busy, action_rule s.protocol (state_of s core block) (asked asking) Stall)
 
 module _ {s : Situation} {under_way : ℕ → Option ℕ} (serving : IsServing under_way s) where
   -- an open transaction where one block's picture was written

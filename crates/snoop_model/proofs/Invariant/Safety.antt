@@ -1,5 +1,5 @@
 -- What every machine keeps makes it safe, and its steps keep it.
-use Rattle.snoop_model.proofs.Common.{Absent, ap, arith, arrival_at_memory, Ask, asked, both_ways, CacheAction, CacheCell, CacheEvent, CacheState, Cell, Drop, E, EiA, Evict, Extent, flat, flat_words, Goes, Gone, held_by, Hit, I, IfSome, inl, inr, Invariant, is_clean, is_some, IsOpenByTable, IsProper, IsSenderLine, IsSome, Issue, IsWellKept, Item, keeps, Line, List, Load, MemCell, MoveOn, moves_to, None, nothing_held, Op, Option, option_map, Order, Orders, Picture, picture_of, Protocol, PutM, refl, Refused, Reply, Request, reset, Respond, Result, RunBy, same_Some, Situation, Some, Stall, state_of, Step, Store, sym, Takes, takes_payload, true, with_line, with_picture, word_at, ℕ, ◌<◌, ◌↔◌, ◌∙◌, ◌≡◌, ◌≢◌, ◌≤◌, ◌⊎◌}
+use Rattle.snoop_model.proofs.Common.{Absent, ap, arith, arrival_at_memory, Ask, asked, both_ways, CacheAction, CacheCell, CacheEvent, CacheState, Cell, Drop, E, EiA, Evict, Extent, flat, flat_words, Goes, Gone, held_by, Hit, I, IfSome, inl, inr, Invariant, is_clean, is_some, IsOpenByTable, IsProper, IsSenderLine, IsSome, Issue, IsWellKept, Item, keeps, Line, List, Load, MemCell, MoveOn, None, nothing_held, Op, Option, option_map, Order, Orders, Picture, picture_of, Protocol, PutM, refl, Refused, Reply, Request, reset, Respond, Result, RunBy, same_Some, Situation, Some, Stall, state_of, Step, Store, sym, Takes, takes_payload, true, with_line, with_picture, word_at, ℕ, ◌<◌, ◌↔◌, ◌∙◌, ◌≡◌, ◌≢◌, ◌≤◌, ◌⊎◌}
 use Rattle.snoop_model.specs.{Coherent.{IsCoherent, IsCoherentRun}, Invariant.MachineKeeps.{AreOnSenderLines, MachineKeeps}, Moves.Replies.{IsHit, MayHit}, Runs.{Run.EveryRun, Safe.{IsSafe, RowsAreFound}}}
 use Rattle.snoop_model.proofs.Invariant.{Coherence.{data_awaited, each_line, finds_rows, held_within, hit_within, nobody_owns, opened_within, orders_follow_sender_table, requestor_fits, sender_within}, Runs.{goes_kept, idle_line, move_keeps, nothing_proper, reset_invariant, reset_open, word_flat}}
 use Rattle.snoop_model.proofs.{Lists.{if_some, is_none}, Once.run_asked_once}
@@ -8,7 +8,6 @@ use Rattle.snoop_model.proofs.{Runs.{Along.kept_along, GoOn.moves_on, Replies.{r
 use Rattle.snoop_model.proofs.Tables.{OrderTests.{sends_is, settled_so}, Rows.{action_rule, ask_rule, claims_rule, fit_rule, IsProper-drop, no_row}}
 use Rattle.snoop_model.proofs.Turns.{busy_cases}
 use Rattle.snoop_rules.specs.declared.names.CacheEvent.TheVariants as event
-use Rattle.snoop_trace.specs.declared.protocol.Protocol.TheVariants as protocol
 
 -- each open transaction is on a line
 abbrev OnLine : Protocol → Picture → Type 0

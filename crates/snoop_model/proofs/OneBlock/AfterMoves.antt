@@ -1,5 +1,5 @@
 -- One block has a new picture after a move, and the others are as they were; and after a response the requestor's line is filled, or none is changed.
-use Rattle.snoop_model.proofs.Common.{Access, arith, ArrivesFor, Ask, Asks, CacheAction, cases_eq, cases_lt, Did, false, FillsRequestor, get_or-set_other, get_or-set_same, get_or_past, held_at, held_by, inl, inr, Invariant, is_put_m, IsShaped, Issue, IsWithin, Item, length, length-set, Line, List, MoveOn, None, nothing_held, nothing_there, Op, Open, Option, Order, Orders, Picture, picture_of, Protocol, PutM, queues_after, refl, Reply, Request, Respond, Responds, set_past, Situation, Some, Step, TakesRows, with_line, with_picture, ℕ, ◌<◌, ◌∙◌, ◌≡◌, ◌≢◌, ◌⊎◌}
+use Rattle.snoop_model.proofs.Common.{Access, arith, ArrivesFor, Ask, Asks, cases_eq, Did, false, FillsRequestor, get_or-set_other, get_or-set_same, get_or_past, held_at, held_by, inl, inr, Invariant, is_put_m, IsShaped, IsWithin, Item, length, length-set, Line, List, MoveOn, None, nothing_held, nothing_there, Op, Open, Option, Order, Orders, Picture, picture_of, Protocol, PutM, refl, Reply, Request, Respond, Responds, set_past, Situation, Some, Step, TakesRows, with_line, with_picture, ℕ, ◌<◌, ◌∙◌, ◌≡◌, ◌≢◌, ◌⊎◌}
 use Rattle.snoop_model.proofs.Lists.{each_set, same_set}
 
 -- a block of the shape has a picture

@@ -1,5 +1,5 @@
 -- An Ask keeps the invariant, and a load that it performs gives the flat value.
-use Rattle.snoop_model.proofs.Common.{arith, asked, Asks, BlockInvariant, Bool, both_ways, CacheAction, Cell, Drop, Evict, false, held_by, Hit, inl, inr, Issue, length, Line, List, Load, nothing_held, Op, own_open, owns, Picture, picture_of, refl, Reply, same_Some, Situation, Store, sym, Takes, true, with_line, ℕ, ◌<◌, ◌∙◌, ◌≡◌, ◌⊎◌}
+use Rattle.snoop_model.proofs.Common.{arith, asked, Asks, BlockInvariant, Bool, both_ways, CacheAction, Cell, Drop, false, held_by, Hit, inl, inr, Issue, length, Line, List, Load, nothing_held, Op, own_open, owns, Picture, picture_of, refl, Reply, same_Some, Situation, Store, sym, Takes, true, with_line, ℕ, ◌<◌, ◌∙◌, ◌≡◌, ◌⊎◌}
 use Rattle.snoop_model.proofs.{Lists.each_set, OneBlock.Facts.{carried_line, did_in, flat_after, IsLawful, line_of, LineFits, owned_alone, still_fits}}
 use Rattle.snoop_model.proofs.Tables.Rows.{ask_rule, asked_row, hit_keeps, IsProper-drop, IsProper-hit, IsProper-issue, kept_reader}
 use Rattle.snoop_rules.specs.declared.names.CacheEvent.TheVariants as event

@@ -1,5 +1,5 @@
 -- What follows from the invariant of one block.
-use Rattle.snoop_model.proofs.Common.{append-nil, arith, as_access, BlockInvariant, Bool, cond, Did, did_access, eq-eqb, eqb, eqb-true, eqb_tells, Evict, false, fits, held_by, IfSome, is_clean, is_some, IsProper, Item, keeps, Line, List, Load, ne_eqb, next_did, None, not, Op, operation_of, operations, operations-push, Option, option_and_then, option_map_or, option_to_list, or_right, own_open, owns, Performs, Picture, Protocol, refl, Request, same, slice_set, Some, Store, sym, talk_of, true, word_at, ℕ, ◌&&◌, ◌++◌, ◌<◌, ◌||◌, ◌↔◌, ◌∙◌, ◌≡◌, ◌≢◌}
+use Rattle.snoop_model.proofs.Common.{arith, BlockInvariant, Bool, cond, Did, eqb-true, false, fits, held_by, IfSome, is_clean, is_some, IsProper, Item, keeps, Line, List, ne_eqb, None, not, operation_of, Option, option_and_then, option_map_or, own_open, owns, Picture, Protocol, refl, Request, same, slice_set, Some, sym, talk_of, true, word_at, ℕ, ◌<◌, ◌||◌, ◌↔◌, ◌∙◌, ◌≡◌, ◌≢◌}
 use Rattle.snoop_model.proofs.Tables.{Rows.{brings_data, carries, claims_rule, clean_reads}, Tested.of_open}
 
 pub owns_owned : (owner : Option ℕ) (d : ℕ) (b : Bool) → is_some owner ≡ b → (not (owns owner d) || b) ≡ true

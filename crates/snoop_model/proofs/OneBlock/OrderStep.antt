@@ -1,5 +1,5 @@
 -- An Order finds all its rows and one sender, and keeps the invariant.
-use Rattle.snoop_model.proofs.Common.{and_from, ap, arith, at_memory, BlockInvariant, Bool, CacheCell, carries_value, cases_eq, cell_of, Claims, claims_of, cond, cond_both, cond_some, eq-eqb, eqb, false, fits, held_by, inl, inr, is_put_m, is_some, keeps, length, List, MemCell, memory_cell_of, ne_eqb, None, not, Open, Option, or_cases, Orders, own, own_open, owns, Payload, Picture, picture_of, Protocol, refl, Request, same_Some, seen_by, sender_of, Sends, Situation, Some, sym, true, value_sent, waiting_request, ℕ, ◌<◌, ◌∙◌, ◌≡◌}
+use Rattle.snoop_model.proofs.Common.{ap, arith, at_memory, BlockInvariant, Bool, CacheCell, carries_value, cases_eq, cell_of, Claims, claims_of, cond, cond_both, cond_some, eq-eqb, eqb, false, fits, held_by, inl, inr, is_put_m, is_some, keeps, length, List, MemCell, memory_cell_of, ne_eqb, None, not, Open, Option, or_cases, Orders, own, own_open, owns, Payload, Picture, picture_of, Protocol, refl, Request, same_Some, seen_by, sender_of, Sends, Situation, Some, sym, true, value_sent, waiting_request, ℕ, ◌<◌, ◌∙◌, ◌≡◌}
 use Rattle.snoop_model.proofs.{Lines.{IsBelow, sends_below}, Lists.of_choice}
 use Rattle.snoop_model.proofs.OneBlock.Facts.{carried_line, is_it, it_is, line_of, LineFits, OwnerIn, owns_owned}
 use Rattle.snoop_model.proofs.Tables.{OrderTests.{end_claims, follows_sender_table, memory_sends_row, payload_from, payload_of, sends_is, sends_row, sends_rule, sends_so}, Rows.{carries, IsProper-order, kept_reader}, Tested.Tested}

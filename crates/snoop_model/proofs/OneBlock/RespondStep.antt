@@ -1,5 +1,5 @@
 -- A Respond finds its rows and keeps the invariant, and a load that it performs gives the flat value.
-use Rattle.snoop_model.proofs.Common.{ap, inl, inr, arith, arrival, arrival_at_memory, BlockInvariant, Bool, CacheAction, CacheCell, Claims, claims_of, cond, cond_both, Did, eq-eqb, Evict, false, FillLoad, FillsRequestor, FillStore, held_at, held_by, if◌then◌else◌, is_get_m, is_load, is_put_m, Item, keeps, length, List, Load, MemAction, MemCell, ne_eqb, next_did, None, none-some, nothing_held, Op, Open, Option, owns, Performs, Picture, picture_of, Protocol, refl, Responds, same_Some, Situation, Some, Store, sym, takes_payload, true, word_at, Write, written, ℕ, ◌<◌, ◌∙◌, ◌≡◌}
+use Rattle.snoop_model.proofs.Common.{ap, inl, inr, arith, arrival, arrival_at_memory, BlockInvariant, Bool, CacheCell, Claims, claims_of, cond, cond_both, Did, eq-eqb, false, FillsRequestor, held_at, held_by, is_get_m, is_put_m, keeps, length, List, MemCell, ne_eqb, None, nothing_held, Open, Option, owns, Picture, picture_of, Protocol, refl, Responds, same_Some, Situation, Some, sym, takes_payload, true, ℕ, ◌<◌, ◌∙◌, ◌≡◌}
 use Rattle.snoop_model.proofs.Tables.OrderTests.{answer_claims, fills_store, gains, respond_claims, respond_rule, row_for, settled_row, settled_so, stays_so, writes}
 use Rattle.snoop_model.proofs.OneBlock.{AfterMoves.by_request, Facts.{flat_after, IsLawful, line_of, LineFits, OwnerIn, owns_owned, still_fits}}
 use Rattle.snoop_model.proofs.{Lists.{each_set, of_choice}, Tables.{Rows.IsProper-fill, Tested.of_open}}

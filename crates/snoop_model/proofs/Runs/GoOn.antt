@@ -1,5 +1,5 @@
 -- From every situation of a run each step leads on, in one way: it is a move, or refused for a cause. And runs whose steps were all taken.
-use Rattle.snoop_model.proofs.Common.{[], ap, Err, Extent, FirstMove, FirstRunFrom, Goes, GoesFirst, Invariant, IsWellKept, KeepsWell, List, map, map-append, NoMemory, None, Ok, Protocol, refl, Refused, Refuses, Reply, reset, Result, rules, Situation, Step, sym, taken, TakenGoesOn, ◌++◌, ◌∙◌, ◌∷◌, ◌≡◌, arith}
+use Rattle.snoop_model.proofs.Common.{[], ap, Err, Extent, FirstMove, FirstRunFrom, Goes, GoesFirst, Invariant, IsWellKept, KeepsWell, List, map, map-append, None, Ok, Protocol, refl, Refused, Refuses, Reply, reset, Result, rules, Situation, Step, sym, taken, TakenGoesOn, ◌++◌, ◌∙◌, ◌∷◌, ◌≡◌, arith}
 use Rattle.snoop_model.specs.Runs.{Run.RunsAreOne, TakenOnce.TakenOnce}
 use Rattle.snoop_model.proofs.{Invariant.Runs.{move_keeps, reset_invariant}, Once.run_asked_once, Queues.{AreQueued, keeps_well, starts_well}}
 use Rattle.snoop_model.proofs.{Runs.Along.{kept_along, run_more, seen_along}, Steps.{goes_is, goes_next, next_of}}

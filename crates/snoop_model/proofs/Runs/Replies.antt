@@ -1,5 +1,5 @@
 -- Steps leave the protocol and the shape, and what they add to the history is what their outcomes tell.
-use Rattle.snoop_model.proofs.Common.{[], ap, append-nil, Ask, asked, CacheAction, CacheState, came_of, Cell, Drop, Err, Evict, false, FirstMove, Goes, held_by, Hit, IfSome, inl, inr, Invariant, Issue, Item, Line, List, Load, MoveOn, None, Ok, Op, Option, option_to_list, Order, picture_of, Protocol, refl, Refused, Reply, Respond, Result, RunBy, same_Some, Situation, Some, Step, Store, subst, sym, Takes, ℕ, ◌++◌, ◌∙◌, ◌∷◌, ◌≡◌, arith}
+use Rattle.snoop_model.proofs.Common.{[], ap, append-nil, Ask, asked, CacheAction, CacheState, came_of, Cell, Err, false, FirstMove, Goes, held_by, Hit, IfSome, inl, inr, Invariant, Item, Line, List, MoveOn, None, Ok, Op, Option, option_to_list, Order, picture_of, Protocol, refl, Refused, Reply, Respond, Result, RunBy, Situation, Some, Step, subst, sym, Takes, ℕ, ◌++◌, ◌∙◌, ◌∷◌, ◌≡◌, arith}
 use Rattle.snoop_model.specs.Moves.Replies.{Tells}
 use Rattle.snoop_model.proofs.{Invariant.Runs.{goes_kept, move_keeps, refusal_same}, OneBlock.AfterMoves.by_request, Runs.Along.kept_along}
 use Rattle.snoop_model.proofs.Tables.Rows.{action_rule, serving-asked}

@@ -1,6 +1,6 @@
 -- What a row sends, and tests of the rows of an Order and of a Respond, and of the table of senders, computed over the whole tables.
 use Rattle.std.proofs.lemmas.Map.Views.{Contains-from_any}
-use Rattle.snoop_model.proofs.Common.{all_memories, all_payloads, all_protocols, all_requests, all_states, all_states-at, and_parts, ap, arith, arrival, arrival_at_memory, at_memory, awaited_request, Bool, CacheAction, CacheCell, CacheEvent, CacheState, carries_value, cell_of, Claims, claims_of, cond, false, FillLoad, FillStore, fits, GetM, GetS, held_by, in_protocol, is_clean, is_get_m, is_owner, is_put_m, is_sharer, IsD, IsSenderLine, IsSomeAnd, keeps, lines_of, list_any, MatchBool, MemAction, MemCell, MemEvent, memories, Memory, memory_cell_of, MemoryCell, MemState, missed_request, None, not, Option, option_and_then, option_or, Other, other, own, Payload, payloads, Picture, Protocol, PutM, refl, Request, Requestor, requests, same, same_Some, same_true, sameb, seen_by, Sender, sender_of, Sends, Some, states, sym, takes_payload, Target, true, unwrap_or, wait_fits, waiting_request, ℕ, ◌&&◌, ◌||◌, ◌↔◌, ◌≡◌}
+use Rattle.snoop_model.proofs.Common.{all_memories, all_payloads, all_protocols, all_requests, all_states, all_states-at, and_parts, ap, arith, arrival, arrival_at_memory, at_memory, awaited_request, Bool, CacheAction, CacheCell, CacheEvent, CacheState, carries_value, cell_of, Claims, claims_of, cond, false, FillLoad, FillStore, fits, GetM, GetS, held_by, in_protocol, is_clean, is_get_m, is_owner, is_put_m, is_sharer, IsSenderLine, IsSomeAnd, keeps, lines_of, list_any, MatchBool, MemAction, MemCell, MemEvent, memories, Memory, memory_cell_of, MemoryCell, MemState, missed_request, None, not, Option, option_and_then, option_or, Other, other, own, Payload, payloads, Picture, Protocol, PutM, refl, Request, Requestor, requests, same, same_Some, same_true, sameb, seen_by, Sender, sender_of, Sends, Some, states, takes_payload, Target, true, unwrap_or, wait_fits, waiting_request, ℕ, ◌&&◌, ◌||◌, ◌↔◌, ◌≡◌}
 use Rattle.snoop_model.proofs.Tables.{Rows.carries, Tested.{alike, each_fitting, each_memory, each_of, each_open, each_payload, each_protocol, each_request, equal, fails, found, given, holds, provided, Tested, unless, ◌also◌}}
 use Rattle.snoop_rules.specs.declared.names.CacheAction.TheVariants as action
 use Rattle.snoop_rules.specs.declared.names.MemAction.TheVariants as mem_action

@@ -1,5 +1,5 @@
 -- Claims with a test each: where the test passes the claim holds, so a claim of all values of the tables is proved by computing its test.
-use Rattle.snoop_model.proofs.Common.{all_memories, all_memories-at, all_payloads, all_payloads-at, all_protocols, all_protocols-at, all_requests, all_requests-at, all_states, all_states-at, and_parts, ap, arith, Bare, Bool, CacheAction, CacheEvent, CacheState, cases_Bool, Cell, each_row, each_row-at, eqb, false, fits, inl, inr, MemState, None, not, not-true, Open, Option, option_map_or, own_open, Payload, Protocol, refl, Request, same, same_true, sameb, Some, Talk, talk_of, true, ℕ, ◌&&◌, ◌≡◌}
+use Rattle.snoop_model.proofs.Common.{all_memories, all_memories-at, all_payloads, all_payloads-at, all_protocols, all_protocols-at, all_requests, all_requests-at, all_states, all_states-at, and_parts, arith, Bare, Bool, CacheState, cases_Bool, eqb, false, fits, inl, inr, MemState, None, not, not-true, Open, Option, option_map_or, own_open, Payload, Protocol, refl, Request, same, same_true, sameb, Some, Talk, talk_of, true, ℕ, ◌&&◌, ◌≡◌}
 use denote.Enum.Declared.{Declared}
 
 infixr 20 ◌also◌
