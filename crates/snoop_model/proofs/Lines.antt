@@ -67,4 +67,5 @@ module _ (p : Protocol) (before : Picture) (core : ℕ) (request : Request) wher
   -- cores that have nothing to do are passed over
   pub Silent-past : (n to : ℕ) → n ≤ to → ((k : ℕ) → n ≤ k → k < to → Cell p (held_by before k).state (seen_by k core request) action.None (held_by before k).state)
       → SilentBelow p before core request n → SilentBelow p before core request to
-  Silent-past n to up idle silent other payload below sends = grind (arith, silent other payload, below, sends, idle, sends_is p before core request other payload sends)
+  Silent-past n to up idle silent other payload below sends =
+      grind (arith, silent other payload, below, sends, idle, sends_is p before core request other payload sends)

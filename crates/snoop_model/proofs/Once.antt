@@ -159,7 +159,8 @@ move_once b old (Respond on) answer new g m =
     let balanced : Balances old b c None m.did r.next.caches = elim (by_request m.closing.request r.requestor) [
       | inl put ↦ rw (put.2, put.1) (tt, λ k. inl (refl, refl))
       | inr (_, f) ↦
-          rw f.held (balances old b c f.line None m.did in_row (rw f.logged (refl, g.opened b m.closing r.opened), grind (arith, f.fills.held, f.fills.waited, f.logged, f.fills.performed)))
+          rw f.held (balances old b c f.line None m.did in_row
+          (rw f.logged (refl, g.opened b m.closing r.opened), grind (arith, f.fills.held, f.fills.waited, f.logged, f.fills.performed)))
     ] in
     rw r.after (grown old b c r.next old.queues (Some (item.Came (came_of m.closing) m.did)) None (Respond on) answer
     (in_pictures old b g.shaped m.within) (λ core block. either_way (eqb b block && eqb c core) None) balanced)

@@ -1,4 +1,4 @@
--- What a step comes to, computed: what it is answered, and where it leads. Each step of a run goes so. Where a table has no row, which no run meets, the state stays.
+-- What a step comes to, computed: what it is answered, and where it leads. Where a table has no row, which no run meets, the state stays.
 use Rattle.std.specs.Bool.{Decides}
 use Rattle.snoop_model.proofs.Common.{[], Access, after_order, ap, arith, arrival, arrival_at_memory, ArrivesFor, as_access, Ask, asked, at_memory, Bool, BusTaken, CacheAction, CacheCell, CacheState, came_of, CanOrder, cases_Bool, Cell, cell_of, cond_both, Data, Did, Drop, Err, Evict, Extent, false, fill_by_all, FillsRequestor, FirstMove, free_picture, get_or-map-range_with_len, GoesFirst, HasWord, held_at, held_by, Hit, Hits, if◌then◌else◌, inl, inr, Invariant, is_load, is_put_m, is_some, IsOnlySender, IsProper, Issue, IsWithin, Item, le-ltb, length, length-map-range_with_len, Line, List, lt-ltb, ltb, ltb-false, ltb-true, map, MemLine, memory_cell_of, moves_to, next_did, NoBlock, NoCore, None, none-some, none_from_not_some, nothing_held, NothingWaiting, NoTransaction, Ok, Op, Open, Option, option_and_then_some, option_map_or, option_to_list, Order, Orders, Payload, Picture, picture_of, Protocol, PutM, queue_of, queues_after, range_with_len, refl, Refused, Refuses, Reply, Request, Respond, Responds, Result, seen_by, Situation, slice_get, slice_set, Some, Stall, Stalled, state_of, Step, Store, suc, sym, Takes, takes_payload, true, unwrap_or, value_sent, waiting_request, with_line, with_picture, word_at, word_places, written, zero, zero_words, ℕ, ◌&&◌, ◌++◌, ◌<◌, ◌∙◌, ◌∷◌, ◌≡◌, ◌≤◌}
 use Rattle.snoop_model.proofs.{Invariant.Coherence.{finds_rows, idle_evict, orders_follow_sender_table, waits_within}, Lines.{IsBelow, sends_below}}
@@ -311,8 +311,8 @@ module _ (s : Situation) (g : Invariant s) where
       option_both (slice_get (queue_of s.queues core) 0) (λ first. Goes (next_first s core first)) (λ none. ((in_cores, none_waits s queued core none), refl)) (λ block is.
       let waits = first_waits s queued core block is in
       let within = waits_within s g core block waits.0 waits.1 in
-      option_both (picture_of s block).transaction
-      (λ found. Goes (if is_some found then (Err (BusTaken block), s) else option_map_or (next_ordered s core block) (waiting_request (state_of s core block)) (Err NothingWaiting, s)))
+      let ordered = option_map_or (next_ordered s core block) (waiting_request (state_of s core block)) (Err NothingWaiting, s) in
+      option_both (picture_of s block).transaction (λ found. Goes (if is_some found then (Err (BusTaken block), s) else ordered))
       (λ free. rw waits.1 (block, (is, record { request = waits.0; within = within; answered = refl; orders = order_made s g core block waits.0 (waits.1, free) })))
       (λ o busy. ((in_cores, is, rw busy refl), refl)))) (λ past. (ltb-false core s.shape.cores past, refl))
   goes_next queued (Respond block) = grind (arith, ltb-true block s.shape.blocks, ltb-false block s.shape.blocks, closes block)

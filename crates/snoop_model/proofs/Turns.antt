@@ -89,7 +89,8 @@ pays s t (Respond on) answer move =
 -- a work whose operation waits has a step left
 pub has_step : (s : Situation) (core block word : ℕ) (asking : Op) (wanted : Access) → IsWellKept s → (held_by (picture_of s block) core).waiting ≡ Some wanted → turn_of s core block word asking true ≡ None → ⊥
 has_step s core block word asking wanted kept waits none =
-    grind (arith, none, busy_cases (state_of s core block) (missed_busy (state_of s core block) (kept.operations core block wanted waits)), kept.awaits core block)
+    let busy = busy_cases (state_of s core block) (missed_busy (state_of s core block) (kept.operations core block wanted waits)) in
+    grind (arith, none, busy, kept.awaits core block)
 
 pub turn_rule : TurnLaws
 turn_rule = record {

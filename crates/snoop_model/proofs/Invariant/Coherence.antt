@@ -110,7 +110,8 @@ module _ (s : Situation) (g : Invariant s) where
   finds_cache (Ask asker on word asking) core block event looks =
       rw looks.3 (each_line core block (λ x. (¬ ((asking ≡ Evict) × (x.state ≡ I))) → HasRow s.protocol x.state (asked asking))
       (λ within busy.
-      let (row, is_row, _) = (ask_rule _ _ _ _ _ asking ((g.blocks block within.1).states core within.0)).0 (grind (arith, busy, idle_evict (state_of s core block) asking)) in
+      let found = (ask_rule _ _ _ _ _ asking ((g.blocks block within.1).states core within.0)).0 in
+      let (row, is_row, _) = found (grind (arith, busy, idle_evict (state_of s core block) asking)) in
       (row, is_row))
       (nothing_asked s.protocol asking) looks.2)
   finds_cache (Order requestor) core block event (q, (ready, is)) =

@@ -114,7 +114,8 @@ asked_missed word asking = grind arith
 pub IsProper-issue : (p : Protocol) (old : Line) (word : ℕ) (asking : Op) (q : Request) (n : CacheState) → IsProper old → Cell p old.state (asked asking) (Issue q) n
     → IsProper (record { state = n; kept = kept_on n old.kept; waiting = as_access word asking })
 IsProper-issue p old word asking q n proper row =
-    grind (arith, proper, is_some-kept_on n old.kept (keeps old.state) proper.kept, action_rule p old.state (asked asking) (Issue q) n row, asked_missed word asking)
+    let kept = is_some-kept_on n old.kept (keeps old.state) proper.kept in
+    grind (arith, proper, kept, action_rule p old.state (asked asking) (Issue q) n row, asked_missed word asking)
 
 -- a hit is no Evict, of words that are kept
 pub hit_keeps : (p : Protocol) (s : CacheState) (e : CacheEvent) (n : CacheState) → Cell p s e Hit n → (keeps s ≡ true) × (is_evict e ≡ false)
