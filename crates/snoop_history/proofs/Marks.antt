@@ -3,7 +3,7 @@ use Rattle.std.proofs.Common.{◌≡◌, ℕ, zero, suc, ◌+◌, ◌<◌, Bool,
 use Rattle.std.{specs.Prelude.{replicate, slice_get, slice_set, nat_eq}, proofs.{Math.Bool.or-false, lemmas.List.Folds.list_any-append}}
 use Rattle.snoop_history.proofs.Common.{Mentions, cases_eq, eq-eqb, get_or-replicate, get_or-set_other, get_or-set_same, get_or_from_slice_get, slice_get_read}
 use Rattle.snoop_history.proofs.Common.{insert_key, length-append, length-replicate, length-set, list_any, ne_eqb, or_right, slice_get-get_or}
-use Rattle.snoop_history.specs.{declared.touched.TouchedBlocks.TheInside.Inside, Marked.{set_marks, AreMarksOf, IsMarked, mentions}}
+use Rattle.snoop_history.specs.{declared.board.TouchedBlocks.TheInside.Inside, Marked.{set_marks, AreMarksOf, IsMarked, mentions}}
 use Rattle.snoop_history.proofs.Pushed.{length-filter-le}
 
 -- a mark that is set is one more

@@ -4,10 +4,9 @@ ghost use Rattle.snoop_history.specs.History.{next_number, flat, answers_of, las
 ghost use Rattle.snoop_history.specs.Within.{IsItemWithin};
 ghost use Rattle.snoop_history.specs.Totals.{totals_of, touched};
 
-use crate::board::Board;
+use crate::board::{Board, TouchedBlocks};
 use crate::items::{Did, Item, Totals};
 use crate::packed::Packed;
-use crate::touched::TouchedBlocks;
 use snoop_trace::{NoMemory, Shape};
 use std::alloc::Global;
 use std::marker::Model;

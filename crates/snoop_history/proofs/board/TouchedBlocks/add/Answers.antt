@@ -1,6 +1,6 @@
 use Rattle.std.proofs.Common.{◌≡◌, ◌∙◌, Some, sym, ap, ℕ, List, nat_eq}
 use Rattle.snoop_history.proofs.{Common.{Mentions, insert_key, operation_of}, Pushed.none_from_not_some, Touching.touched-add}
-use Rattle.snoop_history.proofs.touched.TouchedBlocks.add.Goals as goal
+use Rattle.snoop_history.proofs.board.TouchedBlocks.add.Goals as goal
 
 pub returns-in-Some-clause-order : goal.returns-in-Some-clause-order
 returns-in-Some-clause-order c items is =
