@@ -15,16 +15,6 @@ read-at now xs place (Some y) x some at is = slice_get_read xs (length xs) place
 pub same-places : {A : Type 0} (xs ys : List A) → length xs ≡ length ys → ((k : ℕ) → k < length xs → slice_get xs k ≡ slice_get ys k) → xs ≡ ys
 same-places xs ys many same = same_lists xs ys many (λ k d within. sym (unwrap_or-slice_get xs k d) ∙ ap (λ o. unwrap_or o d) (same k within) ∙ unwrap_or-slice_get ys k d)
 
--- an item that was unpacked, in the list of items
-pub item-at : (xs : List Packed) (place : ℕ) (p : Packed) (entry : Item) → place < length xs → p ≡ get_or xs place p → entry ≡ unpacked p → slice_get (map unpacked xs) place ≡ Some entry
-item-at xs place p entry within read is = slice_get-map unpacked xs place ∙ (ap (option_map unpacked) (slice_get_read xs (length xs) place p refl within read) ∙ ap Some (sym is))
-
--- and two items at one place of two lists, which callers see as these
-pub items-at : (xs ys : List Packed) (place : ℕ) (p q : Packed) (one other : Item) {seen also : List Item} → map unpacked xs ≡ seen → map unpacked ys ≡ also → place < length seen → place < length also →
-    p ≡ get_or xs place p → q ≡ get_or ys place q → one ≡ unpacked p → other ≡ unpacked q → (slice_get (map unpacked xs) place ≡ Some one) × (slice_get (map unpacked ys) place ≡ Some other)
-items-at xs ys place p q one other left right within inside read read_other is is_other =
-    (item-at xs place p one (omega (arith, ap length left, length-map xs unpacked)) read is, item-at ys place q other (omega (arith, ap length right, length-map ys unpacked)) read_other is_other)
-
 -- what a function gives of each of a list of values of another
 pub filter_map-map : {X Y Z : Type 0} (f : X → Y) (g : Y → Option Z) (xs : List X) → filter_map (λ x. g (f x)) xs ≡ filter_map g (map f xs)
 filter_map-map f g [] = refl

@@ -53,3 +53,5 @@ flat-one before block word (Some d) = grind arith
 
 pub flat-grows : (items : List Item) (entry : Item) (block word : ℕ) → flat (items ++ entry ∷ []) block word ≡ stores entry block word (flat items block word)
 flat-grows items entry block word = rw (operations-push items entry) (simp (filter-append, map-append, last_or-append) (flat-one (flat items block word) block word (operation_of entry)))
+
+pub ruleset growth = (legal-grows, flat-grows)

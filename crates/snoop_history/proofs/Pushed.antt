@@ -4,7 +4,7 @@ use Rattle.std.{specs.Prelude.{option_to_list, ◌==◌, is_some, is_none}, proo
 use Rattle.snoop_history.proofs.Common.{Did, Item, Totals, answers_of, counted, last_of, last_or, length-append, map-append, next_number, operation_of}
 use Rattle.snoop_history.proofs.Common.{operations, tallied}
 use Rattle.std.proofs.lemmas.List.Sums.{length-filter, count_by-le-length}
-use Rattle.snoop_history.specs.Totals.{how_many, totals_of, capped, capped_totals, performed, ordered, responded, is_get_s, is_get_m, is_put_m, is_data, is_no_data, is_no_data_e}
+use Rattle.snoop_history.specs.Totals.{how_many, counts_by, totals_of, capped, capped_totals}
 use Rattle.snoop_history.specs.declared.items.Item.TheVariants as item
 
 pub operations-one : (entry : Item) → operations (entry ∷ []) ≡ option_to_list (operation_of entry)
@@ -31,24 +31,6 @@ last_or-append value (x ∷ xs) ys = last_or-append x xs ys
 pub last_of-push : (items : List Item) (entry : Item) (core : ℕ) → last_of (items ++ entry ∷ []) core ≡ last_or (last_of items core) (map Some (of_core core (operation_of entry)))
 last_of-push items entry core =
     rw (answers_of-push items entry core, map-append Some (answers_of items core) (of_core core (operation_of entry))) (last_or-append None (map Some (answers_of items core)) (map Some (of_core core (operation_of entry))))
-
--- a number for each of the twelve counts, by what it counts
-abbrev counts_by : ((Item → Bool) → ℕ) → Totals
-counts_by count =
-    record {
-      loads = count (performed (λ did. did.load));
-      load_hits = count (performed (λ did. did.load && did.hit));
-      stores = count (performed (λ did. not did.load));
-      store_hits = count (performed (λ did. not did.load && did.hit));
-      get_s = count (ordered is_get_s);
-      get_m = count (ordered is_get_m);
-      put_m = count (ordered is_put_m);
-      from_memory = count (responded (λ came. is_none came.from));
-      from_caches = count (responded (λ came. is_some came.from && not (is_put_m came.request)));
-      writebacks = count (responded (λ came. is_put_m came.request && is_data came.payload));
-      clean = count (responded (λ came. is_put_m came.request && is_no_data_e came.payload));
-      stale = count (responded (λ came. is_put_m came.request && is_no_data came.payload));
-    }
 
 -- a capped count of a list with one more item
 how_many-capped : (test : Item → Bool) (items : List Item) (entry : Item) → counted (capped (how_many test items)) (test entry) ≡ capped (how_many test (items ++ entry ∷ []))

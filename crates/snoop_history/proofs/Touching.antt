@@ -15,16 +15,13 @@ any-but : (x y : ℕ) (xs : List ℕ) → eqb x y ≡ false → list_any (nat_eq
 any-but x y xs other = any-filter_same (nat_eq x) (λ z. not (z == y)) true (λ z same. let e : x ≡ z = eqb-true x z same in rw (← e, other)) xs
 
 -- one number more after a first one, which stands nowhere else
-insert-cons : (x y : ℕ) (xs : List ℕ) (same found : Bool) → eqb x y ≡ same → list_any (nat_eq x) xs ≡ found → y ∷ but y (insert_key nat_eq xs x) ≡ insert_key nat_eq (y ∷ but y xs) x
-insert-cons x y xs true true same found = rw (found, same)
-insert-cons x y xs true false same found = rw (found, filter-append (λ z. not (z == y)) xs (x ∷ []), same, append-nil (but y xs))
-insert-cons x y xs false true same found = rw (found, same, any-but x y xs same, found)
-insert-cons x y xs false false same found = rw (found, filter-append (λ z. not (z == y)) xs (x ∷ []), same, any-but x y xs same, found)
+insert-cons : (x y : ℕ) (xs : List ℕ) → y ∷ but y (insert_key nat_eq xs x) ≡ insert_key nat_eq (y ∷ but y xs) x
+insert-cons x y xs = grind (arith, any-but x y xs, filter-append (λ z. not (z == y)) xs (x ∷ []), append-nil (but y xs))
 
 -- one number more stands last, where it is new
 pub each_once-more : (xs : List ℕ) (x : ℕ) → each_once (xs ++ x ∷ []) ≡ insert_key nat_eq (each_once xs) x
 each_once-more [] x = refl
-each_once-more (y ∷ ys) x = rw (each_once-more ys x) (insert-cons x y (each_once ys) (eqb x y) (list_any (nat_eq x) (each_once ys)) refl refl)
+each_once-more (y ∷ ys) x = rw (each_once-more ys x) (insert-cons x y (each_once ys))
 
 -- the keys with the block of an operation, if there is one
 abbrev pub with_operation : List ℕ → Option Did → List ℕ

@@ -192,8 +192,8 @@ impl Log {
             return false;
         }
         for place in 0..self.len() {
-            let one = self.items[place].unpack();
-            let other = other.items[place].unpack();
+            let one = self.item(place).unwrap();
+            let other = other.item(place).unwrap();
             if !is_same(one, other) {
                 return false;
             }
