@@ -145,14 +145,11 @@ noted-board cores blocks words dids old new (Some did) within =
 -- an item that passes the test lies within the shape
 pub passes-within : (cores blocks words : ℕ) (entry : Item) → is_within cores blocks words entry ≡ true → IsItemWithin cores blocks words entry
 passes-within cores blocks words entry e =
-    let (rest, operation) = and_parts _ _ e in
-    let (place, sender) = and_parts _ _ rest in
-    let (core, block) = and_parts _ _ place in
     record {
-      core = ltb-true (core_of entry) cores core;
-      block = ltb-true (block_of entry) blocks block;
-      sender = λ core is. ltb-true core cores (rw is at sender);
-      operation = λ did is. let told = rw is at operation in grind (arith, nat_tests);
+      core = grind (arith, common_steps, nat_tests);
+      block = grind (arith, common_steps, nat_tests);
+      sender = λ core is. grind (arith, common_steps, nat_tests);
+      operation = λ did is. grind (arith, common_steps, nat_tests);
     }
 
 pub operation_within-lies : (cores blocks words : ℕ) (entry : Item) (did : Did) → operation_within cores blocks words entry ≡ Some did → (did.core < cores) × (did.block < blocks) × (did.word < words)

@@ -5,12 +5,6 @@ use Rattle.snoop_history.{proofs.Common.{Item, filter_map, length-map, ltb-true,
 use Rattle.snoop_history.{proofs.Common.{slice_get_read, unpacked, unwrap_or-slice_get}, specs.{Within.{IsItemWithin, inside}, Totals.touched}}
 use Rattle.snoop_history.{specs.{Board.{Tables, board_of}, Kept.{IsKeptList, IsTallied}}, proofs.{Boards.{inside_all, board-cores}, Touching.all_places}}
 
--- what a `get` found, read by a function of it
-pub read-at : {A B : Type 0} (now : B → A) (xs : List A) (place : ℕ) (got : Option B) (x : A) → is_some got ≡ nat_lt place (length xs) → IfSome got (λ y. now y ≡ get_or xs place (now y)) →
-    option_map now got ≡ Some x → slice_get xs place ≡ Some x
-read-at now xs place None x some at is = cc
-read-at now xs place (Some y) x some at is = slice_get_read xs (length xs) place (now y) refl (ltb-true place (length xs) (sym some)) at ∙ is
-
 -- lists that are as long and have the same at each place
 pub same-places : {A : Type 0} (xs ys : List A) → length xs ≡ length ys → ((k : ℕ) → k < length xs → slice_get xs k ≡ slice_get ys k) → xs ≡ ys
 same-places xs ys many same = same_lists xs ys many (λ k d within. sym (unwrap_or-slice_get xs k d) ∙ ap (λ o. unwrap_or o d) (same k within) ∙ unwrap_or-slice_get ys k d)

@@ -8,10 +8,7 @@ use Rattle.snoop_history.specs.Totals.{how_many, counts_by, totals_of, capped, c
 use Rattle.snoop_history.specs.declared.items.Item.TheVariants as item
 
 pub operations-one : (entry : Item) → operations (entry ∷ []) ≡ option_to_list (operation_of entry)
-operations-one (item.Did did) = refl
-operations-one (item.Sent sent) = refl
-operations-one (item.Came came None) = refl
-operations-one (item.Came came (Some did)) = refl
+operations-one entry = grind arith
 
 pub operations-push : (items : List Item) (entry : Item) → operations (items ++ entry ∷ []) ≡ operations items ++ option_to_list (operation_of entry)
 operations-push items entry = filter_map-append operation_of items (entry ∷ []) ∙ ap (λ l. operations items ++ l) (operations-one entry)
@@ -45,9 +42,7 @@ length-filter-le test items = omega (arith, length-filter test items, count_by-l
 
 length-operations : (items : List Item) → length (operations items) ≤ length items
 length-operations [] = omega arith
-length-operations (item.Did did ∷ xs) = omega (arith, length-operations xs)
-length-operations (item.Came came (Some did) ∷ xs) = omega (arith, length-operations xs)
-length-operations (_ ∷ xs) = omega (arith, length-operations xs)
+length-operations (x ∷ xs) = grind (arith, length-operations xs)
 
 pub next_number_le : (items : List Item) (core : ℕ) → next_number items core ≤ length items
 next_number_le items core = omega (arith, length-filter-le (λ did. did.core == core) (operations items), length-operations items)

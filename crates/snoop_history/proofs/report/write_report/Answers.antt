@@ -25,11 +25,7 @@ whole words items i is past told =
     rw take_all at told
 
 pub returns-clause-ok : goal.returns-clause-ok
-returns-clause-ok g c =
-    let log = c.args.log.now in
-    rw (c.deref.ensures.value, whole log.words log.items c.loop-block.block-index c.touched-block-items.ensures.value c.loop-block-test.false c.loop-block.invariant) at c.write_whole.ensures.ok
+returns-clause-ok g c = rw (c.deref.ensures.value, whole _ _ _ c.touched-block-items.ensures.value c.loop-block-test.false c.loop-block.invariant) at c.write_whole.ensures.ok
 
 pub returns-clause-front : goal.returns-clause-front
-returns-clause-front g c =
-    let log = c.args.log.now in
-    rw (c.deref.ensures.value, whole log.words log.items c.loop-block.block-index c.touched-block-items.ensures.value c.loop-block-test.false c.loop-block.invariant) at c.write_whole.ensures.front
+returns-clause-front g c = rw (c.deref.ensures.value, whole _ _ _ c.touched-block-items.ensures.value c.loop-block-test.false c.loop-block.invariant) at c.write_whole.ensures.front
