@@ -1,14 +1,14 @@
 -- The board of a list with one item more.
-use Rattle.std.proofs.Common.{◌≡◌, ◌≢◌, ℕ, zero, suc, ◌+◌, ◌*◌, ◌<◌, Bool, inl, inr, true, false, ◌&&◌, List, [], ◌∷◌, ◌++◌, length, Option, Some, None, refl, sym, ◌∙◌, ap, arith, map, filter, fold, cond, append_assoc, zero-add}
+use Rattle.std.proofs.Common.{◌≡◌, ◌≢◌, ℕ, zero, suc, ◌+◌, ◌*◌, ◌<◌, Bool, true, false, ◌&&◌, List, [], ◌∷◌, ◌++◌, length, Option, Some, None, refl, sym, ◌∙◌, ap, arith, map, filter, fold, cond, append_assoc, zero-add}
 use Rattle.std.specs.Prelude.{All, ◌/◌, ◌%◌, replicate, option_to_list, slice_index, slice_set, slice_get, ◌==◌, nat_lt, if◌then◌else◌, option_and_then}
-use Rattle.snoop_history.proofs.Common.{Did, ForSome, Item, Totals, and_parts, append-nil, cases_Bool, cases_eq, cases_lt, counted, eq-eqb, eqb-true}
-use Rattle.snoop_history.proofs.Common.{false_from_ne_true, flat, get_or-set_other, get_or-set_same, is_store_to, last_of, last_or, le-ltb, length-append}
-use Rattle.snoop_history.proofs.Common.{length-set, lt-ltb, ltb-true, map-append, nat_tests, ne_eqb, next_number, operation_of, operations, option_map_or}
+use Rattle.snoop_history.proofs.Common.{Did, ForSome, Item, Totals, and_parts, append-nil, counted, eq-eqb, eqb-true}
+use Rattle.snoop_history.proofs.Common.{false_from_ne_true, get_or-set_other, get_or-set_same, is_store_to, last_or, length-append}
+use Rattle.snoop_history.proofs.Common.{length-set, map-append, nat_tests, ne_eqb, operation_of, operations}
 use Rattle.snoop_history.{proofs.Common.{common_steps, range_with_len, slice_get-get_or, slice_get_past, tallied}, specs.Totals.{totals_of, capped, capped_totals}}
 use Rattle.std.proofs.{Math.Nat.{div-add-mod, mul_comm}, lemmas.Nat.{div-mul-add, mod-mul-add, mul-le}}
 use Rattle.std.proofs.lemmas.List.FromFn.{fill_by_all, length-map-range_with_len, get_or-map-range_with_len}
 use Rattle.std.proofs.lemmas.List.Elements.{filter-append, filter_map-append, All-head, All-tail}
-use Rattle.snoop_history.specs.Within.{core_of, block_of, sender_of_response, IsItemWithin, is_within, inside}
+use Rattle.snoop_history.specs.Within.{IsItemWithin, is_within, inside}
 use Rattle.snoop_history.specs.Board.{Tables, for_each_below, board_of, operation_within, noted, absorbed, place_of}
 use Rattle.snoop_history.proofs.Pushed.{operations-one, capped_totals-push, last_or-append}
 
@@ -16,20 +16,13 @@ use Rattle.snoop_history.proofs.Pushed.{operations-one, capped_totals-push, last
 set-below : {A : Type 0} (f g : ℕ → A) (n i : ℕ) (v : A) → i < n → g i ≡ v → ((j : ℕ) → j ≢ i → g j ≡ f j) → slice_set (for_each_below n f) i v ≡ for_each_below n g
 set-below f g n i v within here others =
     let old = for_each_below n f in
-    let long = length-map-range_with_len f 0 n in
-    fill_by_all g (slice_set old i v) n v (length-set old i v ∙ long) (λ k lt. elim (cases_eq k i) [
-      | inl e ↦ rw e (get_or-set_same old i v v (omega arith) ∙ sym here)
-      | inr other ↦ get_or-set_other old i k v v other ∙ get_or-map-range_with_len f 0 n k k v lt (zero-add k) ∙ sym (others k other)
-    ])
+    fill_by_all g (slice_set old i v) n v (length-set old i v ∙ length-map-range_with_len f 0 n)
+    (λ k lt. grind (arith, get_or-set_same old i v v, get_or-set_other old i k v v, get_or-map-range_with_len f 0 n k k v lt, others k, length-map-range_with_len f 0 n))
 
 -- the entry of a number below n
 pub get-below : {A : Type 0} (f : ℕ → A) (n k : ℕ) → slice_get (for_each_below n f) k ≡ (if nat_lt k n then Some (f k) else None)
 get-below f n k =
-    let long = length-map-range_with_len f 0 n in
-    elim (cases_lt k n) [
-      | inl lt ↦ rw (lt-ltb k n lt, slice_get-get_or (for_each_below n f) k (f k) (omega arith), get_or-map-range_with_len f 0 n k k (f k) lt (zero-add k)) refl
-      | inr le ↦ rw (le-ltb k n le) (slice_get_past (for_each_below n f) k (omega arith))
-    ]
+    grind (arith, nat_tests, length-map-range_with_len f 0 n, slice_get-get_or (for_each_below n f) k (f k), get_or-map-range_with_len f 0 n k k (f k), slice_get_past (for_each_below n f) k)
 
 -- and of a table of what there may be
 pub may-below : {A : Type 0} (f : ℕ → Option A) (n k : ℕ) → option_and_then (λ (o : Option A). o) (slice_get (for_each_below n f) k) ≡ (if nat_lt k n then f k else None)
@@ -52,17 +45,10 @@ pub value-read : (f : ℕ → ℕ → ℕ) (blocks words block word : ℕ) →
     ≡ (if nat_lt block blocks && nat_lt word words then Some (f block word) else None)
 value-read f blocks words block word =
     let place = place_of words block word in
-    elim (cases_Bool (nat_lt block blocks && nat_lt word words)) [
-      | inl here ↦
-          let (b, w) = and_parts _ _ here in
-          let inside = ltb-true word words w in
-          rw (here, get_or-map-range_with_len (λ p. f (p / words) (p % words)) 0 (blocks * words) place place 0 (place-within blocks words block word (ltb-true block blocks b) inside) (zero-add place), div-mul-add block words word inside, mod-mul-add block words word inside)
-      | inr beyond ↦ rw beyond
-    ]
+    grind (arith, nat_tests, get_or-map-range_with_len (λ p. f (p / words) (p % words)) 0 (blocks * words) place place 0, place-within blocks words block word, div-mul-add block words word, mod-mul-add block words word)
 
 operations-one_if : (here : Bool) (entry : Item) → operations (cond here (entry ∷ []) []) ≡ option_to_list (if here then operation_of entry else None)
-operations-one_if true entry = operations-one entry
-operations-one_if false entry = refl
+operations-one_if here entry = grind (arith, operations-one entry)
 
 -- the operations within a shape, of a list with one item more
 operations-inside-push : (cores blocks words : ℕ) (items : List Item) (entry : Item) →
@@ -144,19 +130,10 @@ noted-board cores blocks words dids old new (Some did) within =
 
 -- an item that passes the test lies within the shape
 pub passes-within : (cores blocks words : ℕ) (entry : Item) → is_within cores blocks words entry ≡ true → IsItemWithin cores blocks words entry
-passes-within cores blocks words entry e =
-    record {
-      core = grind (arith, common_steps, nat_tests);
-      block = grind (arith, common_steps, nat_tests);
-      sender = λ core is. grind (arith, common_steps, nat_tests);
-      operation = λ did is. grind (arith, common_steps, nat_tests);
-    }
+passes-within cores blocks words entry e = grind (arith, common_steps, nat_tests)
 
 pub operation_within-lies : (cores blocks words : ℕ) (entry : Item) (did : Did) → operation_within cores blocks words entry ≡ Some did → (did.core < cores) × (did.block < blocks) × (did.word < words)
-operation_within-lies cores blocks words entry did is = elim (cases_Bool (is_within cores blocks words entry)) [
-  | inl passes ↦ (passes-within cores blocks words entry passes).operation did (rw passes at is)
-  | inr beyond ↦ let none = rw beyond at is in cc
-]
+operation_within-lies cores blocks words entry did is = grind (arith, common_steps, nat_tests)
 
 -- a board has a count for each core
 pub board-cores : (cores blocks words : ℕ) (items : List Item) → length (board_of cores blocks words items).counts ≡ cores

@@ -1,8 +1,8 @@
 -- What a log's board says of its items.
-use Rattle.std.proofs.Common.{◌≡◌, ℕ, ◌<◌, ◌≤◌, List, [], ◌∷◌, length, Option, Some, None, arith, refl, sym, ap, ◌∙◌, map, get_or}
-use Rattle.std.specs.Prelude.{All, IfSome, slice_get, nat_lt, is_some, unwrap_or}
-use Rattle.snoop_history.{proofs.Common.{Item, filter_map, length-map, ltb-true, option_map, same_lists, slice_get-map}, specs.declared.packed.Packed.Packed}
-use Rattle.snoop_history.{proofs.Common.{slice_get_read, unpacked, unwrap_or-slice_get}, specs.{Within.{IsItemWithin, inside}, Totals.touched}}
+use Rattle.std.proofs.Common.{◌≡◌, ℕ, ◌<◌, ◌≤◌, List, [], ◌∷◌, length, Option, arith, refl, sym, ap, ◌∙◌, map}
+use Rattle.std.specs.Prelude.{All, slice_get, unwrap_or}
+use Rattle.snoop_history.{proofs.Common.{Item, common_steps, filter_map, same_lists}}
+use Rattle.snoop_history.{proofs.Common.{unwrap_or-slice_get}, specs.{Within.{IsItemWithin, inside}, Totals.touched}}
 use Rattle.snoop_history.{specs.{Board.{Tables, board_of}, Kept.{IsKeptList, IsTallied}}, proofs.{Boards.{inside_all, board-cores}, Touching.all_places}}
 
 -- lists that are as long and have the same at each place
@@ -29,10 +29,4 @@ module _ {cores blocks words : ℕ} {items : List Item} {board : Tables} {order 
 
   -- an item of the shape is one of the largest shape
   pub fits : (entry : Item) → IsItemWithin cores blocks words entry → IsItemWithin 256 65536 64 entry
-  fits entry lies =
-      record {
-        core = omega (arith, lies.core, kept.few_cores);
-        block = omega (arith, lies.block, kept.few_blocks);
-        sender = λ core is. omega (arith, lies.sender core is, kept.few_cores);
-        operation = λ did is. let (core, block, word) = lies.operation did is in (omega (arith, kept.few_cores), omega (arith, kept.few_blocks), omega (arith, kept.few_words));
-      }
+  fits entry lies = grind (arith, common_steps)

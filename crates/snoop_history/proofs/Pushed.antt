@@ -1,11 +1,10 @@
 -- One more item: the operations, counts, flat values and totals of the longer list.
-use Rattle.std.proofs.Common.{◌≡◌, ℕ, ◌^◌, ◌<◌, ◌≤◌, Bool, not, ◌&&◌, List, [], ◌∷◌, ◌++◌, length, Option, Some, None, refl, ◌∙◌, ap, arith, map, filter}
-use Rattle.std.{specs.Prelude.{option_to_list, ◌==◌, is_some, is_none}, proofs.lemmas.List.Elements.{filter-append, filter_map-append}}
-use Rattle.snoop_history.proofs.Common.{Did, Item, Totals, answers_of, counted, last_of, last_or, length-append, map-append, next_number, operation_of}
+use Rattle.std.proofs.Common.{◌≡◌, ℕ, ◌^◌, ◌<◌, ◌≤◌, Bool, List, [], ◌∷◌, ◌++◌, length, Option, Some, None, refl, ◌∙◌, ap, arith, map, filter}
+use Rattle.std.{specs.Prelude.{option_to_list, ◌==◌}, proofs.lemmas.List.Elements.{filter-append, filter_map-append}}
+use Rattle.snoop_history.proofs.Common.{Did, Item, answers_of, counted, last_of, last_or, length-append, map-append, next_number, operation_of}
 use Rattle.snoop_history.proofs.Common.{operations, tallied}
 use Rattle.std.proofs.lemmas.List.Sums.{length-filter, count_by-le-length}
 use Rattle.snoop_history.specs.Totals.{how_many, counts_by, totals_of, capped, capped_totals}
-use Rattle.snoop_history.specs.declared.items.Item.TheVariants as item
 
 pub operations-one : (entry : Item) → operations (entry ∷ []) ≡ option_to_list (operation_of entry)
 operations-one entry = grind arith

@@ -1,5 +1,5 @@
-use Rattle.std.proofs.Common.{◌≡◌, sym, ap, arith, Some, refl, inl, inr}
-use Rattle.snoop_history.proofs.{Common.cases_eq, Kept.same-places}
+use Rattle.std.proofs.Common.{arith, refl}
+use Rattle.snoop_history.proofs.{Kept.same-places}
 use Rattle.snoop_history.proofs.log.Log.has_items_of.Goals as goal
 
 pub returns : goal.returns

@@ -1,4 +1,4 @@
-use Rattle.std.proofs.Common.{◌≡◌, [], ◌∷◌, ◌++◌, map, sym, ap, ◌∙◌, arith, ◌<◌, ◌^◌, length}
+use Rattle.std.proofs.Common.{◌≡◌, [], ◌∷◌, ◌++◌, map, sym, ap, ◌∙◌, arith}
 use Rattle.snoop_history.proofs.{Pushed.next_number_le, Legal.listed-push, Common.{Item, length-map, map-append, unpacked}, Boards.board-shape, Kept.tallied_as}
 use Rattle.snoop_history.proofs.log.Log.push.Goals as goal
 
