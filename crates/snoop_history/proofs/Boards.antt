@@ -1,14 +1,14 @@
 -- The board of a list with one item more.
-use Rattle.std.proofs.Common.{◌≡◌, ◌≢◌, ℕ, zero, suc, ◌+◌, ◌*◌, ◌<◌, Bool, inl, inr, true, false, ◌&&◌, List, [], ◌∷◌, ◌++◌, length, Option, Some, None, refl, sym, ◌∙◌, ap, arith, map, filter, fold, cond, append_assoc, zero-add}
+use Rattle.std.proofs.Common.{◌≡◌, ◌≢◌, ℕ, zero, suc, ◌+◌, ◌*◌, ◌<◌, Bool, true, false, ◌&&◌, List, [], ◌∷◌, ◌++◌, length, Option, Some, None, refl, sym, ◌∙◌, ap, arith, map, filter, fold, cond, append_assoc, zero-add}
 use Rattle.std.specs.Prelude.{All, ◌/◌, ◌%◌, replicate, option_to_list, slice_index, slice_set, slice_get, ◌==◌, nat_lt, if◌then◌else◌, option_and_then}
-use Rattle.snoop_history.proofs.Common.{Did, ForSome, Item, Totals, and_parts, append-nil, cases_Bool, cases_eq, cases_lt, counted, eq-eqb, eqb-true}
-use Rattle.snoop_history.proofs.Common.{false_from_ne_true, flat, get_or-set_other, get_or-set_same, is_store_to, last_of, last_or, le-ltb, length-append}
-use Rattle.snoop_history.proofs.Common.{length-set, lt-ltb, ltb-true, map-append, nat_tests, ne_eqb, next_number, operation_of, operations, option_map_or}
-use Rattle.snoop_history.{proofs.Common.{range_with_len, slice_get-get_or, slice_get_past, tallied}, specs.Totals.{totals_of, capped, capped_totals}}
+use Rattle.snoop_history.proofs.Common.{Did, ForSome, Item, Totals, and_parts, append-nil, counted, eq-eqb, eqb-true}
+use Rattle.snoop_history.proofs.Common.{false_from_ne_true, get_or-set_other, get_or-set_same, is_store_to, last_or, length-append}
+use Rattle.snoop_history.proofs.Common.{length-set, map-append, nat_tests, ne_eqb, operation_of, operations}
+use Rattle.snoop_history.{proofs.Common.{common_steps, range_with_len, slice_get-get_or, slice_get_past, tallied}, specs.Totals.{totals_of, capped, capped_totals}}
 use Rattle.std.proofs.{Math.Nat.{div-add-mod, mul_comm}, lemmas.Nat.{div-mul-add, mod-mul-add, mul-le}}
 use Rattle.std.proofs.lemmas.List.FromFn.{fill_by_all, length-map-range_with_len, get_or-map-range_with_len}
 use Rattle.std.proofs.lemmas.List.Elements.{filter-append, filter_map-append, All-head, All-tail}
-use Rattle.snoop_history.specs.Within.{core_of, block_of, sender_of_response, IsItemWithin, is_within, inside}
+use Rattle.snoop_history.specs.Within.{IsItemWithin, is_within, inside}
 use Rattle.snoop_history.specs.Board.{Tables, for_each_below, board_of, operation_within, noted, absorbed, place_of}
 use Rattle.snoop_history.proofs.Pushed.{operations-one, capped_totals-push, last_or-append}
 
@@ -16,20 +16,17 @@ use Rattle.snoop_history.proofs.Pushed.{operations-one, capped_totals-push, last
 set-below : {A : Type 0} (f g : ℕ → A) (n i : ℕ) (v : A) → i < n → g i ≡ v → ((j : ℕ) → j ≢ i → g j ≡ f j) → slice_set (for_each_below n f) i v ≡ for_each_below n g
 set-below f g n i v within here others =
     let old = for_each_below n f in
-    let long = length-map-range_with_len f 0 n in
-    fill_by_all g (slice_set old i v) n v (length-set old i v ∙ long) (λ k lt. elim (cases_eq k i) [
-      | inl e ↦ rw e (get_or-set_same old i v v (omega arith) ∙ sym here)
-      | inr other ↦ get_or-set_other old i k v v other ∙ get_or-map-range_with_len f 0 n k k v lt (zero-add k) ∙ sym (others k other)
-    ])
+    fill_by_all g (slice_set old i v) n v (length-set old i v ∙ length-map-range_with_len f 0 n)
+    (λ k lt. grind (arith, get_or-set_same old i v v, get_or-set_other old i k v v, get_or-map-range_with_len f 0 n k k v lt, others k, length-map-range_with_len f 0 n))
 
 -- the entry of a number below n
-get-below : {A : Type 0} (f : ℕ → A) (n k : ℕ) → slice_get (for_each_below n f) k ≡ (if nat_lt k n then Some (f k) else None)
+pub get-below : {A : Type 0} (f : ℕ → A) (n k : ℕ) → slice_get (for_each_below n f) k ≡ (if nat_lt k n then Some (f k) else None)
 get-below f n k =
-    let long = length-map-range_with_len f 0 n in
-    elim (cases_lt k n) [
-      | inl lt ↦ rw (lt-ltb k n lt, slice_get-get_or (for_each_below n f) k (f k) (omega arith), get_or-map-range_with_len f 0 n k k (f k) lt (zero-add k)) refl
-      | inr le ↦ rw (le-ltb k n le) (slice_get_past (for_each_below n f) k (omega arith))
-    ]
+    grind (arith, nat_tests, length-map-range_with_len f 0 n, slice_get-get_or (for_each_below n f) k (f k), get_or-map-range_with_len f 0 n k k (f k), slice_get_past (for_each_below n f) k)
+
+-- and of a table of what there may be
+pub may-below : {A : Type 0} (f : ℕ → Option A) (n k : ℕ) → option_and_then (λ (o : Option A). o) (slice_get (for_each_below n f) k) ≡ (if nat_lt k n then f k else None)
+may-below f n k = rw (get-below f n k) (grind arith)
 
 -- a table of one value
 pub table-of : {A : Type 0} (f : ℕ → A) (x : A) (a n : ℕ) → ((j : ℕ) → f j ≡ x) → replicate n x ≡ map f (range_with_len a n)
@@ -43,22 +40,15 @@ place-within blocks words block word b w =
     omega arith
 
 -- what stands at a word's place
-value-read : (f : ℕ → ℕ → ℕ) (blocks words block word : ℕ) →
+pub value-read : (f : ℕ → ℕ → ℕ) (blocks words block word : ℕ) →
     (if nat_lt block blocks && nat_lt word words then Some (slice_index (for_each_below (blocks * words) (λ place. f (place / words) (place % words))) (place_of words block word)) else None)
     ≡ (if nat_lt block blocks && nat_lt word words then Some (f block word) else None)
 value-read f blocks words block word =
     let place = place_of words block word in
-    elim (cases_Bool (nat_lt block blocks && nat_lt word words)) [
-      | inl here ↦
-          let (b, w) = and_parts _ _ here in
-          let inside = ltb-true word words w in
-          rw (here, get_or-map-range_with_len (λ p. f (p / words) (p % words)) 0 (blocks * words) place place 0 (place-within blocks words block word (ltb-true block blocks b) inside) (zero-add place), div-mul-add block words word inside, mod-mul-add block words word inside)
-      | inr beyond ↦ rw beyond
-    ]
+    grind (arith, nat_tests, get_or-map-range_with_len (λ p. f (p / words) (p % words)) 0 (blocks * words) place place 0, place-within blocks words block word, div-mul-add block words word, mod-mul-add block words word)
 
 operations-one_if : (here : Bool) (entry : Item) → operations (cond here (entry ∷ []) []) ≡ option_to_list (if here then operation_of entry else None)
-operations-one_if true entry = operations-one entry
-operations-one_if false entry = refl
+operations-one_if here entry = grind (arith, operations-one entry)
 
 -- the operations within a shape, of a list with one item more
 operations-inside-push : (cores blocks words : ℕ) (items : List Item) (entry : Item) →
@@ -140,22 +130,10 @@ noted-board cores blocks words dids old new (Some did) within =
 
 -- an item that passes the test lies within the shape
 pub passes-within : (cores blocks words : ℕ) (entry : Item) → is_within cores blocks words entry ≡ true → IsItemWithin cores blocks words entry
-passes-within cores blocks words entry e =
-    let (rest, operation) = and_parts _ _ e in
-    let (place, sender) = and_parts _ _ rest in
-    let (core, block) = and_parts _ _ place in
-    record {
-      core = ltb-true (core_of entry) cores core;
-      block = ltb-true (block_of entry) blocks block;
-      sender = λ core is. ltb-true core cores (rw is at sender);
-      operation = λ did is. let told = rw is at operation in grind (arith, nat_tests);
-    }
+passes-within cores blocks words entry e = grind (arith, common_steps, nat_tests)
 
 pub operation_within-lies : (cores blocks words : ℕ) (entry : Item) (did : Did) → operation_within cores blocks words entry ≡ Some did → (did.core < cores) × (did.block < blocks) × (did.word < words)
-operation_within-lies cores blocks words entry did is = elim (cases_Bool (is_within cores blocks words entry)) [
-  | inl passes ↦ (passes-within cores blocks words entry passes).operation did (rw passes at is)
-  | inr beyond ↦ let none = rw beyond at is in cc
-]
+operation_within-lies cores blocks words entry did is = grind (arith, common_steps, nat_tests)
 
 -- a board has a count for each core
 pub board-cores : (cores blocks words : ℕ) (items : List Item) → length (board_of cores blocks words items).counts ≡ cores
@@ -186,27 +164,10 @@ pub same_shape : (cores blocks words cores' blocks' words' : ℕ) (items items' 
 same_shape cores blocks words cores' blocks' words' items items' same =
     let shape = board-shape cores' blocks' words' items' same in (sym (board-cores cores blocks words items) ∙ shape.0, shape.1, shape.2)
 
--- what the clauses of a board's calls say of the board of a list
-module _ {view board : Tables} (is_view : view ≡ board) where
-  pub board_after : (new : Tables) (entry : Item) → new ≡ absorbed view entry → (cores blocks words : ℕ) (items : List Item) → board ≡ board_of cores blocks words items → new ≡ board_of cores blocks words (items ++ entry ∷ [])
-  board_after new entry after cores blocks words items is = (rw (is_view ∙ is) at after) ∙ absorbed_board cores blocks words items entry
-
-  pub board_value : (answer : Option ℕ) (block word : ℕ) → answer ≡ (if nat_lt block view.blocks && nat_lt word view.words then Some (slice_index view.values (place_of view.words block word)) else None) → (cores blocks words : ℕ) (items : List Item) → board ≡ board_of cores blocks words items →
-      answer ≡ (if nat_lt block blocks && nat_lt word words then Some (flat (inside cores blocks words items) block word) else None)
-  board_value answer block word read cores blocks words items is = (rw (is_view ∙ is) at read) ∙ value-read (flat (inside cores blocks words items)) blocks words block word
-
-  pub board_count : (answer : Option ℕ) (core : ℕ) → answer ≡ slice_get view.counts core → (cores blocks words : ℕ) (items : List Item) → board ≡ board_of cores blocks words items →
-      answer ≡ (if nat_lt core cores then Some (capped (next_number (inside cores blocks words items) core)) else None)
-  board_count answer core read cores blocks words items is = (rw (is_view ∙ is) at read) ∙ get-below (λ k. capped (next_number (inside cores blocks words items) k)) cores core
-
-  pub board_last : (answer : Option Did) (core : ℕ) → answer ≡ option_and_then (λ (o : Option Did). o) (slice_get view.lasts core) → (cores blocks words : ℕ) (items : List Item) → board ≡ board_of cores blocks words items →
-      answer ≡ (if nat_lt core cores then last_of (inside cores blocks words items) core else None)
-  board_last answer core read cores blocks words items is =
-      (rw (is_view ∙ is, get-below (last_of (inside cores blocks words items)) cores core) at read) ∙ flat-if (nat_lt core cores) (last_of (inside cores blocks words items) core)
-    where
-      flat-if : (here : Bool) (o : Option Did) → option_and_then (λ (p : Option Did). p) (if here then Some o else None) ≡ (if here then o else None)
-      flat-if true o = refl
-      flat-if false o = refl
+-- a board after an item, where what callers see of it is the board of a list
+pub board_after : {view board new : Tables} (is_view : view ≡ board) (entry : Item) → new ≡ absorbed view entry →
+    (cores blocks words : ℕ) (items : List Item) → board ≡ board_of cores blocks words items → new ≡ board_of cores blocks words (items ++ entry ∷ [])
+board_after is_view entry after cores blocks words items is = (rw (is_view ∙ is) at after) ∙ absorbed_board cores blocks words items entry
 
 -- a board after an operation that counts for it, table by table
 pub absorbed_as : (view new : Tables) (entry : Item) (did : Did) → operation_within (length view.counts) view.blocks view.words entry ≡ Some did →
@@ -219,13 +180,7 @@ absorbed_as view new entry did is b w v c l t = rw is (same_tables new (with_tot
 
 -- an item within a shape passes the test
 within-passes : (cores blocks words : ℕ) (entry : Item) → IsItemWithin cores blocks words entry → is_within cores blocks words entry ≡ true
-within-passes cores blocks words entry lies =
-    rw (lt-ltb (core_of entry) cores lies.core, lt-ltb (block_of entry) blocks lies.block, passes (λ core. nat_lt core cores) (sender_of_response entry) (λ core is. lt-ltb core cores (lies.sender core is)))
-    (passes (λ (did : Did). nat_lt did.core cores && nat_lt did.block blocks && nat_lt did.word words) (operation_of entry) (λ did is. let p = lies.operation did is in rw (lt-ltb did.core cores p.0, lt-ltb did.block blocks p.1, lt-ltb did.word words p.2)))
-  where
-    passes : {A : Type 0} (test : A → Bool) (o : Option A) → ForSome o (λ x. test x ≡ true) → option_map_or test o true ≡ true
-    passes test None h = refl
-    passes test (Some x) h = h x refl
+within-passes cores blocks words entry lies = grind (arith, common_steps, nat_tests)
 
 pub inside_all : (cores blocks words : ℕ) (items : List Item) → All (IsItemWithin cores blocks words) items → inside cores blocks words items ≡ items
 inside_all cores blocks words [] all = refl

@@ -1,29 +1,13 @@
 -- What a log's board says of its items.
-use Rattle.std.proofs.Common.{◌≡◌, ℕ, ◌<◌, ◌≤◌, List, [], ◌∷◌, length, Option, Some, None, arith, refl, sym, ap, ◌∙◌, map, get_or}
-use Rattle.std.specs.Prelude.{All, IfSome, slice_get, nat_lt, is_some, unwrap_or}
-use Rattle.snoop_history.{proofs.Common.{Item, filter_map, length-map, ltb-true, option_map, same_lists, slice_get-map}, specs.declared.packed.Packed.Packed}
-use Rattle.snoop_history.{proofs.Common.{slice_get_read, unpacked, unwrap_or-slice_get}, specs.{Within.{IsItemWithin, inside}, Totals.touched}}
+use Rattle.std.proofs.Common.{◌≡◌, ℕ, ◌<◌, ◌≤◌, List, [], ◌∷◌, length, Option, arith, refl, sym, ap, ◌∙◌, map}
+use Rattle.std.specs.Prelude.{All, slice_get, unwrap_or}
+use Rattle.snoop_history.{proofs.Common.{Item, common_steps, filter_map, same_lists}}
+use Rattle.snoop_history.{proofs.Common.{unwrap_or-slice_get}, specs.{Within.{IsItemWithin, inside}, Totals.touched}}
 use Rattle.snoop_history.{specs.{Board.{Tables, board_of}, Kept.{IsKeptList, IsTallied}}, proofs.{Boards.{inside_all, board-cores}, Touching.all_places}}
-
--- what a `get` found, read by a function of it
-pub read-at : {A B : Type 0} (now : B → A) (xs : List A) (place : ℕ) (got : Option B) (x : A) → is_some got ≡ nat_lt place (length xs) → IfSome got (λ y. now y ≡ get_or xs place (now y)) →
-    option_map now got ≡ Some x → slice_get xs place ≡ Some x
-read-at now xs place None x some at is = cc
-read-at now xs place (Some y) x some at is = slice_get_read xs (length xs) place (now y) refl (ltb-true place (length xs) (sym some)) at ∙ is
 
 -- lists that are as long and have the same at each place
 pub same-places : {A : Type 0} (xs ys : List A) → length xs ≡ length ys → ((k : ℕ) → k < length xs → slice_get xs k ≡ slice_get ys k) → xs ≡ ys
 same-places xs ys many same = same_lists xs ys many (λ k d within. sym (unwrap_or-slice_get xs k d) ∙ ap (λ o. unwrap_or o d) (same k within) ∙ unwrap_or-slice_get ys k d)
-
--- an item that was unpacked, in the list of items
-pub item-at : (xs : List Packed) (place : ℕ) (p : Packed) (entry : Item) → place < length xs → p ≡ get_or xs place p → entry ≡ unpacked p → slice_get (map unpacked xs) place ≡ Some entry
-item-at xs place p entry within read is = slice_get-map unpacked xs place ∙ (ap (option_map unpacked) (slice_get_read xs (length xs) place p refl within read) ∙ ap Some (sym is))
-
--- and two items at one place of two lists, which callers see as these
-pub items-at : (xs ys : List Packed) (place : ℕ) (p q : Packed) (one other : Item) {seen also : List Item} → map unpacked xs ≡ seen → map unpacked ys ≡ also → place < length seen → place < length also →
-    p ≡ get_or xs place p → q ≡ get_or ys place q → one ≡ unpacked p → other ≡ unpacked q → (slice_get (map unpacked xs) place ≡ Some one) × (slice_get (map unpacked ys) place ≡ Some other)
-items-at xs ys place p q one other left right within inside read read_other is is_other =
-    (item-at xs place p one (omega (arith, ap length left, length-map xs unpacked)) read is, item-at ys place q other (omega (arith, ap length right, length-map ys unpacked)) read_other is_other)
 
 -- what a function gives of each of a list of values of another
 pub filter_map-map : {X Y Z : Type 0} (f : X → Y) (g : Y → Option Z) (xs : List X) → filter_map (λ x. g (f x)) xs ≡ filter_map g (map f xs)
@@ -45,10 +29,4 @@ module _ {cores blocks words : ℕ} {items : List Item} {board : Tables} {order 
 
   -- an item of the shape is one of the largest shape
   pub fits : (entry : Item) → IsItemWithin cores blocks words entry → IsItemWithin 256 65536 64 entry
-  fits entry lies =
-      record {
-        core = omega (arith, lies.core, kept.few_cores);
-        block = omega (arith, lies.block, kept.few_blocks);
-        sender = λ core is. omega (arith, lies.sender core is, kept.few_cores);
-        operation = λ did is. let (core, block, word) = lies.operation did is in (omega (arith, kept.few_cores), omega (arith, kept.few_blocks), omega (arith, kept.few_words));
-      }
+  fits entry lies = grind (arith, common_steps)

@@ -1,5 +1,5 @@
 -- What a legal list and flat memory are after one more item.
-use Rattle.std.proofs.Common.{arith, ◌≡◌, ℕ, zero, suc, List, [], ◌∷◌, ◌++◌, take, Option, Some, None, ◌⊎◌, inl, inr, refl, ap, map}
+use Rattle.std.proofs.Common.{arith, ◌≡◌, ℕ, zero, suc, List, [], ◌∷◌, ◌++◌, take, Option, Some, ◌⊎◌, inl, inr, refl, map}
 use Rattle.std.{specs.Prelude.{slice_get, IfSome, filter, if◌then◌else◌, option_to_list}, proofs.lemmas.List.Elements.filter-append}
 use Rattle.snoop_history.proofs.Common.{Did, IsNext, IsNumbered, Item, Legal, flat, is_store_to, last_or, map-append, operation_of, option_map_or, stores}
 use Rattle.snoop_history.{proofs.Pushed.{last_or-append, operations-push}, specs.{Within.IsItemWithin, Kept.IsKeptList}}
@@ -10,8 +10,7 @@ slice_get-snoc : {A : Type 0} (items : List A) (entry : A) (k : ℕ) (x : A) →
 slice_get-snoc [] entry zero x at = inr (cc, refl)
 slice_get-snoc [] entry (suc k) x at = cc
 slice_get-snoc (y ∷ ys) entry zero x at = inl (at, refl)
-slice_get-snoc (y ∷ ys) entry (suc k) x at =
-    elim (slice_get-snoc ys entry k x at) [ inl p ↦ inl (p.0, ap (λ l. y ∷ l) p.1) | inr p ↦ inr (p.0, ap (λ l. y ∷ l) p.1) ]
+slice_get-snoc (y ∷ ys) entry (suc k) x at = grind (arith, slice_get-snoc ys entry k x at)
 
 -- what holds of each item and those before it, of one item more and of fewer
 each-grows : (P : List Item → Item → Type 0) (items : List Item) (entry : Item) → ((k : ℕ) (x : Item) → slice_get items k ≡ Some x → P (take k items) x) → P items entry
@@ -38,8 +37,7 @@ slice_get-front : {A : Type 0} (items rest : List A) (k : ℕ) (x : A) → slice
     (slice_get (items ++ rest) k ≡ Some x) × (take k (items ++ rest) ≡ take k items)
 slice_get-front [] rest k x at = cc
 slice_get-front (y ∷ ys) rest zero x at = (at, refl)
-slice_get-front (y ∷ ys) rest (suc k) x at =
-    let p = slice_get-front ys rest k x at in (p.0, ap (λ l. y ∷ l) p.1)
+slice_get-front (y ∷ ys) rest (suc k) x at = grind (arith, slice_get-front ys rest k x at)
 
 pub legal-begins : (items rest : List Item) → Legal (items ++ rest) → Legal items
 legal-begins items rest legal k x at =
@@ -48,8 +46,9 @@ legal-begins items rest legal k x at =
 -- the last value stored by an operation, if there is one, after another
 flat-one : (before : ℕ) (block word : ℕ) (did : Option Did) →
     last_or before (map (λ d. d.value) (filter (is_store_to block word) (option_to_list did))) ≡ option_map_or (λ d. if is_store_to block word d then d.value else before) did before
-flat-one before block word None = refl
-flat-one before block word (Some d) = grind arith
+flat-one before block word did = grind arith
 
 pub flat-grows : (items : List Item) (entry : Item) (block word : ℕ) → flat (items ++ entry ∷ []) block word ≡ stores entry block word (flat items block word)
 flat-grows items entry block word = rw (operations-push items entry) (simp (filter-append, map-append, last_or-append) (flat-one (flat items block word) block word (operation_of entry)))
+
+pub ruleset growth = (legal-grows, flat-grows)

@@ -1,17 +1,17 @@
 -- One more block among those that were mentioned.
-use Rattle.std.proofs.Common.{◌≡◌, ℕ, zero, suc, ◌+◌, ◌<◌, Bool, true, false, List, [], ◌∷◌, ◌++◌, length, Some, refl, sym, ◌∙◌, ap, arith, get_or, inl, inr}
-use Rattle.std.{specs.Prelude.{replicate, slice_get, slice_set, nat_eq}, proofs.{Math.Bool.or-false, lemmas.List.Folds.list_any-append}}
-use Rattle.snoop_history.proofs.Common.{Mentions, cases_eq, eq-eqb, get_or-replicate, get_or-set_other, get_or-set_same, get_or_from_slice_get, slice_get_read}
-use Rattle.snoop_history.proofs.Common.{insert_key, length-append, length-replicate, length-set, list_any, ne_eqb, or_right, slice_get-get_or}
-use Rattle.snoop_history.specs.{declared.touched.TouchedBlocks.TheInside.Inside, Marked.{set_marks, AreMarksOf, IsMarked, mentions}}
+use Rattle.std.proofs.Common.{◌≡◌, ℕ, zero, suc, ◌+◌, ◌<◌, Bool, true, false, List, [], ◌∷◌, ◌++◌, length, Some, refl, sym, ◌∙◌, ap, arith, get_or}
+use Rattle.std.proofs.lemmas.{Grind.elements, Bool.Decides.nat_tests}
+use Rattle.std.{specs.Prelude.{replicate, slice_get, slice_set, nat_eq}, proofs.{lemmas.List.Folds.list_any-append}}
+use Rattle.snoop_history.proofs.Common.{Mentions, get_or-replicate, get_or-set_other, get_or-set_same, slice_get_read}
+use Rattle.snoop_history.proofs.Common.{insert_key, length-append, length-replicate, length-set, list_any, slice_get-get_or}
+use Rattle.snoop_history.specs.{declared.board.TouchedBlocks.TheInside.Inside, Marked.{set_marks, AreMarksOf, IsMarked, mentions}}
 use Rattle.snoop_history.proofs.Pushed.{length-filter-le}
 
 -- a mark that is set is one more
 set-more : (marks : List Bool) (i : ℕ) → slice_get marks i ≡ Some false → set_marks (slice_set marks i true) ≡ set_marks marks + 1
 set-more [] i at = cc
 set-more (m ∷ ms) zero at = let e : m ≡ false = cc in rw e (omega arith)
-set-more (true ∷ ms) (suc i) at = omega (arith, set-more ms i at)
-set-more (false ∷ ms) (suc i) at = set-more ms i at
+set-more (m ∷ ms) (suc i) at = grind (arith, set-more ms i at)
 
 -- a block that is not marked, and for which there is room
 module _ (marks : List Bool) (order : List ℕ) (kept : AreMarksOf marks order) (block : ℕ) (within : block < length marks) (free : slice_get marks block ≡ Some false) where
@@ -22,14 +22,7 @@ module _ (marks : List Bool) (order : List ℕ) (kept : AreMarksOf marks order) 
   room-left = omega (arith, set-more marks block free, length-filter-le (λ (mark : Bool). mark) (slice_set marks block true), length-set marks block true, kept.counted)
 
   mark-at : (other : ℕ) → other < length (slice_set marks block true) → slice_get (slice_set marks block true) other ≡ Some (list_any (nat_eq other) (order ++ block ∷ []))
-  mark-at other inside =
-      let same = length-set marks block true in
-      rw (slice_get-get_or (slice_set marks block true) other false inside, list_any-append (nat_eq other) order (block ∷ [])) (ap Some (elim (cases_eq other block) [
-        | inl e ↦ rw (e, eq-eqb block block refl, get_or-set_same marks block true false within, or_right (list_any (nat_eq block) order) true refl) refl
-        | inr ne ↦
-            rw (ne_eqb other block ne, get_or-set_other marks block other true false ne, or-false (list_any (nat_eq other) order))
-            (get_or_from_slice_get marks other _ false (kept.marked other (omega arith)))
-      ]))
+  mark-at other inside = grind (arith, elements, nat_tests, kept.marked other, list_any-append (nat_eq other) order (block ∷ []), get_or-set_same marks block true, get_or-set_other marks block other true, length-set marks block true)
 
   pub inserted : insert_key nat_eq order block ≡ order ++ block ∷ []
   inserted = rw unmarked
@@ -40,9 +33,7 @@ module _ (marks : List Bool) (order : List ℕ) (kept : AreMarksOf marks order) 
 
 -- a block that is marked changes nothing
 pub marked-before : (marks : List Bool) (order : List ℕ) (block : ℕ) → AreMarksOf marks order → block < length marks → slice_get marks block ≡ Some true → insert_key nat_eq order block ≡ order
-marked-before marks order block kept within is =
-    let found : list_any (nat_eq block) order ≡ true = (let e = kept.marked block within in cc) in
-    rw found
+marked-before marks order block kept within is = grind (arith, kept.marked block within)
 
 -- no mark is set at first
 none-set : (n : ℕ) → set_marks (replicate n false) ≡ 0

@@ -1,17 +1,13 @@
 -- One more item: the operations, counts, flat values and totals of the longer list.
-use Rattle.std.proofs.Common.{◌≡◌, ℕ, ◌^◌, ◌<◌, ◌≤◌, Bool, not, ◌&&◌, List, [], ◌∷◌, ◌++◌, length, Option, Some, None, refl, ◌∙◌, ap, arith, map, filter}
-use Rattle.std.{specs.Prelude.{option_to_list, ◌==◌, is_some, is_none}, proofs.lemmas.List.Elements.{filter-append, filter_map-append}}
-use Rattle.snoop_history.proofs.Common.{Did, Item, Totals, answers_of, counted, last_of, last_or, length-append, map-append, next_number, operation_of}
+use Rattle.std.proofs.Common.{◌≡◌, ℕ, ◌^◌, ◌<◌, ◌≤◌, Bool, List, [], ◌∷◌, ◌++◌, length, Option, Some, None, refl, ◌∙◌, ap, arith, map, filter}
+use Rattle.std.{specs.Prelude.{option_to_list, ◌==◌}, proofs.lemmas.List.Elements.{filter-append, filter_map-append}}
+use Rattle.snoop_history.proofs.Common.{Did, Item, answers_of, counted, last_of, last_or, length-append, map-append, next_number, operation_of}
 use Rattle.snoop_history.proofs.Common.{operations, tallied}
 use Rattle.std.proofs.lemmas.List.Sums.{length-filter, count_by-le-length}
-use Rattle.snoop_history.specs.Totals.{how_many, totals_of, capped, capped_totals, performed, ordered, responded, is_get_s, is_get_m, is_put_m, is_data, is_no_data, is_no_data_e}
-use Rattle.snoop_history.specs.declared.items.Item.TheVariants as item
+use Rattle.snoop_history.specs.Totals.{how_many, counts_by, totals_of, capped, capped_totals}
 
 pub operations-one : (entry : Item) → operations (entry ∷ []) ≡ option_to_list (operation_of entry)
-operations-one (item.Did did) = refl
-operations-one (item.Sent sent) = refl
-operations-one (item.Came came None) = refl
-operations-one (item.Came came (Some did)) = refl
+operations-one entry = grind arith
 
 pub operations-push : (items : List Item) (entry : Item) → operations (items ++ entry ∷ []) ≡ operations items ++ option_to_list (operation_of entry)
 operations-push items entry = filter_map-append operation_of items (entry ∷ []) ∙ ap (λ l. operations items ++ l) (operations-one entry)
@@ -32,24 +28,6 @@ pub last_of-push : (items : List Item) (entry : Item) (core : ℕ) → last_of (
 last_of-push items entry core =
     rw (answers_of-push items entry core, map-append Some (answers_of items core) (of_core core (operation_of entry))) (last_or-append None (map Some (answers_of items core)) (map Some (of_core core (operation_of entry))))
 
--- a number for each of the twelve counts, by what it counts
-abbrev counts_by : ((Item → Bool) → ℕ) → Totals
-counts_by count =
-    record {
-      loads = count (performed (λ did. did.load));
-      load_hits = count (performed (λ did. did.load && did.hit));
-      stores = count (performed (λ did. not did.load));
-      store_hits = count (performed (λ did. not did.load && did.hit));
-      get_s = count (ordered is_get_s);
-      get_m = count (ordered is_get_m);
-      put_m = count (ordered is_put_m);
-      from_memory = count (responded (λ came. is_none came.from));
-      from_caches = count (responded (λ came. is_some came.from && not (is_put_m came.request)));
-      writebacks = count (responded (λ came. is_put_m came.request && is_data came.payload));
-      clean = count (responded (λ came. is_put_m came.request && is_no_data_e came.payload));
-      stale = count (responded (λ came. is_put_m came.request && is_no_data came.payload));
-    }
-
 -- a capped count of a list with one more item
 how_many-capped : (test : Item → Bool) (items : List Item) (entry : Item) → counted (capped (how_many test items)) (test entry) ≡ capped (how_many test (items ++ entry ∷ []))
 how_many-capped test items entry =
@@ -63,9 +41,7 @@ length-filter-le test items = omega (arith, length-filter test items, count_by-l
 
 length-operations : (items : List Item) → length (operations items) ≤ length items
 length-operations [] = omega arith
-length-operations (item.Did did ∷ xs) = omega (arith, length-operations xs)
-length-operations (item.Came came (Some did) ∷ xs) = omega (arith, length-operations xs)
-length-operations (_ ∷ xs) = omega (arith, length-operations xs)
+length-operations (x ∷ xs) = grind (arith, length-operations xs)
 
 pub next_number_le : (items : List Item) (core : ℕ) → next_number items core ≤ length items
 next_number_le items core = omega (arith, length-filter-le (λ did. did.core == core) (operations items), length-operations items)

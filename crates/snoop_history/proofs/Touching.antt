@@ -1,5 +1,5 @@
 -- The blocks that a list mentions, with one item more.
-use Rattle.std.proofs.Common.{sym, arith, get_or, ◌≡◌, ℕ, Bool, true, false, not, List, [], ◌∷◌, ◌++◌, refl, map, filter, ◌<◌, eqb, append-nil, append_assoc}
+use Rattle.std.proofs.Common.{sym, arith, get_or, ◌≡◌, ℕ, true, false, not, List, [], ◌∷◌, ◌++◌, refl, map, filter, ◌<◌, eqb, append-nil, append_assoc}
 use Rattle.std.{specs.Prelude.{Option, Some, None, option_to_list, slice_get, suc, ◌==◌, nat_eq, All}, proofs.lemmas.Map.Views.any-filter_same}
 use Rattle.snoop_history.proofs.Common.{Did, ForSome, Item, eqb-true, flat_map, flat_map-append, insert_key, list_any}
 use Rattle.snoop_history.{proofs.Common.{operation_of, slice_get-get_or}, specs.Within.{block_of, IsItemWithin}}
@@ -15,16 +15,13 @@ any-but : (x y : ℕ) (xs : List ℕ) → eqb x y ≡ false → list_any (nat_eq
 any-but x y xs other = any-filter_same (nat_eq x) (λ z. not (z == y)) true (λ z same. let e : x ≡ z = eqb-true x z same in rw (← e, other)) xs
 
 -- one number more after a first one, which stands nowhere else
-insert-cons : (x y : ℕ) (xs : List ℕ) (same found : Bool) → eqb x y ≡ same → list_any (nat_eq x) xs ≡ found → y ∷ but y (insert_key nat_eq xs x) ≡ insert_key nat_eq (y ∷ but y xs) x
-insert-cons x y xs true true same found = rw (found, same)
-insert-cons x y xs true false same found = rw (found, filter-append (λ z. not (z == y)) xs (x ∷ []), same, append-nil (but y xs))
-insert-cons x y xs false true same found = rw (found, same, any-but x y xs same, found)
-insert-cons x y xs false false same found = rw (found, filter-append (λ z. not (z == y)) xs (x ∷ []), same, any-but x y xs same, found)
+insert-cons : (x y : ℕ) (xs : List ℕ) → y ∷ but y (insert_key nat_eq xs x) ≡ insert_key nat_eq (y ∷ but y xs) x
+insert-cons x y xs = grind (arith, any-but x y xs, filter-append (λ z. not (z == y)) xs (x ∷ []), append-nil (but y xs))
 
 -- one number more stands last, where it is new
 pub each_once-more : (xs : List ℕ) (x : ℕ) → each_once (xs ++ x ∷ []) ≡ insert_key nat_eq (each_once xs) x
 each_once-more [] x = refl
-each_once-more (y ∷ ys) x = rw (each_once-more ys x) (insert-cons x y (each_once ys) (eqb x y) (list_any (nat_eq x) (each_once ys)) refl refl)
+each_once-more (y ∷ ys) x = rw (each_once-more ys x) (insert-cons x y (each_once ys))
 
 -- the keys with the block of an operation, if there is one
 abbrev pub with_operation : List ℕ → Option Did → List ℕ
@@ -51,9 +48,7 @@ each_once-all P (x ∷ xs) all = All-cons P x (but x (each_once xs)) (All-head P
 
 -- the blocks that an item within a shape mentions are within it
 blocks_within : (cores blocks words block : ℕ) (op : Option Did) → block < blocks → ForSome op (λ did. (did.core < cores) × (did.block < blocks) × (did.word < words)) → All (λ b. b < blocks) (block ∷ map (λ did. did.block) (option_to_list op))
-blocks_within cores blocks words block None within lies = All-cons (λ b. b < blocks) block [] within (All-nil (λ b. b < blocks))
-blocks_within cores blocks words block (Some did) within lies =
-    All-cons (λ b. b < blocks) block (did.block ∷ []) within (All-cons (λ b. b < blocks) did.block [] (lies did refl).1 (All-nil (λ b. b < blocks)))
+blocks_within cores blocks words block op within lies = λ k d lt. grind arith
 
 all_flat_map : {A B : Type 0} (P : B → Type 0) (f : A → List B) (xs : List A) → All (λ x. All P (f x)) xs → All P (flat_map f xs)
 all_flat_map P f [] all = All-nil P

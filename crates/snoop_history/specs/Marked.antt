@@ -2,7 +2,7 @@
 -- Source: this project's profile.
 use Rattle.std.specs.{Prelude.{◌≡◌, ℕ, ◌+◌, ◌≤◌, ◌<◌, Some, Bool, List, length, filter, slice_get, nat_eq}, List.list_any}
 use Rattle.indexmap.specs.IndexSet.{index_set_len, spare}
-use Rattle.snoop_history.specs.{declared.touched.TouchedBlocks.TheInside.Inside, Mentions.Mentions}
+use Rattle.snoop_history.specs.{declared.board.TouchedBlocks.TheInside.Inside, Mentions.Mentions}
 
 -- touched blocks as callers see them
 abbrev pub mentions : Inside → Mentions

@@ -8,7 +8,6 @@ mod log;
 mod packed;
 mod report;
 mod totals;
-mod touched;
 
 pub use board::Board;
 pub use items::{Came, Did, Item, Sent, Totals};

@@ -4,10 +4,9 @@ ghost use Rattle.snoop_history.specs.History.{next_number, flat, answers_of, las
 ghost use Rattle.snoop_history.specs.Within.{IsItemWithin};
 ghost use Rattle.snoop_history.specs.Totals.{totals_of, touched};
 
-use crate::board::Board;
+use crate::board::{Board, TouchedBlocks};
 use crate::items::{Did, Item, Totals};
 use crate::packed::Packed;
-use crate::touched::TouchedBlocks;
 use snoop_trace::{NoMemory, Shape};
 use std::alloc::Global;
 use std::marker::Model;
@@ -193,8 +192,8 @@ impl Log {
             return false;
         }
         for place in 0..self.len() {
-            let one = self.items[place].unpack();
-            let other = other.items[place].unpack();
+            let one = self.item(place).unwrap();
+            let other = other.item(place).unwrap();
             if !is_same(one, other) {
                 return false;
             }

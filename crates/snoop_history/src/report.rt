@@ -5,7 +5,7 @@ ghost use Rattle.std.specs.Io.KnownBytes.{Appends};
 ghost use Rattle.std.specs.List.{range_with_len};
 ghost use Rattle.snoop_trace.specs.Output.{AppendsFront, BlamesWriter};
 ghost use Rattle.snoop_history.specs.History.{flat};
-ghost use Rattle.snoop_history.specs.Report.{values_text, totals_text, block_text, report_of};
+ghost use Rattle.snoop_history.specs.Report.{totals_text, block_text, report_of};
 
 use crate::items::Totals;
 use crate::log::Log;
@@ -40,17 +40,6 @@ fn push_totals(out: &mut Vec<u8>, t: Totals) -> Result<(), NoMemory>
     push_byte(out, b'\n')
 }
 
-// Appends the values of a block's words.
-fn push_values(out: &mut Vec<u8>, log: &Log, block: u32) -> Result<(), NoMemory>
-    requires { block < log.now.blocks }
-    ensures { OnOk result (out.new.items ≡ out.old.items ++ values_text (map (flat log.now.items block) (range_with_len 0 log.now.words))) }
-{
-    for word in 0..log.words() {
-        push_count(out, " ", log.flat(block, word).unwrap())?;
-    }
-    Ok(())
-}
-
 // Appends the line of a block.
 fn push_block(out: &mut Vec<u8>, log: &Log, block: u32) -> Result<(), NoMemory>
     requires { block < log.now.blocks }
@@ -58,19 +47,10 @@ fn push_block(out: &mut Vec<u8>, log: &Log, block: u32) -> Result<(), NoMemory>
 {
     push_count(out, "block ", block as u64)?;
     push_text(out, " value")?;
-    push_values(out, log, block)?;
-    push_byte(out, b'\n')
-}
-
-// Appends the report: the totals, and a line for each block that an item mentions.
-fn push_report(out: &mut Vec<u8>, log: &Log) -> Result<(), NoMemory>
-    ensures { OnOk result (out.new.items ≡ out.old.items ++ report_of log.now.words log.now.items) }
-{
-    push_totals(out, log.totals())?;
-    for block in log.touched() {
-        push_block(out, log, *block)?;
+    for word in 0..log.words() {
+        push_count(out, " ", log.flat(block, word).unwrap())?;
     }
-    Ok(())
+    push_byte(out, b'\n')
 }
 
 /// Writes the report of a history: five lines of totals, then a line for each block that an item
@@ -89,6 +69,9 @@ pub fn write_report<W: Sink>(alloc: Global, writer: &mut W, log: &Log) -> Result
     ensures blamed { BlamesWriter (W.failed writer.old) (W.failed writer.new) (result ≡ Err WriteFault.Write) }
 {
     let mut report = Vec::new(alloc);
-    push_report(&mut report, log)?;
+    push_totals(&mut report, log.totals())?;
+    for block in log.touched() {
+        push_block(&mut report, log, *block)?;
+    }
     write_whole(writer, &report)
 }

@@ -19,7 +19,7 @@ returns-in-Some c =
     let read : c.index.result.now ≡ slice_index counts core = get_or_read _ _ _ within c.index.ensures 0 in
     let one_more : c.saturating_add.result ≡ counted (slice_index counts core) true = omega arith in
     let after = absorbed_as _ _ c.args.item c.in-Some.did own (search rules) (search rules) (search rules) (ap (λ n. slice_set counts core n) one_more) (search rules) (search rules) in
-    record { value = after ∙ ap (λ (t : Tables). absorbed t c.args.item) c.self.view_is; board = board_after c.self.view_is _ c.args.item after }
+    record { value = after ∙ ap (λ (t : Tables). absorbed t c.args.item) c.self.view_is; board = board_after c.self.view_is c.args.item after }
 
 pub returns-in_default : goal.returns-in_default
-returns-in_default c = record { value = search rules ∙ ap (λ (t : Tables). absorbed t c.args.item) c.self.view_is; board = board_after c.self.view_is _ c.args.item (search rules) }
+returns-in_default c = record { value = search rules ∙ ap (λ (t : Tables). absorbed t c.args.item) c.self.view_is; board = board_after c.self.view_is c.args.item (search rules) }

@@ -1,4 +1,4 @@
-use Rattle.std.proofs.Common.{◌≡◌, [], ◌∷◌, ◌++◌, map, sym, ap, ◌∙◌, arith, ◌<◌, ◌^◌, length}
+use Rattle.std.proofs.Common.{◌≡◌, [], ◌∷◌, ◌++◌, map, sym, ap, ◌∙◌, arith}
 use Rattle.snoop_history.proofs.{Pushed.next_number_le, Legal.listed-push, Common.{Item, length-map, map-append, unpacked}, Boards.board-shape, Kept.tallied_as}
 use Rattle.snoop_history.proofs.log.Log.push.Goals as goal
 
@@ -23,6 +23,5 @@ new-requires-clause-number c =
     let items = map unpacked c.self.inside.items.items in
     let view = sym c.self.view_is in
     let room = rw view at c.requires.room in
-    let few : length items < 2 ^ 48 = omega (arith, length-map c.self.inside.items.items unpacked, c.self.inside.items.ok.0) in
     let numbered = rw view at c.requires.numbered in
-    λ did is. omega (arith, numbered did is, next_number_le items did.core, few)
+    λ did is. omega (arith, numbered did is, next_number_le items did.core, length-map c.self.inside.items.items unpacked, c.self.inside.items.ok.0)

@@ -1,6 +1,6 @@
 use Rattle.std.proofs.Common.{refl, ◌∙◌, Some, ap}
 use Rattle.snoop_history.proofs.Marks.{marked-before, unmarked, is_inside, mark_read}
-use Rattle.snoop_history.proofs.touched.TouchedBlocks.mention.Goals as goal
+use Rattle.snoop_history.proofs.board.TouchedBlocks.mention.Goals as goal
 
 pub put_last-requires-clause-unmarked : goal.put_last-requires-clause-unmarked
 put_last-requires-clause-unmarked c =

@@ -1,6 +1,6 @@
 use Rattle.std.proofs.{Common.{◌≡◌, ap, arith, false, length, replicate}, lemmas.List.length-replicate}
 use Rattle.snoop_history.proofs.Marks.{marks-at_first}
-use Rattle.snoop_history.proofs.touched.TouchedBlocks.new.Goals as goal
+use Rattle.snoop_history.proofs.board.TouchedBlocks.new.Goals as goal
 
 pub invariant_of-result : goal.invariant_of-result
 invariant_of-result c =

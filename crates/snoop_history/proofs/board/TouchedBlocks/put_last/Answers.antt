@@ -1,6 +1,6 @@
 use Rattle.std.{proofs.Common.{◌≡◌, ◌∙◌, [], true, false, length, arith, ap, subst, length-set, length-append}, specs.Prelude.{◌∷◌, IsOk}}
 use Rattle.snoop_history.proofs.Marks.{inserted, room-left, marks-after, is_inside, is_free}
-use Rattle.snoop_history.proofs.touched.TouchedBlocks.put_last.Goals as goal
+use Rattle.snoop_history.proofs.board.TouchedBlocks.put_last.Goals as goal
 
 pub invariant_of-self : goal.invariant_of-self
 invariant_of-self c =

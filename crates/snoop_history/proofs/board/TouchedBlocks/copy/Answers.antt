@@ -1,6 +1,6 @@
 use Rattle.std.proofs.Common.{◌≡◌, ◌∙◌, ap, arith, length}
 use Rattle.snoop_history.proofs.{Common.{each_same, spare}, Pushed.length-filter-le}
-use Rattle.snoop_history.proofs.touched.TouchedBlocks.copy.Goals as goal
+use Rattle.snoop_history.proofs.board.TouchedBlocks.copy.Goals as goal
 
 pub overflow_sub-len : goal.overflow_sub-len
 overflow_sub-len c =
