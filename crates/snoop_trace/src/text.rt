@@ -131,33 +131,15 @@ fn read_known<E: Entry, C: Entries<E> + Drop, R: Source, K: Begun>(
     (inner, read)
 }
 
-// The same, with what is known of the reader picked at the call.
-fn read_from<E: Entry, C: Entries<E> + Drop, R: Source>(
-    reader: R,
-    alloc: Global,
-    protocol: Option<Protocol>,
-    shape: Shape,
-    entries: C,
-) -> (R, Result<C, TextFault>)
-    requires empty { C.listed entries ≡ [] }
-    requires fits { (entry : E) → IsSaid (E.says shape) entry → C.fits entry }
-    ensures read { IfSome (R.remaining reader)
-        (λ bytes. Gives C.listed result.1 (entries_in (E.says shape) (heading_asked protocol shape) (records_of bytes))) }
-    ensures said { IfOk result.1 (λ entries. All (IsSaid (E.says shape)) (C.listed entries)) }
-    ensures never_blamed { R.never_fails ≡ true → result.1 ≢ Err TextFault.Read }
-    ensures blamed { BlamesReader (R.failed reader) (R.failed result.0) (result.1 ≡ Err TextFault.Read) }
-{
-    read_known::<E, C, R, Brand>(reader, alloc, protocol, shape, entries)
-}
-
-// The entries that a text gives, after none, or its first fault.
-fn read_entries<E: Entry, C: Entries<E> + Drop, R: Source>(
+// The same, of a reader that is lent.
+fn read_entries<E: Entry, C: Entries<E> + Drop, R: Source, K: Begun>(
     alloc: Global,
     reader: &mut R,
     protocol: Option<Protocol>,
     shape: Shape,
     entries: C,
 ) -> Result<C, TextFault>
+    requires before { R.failed reader.old ≡ K.before }
     requires empty { C.listed entries ≡ [] }
     requires fits { (entry : E) → IsSaid (E.says shape) entry → C.fits entry }
     ensures read { IfSome (R.remaining reader.old)
@@ -169,7 +151,7 @@ fn read_entries<E: Entry, C: Entries<E> + Drop, R: Source>(
     replace_with(
         reader,
         entries,
-        |reader, entries| read_from::<E, C, R>(reader, alloc, protocol, shape, entries),
+        |reader, entries| read_known::<E, C, R, K>(reader, alloc, protocol, shape, entries),
     )
 }
 
@@ -207,7 +189,7 @@ pub fn read_steps<R: Source>(
     ensures never_blamed { R.never_fails ≡ true → result ≢ Err TextFault.Read }
     ensures blamed { BlamesReader (R.failed reader.old) (R.failed reader.new) (result ≡ Err TextFault.Read) }
 {
-    read_entries::<Step, Vec<Step>, R>(alloc, reader, Some(protocol), shape, Vec::new(alloc))
+    gather_steps::<Vec<Step>, R>(alloc, reader, protocol, shape, Vec::new(alloc))
 }
 
 /// The same steps, or the same fault, gathered in another list, which is empty at first and fits every step of the shape.
@@ -226,7 +208,7 @@ pub fn gather_steps<C: Entries<Step> + Drop, R: Source>(
     ensures blamed { BlamesReader (R.failed reader.old) (R.failed reader.new) (result ≡ Err TextFault.Read) }
 {
     shape.within_limits();
-    read_entries::<Step, C, R>(alloc, reader, Some(protocol), shape, steps)
+    read_entries::<Step, C, R, Brand>(alloc, reader, Some(protocol), shape, steps)
 }
 
 /// The rows that a text gives, or its first fault.
@@ -244,7 +226,7 @@ pub fn read_rows<R: Source>(
     ensures never_blamed { R.never_fails ≡ true → result ≢ Err TextFault.Read }
     ensures blamed { BlamesReader (R.failed reader.old) (R.failed reader.new) (result ≡ Err TextFault.Read) }
 {
-    read_entries::<Row, Vec<Row>, R>(alloc, reader, None, shape, Vec::new(alloc))
+    read_entries::<Row, Vec<Row>, R, Brand>(alloc, reader, None, shape, Vec::new(alloc))
 }
 
 /// What the rows of a text ask for, in its order, or the fault of `read_rows`: gathered in another list, which is empty at first
@@ -264,5 +246,5 @@ pub fn gather_asked<C: Entries<Asked> + Drop, R: Source>(
     ensures blamed { BlamesReader (R.failed reader.old) (R.failed reader.new) (result ≡ Err TextFault.Read) }
 {
     shape.within_limits();
-    read_entries::<Asked, C, R>(alloc, reader, None, shape, asked)
+    read_entries::<Asked, C, R, Brand>(alloc, reader, None, shape, asked)
 }
