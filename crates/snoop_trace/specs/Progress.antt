@@ -4,7 +4,7 @@ use Rattle.std.specs.Prelude.{◌≡◌, ℕ, ◌+◌, List, length, Option, Som
 use Rattle.csv.specs.{Reading.{Ready, default_config, records_from, reader_config, reader_trim}, declared.parser.State.State}
 use Rattle.csv.specs.declared.reader.Reader.{Reader}
 use Rattle.csv.specs.declared.reader.Trim.TheVariants as trim
-use Rattle.snoop_trace.specs.{Extent.Extent, Heading.heading_for, declared.{fault.TextFault.{TextFault}, heading.Heading.Heading, protocol.Protocol.Protocol}}
+use Rattle.snoop_trace.specs.{Extent.Extent, Heading.heading_for, declared.{fault.TextFault.{TextFault}, record.Heading.Heading, protocol.Protocol.Protocol}}
 
 -- a reader of records with no header row, that trims nothing
 pub record IsPlain {R : Type 0} (r : Reader R) : Type 0 where

@@ -5,9 +5,8 @@ ghost use Rattle.snoop_trace.specs.Faults as spec;
 ghost use Rattle.snoop_trace.specs.Grammar.{letter_of, number};
 
 use crate::fault::TextFault;
-use crate::heading::Heading;
 use crate::protocol::Protocol;
-use crate::record::{Entry, letter_of, number};
+use crate::record::{Entry, Heading, letter_of, number};
 use crate::shape::Shape;
 use crate::step::{Row, Step};
 use csv::ByteRecord;

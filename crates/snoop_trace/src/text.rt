@@ -9,9 +9,8 @@ ghost use Rattle.snoop_trace.specs.Text.{BlamesReader, Gives, entries_in, record
 ghost use Rattle.snoop_trace.specs.declared.step.Row.{Row as Given};
 
 use crate::fault::TextFault;
-use crate::heading::Heading;
 use crate::protocol::Protocol;
-use crate::record::Entry;
+use crate::record::{Entry, Heading};
 use crate::shape::Shape;
 use crate::step::{Asked, Row, Step};
 use crate::streams::Source;

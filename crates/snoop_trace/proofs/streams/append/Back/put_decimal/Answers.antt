@@ -1,5 +1,5 @@
 use Rattle.std.proofs.{Common.{length, ap, arith}, lemmas.Fmt.decimal_digit}
-use Rattle.snoop_trace.proofs.streams.step_text.Back.put_decimal.Goals as goal
+use Rattle.snoop_trace.proofs.streams.append.Back.put_decimal.Goals as goal
 
 pub put-requires : goal.put-requires
 put-requires c = omega (arith, c.requires, ap length (decimal_digit c.args.number c.if-number-lt10.true))
