@@ -123,7 +123,7 @@ impl Heading {
         let (protocol, cores, blocks, block_bytes, words) = five_of(fields).ok_or(
             TextFault::BadFields(n),
         )?;
-        let protocol = protocol_in(n, protocol)?;
+        let protocol = protocol_named(protocol).ok_or(TextFault::BadKind(n))?;
         let cores = number_in(n, cores)?;
         let blocks = number_in(n, blocks)?;
         let block_bytes = number_in(n, block_bytes)?;
@@ -173,23 +173,17 @@ fn block_in(shape: Shape, n: u64, address: u64) -> Result<u32, TextFault>
     shape.block_of(address).ok_or(TextFault::NoBlock(n))
 }
 
-#[tactic(auto, unfolding(crate::specs::Heading::version_in))]
+#[tactic(auto, using(crate::proofs::FieldLemmas::version_at), unfolding(crate::specs::Heading::version_in))]
 fn version_in(n: u64, fields: &ByteRecord) -> Result<u64, TextFault>
     ensures { result ≡ heading.version_in n (fields_of fields.now) }
 {
-    let field = version_of(fields).ok_or(TextFault::BadFields(n))?;
+    let field = fields.get(1).ok_or(TextFault::BadFields(n))?;
     let version = number_in(n, field)?;
     if version == 2 {
         Ok(version)
     } else {
         Err(TextFault::BadVersion(n))
     }
-}
-
-fn protocol_in(n: u64, name: &[u8]) -> Result<Protocol, TextFault>
-    ensures { result ≡ heading.protocol_in n name.now }
-{
-    protocol_named(name).ok_or(TextFault::BadKind(n))
 }
 
 #[tactic(auto, unfolding(crate::specs::Heading::protocol_named))]
@@ -313,14 +307,6 @@ fn three_of(fields: &ByteRecord) -> Option<(&[u8], &[u8], &[u8])>
         return None;
     }
     Some((fields.get(1)?, fields.get(2)?, fields.get(3)?))
-}
-
-// The field after the kind, where there is one.
-#[tactic(auto, using(crate::proofs::FieldLemmas::version_at))]
-fn version_of(fields: &ByteRecord) -> Option<&[u8]>
-    ensures { option_map (λ f. f.now) result ≡ heading.version_field (fields_of fields.now) }
-{
-    fields.get(1)
 }
 
 // The five fields after the kind and the one that follows it, where there are five.
