@@ -21,7 +21,7 @@ pub fn step_fault(
 ) -> Option<TextFault>
     ensures { result ≡ spec.step_fault protocol shape n (fields_of fields.now) }
 {
-    if n == 1 && Heading::is_begun(fields) {
+    if Heading::is_begun(n, fields) {
         Heading::new(protocol, shape).read(n, fields).err()
     } else {
         Step::from_record(shape, n, fields).err()

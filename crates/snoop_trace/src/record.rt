@@ -1,5 +1,5 @@
 //! From a record to a heading, a step or a row.
-ghost use Rattle.std.specs.Prelude.{◌≡◌, ◌≤◌, ℕ, List, Result, IfErr, length, option_map};
+ghost use Rattle.std.specs.Prelude.{◌≡◌, ◌≤◌, ◌==◌, ◌&&◌, ℕ, List, Result, IfErr, length, option_map};
 ghost use Rattle.csv.specs.Records.{fields_of};
 ghost use Rattle.snoop_trace.specs.Asked.{asked_in};
 ghost use Rattle.snoop_trace.specs.Extent.{Extent};
@@ -65,7 +65,7 @@ impl Entry for Row {
 impl Entry for Asked {
     ghost says = { asked_in };
 
-    #[tactic(auto, unfolding(crate::specs::Asked::asked_in))]
+    #[tactic(auto, using(crate::proofs::WithinLemmas::block_is), unfolding(crate::specs::Asked::asked_in, crate::specs::Grammar::row_in))]
     #[inline(always)]
     fn from_record(shape: Shape, n: u64, fields: &ByteRecord) -> Result<Self, TextFault> {
         let letter = letter_of(fields).ok_or(TextFault::BadKind(n))?;
@@ -107,11 +107,11 @@ impl Heading {
         }
     }
 
-    /// Whether a record is a heading.
-    pub(crate) fn is_begun(fields: &ByteRecord) -> bool
-        ensures { result ≡ heading.is_heading (fields_of fields.now) }
+    /// Whether record n is a heading: the first record alone may be one.
+    pub(crate) fn is_begun(n: u64, fields: &ByteRecord) -> bool
+        ensures { result ≡ ((n == 1) && heading.is_heading (fields_of fields.now)) }
     {
-        letter_of(fields) == Some(b'V')
+        n == 1 && letter_of(fields) == Some(b'V')
     }
 
     // What record n says, which is a heading.
