@@ -18,13 +18,9 @@ use Rattle.csv.specs.declared.parser.State.TheVariants as st
 digit_plain : (c : ℕ) → digit_value c < 10 → needs_byte default_writer c ≡ false
 digit_plain c h = let r = digit_from_value c h in grind (arith, nat_tests)
 
-digits_plain : (ds : List ℕ) → AllDigits 10 ds → list_any (needs_byte default_writer) ds ≡ false
-digits_plain [] h = refl
-digits_plain (c ∷ ds) h = rw (digit_plain c h.0, digits_plain ds h.1) refl
-
-digits_all : (ds : List ℕ) → AllDigits 10 ds → list_all (λ c. is_digit c 10) ds ≡ true
-digits_all [] h = refl
-digits_all (c ∷ ds) h = rw (lt-ltb (digit_value c) 10 h.0, digits_all ds h.1) refl
+digits_read : (ds : List ℕ) → AllDigits 10 ds → (list_any (needs_byte default_writer) ds ≡ false) × (list_all (λ c. is_digit c 10) ds ≡ true)
+digits_read [] h = (refl, refl)
+digits_read (c ∷ ds) h = let rest = digits_read ds h.1 in (rw (digit_plain c h.0, rest.0) refl, rw (lt-ltb (digit_value c) 10 h.0, rest.1) refl)
 
 -- no decimal number begins with 0x
 no_hex : (ds : List ℕ) → AllDigits 10 ds → starts_with nat_eq ds (codes "0x") ≡ false
@@ -34,7 +30,7 @@ no_hex (c ∷ d ∷ ds) h = let r = digit_from_value d h.1.0 in grind (arith, na
 
 numeral_digits : (ds : List ℕ) (n : ℕ) → 0 < length ds → AllDigits 10 ds → digits_value 10 ds ≡ n → n < 2 ^ 64 → numeral 10 ds ≡ Some n
 numeral_digits [] n some h v small = absurd (omega arith)
-numeral_digits (d ∷ ds) n some h v small = rw (digits_all (d ∷ ds) h, v, lt-ltb n (2 ^ 64) small) refl
+numeral_digits (d ∷ ds) n some h v small = rw ((digits_read (d ∷ ds) h).1, v, lt-ltb n (2 ^ 64) small) refl
 
 number_decimal : (n : ℕ) → n < 2 ^ 64 → number (decimal n) ≡ Some n
 unfolding number
@@ -43,7 +39,7 @@ number_decimal n h =
     rw (no_hex (decimal n) digits.1) (numeral_digits (decimal n) n digits.0 digits.1 value h)
 
 plain : (n : ℕ) → n < 2 ^ 64 → list_any (needs_byte default_writer) (decimal n) ≡ false
-plain n h = digits_plain (decimal n) (decimal_is_IsNumeral n h).0.1
+plain n h = (digits_read (decimal n) (decimal_is_IsNumeral n h).0.1).0
 
 -- where the commas stand: in a row's text on the left, in a step's or a heading's on the right
 commas : (text : List ℕ) (fields : List (List ℕ))

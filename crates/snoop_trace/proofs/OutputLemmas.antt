@@ -1,7 +1,7 @@
 -- What a writer holds after several writes.
-use Rattle.std.proofs.Common.{ℕ, ◌+◌, List, [], ◌++◌, length, take, drop, Option, Some, None, refl, sym, ◌∙◌, append_assoc, ◌≡◌, ◌≤◌, ap, arith}
-use Rattle.std.{specs.{Prelude.{Result, Ok, Err, OnErr, ◌-◌}, List.slice_range}, proofs.{Math.Seq.take-add, lemmas.List.Concat.flat_map-append}}
-use Rattle.snoop_trace.proofs.Common.{Appends, AppendsFront, Extent, Keeps, Step, slice-end, steps_text, take-append-drop}
+use Rattle.std.proofs.Common.{ℕ, ◌+◌, List, [], ◌++◌, length, take, drop, Option, Some, None, refl, sym, ◌∙◌, append_assoc}
+use Rattle.std.{specs.{Prelude.{Result, Ok, Err, OnErr, ◌-◌}}, proofs.{Math.Seq.take-add}}
+use Rattle.snoop_trace.proofs.Common.{Appends, AppendsFront, Keeps, slice-end, take-append-drop}
 pub use Rattle.csv.proofs.WriteFacts.{appends-more as appends_more, appends-none as appends_none}
 
 appends_same : (a b c : Option (List ℕ)) (x : List ℕ) → Appends a b x → Keeps b c → Appends a c x

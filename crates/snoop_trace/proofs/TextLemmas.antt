@@ -31,10 +31,6 @@ bind_if : {A B : Type 0} (b : Bool) (r q : Result A TextFault) (f : A → Result
 bind_if true r q f = refl
 bind_if false r q f = refl
 
-if_some : {X : Type 0} (o : Option X) (P : X → Type 0) → ((x : X) → o ≡ Some x → P x) → IfSome o P
-if_some None P f = tt
-if_some (Some x) P f = f x refl
-
 -- a fault that was said is answered
 gives_fault : {A X : Type 0} (view : X → List A) (named : TextFault) (said : Result (List A) TextFault) → said ≡ Err named → Gives view (Err named) said
 gives_fault view fault.Read said is = tt
@@ -90,7 +86,7 @@ pub record SoFar {R A : Type 0} (rem : R → Option (List ℕ)) (says : Says A) 
 
 module _ {R : Type 0} (rem : R → Option (List ℕ)) (a b : Reader R) (f : List (List ℕ)) (config : reader_config a ≡ default_config) where
   -- a record that was read
-  took : (xs : List ℕ) → ReadRecord rem a b true f → source_of rem a ≡ Some xs
+  pub took : (xs : List ℕ) → ReadRecord rem a b true f → source_of rem a ≡ Some xs
       → (ys : List ℕ) × (next_record default_config (reader_state a) [] [] xs ≡ Some (f, reader_state b, ys)) × (source_of rem b ≡ Some ys)
   unfolding Reached
   took xs r e =
@@ -131,10 +127,3 @@ module _ {R : Type 0} (rem : R → Option (List ℕ)) (a b : Reader R) (f : List
     refused r view answer named gives is = IfSome_then (source_of rem start) far.split (λ xs far.
         let (ys, next, known) = took far.rest r far.known in
         rw gives (gives_fault view named _ (far.same ∙ rw (one_more far.rest ys next, is) refl)))
-
--- what a record that was read says
-pub took_entry : {R : Type 0} (rem : R → Option (List ℕ)) (a b : Reader R) (f : List (List ℕ)) {A : Type 0} (says : List (List ℕ) → Result A TextFault)
-    → reader_config a ≡ default_config → ReadRecord rem a b true f → (entry : A) → says f ≡ Ok entry
-    → IfSome (source_of rem a) (λ xs. (fields : List (List ℕ)) × (ys : List ℕ)
-    × (next_record default_config (reader_state a) [] [] xs ≡ Some (fields, reader_state b, ys)) × (source_of rem b ≡ Some ys) × (says fields ≡ Ok entry))
-took_entry rem a b f says config r entry e = if_some (source_of rem a) _ (λ xs at. let (ys, next, left) = took rem a b f config xs r at in (f, ys, next, left, e))
