@@ -1,7 +1,7 @@
 -- What is refused in a record names that record.
 use Rattle.std.specs.Prelude.{Result, Ok, Err, IfErr, Bool, true, false, ℕ, List, Option, Some, None, if◌then◌else◌}
-use Rattle.snoop_trace.{proofs.Common.{Extent, Heading, TextFault, ok_or}, specs.Heading.{heading_as, heading_in, version_in}}
-use Rattle.snoop_trace.specs.Grammar.{◌>>=◌, NamesRecord, row_by_letter, order, respond, store, without_value}
+use Rattle.snoop_trace.{proofs.Common.{Extent, Heading, TextFault, ok_or}, specs.{Heading.{heading_as, heading_in, version_in}, declared.step.Op.Op}}
+use Rattle.snoop_trace.specs.Grammar.{◌>>=◌, NamesRecord, order, respond, store, without_value}
 
 -- a reading whose faults name a record
 names_bind : {A B : Type 0} (r : Result A TextFault) (f : A → Result B TextFault) → IfErr r NamesRecord → ((x : A) → IfErr (f x) NamesRecord) → IfErr (r >>= f) NamesRecord
@@ -18,9 +18,13 @@ names_if false r q p p2 = p2
 
 ruleset names = (names_bind, names_or, names_if)
 
-pub names_row : (shape : Extent) (n letter : ℕ) (fs : List (List ℕ)) → IfErr (row_by_letter shape n letter fs) NamesRecord
-unfolding row_by_letter without_value store
-names_row shape n letter fs = search names depth 16
+pub names_without_value : (shape : Extent) (n : ℕ) (op : Op) (fs : List (List ℕ)) → IfErr (without_value shape n op fs) NamesRecord
+unfolding without_value
+names_without_value shape n op fs = search names depth 12
+
+pub names_store : (shape : Extent) (n : ℕ) (fs : List (List ℕ)) → IfErr (store shape n fs) NamesRecord
+unfolding store
+names_store shape n fs = search names depth 12
 
 pub names_order : (shape : Extent) (n : ℕ) (fs : List (List ℕ)) → IfErr (order shape n fs) NamesRecord
 unfolding order

@@ -52,7 +52,7 @@ impl Entry for Step {
 impl Entry for Row {
     ghost says = { spec.row_in };
 
-    #[tactic(auto, using(crate::proofs::RecordLemmas::names_row), unfolding(crate::specs::Grammar::row_in))]
+    #[tactic(auto, unfolding(crate::specs::Grammar::row_in))]
     #[inline(always)]
     fn from_record(shape: Shape, n: u64, fields: &ByteRecord) -> Result<Self, TextFault> {
         let letter = letter_of(fields).ok_or(TextFault::BadKind(n))?;
@@ -229,10 +229,11 @@ fn store(shape: Shape, n: u64, fields: &ByteRecord) -> Result<Row, TextFault>
 }
 
 // What a core asks for in record n, by its letter.
-#[tactic(auto, unfolding(crate::specs::Grammar::row_by_letter))]
+#[tactic(auto, using(crate::proofs::RecordLemmas::names_without_value, crate::proofs::RecordLemmas::names_store), unfolding(crate::specs::Grammar::row_by_letter))]
 #[inline(always)]
 fn row_by_letter(shape: Shape, n: u64, letter: u8, fields: &ByteRecord) -> Result<Row, TextFault>
-    ensures { result ≡ spec.row_by_letter shape n letter (fields_of fields.now) }
+    ensures row { result ≡ spec.row_by_letter shape n letter (fields_of fields.now) }
+    ensures fault { IfErr result NamesRecord }
 {
     match letter {
         b'L' => without_value(shape, n, Op::Load, fields),
