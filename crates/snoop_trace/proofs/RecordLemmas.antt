@@ -1,6 +1,6 @@
 -- What is refused in a record names that record.
 use Rattle.std.specs.Prelude.{Result, Ok, Err, IfErr, Bool, true, false, ℕ, List, Option, Some, None, if◌then◌else◌}
-use Rattle.snoop_trace.{proofs.Common.{Extent, Heading, TextFault, ok_or}, specs.{Heading.{heading_as, heading_in, version_in}, declared.step.Op.Op}}
+use Rattle.snoop_trace.{proofs.Common.{Extent, TextFault, ok_or}, specs.declared.step.Op.Op}
 use Rattle.snoop_trace.specs.Grammar.{◌>>=◌, NamesRecord, order, respond, store, without_value}
 
 -- a reading whose faults name a record
@@ -33,7 +33,3 @@ names_order shape n fs = search names depth 12
 pub names_respond : (shape : Extent) (n : ℕ) (fs : List (List ℕ)) → IfErr (respond shape n fs) NamesRecord
 unfolding respond
 names_respond shape n fs = search names depth 12
-
-pub names_heading_as : (asked : Heading) (n : ℕ) (fs : List (List ℕ)) → IfErr (heading_as asked n fs) NamesRecord
-unfolding heading_as heading_in version_in
-names_heading_as asked n fs = search names depth 20

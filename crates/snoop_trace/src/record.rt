@@ -117,7 +117,8 @@ impl Heading {
     // What record n says, which is a heading.
     #[tactic(auto, unfolding(crate::specs::Heading::heading_in))]
     fn from_record(n: u64, fields: &ByteRecord) -> Result<Heading, TextFault>
-        ensures { result ≡ heading.heading_in n (fields_of fields.now) }
+        ensures heading { result ≡ heading.heading_in n (fields_of fields.now) }
+        ensures fault { IfErr result NamesRecord }
     {
         version_in(n, fields)?;
         let (protocol, cores, blocks, block_bytes, words) = five_of(fields).ok_or(
@@ -140,7 +141,8 @@ impl Heading {
     /// The same heading, where record n says it.
     #[tactic(auto, unfolding(crate::specs::Heading::heading_as))]
     pub(crate) fn read(self, n: u64, fields: &ByteRecord) -> Result<Heading, TextFault>
-        ensures { result ≡ heading.heading_as self n (fields_of fields.now) }
+        ensures heading { result ≡ heading.heading_as self n (fields_of fields.now) }
+        ensures fault { IfErr result NamesRecord }
     {
         let heading = Heading::from_record(n, fields)?;
         if heading == self {
@@ -175,7 +177,8 @@ fn block_in(shape: Shape, n: u64, address: u64) -> Result<u32, TextFault>
 
 #[tactic(auto, using(crate::proofs::FieldLemmas::version_at), unfolding(crate::specs::Heading::version_in))]
 fn version_in(n: u64, fields: &ByteRecord) -> Result<u64, TextFault>
-    ensures { result ≡ heading.version_in n (fields_of fields.now) }
+    ensures version { result ≡ heading.version_in n (fields_of fields.now) }
+    ensures fault { IfErr result NamesRecord }
 {
     let field = fields.get(1).ok_or(TextFault::BadFields(n))?;
     let version = number_in(n, field)?;

@@ -1,6 +1,6 @@
 use Rattle.std.proofs.{Common.{◌+◌, ◌∷◌, [], inl, inr, refl, sym, ◌∙◌, arith}}
-use Rattle.snoop_trace.proofs.Common.{All-push, IsSaid, append-nil, common_steps, err_from_is_err_and, fields_of, length-append, nat_tests}
-use Rattle.snoop_trace.{proofs.{RecordLemmas.names_heading_as, TextLemmas.{done, further, no_heading, refused}}, specs.Progress.IsPlain}
+use Rattle.snoop_trace.proofs.Common.{All-push, IsSaid, append-nil, err_from_is_err_and, fields_of, length-append, nat_tests}
+use Rattle.snoop_trace.{proofs.TextLemmas.{done, further, no_heading, refused}, specs.Progress.IsPlain}
 use Rattle.snoop_trace.proofs.text.take_text.Goals.{in-Some+in_ok-read-in-Some, in_default+in_ok-from_record-in_default+in_ok-append-in_default}
 use Rattle.snoop_trace.proofs.text.take_text.Goals.{in_default-via-in-Some+else-is_begun, in_default-via-in_default}
 use Rattle.snoop_trace.proofs.text.take_text.Goals as goal
@@ -16,12 +16,7 @@ returns-in_err-read-in-Some-clause-read g c =
     let read = rw c.in-Ok-true.field-0-test at (c.in-Ok-true.ensures.reads c.loop-i.invariant.0.trim c.loop-i.invariant.0.ready) in
     let p = err_from_is_err_and c.from_residual.result c.from_residual.ensures.1 in
     refused g.R.Read.remaining c.loop-i.text c.read_byte_record.new.self f c.loop-i.invariant.0.config _ _ _ _ _ c.loop-i.invariant.1 read _ _
-    c.in_err-read-in-Some.field-0.0 (rw p.2 at p.1) (rw (c.in-Some.is, sym c.is_begun.ensures ∙ c.if-is_begun.true, sym c.read.ensures ∙ c.in_err-read-in-Some.was) refl)
-
-pub returns-in_err-read-in-Some-clause-not_read : goal.returns-in_err-read-in-Some-clause-not_read
-returns-in_err-read-in-Some-clause-not_read g c =
-    let named = names_heading_as c.in-Some.asked (c.loop-i.i + 1) (fields_of c.read_byte_record.new.row) in
-    grind (arith, common_steps)
+    c.in_err-read-in-Some.field-0.0 (rw p.2 at p.1) (rw (c.in-Some.is, sym c.is_begun.ensures ∙ c.if-is_begun.true, sym c.read.ensures.heading ∙ c.in_err-read-in-Some.was) refl)
 
 pub returns-in_err-from_record-in_default-clause-read : goal.returns-in_err-from_record-in_default-clause-read
 returns-in_err-from_record-in_default-clause-read g c =
@@ -49,7 +44,7 @@ loop-i-preserved g c =
       | in-Some+in_ok-read-in-Some w ↦
           let begun = sym w.is_begun.ensures ∙ w.if-is_begun.true in rw w.entries-is (
             plain,
-            rw append-nil at (on [] (rw (w.in-Some.is, begun, sym w.read.ensures ∙ w.in_ok-read-in-Some.was) refl)),
+            rw append-nil at (on [] (rw (w.in-Some.is, begun, sym w.read.ensures.heading ∙ w.in_ok-read-in-Some.was) refl)),
             c.loop-i.invariant.2,
             inl (grind (arith, nat_tests)),
             grind (arith, nat_tests),
