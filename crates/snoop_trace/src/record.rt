@@ -29,7 +29,7 @@ pub(crate) trait Entry: Copy {
 impl Entry for Step {
     ghost says = { spec.step_in };
 
-    #[tactic(auto, using(crate::proofs::RecordLemmas::names_order, crate::proofs::RecordLemmas::names_respond), unfolding(crate::specs::Grammar::step_in, crate::specs::Grammar::ask))]
+    #[tactic(auto, unfolding(crate::specs::Grammar::step_in, crate::specs::Grammar::ask))]
     #[inline(always)]
     fn from_record(shape: Shape, n: u64, fields: &ByteRecord) -> Result<Self, TextFault> {
         match letter_of(fields).ok_or(TextFault::BadKind(n))? {
@@ -205,7 +205,8 @@ fn protocol_named(name: &[u8]) -> Option<Protocol>
 #[tactic(auto, unfolding(crate::specs::Grammar::without_value))]
 #[inline(always)]
 fn without_value(shape: Shape, n: u64, op: Op, fields: &ByteRecord) -> Result<Row, TextFault>
-    ensures { result ≡ spec.without_value shape n op (fields_of fields.now) }
+    ensures row { result ≡ spec.without_value shape n op (fields_of fields.now) }
+    ensures fault { IfErr result NamesRecord }
 {
     let (core, address) = two_of(fields).ok_or(TextFault::BadFields(n))?;
     let core = number_in(n, core)?;
@@ -217,7 +218,8 @@ fn without_value(shape: Shape, n: u64, op: Op, fields: &ByteRecord) -> Result<Ro
 #[tactic(auto, unfolding(crate::specs::Grammar::store))]
 #[inline(always)]
 fn store(shape: Shape, n: u64, fields: &ByteRecord) -> Result<Row, TextFault>
-    ensures { result ≡ spec.store shape n (fields_of fields.now) }
+    ensures row { result ≡ spec.store shape n (fields_of fields.now) }
+    ensures fault { IfErr result NamesRecord }
 {
     let (core, address, value) = three_of(fields).ok_or(TextFault::BadFields(n))?;
     let core = number_in(n, core)?;
@@ -232,7 +234,7 @@ fn store(shape: Shape, n: u64, fields: &ByteRecord) -> Result<Row, TextFault>
 }
 
 // What a core asks for in record n, by its letter.
-#[tactic(auto, using(crate::proofs::RecordLemmas::names_without_value, crate::proofs::RecordLemmas::names_store), unfolding(crate::specs::Grammar::row_by_letter))]
+#[tactic(auto, unfolding(crate::specs::Grammar::row_by_letter))]
 #[inline(always)]
 fn row_by_letter(shape: Shape, n: u64, letter: u8, fields: &ByteRecord) -> Result<Row, TextFault>
     ensures row { result ≡ spec.row_by_letter shape n letter (fields_of fields.now) }
@@ -249,7 +251,8 @@ fn row_by_letter(shape: Shape, n: u64, letter: u8, fields: &ByteRecord) -> Resul
 #[tactic(auto, unfolding(crate::specs::Grammar::order))]
 #[inline(always)]
 fn order(shape: Shape, n: u64, fields: &ByteRecord) -> Result<Step, TextFault>
-    ensures { result ≡ spec.order shape n (fields_of fields.now) }
+    ensures step { result ≡ spec.order shape n (fields_of fields.now) }
+    ensures fault { IfErr result NamesRecord }
 {
     let core = one_of(fields).ok_or(TextFault::BadFields(n))?;
     let core = number_in(n, core)?;
@@ -260,7 +263,8 @@ fn order(shape: Shape, n: u64, fields: &ByteRecord) -> Result<Step, TextFault>
 #[tactic(auto, unfolding(crate::specs::Grammar::respond))]
 #[inline(always)]
 fn respond(shape: Shape, n: u64, fields: &ByteRecord) -> Result<Step, TextFault>
-    ensures { result ≡ spec.respond shape n (fields_of fields.now) }
+    ensures step { result ≡ spec.respond shape n (fields_of fields.now) }
+    ensures fault { IfErr result NamesRecord }
 {
     let address = one_of(fields).ok_or(TextFault::BadFields(n))?;
     let address = number_in(n, address)?;
