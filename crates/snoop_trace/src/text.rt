@@ -193,6 +193,7 @@ pub fn read_steps<R: Source>(
 }
 
 /// The same steps, or the same fault, gathered in another list, which is empty at first and fits every step of the shape.
+#[tactic(auto, using(crate::proofs::WithinLemmas::step_within))]
 pub fn gather_steps<C: Entries<Step> + Drop, R: Source>(
     alloc: Global,
     reader: &mut R,

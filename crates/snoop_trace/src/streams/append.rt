@@ -41,6 +41,7 @@ fn push_digits(out: &mut Vec<u8>, number: u64) -> Result<(), NoMemory>
 }
 
 /// Appends a number in decimal digits. After `NoMemory` nothing is said of what stands there.
+#[tactic(auto, using(std::proofs::lemmas::Fmt::decimal_digit))]
 #[inline(always)]
 pub fn push_decimal(out: &mut Vec<u8>, number: u64) -> Result<(), NoMemory>
     ensures ok { OnOk result (out.new.items ≡ out.old.items ++ decimal number) }
@@ -93,6 +94,7 @@ impl Back {
     }
 
     // Puts a number before the text, in decimal digits.
+    #[tactic(auto, using(std::proofs::lemmas::Fmt::decimal_digit))]
     #[inline(always)]
     fn put_decimal(&mut self, number: u64)
         requires { length self.old + length (decimal number) ≤ 64 }
