@@ -88,7 +88,8 @@ module _ (shape : Extent) (limits : IsWithinLimits shape) where
   line_row : (s : Step) → IsReadableStep shape s → row_text default_writer (row_of shape s) ≡ step_text shape s ++ codes "\n"
   unfolding fields_text is_blank escaped
   line_row (Ask core block word Load) h =
-      rw (plain core (core_small core h.0), plain _ (word_small block word h.1 h.2)) (commas (codes "L") (decimal core ∷ decimal (word_address shape block word) ∷ []))
+      rw (plain core (core_small core h.0), plain _ (word_small block word h.1 h.2))
+      (commas (codes "L") (decimal core ∷ decimal (word_address shape block word) ∷ []))
   line_row (Ask core block word (Store value)) h =
       rw (plain core (core_small core h.0), plain _ (word_small block word h.1 h.2), plain value h.3)
       (commas (codes "S") (decimal core ∷ decimal (word_address shape block word) ∷ decimal value ∷ []))
@@ -129,7 +130,8 @@ module _ (shape : Extent) (limits : IsWithinLimits shape) where
   small = omega arith
 
   -- what csv writes of a heading
-  heading_written : (protocol : Protocol) → row_text default_writer (heading_row (heading_for protocol shape)) ≡ heading_text (heading_for protocol shape) ++ codes "\n"
+  heading_written : (protocol : Protocol)
+      → row_text default_writer (heading_row (heading_for protocol shape)) ≡ heading_text (heading_for protocol shape) ++ codes "\n"
   unfolding fields_text is_blank
   heading_written protocol = rw ((protocol_read protocol).0, plain _ small.0, plain _ small.1, plain _ small.2, plain _ small.3) (commas (codes "V") (codes "2" ∷ protocol_name protocol ∷ decimal shape.cores ∷ decimal shape.blocks ∷ decimal shape.block_bytes ∷ decimal shape.words ∷ []))
 

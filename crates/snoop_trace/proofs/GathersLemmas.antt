@@ -1,8 +1,9 @@
 -- What a writer holds, and then a chunk: how the text that they make grows, moves and is cut.
-use Rattle.std.proofs.{Common.{◌≡◌, ◌<◌, ◌≤◌, ℕ, ◌+◌, List, [], ◌∷◌, ◌++◌, length, get_or, Option, take, drop, ap, subst, sym, ◌∙◌, append_assoc, arith}, lemmas.List.{Concat.flat_map-append, take_all}}
-use Rattle.std.specs.Prelude.{codes}
+use Rattle.std.{proofs.Common.{◌≡◌, ◌<◌, ◌≤◌, ℕ, ◌+◌, List, [], ◌∷◌, ◌++◌, length, get_or, Option, take, drop, ap, subst, sym, ◌∙◌, append_assoc, arith}, specs.Prelude.codes}
+use Rattle.std.proofs.lemmas.List.{Concat.flat_map-append, take_all}
 use Rattle.snoop_trace.proofs.Common.{Appends, AppendsFront, Extent, Gathers, Spills, Step, common_steps, step_text, steps_text, take-append-drop, text_of}
-use Rattle.snoop_trace.{proofs.OutputLemmas.{appends_more, appends_none, front_after, front_cut}, specs.{Heading.{heading_for, heading_text}, declared.protocol.Protocol.Protocol}}
+use Rattle.snoop_trace.proofs.OutputLemmas.{appends_more, appends_none, front_after, front_cut}
+use Rattle.snoop_trace.specs.{Heading.{heading_for, heading_text}, declared.protocol.Protocol.Protocol}
 
 -- nothing was gathered yet
 pub gathers_none : (a : Option (List ℕ)) (chunk : List ℕ) → chunk ≡ [] → Gathers a a chunk []
@@ -40,7 +41,8 @@ module _ (protocol : Protocol) (shape : Extent) (steps : List Step) (i : ℕ) {a
       ap (λ (l : List ℕ). head ++ l) lines ∙ sym (append_assoc head _ _)
 
   -- one line more
-  pub lines_more : (none : Step) (pushed grown : List ℕ) → i < length steps → pushed ≡ chunk ++ step_text shape (get_or steps i none) → grown ≡ pushed ++ (10 ∷ [])
+  pub lines_more : (none : Step) (pushed grown : List ℕ) → i < length steps
+      → pushed ≡ chunk ++ step_text shape (get_or steps i none) → grown ≡ pushed ++ (10 ∷ [])
       → Gathers a b grown (text_of protocol shape (take (i + 1) steps))
   lines_more none pushed grown there step line =
       let head = heading_text (heading_for protocol shape) ++ codes "\n" in

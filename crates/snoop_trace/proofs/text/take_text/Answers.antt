@@ -16,7 +16,8 @@ returns-in_err-read-in-Some-clause-read g c =
     let read = rw c.in-Ok-true.field-0-test at (c.in-Ok-true.ensures.reads c.loop-i.invariant.0.trim c.loop-i.invariant.0.ready) in
     let p = err_from_is_err_and c.from_residual.result c.from_residual.ensures.1 in
     refused g.R.Read.remaining c.loop-i.text c.read_byte_record.new.self f c.loop-i.invariant.0.config _ _ _ _ _ c.loop-i.invariant.1 read _ _
-    c.in_err-read-in-Some.field-0.0 (rw p.2 at p.1) (rw (c.in-Some.is, sym c.is_begun.ensures ∙ c.if-is_begun.true, sym c.read.ensures.heading ∙ c.in_err-read-in-Some.was) refl)
+    c.in_err-read-in-Some.field-0.0 (rw p.2 at p.1)
+    (rw (c.in-Some.is, sym c.is_begun.ensures ∙ c.if-is_begun.true, sym c.read.ensures.heading ∙ c.in_err-read-in-Some.was) refl)
 
 pub returns-in_err-from_record-in_default-clause-read : goal.returns-in_err-from_record-in_default-clause-read
 returns-in_err-from_record-in_default-clause-read g c =
