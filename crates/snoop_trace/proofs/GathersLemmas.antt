@@ -1,6 +1,6 @@
 -- What a writer holds, and then a chunk: how the text that they make grows, moves and is cut.
-use Rattle.std.{proofs.Common.{◌≡◌, ◌<◌, ◌≤◌, ℕ, ◌+◌, List, [], ◌∷◌, ◌++◌, length, get_or, Option, take, drop, ap, subst, sym, ◌∙◌, append_assoc, arith}, specs.Prelude.codes}
-use Rattle.std.proofs.lemmas.List.{Concat.flat_map-append, take_all}
+use Rattle.std.proofs.Common.{◌≡◌, ◌<◌, ◌≤◌, ℕ, ◌+◌, List, [], ◌∷◌, ◌++◌, length, get_or, Option, take, drop, ap, subst, sym, ◌∙◌, append_assoc, arith}
+use Rattle.std.{proofs.lemmas.List.{Concat.flat_map-append, take_all}, specs.Prelude.codes}
 use Rattle.snoop_trace.proofs.Common.{Appends, AppendsFront, Extent, Gathers, Spills, Step, common_steps, step_text, steps_text, take-append-drop, text_of}
 use Rattle.snoop_trace.proofs.OutputLemmas.{appends_more, appends_none, front_after, front_cut}
 use Rattle.snoop_trace.specs.{Heading.{heading_for, heading_text}, declared.protocol.Protocol.Protocol}
