@@ -1,10 +1,10 @@
 -- What was appended and counted of the records that were read so far.
 use Rattle.std.proofs.Common.{◌≡◌, ℕ, ◌+◌, ◌≤◌, ◌++◌, List, [], ◌∷◌, length, length-append, take, Option, Some, true, false, refl, sym, ap, ◌∙◌, arith, append_assoc, append-nil}
-use Rattle.std.{specs.{List.flat_map, Option.option_map_or, Prelude.Ok}, proofs.Math.{Bool.or-false, Seq.take-nil}}
+use Rattle.std.{specs.{List.flat_map, Option.option_map_or}, proofs.Math.{Bool.or-false, Seq.take-nil}}
 use Rattle.std.proofs.lemmas.{Grind.common_steps, List.{length_push, Folds.list_any-append, Sums.fold_push}}
 use Rattle.csv.{specs.{Reading.{ReadRecord, reader_config, reader_state, records, source_of}, declared.reader.Reader.Reader}, proofs.ReadFacts.rows-end}
 use Rattle.csv.specs.declared.parser.State.TheVariants as st
-use Rattle.snoop_trace.{specs.Progress.records_left, proofs.{CsvLemmas.{records-ended, records_step}, TextLemmas.took_entry}}
+use Rattle.snoop_trace.{specs.Progress.records_left, proofs.{CsvLemmas.{records-ended, records_step}, TextLemmas.took}}
 use Rattle.snoop_lint.specs.{Linted.{first_lines, line_at}, Looked.line_if_room, Tallies.one_more}
 use Rattle.snoop_lint.proofs.Common.{Extent, Finding, Form, Protocol, Tally, default_config, fault_at, finding, findings, findings_from, has_heading}
 use Rattle.snoop_lint.proofs.Common.{heads, is_some, nat_lt, nat_tests, option_to_list, tally_of, ◌||◌, if◌then◌else◌}
@@ -64,17 +64,16 @@ module _ {R : Type 0} {form : Form} {most : ℕ} {protocol : Protocol} {shape : 
       → Looked form most protocol shape lines xs rem b old next counted (n + 1)
   unfolding first_lines tally_of
   looked_more {a} {b} f {out} {next} {tally} {counted} {n} config read far line count =
-      let (row, ys, step, at, is) = rw far.at at (took_entry rem a b f (λ (fields : Fields). Ok fields) config read f refl) in
+      let (ys, step, at) = took rem a b f config far.ys read far.at in
       let more = findings_more (fault_at form protocol shape) 1 far.rows f (n + 1) (omega (arith, far.count)) in
       let faulty : List Finding = findings form protocol shape far.rows in
       let faults : tally.faults ≡ length faulty = ap (λ (t : Tally). t.faults) far.tally_is in
       let room = take_room (line_at form protocol shape lines) most faulty (finding (fault_at form protocol shape) (n + 1) f) in
-      let same : row ≡ f = cc in
       record {
         rows = far.rows ++ (f ∷ []);
         ys = ys;
         at = at;
-        all = far.all ∙ rw (records_step default_config _ far.ys (row, reader_state b, ys) step, same) (sym (append_assoc far.rows _ _));
+        all = far.all ∙ rw (records_step default_config _ far.ys (f, reader_state b, ys) step) (sym (append_assoc far.rows _ _));
         count = omega (arith, length-append far.rows (f ∷ []), far.count);
         few = rw count (grind (arith, far.few));
         out_is = line ∙ rw (far.out_is, faults, more, room) (append_assoc old _ _);

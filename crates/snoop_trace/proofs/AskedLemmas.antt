@@ -1,32 +1,18 @@
 -- What the rows of a text ask for is what was read of it.
-use Rattle.std.proofs.Common.{◌≡◌, ◌+◌, ℕ, List, [], ◌∷◌, map, refl, rules, sym, ◌∙◌}
+use Rattle.std.proofs.Common.{◌≡◌, ◌+◌, ℕ, List, [], ◌∷◌, map, refl, sym, ◌∙◌}
 use Rattle.std.specs.Prelude.{All, Option, Some, None, Result, Ok, Err, IfOk, IfErr, IfSome}
-use Rattle.snoop_trace.proofs.Common.{All-cons, All-head, All-nil, All-tail, Extent, IfOk-at_ok, IsSaid, IsWithinLimits, Row, TextFault, ok_or}
+use Rattle.snoop_trace.proofs.Common.{All-cons, All-head, All-nil, All-tail, Extent, IfOk-at_ok, IsSaid, IsWithinLimits, Row, TextFault}
 use Rattle.snoop_trace.specs.{Asked.{AreAsked, asked_in, asked_of, step_of}, Text.{Gives, entries_from, entries_in, records_of, rows_of}}
-use Rattle.snoop_trace.specs.{Grammar.{◌>>=◌, IsRowWithin, IsStepWithin, row_by_letter, block_in, letter_of, row_in}, declared.step.Asked.Asked}
-use Rattle.snoop_trace.{specs.declared.fault.TextFault.TheVariants.{BadKind, Read, NoMemory}, proofs.TextLemmas.{bind_assoc, bind_ok}}
-use Rattle.snoop_trace.proofs.WithinLemmas.{block_is, block_there, core_of_row, if_bind, said_row}
+use Rattle.snoop_trace.specs.{Grammar.{◌>>=◌, IsRowWithin, IsStepWithin, row_in}, declared.step.Asked.Asked}
+use Rattle.snoop_trace.{specs.declared.fault.TextFault.TheVariants.{Read, NoMemory}, proofs.TextLemmas.{bind_assoc, bind_ok}}
+use Rattle.snoop_trace.proofs.WithinLemmas.{said_row}
 use Rattle.snoop_trace.proofs.WordPlaces.{asked_within as word_within}
 
--- what goes on after a reading gives the same, with what it says put in other words
-in_words : {A B C : Type 0} (r : Result A TextFault) (f : A → Result B TextFault) (g : A → Result C TextFault) (view : B → C)
-    → ((x : A) → r ≡ Ok x → g x ≡ (f x >>= λ y. Ok (view y))) → (r >>= g) ≡ ((r >>= f) >>= λ y. Ok (view y))
-in_words (Ok x) f g view same = same x refl
-in_words (Err e) f g view same = refl
-
--- a record's row asks for this
-one_asked : (shape : Extent) (n : ℕ) (fs : List (List ℕ)) → asked_in shape n fs ≡ (row_in shape n fs >>= λ row. Ok (asked_of shape row))
-unfolding asked_in row_in
-one_asked shape n fs =
-    in_words (ok_or (letter_of fs) (BadKind n)) _ _ (asked_of shape) (λ letter _.
-    in_words (row_by_letter shape n letter fs) _ _ (asked_of shape) (λ row _.
-    in_words (block_in shape n row.address) _ _ (asked_of shape) (λ block is. rw (block_is shape n row.address block is) refl)))
-
--- so do all rows of a text
+-- what all records of a text ask for
 all_asked : (shape : Extent) (n : ℕ) (rs : List (List (List ℕ))) → entries_from (asked_in shape) n rs ≡ (entries_from (row_in shape) n rs >>= λ rows. Ok (map (asked_of shape) rows))
-unfolding entries_from
+unfolding entries_from asked_in
 all_asked shape n [] = refl
-all_asked shape n (r ∷ rs) = rw (one_asked shape n r, all_asked shape (n + 1) rs) (simp bind_assoc)
+all_asked shape n (r ∷ rs) = rw (all_asked shape (n + 1) rs) (simp bind_assoc)
 
 -- the rows of a text are of the shape
 rows_within : (shape : Extent) (n : ℕ) (rs : List (List (List ℕ))) (rows : List Row) → entries_from (row_in shape) n rs ≡ Ok rows → All (IsRowWithin shape) rows
@@ -40,8 +26,9 @@ rows_within shape n (r ∷ rs) rows is =
 
 -- a row that asks for what some record says
 row_of : (shape : Extent) (asked : Asked) → IsSaid (asked_in shape) asked → (row : Row) × (IsRowWithin shape row × (asked ≡ asked_of shape row))
+unfolding asked_in
 row_of shape asked (n, (fields, says)) =
-    let (row, is, asks) = bind_ok (row_in shape n fields) (λ row. Ok (asked_of shape row)) asked (sym (one_asked shape n fields) ∙ says) in
+    let (row, is, asks) = bind_ok (row_in shape n fields) (λ row. Ok (asked_of shape row)) asked says in
     (row, (IfOk-at_ok (IsRowWithin shape) is (said_row shape n fields), cc))
 
 rows_of_said : (shape : Extent) (asked : List Asked) → All (IsSaid (asked_in shape)) asked → (rows : List Row) × (All (IsRowWithin shape) rows × (asked ≡ map (asked_of shape) rows))
@@ -82,9 +69,7 @@ asked_refused shape None listed (Err fault) gives = tt
 asked_refused shape (Some bytes) listed (Err fault) gives = same_fault shape listed fault _ (rw (all_asked shape 1 (records_of bytes)) at gives)
 
 -- what a record asks for is of the shape
-said_asked : (shape : Extent) (n : ℕ) (fs : List (List ℕ)) → IsWithinLimits shape → IfOk (asked_in shape n fs) (λ asked. IsStepWithin shape (step_of asked))
-unfolding asked_in
-said_asked shape n fs limits = search (rules, if_bind, core_of_row, block_there, word_within) depth 9
-
 pub asked_within : (shape : Extent) (asked : Asked) → IsWithinLimits shape → IsSaid (asked_in shape) asked → IsStepWithin shape (step_of asked)
-asked_within shape asked limits said = IfOk-at_ok (λ (a : Asked). IsStepWithin shape (step_of a)) said.1.1 (said_asked shape said.0 said.1.0 limits)
+asked_within shape asked limits said =
+    let (row, (within, is)) = row_of shape asked said in
+    rw is (within.0, within.1, word_within shape row.address row.op limits)

@@ -4,7 +4,6 @@ pub mod WordPlaces
 pub mod Padded
 pub mod NumeralLemmas
 pub mod FieldLemmas
-pub mod RecordLemmas
 pub mod CsvLemmas
 pub mod TextLemmas
 pub mod OutputLemmas

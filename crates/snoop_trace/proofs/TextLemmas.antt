@@ -1,12 +1,11 @@
 -- How the records that were read so far stand in the whole text.
 use Rattle.std.proofs.lemmas.Option.{IfSome_then}
-use Rattle.std.proofs.Common.{◌≡◌, ℕ, ◌+◌, List, [], ◌∷◌, ◌++◌, Option, Some, None, true, false, refl, ◌∙◌, add-one, ap, append_assoc}
-use Rattle.std.specs.Prelude.{Bool, Result, Ok, Err, IfErr, IfSome, if◌then◌else◌, zero, suc}
-use Rattle.snoop_trace.specs.{Progress.heading_asked, declared.protocol.Protocol.Protocol}
-use Rattle.snoop_trace.proofs.Common.{Extent, Heading, IfErr-at_err, State, TextFault, append-nil, false_from_ne_true, records_left}
+use Rattle.std.proofs.Common.{◌≡◌, ℕ, ◌+◌, List, [], ◌∷◌, ◌++◌, Option, Some, None, true, false, refl, ◌∙◌, add-one, ap, append_assoc, arith}
+use Rattle.std.specs.Prelude.{◌==◌, ◌&&◌, Bool, Result, Ok, Err, IfSome, if◌then◌else◌, zero, suc}
+use Rattle.snoop_trace.proofs.Common.{Heading, State, TextFault, append-nil, nat_tests, records_left}
 use Rattle.csv.specs.{Machine.next_record, Reading.{Reached, ReadRecord, default_config, reader_config, reader_state, records, source_of}}
 use Rattle.csv.{specs.declared.reader.Reader.Reader, proofs.ReadFacts.{rows-end, rows-more}}
-use Rattle.snoop_trace.specs.{Grammar.{◌>>=◌, NamesRecord}, Heading.{heading_as, is_heading}, Text.{Gives, entries_from, entries_in}}
+use Rattle.snoop_trace.specs.{Grammar.◌>>=◌, Heading.{heading_as, is_heading}, Text.{Gives, entries_from, entries_in}}
 use Rattle.snoop_trace.proofs.CsvLemmas.{records-ended, records_step}
 use Rattle.snoop_trace.specs.declared.fault.TextFault.TheVariants as fault
 
@@ -32,10 +31,6 @@ bind_if : {A B : Type 0} (b : Bool) (r q : Result A TextFault) (f : A → Result
 bind_if true r q f = refl
 bind_if false r q f = refl
 
-if_some : {X : Type 0} (o : Option X) (P : X → Type 0) → ((x : X) → o ≡ Some x → P x) → IfSome o P
-if_some None P f = tt
-if_some (Some x) P f = f x refl
-
 -- a fault that was said is answered
 gives_fault : {A X : Type 0} (view : X → List A) (named : TextFault) (said : Result (List A) TextFault) → said ≡ Err named → Gives view (Err named) said
 gives_fault view fault.Read said is = tt
@@ -49,16 +44,16 @@ says_from says heading (suc n) rows = entries_from says (suc n + 1) rows
 
 -- what one record says after n others: a heading no entry
 abbrev pub says_next : {A : Type 0} → Says A → Option Heading → ℕ → List (List ℕ) → Result (List A) TextFault
-says_next says (Some asked) zero f = if is_heading f then (heading_as asked 1 f >>= λ heading. Ok []) else (says 1 f >>= λ entry. Ok (entry ∷ []))
-says_next says heading n f = says (n + 1) f >>= λ entry. Ok (entry ∷ [])
+says_next says (Some asked) n f =
+    if (n + 1 == 1) && is_heading f then (heading_as asked (n + 1) f >>= λ heading. Ok []) else (says (n + 1) f >>= λ entry. Ok (entry ∷ []))
+says_next says None n f = says (n + 1) f >>= λ entry. Ok (entry ∷ [])
 
 -- a record that is no heading
-pub no_heading : {A : Type 0} (says : Says A) (protocol : Option Protocol) (shape : Extent) (n : ℕ) (f : List (List ℕ))
-    → ((p : Protocol) → protocol ≡ Some p → n ≡ 0 → is_heading f ≡ true → ⊥)
-    → says_next says (heading_asked protocol shape) n f ≡ (says (n + 1) f >>= λ entry. Ok (entry ∷ []))
-no_heading says None shape n f other = refl
-no_heading says (Some p) shape zero f other = rw (false_from_ne_true (is_heading f) (other p refl refl)) refl
-no_heading says (Some p) shape (suc n) f other = refl
+pub no_heading : {A : Type 0} (says : Says A) (heading : Option Heading) (n : ℕ) (f : List (List ℕ))
+    → ((asked : Heading) → heading ≡ Some asked → ((n + 1 == 1) && is_heading f) ≡ false)
+    → says_next says heading n f ≡ (says (n + 1) f >>= λ entry. Ok (entry ∷ []))
+no_heading says None n f other = refl
+no_heading says (Some asked) n f other = rw (other asked refl) refl
 
 -- one record, and then those that follow it
 next_first : {A : Type 0} (says : Says A) (heading : Option Heading) (n : ℕ) (f : List (List ℕ)) (rows : List (List (List ℕ)))
@@ -67,7 +62,7 @@ unfolding entries_in entries_from
 next_first says None zero f rows = simp bind_assoc
 next_first says None (suc n) f rows = rw add-one (simp bind_assoc)
 next_first says (Some asked) zero f rows = simp (bind_if, bind_assoc) (rw (bind_ends (entries_from says 2 rows)))
-next_first says (Some asked) (suc n) f rows = rw add-one (simp bind_assoc)
+next_first says (Some asked) (suc n) f rows = let later : (suc (suc n) == 1) ≡ false = grind (arith, nat_tests) in rw (add-one, later) (simp bind_assoc)
 
 -- after the last record
 says_none : {A : Type 0} (says : Says A) (heading : Option Heading) (n : ℕ) → says_from says heading n [] ≡ Ok []
@@ -91,7 +86,7 @@ pub record SoFar {R A : Type 0} (rem : R → Option (List ℕ)) (says : Says A) 
 
 module _ {R : Type 0} (rem : R → Option (List ℕ)) (a b : Reader R) (f : List (List ℕ)) (config : reader_config a ≡ default_config) where
   -- a record that was read
-  took : (xs : List ℕ) → ReadRecord rem a b true f → source_of rem a ≡ Some xs
+  pub took : (xs : List ℕ) → ReadRecord rem a b true f → source_of rem a ≡ Some xs
       → (ys : List ℕ) × (next_record default_config (reader_state a) [] [] xs ≡ Some (f, reader_state b, ys)) × (source_of rem b ≡ Some ys)
   unfolding Reached
   took xs r e =
@@ -132,14 +127,3 @@ module _ {R : Type 0} (rem : R → Option (List ℕ)) (a b : Reader R) (f : List
     refused r view answer named gives is = IfSome_then (source_of rem start) far.split (λ xs far.
         let (ys, next, known) = took far.rest r far.known in
         rw gives (gives_fault view named _ (far.same ∙ rw (one_more far.rest ys next, is) refl)))
-
--- what a record that was read says
-pub took_entry : {R : Type 0} (rem : R → Option (List ℕ)) (a b : Reader R) (f : List (List ℕ)) {A : Type 0} (says : List (List ℕ) → Result A TextFault)
-    → reader_config a ≡ default_config → ReadRecord rem a b true f → (entry : A) → says f ≡ Ok entry
-    → IfSome (source_of rem a) (λ xs. (fields : List (List ℕ)) × (ys : List ℕ)
-    × (next_record default_config (reader_state a) [] [] xs ≡ Some (fields, reader_state b, ys)) × (source_of rem b ≡ Some ys) × (says fields ≡ Ok entry))
-took_entry rem a b f says config r entry e = if_some (source_of rem a) _ (λ xs at. let (ys, next, left) = took rem a b f config xs r at in (f, ys, next, left, e))
-
--- a fault that names a record is no failed read
-pub not_failed : {X Y : Type 0} (said : Result Y TextFault) (answer : Result X TextFault) (named : TextFault) → said ≡ Err named → IfErr said NamesRecord → answer ≡ Err named → answer ≡ Err fault.Read → ⊥
-not_failed said answer named is names e failed = let read : named ≡ fault.Read = cc in rw read at (IfErr-at_err NamesRecord is names)

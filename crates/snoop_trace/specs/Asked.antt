@@ -1,8 +1,8 @@
 -- What the rows of a text ask for.
 -- Source: this project's profile.
-use Rattle.std.specs.{Prelude.{◌≡◌, ℕ, ◌/◌, List, map, All, IfSome, Option, Result, Ok}, Option.ok_or}
-use Rattle.snoop_trace.specs.{Extent.Extent, Grammar.{◌>>=◌, IsRowWithin, row_by_letter, block_in, letter_of, word_asked}, Text.rows_of, declared.step.Row.Row}
-use Rattle.snoop_trace.specs.declared.{fault.TextFault.{TextFault, TheVariants.BadKind}, step.{Asked.Asked, Step.{Step, TheVariants.Ask}}}
+use Rattle.std.specs.Prelude.{◌≡◌, ℕ, ◌/◌, List, map, All, IfSome, Option, Result, Ok}
+use Rattle.snoop_trace.specs.{Extent.Extent, Grammar.{◌>>=◌, IsRowWithin, row_in, word_asked}, Text.rows_of, declared.step.Row.Row}
+use Rattle.snoop_trace.specs.declared.{fault.TextFault.TextFault, step.{Asked.Asked, Step.{Step, TheVariants.Ask}}}
 
 -- what a row asks for: the work of its core on the block and the word of its address
 abbrev pub asked_of : Extent → Row → Asked
@@ -15,11 +15,7 @@ step_of asked = Ask asked.core asked.work.block asked.work.word asked.work.op
 
 -- what the row of record n asks for
 unfoldable pub asked_in : Extent → ℕ → List (List ℕ) → Result Asked TextFault
-asked_in shape n fields = do
-  letter ← ok_or (letter_of fields) (BadKind n)
-  row ← row_by_letter shape n letter fields
-  block ← block_in shape n row.address
-  Ok (record { core = row.core; work = record { block = block; word = word_asked shape row.address row.op; op = row.op } })
+asked_in shape n fields = row_in shape n fields >>= λ row. Ok (asked_of shape row)
 
 -- this is what the rows of a text ask for, where its bytes are known: the rows are of the shape
 pub record AreAsked (shape : Extent) (text : Option (List ℕ)) (asked : List Asked) : Type 0 where

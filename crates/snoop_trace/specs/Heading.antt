@@ -2,7 +2,7 @@
 -- Source: this project's profile.
 use Rattle.std.specs.Prelude.{ℕ, ◌&&◌, List, [], ◌∷◌, Bool, true, false, nat_eq, ◌==◌, codes, Option, Some, None, Result, Ok, Err, if◌then◌else◌, ◌++◌}
 use Rattle.std.specs.{Cmp.Lexicographic.pointwise, Fmt.decimal, Option.ok_or}
-use Rattle.snoop_trace.specs.{Extent.Extent, Grammar.{◌>>=◌, number_in}, Protocol.protocol_name, declared.{fault.TextFault.TextFault, heading.Heading.Heading}}
+use Rattle.snoop_trace.specs.{Extent.Extent, Grammar.{◌>>=◌, number_in}, Protocol.protocol_name, declared.{fault.TextFault.TextFault, record.Heading.Heading}}
 use Rattle.snoop_trace.specs.declared.{fault.TextFault.TheVariants.{BadKind, BadFields, BadVersion, OtherShape}, protocol.Protocol.Protocol}
 use Rattle.snoop_trace.specs.declared.protocol.Protocol.TheVariants.{Msi, Mesi}
 

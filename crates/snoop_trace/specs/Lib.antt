@@ -9,4 +9,3 @@ pub mod Text
 pub mod Asked
 pub mod Progress
 pub mod Output
-pub mod Records

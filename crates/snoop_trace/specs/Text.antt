@@ -2,7 +2,7 @@
 -- Source: this project's profile, over the records of the crate csv.
 use Rattle.std.specs.Prelude.{◌≡◌, ℕ, ◌+◌, Bool, true, false, List, [], ◌∷◌, Option, Some, None, Result, Ok, Err, if◌then◌else◌}
 use Rattle.csv.specs.Reading.{default_config, records, strip_bom}
-use Rattle.snoop_trace.specs.{Extent.Extent, Grammar.{◌>>=◌, row_in, step_in}, Heading.{heading_as, heading_for, is_heading}, declared.heading.Heading.Heading}
+use Rattle.snoop_trace.specs.{Extent.Extent, Grammar.{◌>>=◌, row_in, step_in}, Heading.{heading_as, heading_for, is_heading}, declared.record.Heading.Heading}
 use Rattle.snoop_trace.specs.declared.{fault.TextFault.{TextFault, TheVariants.{Read, NoMemory}}, protocol.Protocol.Protocol, step.{Row.Row, Step.Step}}
 
 -- the records of a text: commas, double quotes, any length, no header row, no comment, no trimming

@@ -5,9 +5,8 @@ ghost use Rattle.snoop_trace.specs.Faults as spec;
 ghost use Rattle.snoop_trace.specs.Grammar.{letter_of, number};
 
 use crate::fault::TextFault;
-use crate::heading::Heading;
 use crate::protocol::Protocol;
-use crate::record::{Entry, letter_of, number};
+use crate::record::{Entry, Heading, letter_of, number};
 use crate::shape::Shape;
 use crate::step::{Row, Step};
 use csv::ByteRecord;
@@ -22,7 +21,7 @@ pub fn step_fault(
 ) -> Option<TextFault>
     ensures { result ≡ spec.step_fault protocol shape n (fields_of fields.now) }
 {
-    if n == 1 && Heading::is_begun(fields) {
+    if Heading::is_begun(n, fields) {
         Heading::new(protocol, shape).read(n, fields).err()
     } else {
         Step::from_record(shape, n, fields).err()

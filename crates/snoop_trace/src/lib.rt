@@ -3,7 +3,6 @@
 
 mod fault;
 mod faults;
-mod heading;
 mod output;
 mod protocol;
 mod record;

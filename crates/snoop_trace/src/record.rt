@@ -1,12 +1,14 @@
-//! From a record to a step or a row.
-ghost use Rattle.std.specs.Prelude.{◌≡◌, ◌≤◌, ℕ, List, Result, IfErr, length, option_map};
+//! From a record to a heading, a step or a row.
+ghost use Rattle.std.specs.Prelude.{◌≡◌, ◌≤◌, ◌==◌, ◌&&◌, ℕ, List, Result, IfErr, length, option_map};
 ghost use Rattle.csv.specs.Records.{fields_of};
 ghost use Rattle.snoop_trace.specs.Asked.{asked_in};
 ghost use Rattle.snoop_trace.specs.Extent.{Extent};
 ghost use Rattle.snoop_trace.specs.Grammar as spec;
 ghost use Rattle.snoop_trace.specs.Grammar.{NamesRecord};
+ghost use Rattle.snoop_trace.specs.Heading as heading;
 
 use crate::fault::TextFault;
+use crate::protocol::Protocol;
 use crate::shape::Shape;
 use crate::step::{Asked, Op, Row, Step, Work};
 use csv::ByteRecord;
@@ -27,7 +29,7 @@ pub(crate) trait Entry: Copy {
 impl Entry for Step {
     ghost says = { spec.step_in };
 
-    #[tactic(auto, using(crate::proofs::RecordLemmas::names_order, crate::proofs::RecordLemmas::names_respond), unfolding(crate::specs::Grammar::step_in, crate::specs::Grammar::ask))]
+    #[tactic(auto, unfolding(crate::specs::Grammar::step_in, crate::specs::Grammar::ask))]
     #[inline(always)]
     fn from_record(shape: Shape, n: u64, fields: &ByteRecord) -> Result<Self, TextFault> {
         match letter_of(fields).ok_or(TextFault::BadKind(n))? {
@@ -50,7 +52,7 @@ impl Entry for Step {
 impl Entry for Row {
     ghost says = { spec.row_in };
 
-    #[tactic(auto, using(crate::proofs::RecordLemmas::names_row), unfolding(crate::specs::Grammar::row_in))]
+    #[tactic(auto, unfolding(crate::specs::Grammar::row_in))]
     #[inline(always)]
     fn from_record(shape: Shape, n: u64, fields: &ByteRecord) -> Result<Self, TextFault> {
         let letter = letter_of(fields).ok_or(TextFault::BadKind(n))?;
@@ -63,7 +65,7 @@ impl Entry for Row {
 impl Entry for Asked {
     ghost says = { asked_in };
 
-    #[tactic(auto, unfolding(crate::specs::Asked::asked_in))]
+    #[tactic(auto, using(crate::proofs::WithinLemmas::block_is), unfolding(crate::specs::Asked::asked_in, crate::specs::Grammar::row_in))]
     #[inline(always)]
     fn from_record(shape: Shape, n: u64, fields: &ByteRecord) -> Result<Self, TextFault> {
         let letter = letter_of(fields).ok_or(TextFault::BadKind(n))?;
@@ -81,7 +83,77 @@ impl Entry for Asked {
     }
 }
 
-pub(crate) fn number_in(n: u64, field: &[u8]) -> Result<u64, TextFault>
+/// What steps are for: a protocol, and the numbers of a shape.
+#[derive(Clone, Copy, PartialEq, Eq)]
+pub(crate) struct Heading {
+    pub protocol: Protocol,
+    pub cores: u64,
+    pub blocks: u64,
+    pub block_bytes: u64,
+    pub words: u64,
+}
+
+impl Heading {
+    /// The heading of the texts for a protocol and a shape.
+    pub(crate) fn new(protocol: Protocol, shape: Shape) -> Heading
+        ensures { result ≡ heading.heading_for protocol shape }
+    {
+        Heading {
+            protocol,
+            cores: shape.cores() as u64,
+            blocks: shape.blocks() as u64,
+            block_bytes: shape.block_bytes() as u64,
+            words: shape.words() as u64,
+        }
+    }
+
+    /// Whether record n is a heading: the first record alone may be one.
+    pub(crate) fn is_begun(n: u64, fields: &ByteRecord) -> bool
+        ensures { result ≡ ((n == 1) && heading.is_heading (fields_of fields.now)) }
+    {
+        n == 1 && letter_of(fields) == Some(b'V')
+    }
+
+    // What record n says, which is a heading.
+    #[tactic(auto, unfolding(crate::specs::Heading::heading_in))]
+    fn from_record(n: u64, fields: &ByteRecord) -> Result<Heading, TextFault>
+        ensures heading { result ≡ heading.heading_in n (fields_of fields.now) }
+        ensures fault { IfErr result NamesRecord }
+    {
+        version_in(n, fields)?;
+        let (protocol, cores, blocks, block_bytes, words) = five_of(fields).ok_or(
+            TextFault::BadFields(n),
+        )?;
+        let protocol = protocol_named(protocol).ok_or(TextFault::BadKind(n))?;
+        let cores = number_in(n, cores)?;
+        let blocks = number_in(n, blocks)?;
+        let block_bytes = number_in(n, block_bytes)?;
+        let words = number_in(n, words)?;
+        Ok(Heading {
+            protocol,
+            cores,
+            blocks,
+            block_bytes,
+            words,
+        })
+    }
+
+    /// The same heading, where record n says it.
+    #[tactic(auto, unfolding(crate::specs::Heading::heading_as))]
+    pub(crate) fn read(self, n: u64, fields: &ByteRecord) -> Result<Heading, TextFault>
+        ensures heading { result ≡ heading.heading_as self n (fields_of fields.now) }
+        ensures fault { IfErr result NamesRecord }
+    {
+        let heading = Heading::from_record(n, fields)?;
+        if heading == self {
+            Ok(heading)
+        } else {
+            Err(TextFault::OtherShape(n))
+        }
+    }
+}
+
+fn number_in(n: u64, field: &[u8]) -> Result<u64, TextFault>
     ensures { result ≡ spec.number_in n field.now }
 {
     number(field).ok_or(TextFault::BadNumber(n))
@@ -103,10 +175,38 @@ fn block_in(shape: Shape, n: u64, address: u64) -> Result<u32, TextFault>
     shape.block_of(address).ok_or(TextFault::NoBlock(n))
 }
 
+#[tactic(auto, using(crate::proofs::FieldLemmas::version_at), unfolding(crate::specs::Heading::version_in))]
+fn version_in(n: u64, fields: &ByteRecord) -> Result<u64, TextFault>
+    ensures version { result ≡ heading.version_in n (fields_of fields.now) }
+    ensures fault { IfErr result NamesRecord }
+{
+    let field = fields.get(1).ok_or(TextFault::BadFields(n))?;
+    let version = number_in(n, field)?;
+    if version == 2 {
+        Ok(version)
+    } else {
+        Err(TextFault::BadVersion(n))
+    }
+}
+
+#[tactic(auto, unfolding(crate::specs::Heading::protocol_named))]
+fn protocol_named(name: &[u8]) -> Option<Protocol>
+    ensures { result ≡ heading.protocol_named name.now }
+{
+    if name == b"msi".as_slice() {
+        Some(Protocol::Msi)
+    } else if name == b"mesi".as_slice() {
+        Some(Protocol::Mesi)
+    } else {
+        None
+    }
+}
+
 #[tactic(auto, unfolding(crate::specs::Grammar::without_value))]
 #[inline(always)]
 fn without_value(shape: Shape, n: u64, op: Op, fields: &ByteRecord) -> Result<Row, TextFault>
-    ensures { result ≡ spec.without_value shape n op (fields_of fields.now) }
+    ensures row { result ≡ spec.without_value shape n op (fields_of fields.now) }
+    ensures fault { IfErr result NamesRecord }
 {
     let (core, address) = two_of(fields).ok_or(TextFault::BadFields(n))?;
     let core = number_in(n, core)?;
@@ -118,7 +218,8 @@ fn without_value(shape: Shape, n: u64, op: Op, fields: &ByteRecord) -> Result<Ro
 #[tactic(auto, unfolding(crate::specs::Grammar::store))]
 #[inline(always)]
 fn store(shape: Shape, n: u64, fields: &ByteRecord) -> Result<Row, TextFault>
-    ensures { result ≡ spec.store shape n (fields_of fields.now) }
+    ensures row { result ≡ spec.store shape n (fields_of fields.now) }
+    ensures fault { IfErr result NamesRecord }
 {
     let (core, address, value) = three_of(fields).ok_or(TextFault::BadFields(n))?;
     let core = number_in(n, core)?;
@@ -136,7 +237,8 @@ fn store(shape: Shape, n: u64, fields: &ByteRecord) -> Result<Row, TextFault>
 #[tactic(auto, unfolding(crate::specs::Grammar::row_by_letter))]
 #[inline(always)]
 fn row_by_letter(shape: Shape, n: u64, letter: u8, fields: &ByteRecord) -> Result<Row, TextFault>
-    ensures { result ≡ spec.row_by_letter shape n letter (fields_of fields.now) }
+    ensures row { result ≡ spec.row_by_letter shape n letter (fields_of fields.now) }
+    ensures fault { IfErr result NamesRecord }
 {
     match letter {
         b'L' => without_value(shape, n, Op::Load, fields),
@@ -149,7 +251,8 @@ fn row_by_letter(shape: Shape, n: u64, letter: u8, fields: &ByteRecord) -> Resul
 #[tactic(auto, unfolding(crate::specs::Grammar::order))]
 #[inline(always)]
 fn order(shape: Shape, n: u64, fields: &ByteRecord) -> Result<Step, TextFault>
-    ensures { result ≡ spec.order shape n (fields_of fields.now) }
+    ensures step { result ≡ spec.order shape n (fields_of fields.now) }
+    ensures fault { IfErr result NamesRecord }
 {
     let core = one_of(fields).ok_or(TextFault::BadFields(n))?;
     let core = number_in(n, core)?;
@@ -160,7 +263,8 @@ fn order(shape: Shape, n: u64, fields: &ByteRecord) -> Result<Step, TextFault>
 #[tactic(auto, unfolding(crate::specs::Grammar::respond))]
 #[inline(always)]
 fn respond(shape: Shape, n: u64, fields: &ByteRecord) -> Result<Step, TextFault>
-    ensures { result ≡ spec.respond shape n (fields_of fields.now) }
+    ensures step { result ≡ spec.respond shape n (fields_of fields.now) }
+    ensures fault { IfErr result NamesRecord }
 {
     let address = one_of(fields).ok_or(TextFault::BadFields(n))?;
     let address = number_in(n, address)?;
@@ -211,6 +315,23 @@ fn three_of(fields: &ByteRecord) -> Option<(&[u8], &[u8], &[u8])>
         return None;
     }
     Some((fields.get(1)?, fields.get(2)?, fields.get(3)?))
+}
+
+// The five fields after the kind and the one that follows it, where there are five.
+#[tactic(auto, using(crate::proofs::FieldLemmas::five_at, crate::proofs::FieldLemmas::field_there))]
+fn five_of(fields: &ByteRecord) -> Option<(&[u8], &[u8], &[u8], &[u8], &[u8])>
+    ensures { option_map (λ f. (f.0.now, f.1.now, f.2.now, f.3.now, f.4.now)) result ≡ heading.five_of (fields_of fields.now) }
+{
+    if fields.len() != 7 {
+        return None;
+    }
+    Some((
+        fields.get(2)?,
+        fields.get(3)?,
+        fields.get(4)?,
+        fields.get(5)?,
+        fields.get(6)?,
+    ))
 }
 
 // One or more digits of the base, of a value up to 2^64 - 1.

@@ -4,11 +4,9 @@ mod append;
 pub(crate) mod entries;
 mod sink;
 mod source;
-pub(crate) mod step_text;
 
 pub use crate::text::{gather_asked, gather_steps};
-pub use append::{push_byte, push_decimal, push_text};
+pub use append::{push_byte, push_decimal, push_step, push_text};
 pub use entries::Entries;
 pub use sink::{AnyWriter, CHUNK, Sink, spill, write_whole};
 pub use source::{AnyReader, Source};
-pub use step_text::push_step;

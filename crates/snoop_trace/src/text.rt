@@ -4,14 +4,13 @@ ghost use Rattle.csv.specs.Reading.{default_config, reader_state, records, sourc
 ghost use Rattle.csv.specs.declared.parser.State.TheVariants as st;
 ghost use Rattle.snoop_trace.specs.Asked.{AreAsked, step_of};
 ghost use Rattle.snoop_trace.specs.Grammar.{IsRowWithin, IsStepWithin};
-ghost use Rattle.snoop_trace.specs.Progress.{IsPlain, IsSaid, heading_asked};
+ghost use Rattle.snoop_trace.specs.Progress.{IsPlain, IsSaid};
 ghost use Rattle.snoop_trace.specs.Text.{BlamesReader, Gives, entries_in, records_of, rows_of, steps_of};
 ghost use Rattle.snoop_trace.specs.declared.step.Row.{Row as Given};
 
 use crate::fault::TextFault;
-use crate::heading::Heading;
 use crate::protocol::Protocol;
-use crate::record::Entry;
+use crate::record::{Entry, Heading};
 use crate::shape::Shape;
 use crate::step::{Asked, Row, Step};
 use crate::streams::Source;
@@ -23,11 +22,11 @@ use std::io;
 use std::io::{ErrorKind, Read};
 use std::marker::{Brand, PhantomData};
 
-// All entries of a text, after none. Where a text for a protocol is asked for, the first record may be a heading.
+// All entries of a text, after none. Where a heading is asked for, the first record may be one.
 fn take_text<E: Entry, C: Entries<E>, R: Read>(
     text: &mut Reader<R>,
     fields: &mut ByteRecord,
-    protocol: Option<Protocol>,
+    heading: Option<Heading>,
     shape: Shape,
     entries: &mut C,
 ) -> Result<(), TextFault>
@@ -36,7 +35,7 @@ fn take_text<E: Entry, C: Entries<E>, R: Read>(
     requires empty { C.listed entries.old ≡ [] }
     requires fits { (entry : E) → IsSaid (E.says shape) entry → C.fits entry }
     ensures read { IfSome (source_of R.remaining text.old)
-        (λ xs. Gives (λ _. C.listed entries.new) result (entries_in (E.says shape) (heading_asked protocol shape) (records default_config xs))) }
+        (λ xs. Gives (λ _. C.listed entries.new) result (entries_in (E.says shape) heading (records default_config xs))) }
     ensures said { IfOk result (λ _. All (IsSaid (E.says shape)) (C.listed entries.new)) }
     ensures not_read { result ≢ Err TextFault.Read }
 {
@@ -47,11 +46,12 @@ fn take_text<E: Entry, C: Entries<E>, R: Read>(
             // Out of memory, or a failed read: `read_known` tells the two apart.
             Err(_) => return Err(TextFault::NoMemory),
         }
-        match &protocol {
-            Some(protocol) if i == 0 && Heading::is_begun(fields) => {
-                Heading::new(*protocol, shape).read(1, fields)?;
+        let n = i + 1;
+        match &heading {
+            Some(asked) if Heading::is_begun(n, fields) => {
+                asked.read(n, fields)?;
             }
-            _ => entries.append(E::from_record(shape, i + 1, fields)?)?,
+            _ => entries.append(E::from_record(shape, n, fields)?)?,
         }
     }
     // No list holds so many.
@@ -94,7 +94,7 @@ impl<R: Source, K: Begun> Read for Watched<R, K> {
 fn read_known<E: Entry, C: Entries<E> + Drop, R: Source, K: Begun>(
     reader: R,
     alloc: Global,
-    protocol: Option<Protocol>,
+    heading: Option<Heading>,
     shape: Shape,
     mut entries: C,
 ) -> (R, Result<C, TextFault>)
@@ -102,7 +102,7 @@ fn read_known<E: Entry, C: Entries<E> + Drop, R: Source, K: Begun>(
     requires empty { C.listed entries ≡ [] }
     requires fits { (entry : E) → IsSaid (E.says shape) entry → C.fits entry }
     ensures read { IfSome (R.remaining reader)
-        (λ bytes. Gives C.listed result.1 (entries_in (E.says shape) (heading_asked protocol shape) (records_of bytes))) }
+        (λ bytes. Gives C.listed result.1 (entries_in (E.says shape) heading (records_of bytes))) }
     ensures said { IfOk result.1 (λ entries. All (IsSaid (E.says shape)) (C.listed entries)) }
     ensures never_blamed { R.never_fails ≡ true → result.1 ≢ Err TextFault.Read }
     ensures blamed { BlamesReader (R.failed reader) (R.failed result.0) (result.1 ≡ Err TextFault.Read) }
@@ -117,7 +117,7 @@ fn read_known<E: Entry, C: Entries<E> + Drop, R: Source, K: Begun>(
         .flexible(true)
         .from_reader(alloc, watched);
     let mut fields = ByteRecord::new(alloc);
-    let taken = take_text(&mut text, &mut fields, protocol, shape, &mut entries);
+    let taken = take_text(&mut text, &mut fields, heading, shape, &mut entries);
     let Watched {
         inner,
         failed,
@@ -131,37 +131,19 @@ fn read_known<E: Entry, C: Entries<E> + Drop, R: Source, K: Begun>(
     (inner, read)
 }
 
-// The same, with what is known of the reader picked at the call.
-fn read_from<E: Entry, C: Entries<E> + Drop, R: Source>(
-    reader: R,
-    alloc: Global,
-    protocol: Option<Protocol>,
-    shape: Shape,
-    entries: C,
-) -> (R, Result<C, TextFault>)
-    requires empty { C.listed entries ≡ [] }
-    requires fits { (entry : E) → IsSaid (E.says shape) entry → C.fits entry }
-    ensures read { IfSome (R.remaining reader)
-        (λ bytes. Gives C.listed result.1 (entries_in (E.says shape) (heading_asked protocol shape) (records_of bytes))) }
-    ensures said { IfOk result.1 (λ entries. All (IsSaid (E.says shape)) (C.listed entries)) }
-    ensures never_blamed { R.never_fails ≡ true → result.1 ≢ Err TextFault.Read }
-    ensures blamed { BlamesReader (R.failed reader) (R.failed result.0) (result.1 ≡ Err TextFault.Read) }
-{
-    read_known::<E, C, R, Brand>(reader, alloc, protocol, shape, entries)
-}
-
-// The entries that a text gives, after none, or its first fault.
-fn read_entries<E: Entry, C: Entries<E> + Drop, R: Source>(
+// The same, of a reader that is lent.
+fn read_entries<E: Entry, C: Entries<E> + Drop, R: Source, K: Begun>(
     alloc: Global,
     reader: &mut R,
-    protocol: Option<Protocol>,
+    heading: Option<Heading>,
     shape: Shape,
     entries: C,
 ) -> Result<C, TextFault>
+    requires before { R.failed reader.old ≡ K.before }
     requires empty { C.listed entries ≡ [] }
     requires fits { (entry : E) → IsSaid (E.says shape) entry → C.fits entry }
     ensures read { IfSome (R.remaining reader.old)
-        (λ bytes. Gives C.listed result (entries_in (E.says shape) (heading_asked protocol shape) (records_of bytes))) }
+        (λ bytes. Gives C.listed result (entries_in (E.says shape) heading (records_of bytes))) }
     ensures said { IfOk result (λ entries. All (IsSaid (E.says shape)) (C.listed entries)) }
     ensures never_blamed { R.never_fails ≡ true → result ≢ Err TextFault.Read }
     ensures blamed { BlamesReader (R.failed reader.old) (R.failed reader.new) (result ≡ Err TextFault.Read) }
@@ -169,7 +151,7 @@ fn read_entries<E: Entry, C: Entries<E> + Drop, R: Source>(
     replace_with(
         reader,
         entries,
-        |reader, entries| read_from::<E, C, R>(reader, alloc, protocol, shape, entries),
+        |reader, entries| read_known::<E, C, R, K>(reader, alloc, heading, shape, entries),
     )
 }
 
@@ -207,10 +189,11 @@ pub fn read_steps<R: Source>(
     ensures never_blamed { R.never_fails ≡ true → result ≢ Err TextFault.Read }
     ensures blamed { BlamesReader (R.failed reader.old) (R.failed reader.new) (result ≡ Err TextFault.Read) }
 {
-    read_entries::<Step, Vec<Step>, R>(alloc, reader, Some(protocol), shape, Vec::new(alloc))
+    gather_steps::<Vec<Step>, R>(alloc, reader, protocol, shape, Vec::new(alloc))
 }
 
 /// The same steps, or the same fault, gathered in another list, which is empty at first and fits every step of the shape.
+#[tactic(auto, using(crate::proofs::WithinLemmas::step_within))]
 pub fn gather_steps<C: Entries<Step> + Drop, R: Source>(
     alloc: Global,
     reader: &mut R,
@@ -226,7 +209,8 @@ pub fn gather_steps<C: Entries<Step> + Drop, R: Source>(
     ensures blamed { BlamesReader (R.failed reader.old) (R.failed reader.new) (result ≡ Err TextFault.Read) }
 {
     shape.within_limits();
-    read_entries::<Step, C, R>(alloc, reader, Some(protocol), shape, steps)
+    let heading = Heading::new(protocol, shape);
+    read_entries::<Step, C, R, Brand>(alloc, reader, Some(heading), shape, steps)
 }
 
 /// The rows that a text gives, or its first fault.
@@ -244,7 +228,7 @@ pub fn read_rows<R: Source>(
     ensures never_blamed { R.never_fails ≡ true → result ≢ Err TextFault.Read }
     ensures blamed { BlamesReader (R.failed reader.old) (R.failed reader.new) (result ≡ Err TextFault.Read) }
 {
-    read_entries::<Row, Vec<Row>, R>(alloc, reader, None, shape, Vec::new(alloc))
+    read_entries::<Row, Vec<Row>, R, Brand>(alloc, reader, None, shape, Vec::new(alloc))
 }
 
 /// What the rows of a text ask for, in its order, or the fault of `read_rows`: gathered in another list, which is empty at first
@@ -264,5 +248,5 @@ pub fn gather_asked<C: Entries<Asked> + Drop, R: Source>(
     ensures blamed { BlamesReader (R.failed reader.old) (R.failed reader.new) (result ≡ Err TextFault.Read) }
 {
     shape.within_limits();
-    read_entries::<Asked, C, R>(alloc, reader, None, shape, asked)
+    read_entries::<Asked, C, R, Brand>(alloc, reader, None, shape, asked)
 }

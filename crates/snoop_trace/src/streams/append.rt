@@ -1,9 +1,13 @@
-//! Texts and numbers at the end of a text.
-ghost use Rattle.std.specs.Prelude.{◌≡◌, ◌++◌, ◌∷◌, [], OnOk};
+//! Texts, numbers and steps at the end of a text.
+ghost use Rattle.std.specs.Prelude.{◌≡◌, ◌≤◌, ◌<◌, ◌+◌, ◌++◌, ◌∷◌, [], OnOk, codes, length};
 ghost use Rattle.std.specs.Fmt.{decimal};
+ghost use Rattle.snoop_trace.specs.Output.{step_text};
 
 use crate::fault::NoMemory;
-use itoa::Buffer;
+use crate::shape::Shape;
+use crate::step::{Op, Step};
+use itoa::{Buffer, write_digits};
+use std::marker::Model;
 
 /// Appends a text. After `NoMemory` nothing is said of what stands there.
 #[inline(always)]
@@ -37,6 +41,7 @@ fn push_digits(out: &mut Vec<u8>, number: u64) -> Result<(), NoMemory>
 }
 
 /// Appends a number in decimal digits. After `NoMemory` nothing is said of what stands there.
+#[tactic(auto, using(std::proofs::lemmas::Fmt::decimal_digit))]
 #[inline(always)]
 pub fn push_decimal(out: &mut Vec<u8>, number: u64) -> Result<(), NoMemory>
     ensures ok { OnOk result (out.new.items ≡ out.old.items ++ decimal number) }
@@ -45,4 +50,136 @@ pub fn push_decimal(out: &mut Vec<u8>, number: u64) -> Result<(), NoMemory>
         return push_byte(out, b'0' + number as u8);
     }
     push_digits(out, number)
+}
+
+// The most bytes of a `Back`.
+const ROOM: usize = 64;
+
+// A text of at most 64 bytes, which is written from its end.
+#[derive(Drop)]
+struct Back {
+    bytes: [u8; ROOM],
+    start: usize,
+}
+
+impl Model for Back {
+    ghost use Rattle.std.specs.Prelude.{ℕ, ◌≤◌, List, drop};
+
+    ghost Value = { List ℕ };
+
+    ghost view = { λ b. drop b.start b.bytes };
+
+    ghost invariant = { λ b. b.start ≤ 64 };
+}
+
+impl Back {
+    // No text.
+    fn new() -> Self
+        ensures { result ≡ [] }
+    {
+        Back {
+            bytes: [0; ROOM],
+            start: ROOM,
+        }
+    }
+
+    // Puts a byte before the text.
+    #[inline(always)]
+    fn put(&mut self, byte: u8)
+        requires { length self.old < 64 }
+        ensures { self.new ≡ byte ∷ self.old }
+    {
+        self.start -= 1;
+        self.bytes[self.start] = byte;
+    }
+
+    // Puts a number before the text, in decimal digits.
+    #[tactic(auto, using(std::proofs::lemmas::Fmt::decimal_digit))]
+    #[inline(always)]
+    fn put_decimal(&mut self, number: u64)
+        requires { length self.old + length (decimal number) ≤ 64 }
+        ensures { self.new ≡ decimal number ++ self.old }
+    {
+        if number < 10 {
+            self.put(b'0' + number as u8);
+        } else {
+            self.start = write_digits(number, &mut self.bytes, self.start);
+        }
+    }
+
+    // The text.
+    #[inline(always)]
+    fn text(&self) -> &[u8]
+        ensures { result.now ≡ self.now }
+    {
+        &self.bytes[self.start..]
+    }
+}
+
+// Puts a comma and a number before a text.
+#[inline(always)]
+fn put_field(back: &mut Back, number: u64)
+    requires { length back.old + 21 ≤ 64 }
+    ensures text { back.new ≡ codes "," ++ decimal number ++ back.old }
+    ensures short { length back.new ≤ length back.old + 21 }
+{
+    back.put_decimal(number);
+    back.put(b',');
+}
+
+// Puts a letter and its first field before a text.
+#[inline(always)]
+fn put_first(back: &mut Back, letter: u8, number: u64)
+    requires { length back.old + 22 ≤ 64 }
+    ensures { back.new ≡ letter ∷ [] ++ codes "," ++ decimal number ++ back.old }
+{
+    put_field(back, number);
+    back.put(letter);
+}
+
+/// Appends the text of a step, without a line end.
+///
+/// It is the step's record, with decimal numbers, and the first address of the word, or of the block, in the block's
+/// place. After `NoMemory` nothing is said of what stands there.
+#[inline(always)]
+pub fn push_step(out: &mut Vec<u8>, shape: Shape, step: Step) -> Result<(), NoMemory>
+    ensures ok { OnOk result (out.new.items ≡ out.old.items ++ step_text shape step) }
+{
+    let mut back = Back::new();
+    match step {
+        Step::Ask {
+            core,
+            block,
+            word,
+            op: Op::Load,
+        } => {
+            put_field(&mut back, shape.word_address(block, word));
+            put_first(&mut back, b'L', core as u64);
+        }
+        Step::Ask {
+            core,
+            block,
+            word,
+            op: Op::Store(value),
+        } => {
+            put_field(&mut back, value);
+            put_field(&mut back, shape.word_address(block, word));
+            put_first(&mut back, b'S', core as u64);
+        }
+        Step::Ask {
+            core,
+            block,
+            word: _,
+            op: Op::Evict,
+        } => {
+            put_field(&mut back, shape.address_of(block));
+            put_first(&mut back, b'E', core as u64);
+        }
+        Step::Order { core } => put_first(&mut back, b'O', core as u64),
+        Step::Respond { block } => put_first(&mut back, b'R', shape.address_of(block)),
+    }
+    match out.extend_from_slice(back.text()) {
+        Ok(()) => Ok(()),
+        Err(_) => Err(NoMemory),
+    }
 }

@@ -1,10 +1,8 @@
-use Rattle.std.proofs.{Common.{◌≡◌, ◌+◌, ◌∷◌, [], inl, inr, refl, sym, ◌∙◌, arith}}
-use Rattle.std.specs.Prelude.{Ok}
-use Rattle.snoop_trace.proofs.{Common.{All-push, IsSaid, append-nil, err_from_is_err_and, fields_of, length-append}, RecordLemmas.names_heading_as}
-use Rattle.snoop_trace.proofs.TextLemmas.{done, further, no_heading, not_failed, refused, says_next}
-use Rattle.snoop_trace.specs.{Grammar.{◌>>=◌}, Heading.{heading_as, heading_for}, Progress.{IsPlain, heading_asked}}
+use Rattle.std.proofs.{Common.{◌+◌, ◌∷◌, [], inl, inr, refl, sym, ◌∙◌, arith}}
+use Rattle.snoop_trace.proofs.Common.{All-push, IsSaid, append-nil, err_from_is_err_and, fields_of, length-append, nat_tests}
+use Rattle.snoop_trace.{proofs.TextLemmas.{done, further, no_heading, refused}, specs.Progress.IsPlain}
 use Rattle.snoop_trace.proofs.text.take_text.Goals.{in-Some+in_ok-read-in-Some, in_default+in_ok-from_record-in_default+in_ok-append-in_default}
-use Rattle.snoop_trace.proofs.text.take_text.Goals.{in_default-via-in-Some+then-i-eq0+else-is_begun, in_default-via-in-Some+else-i-eq0, in_default-via-in_default}
+use Rattle.snoop_trace.proofs.text.take_text.Goals.{in_default-via-in-Some+else-is_begun, in_default-via-in_default}
 use Rattle.snoop_trace.proofs.text.take_text.Goals as goal
 
 pub returns-in-Ok-false-clause-read : goal.returns-in-Ok-false-clause-read
@@ -17,27 +15,18 @@ returns-in_err-read-in-Some-clause-read g c =
     let f = fields_of c.read_byte_record.new.row in
     let read = rw c.in-Ok-true.field-0-test at (c.in-Ok-true.ensures.reads c.loop-i.invariant.0.trim c.loop-i.invariant.0.ready) in
     let p = err_from_is_err_and c.from_residual.result c.from_residual.ensures.1 in
-    let says : says_next (g.E.Entry.says c.args.shape) (heading_asked c.args.protocol c.args.shape) c.loop-i.i f
-    ≡ (heading_as (heading_for c.in-Some.protocol c.args.shape) 1 f >>= λ heading. Ok [])
-    = rw (c.in-Some.is, c.if-i-eq0.true, sym c.is_begun.ensures ∙ c.if-is_begun.true) refl in
     refused g.R.Read.remaining c.loop-i.text c.read_byte_record.new.self f c.loop-i.invariant.0.config _ _ _ _ _ c.loop-i.invariant.1 read _ _
-    c.in_err-read-in-Some.field-0.0 (rw p.2 at p.1) (rw (says, sym c.new.ensures, sym c.read.ensures ∙ c.in_err-read-in-Some.was) refl)
-
-pub returns-in_err-read-in-Some-clause-not_read : goal.returns-in_err-read-in-Some-clause-not_read
-returns-in_err-read-in-Some-clause-not_read g c =
-    let p = err_from_is_err_and c.from_residual.result c.from_residual.ensures.1 in
-    not_failed (heading_as c.new.result 1 (fields_of c.read_byte_record.new.row)) c.from_residual.result c.in_err-read-in-Some.field-0.0
-    (sym c.read.ensures ∙ c.in_err-read-in-Some.was) (names_heading_as c.new.result 1 (fields_of c.read_byte_record.new.row)) (rw p.2 at p.1)
+    c.in_err-read-in-Some.field-0.0 (rw p.2 at p.1)
+    (rw (c.in-Some.is, sym c.is_begun.ensures ∙ c.if-is_begun.true, sym c.read.ensures.heading ∙ c.in_err-read-in-Some.was) refl)
 
 pub returns-in_err-from_record-in_default-clause-read : goal.returns-in_err-from_record-in_default-clause-read
 returns-in_err-from_record-in_default-clause-read g c =
     let f = fields_of c.read_byte_record.new.row in
     let read = rw c.in-Ok-true.field-0-test at (c.in-Ok-true.ensures.reads c.loop-i.invariant.0.trim c.loop-i.invariant.0.ready) in
     let p = err_from_is_err_and c.from_residual-in_err-from_record-in_default.result c.from_residual-in_err-from_record-in_default.ensures.1 in
-    let says = no_heading (g.E.Entry.says c.args.shape) c.args.protocol c.args.shape c.loop-i.i f (elim c.in_default.branch [
-      | in_default-via-in-Some+then-i-eq0+else-is_begun w ↦ λ p some zero begun. cc (w.is_begun.ensures, w.if-is_begun.false)
-      | in_default-via-in-Some+else-i-eq0 w ↦ λ p some zero begun. w.if-i-eq0.false zero
-      | in_default-via-in_default w ↦ λ p some zero begun. w.in_default.not-Some p some
+    let says = no_heading (g.E.Entry.says c.args.shape) c.args.heading c.loop-i.i f (elim c.in_default.branch [
+      | in_default-via-in-Some+else-is_begun w ↦ λ asked some. sym w.is_begun.ensures ∙ w.if-is_begun.false
+      | in_default-via-in_default w ↦ λ asked some. absurd (w.in_default.not-Some asked some)
     ]) in
     refused g.R.Read.remaining c.loop-i.text c.read_byte_record.new.self f c.loop-i.invariant.0.config _ _ _ _ _ c.loop-i.invariant.1 read _ _
     c.in_err-from_record-in_default.field-0.0 (rw p.2 at p.1) (rw (says, sym c.from_record.ensures.entry ∙ c.in_err-from_record-in_default.was) refl)
@@ -52,19 +41,19 @@ loop-i-preserved g c =
       config = read.2 ∙ c.loop-i.invariant.0.config;
     } in
     let on = further g.R.Read.remaining c.loop-i.text c.read_byte_record.new.self f c.loop-i.invariant.0.config _ _ _ _ _ c.loop-i.invariant.1 read in
-    elim c.match-protocol.branch [
-      | in-Some+in_ok-read-in-Some w ↦ rw w.entries-is (
-        plain,
-        rw append-nil at (on [] (rw (w.in-Some.is, w.if-i-eq0.true, sym w.is_begun.ensures ∙ w.if-is_begun.true, sym w.new.ensures, sym w.read.ensures ∙ w.in_ok-read-in-Some.was) refl)),
-        c.loop-i.invariant.2,
-        inl (omega (arith, w.if-i-eq0.true)),
-        omega (arith, w.if-i-eq0.true),
-      )
+    elim c.match-heading.branch [
+      | in-Some+in_ok-read-in-Some w ↦
+          let begun = sym w.is_begun.ensures ∙ w.if-is_begun.true in rw w.entries-is (
+            plain,
+            rw append-nil at (on [] (rw (w.in-Some.is, begun, sym w.read.ensures.heading ∙ w.in_ok-read-in-Some.was) refl)),
+            c.loop-i.invariant.2,
+            inl (grind (arith, nat_tests)),
+            grind (arith, nat_tests),
+          )
       | in_default+in_ok-from_record-in_default+in_ok-append-in_default w ↦
-          let says = no_heading (g.E.Entry.says c.args.shape) c.args.protocol c.args.shape c.loop-i.i f (elim w.in_default.branch [
-            | in_default-via-in-Some+then-i-eq0+else-is_begun w ↦ λ p some zero begun. cc (w.is_begun.ensures, w.if-is_begun.false)
-            | in_default-via-in-Some+else-i-eq0 w ↦ λ p some zero begun. w.if-i-eq0.false zero
-            | in_default-via-in_default w ↦ λ p some zero begun. w.in_default.not-Some p some
+          let says = no_heading (g.E.Entry.says c.args.shape) c.args.heading c.loop-i.i f (elim w.in_default.branch [
+            | in_default-via-in-Some+else-is_begun w ↦ λ asked some. sym w.is_begun.ensures ∙ w.if-is_begun.false
+            | in_default-via-in_default w ↦ λ asked some. absurd (w.in_default.not-Some asked some)
           ]) in
           let entry = w.in_ok-from_record-in_default.field-0 in
           let said = sym w.from_record.ensures.entry ∙ w.in_ok-from_record-in_default.was in

@@ -1,6 +1,6 @@
 use Rattle.std.proofs.Common.{ℕ, ◌<◌, ◌^◌, ◌≤◌, length, ap, arith, length-append}
 use Rattle.snoop_trace.proofs.Common.{decimal, length-decimal-le}
-use Rattle.snoop_trace.proofs.streams.step_text.put_field.Goals as goal
+use Rattle.snoop_trace.proofs.streams.append.put_field.Goals as goal
 
 few : (n : ℕ) → n < 2 ^ 64 → length (decimal n) ≤ 20
 few n small = length-decimal-le 20 n (omega arith) (omega arith) (omega arith)
