@@ -3,7 +3,7 @@ use Rattle.std.proofs.{Common.{◌≡◌, ◌<◌, ℕ, ◌+◌, ◌^◌, List, 
 use Rattle.std.specs.{Prelude.{fold, nat_eq, codes, Ok, Err, map}, List.{All, AllByRecursion, flat_map, list_all, list_any, starts_with}}
 use Rattle.snoop_trace.proofs.Common.{AllDigits, Evict, Extent, Heading, IsReadableStep, IsWithinLimits, Load, Step, Store, address_of, and_right}
 use Rattle.snoop_trace.proofs.Common.{decimal, decimal_is_IsNumeral, digit_value, digits_value, false_from_ne_true, is_digit, lt-ltb, mul-le, nat_tests}
-use Rattle.snoop_trace.proofs.{Common.{records_left, recursion_from_All, step_text, steps_text, text_of, word_address}, PowerLemmas.power_some}
+use Rattle.snoop_trace.proofs.{Common.{record_writer, records_left, recursion_from_All, step_text, steps_text, text_of, word_address}, PowerLemmas.power_some}
 use Rattle.std.proofs.lemmas.Str.Parse.{digit_from_value}
 use Rattle.csv.specs.{Writing.{default_writer, escaped, needs_byte, row_text, fields_text}, Machine.next_record, Reading.{default_config, strip_bom}}
 use Rattle.csv.{proofs.RoundTrip.read-write, specs.Writing.{is_blank, read_back}}
@@ -47,6 +47,21 @@ commas : (text : List ℕ) (fields : List (List ℕ))
 commas text [] = refl
 commas text (f ∷ fs) = let next = commas ((text ++ (44 ∷ [])) ++ f) fs in rw (← next) (simp append_assoc)
 
+-- what csv writes of a record with a letter and so many numbers
+module _ (letter a : ℕ) (e : needs_byte default_writer letter ≡ false) (h : a < 2 ^ 64) where
+  pub one_written : row_text record_writer ((letter ∷ []) ∷ decimal a ∷ []) ≡ ((letter ∷ 44 ∷ []) ++ decimal a) ++ (10 ∷ [])
+  unfolding fields_text is_blank
+  one_written = rw (e, plain a h) (commas (letter ∷ []) (decimal a ∷ []))
+
+  pub two_written : (b : ℕ) → b < 2 ^ 64 → row_text record_writer ((letter ∷ []) ∷ decimal a ∷ decimal b ∷ []) ≡ (((letter ∷ 44 ∷ []) ++ decimal a ++ (44 ∷ [])) ++ decimal b) ++ (10 ∷ [])
+  unfolding fields_text is_blank
+  two_written b i = rw (e, plain a h, plain b i) (commas (letter ∷ []) (decimal a ∷ decimal b ∷ []))
+
+  pub three_written : (b c : ℕ) → b < 2 ^ 64 → c < 2 ^ 64
+      → row_text record_writer ((letter ∷ []) ∷ decimal a ∷ decimal b ∷ decimal c ∷ []) ≡ (((((letter ∷ 44 ∷ []) ++ decimal a ++ (44 ∷ [])) ++ decimal b) ++ (44 ∷ [])) ++ decimal c) ++ (10 ∷ [])
+  unfolding fields_text is_blank
+  three_written b c i j = rw (e, plain a h, plain b i, plain c j) (commas (letter ∷ []) (decimal a ∷ decimal b ∷ decimal c ∷ []))
+
 -- the fields of a step
 abbrev row_of : Extent → Step → List (List ℕ)
 row_of shape (Ask core block word Load) = codes "L" ∷ decimal core ∷ decimal (word_address shape block word) ∷ []
@@ -87,16 +102,11 @@ module _ (shape : Extent) (limits : IsWithinLimits shape) where
 
   line_row : (s : Step) → IsReadableStep shape s → row_text default_writer (row_of shape s) ≡ step_text shape s ++ codes "\n"
   unfolding fields_text is_blank escaped
-  line_row (Ask core block word Load) h =
-      rw (plain core (core_small core h.0), plain _ (word_small block word h.1 h.2))
-      (commas (codes "L") (decimal core ∷ decimal (word_address shape block word) ∷ []))
-  line_row (Ask core block word (Store value)) h =
-      rw (plain core (core_small core h.0), plain _ (word_small block word h.1 h.2), plain value h.3)
-      (commas (codes "S") (decimal core ∷ decimal (word_address shape block word) ∷ decimal value ∷ []))
-  line_row (Ask core block word Evict) h =
-      rw (plain core (core_small core h.0), plain _ (address_small block h.1)) (commas (codes "E") (decimal core ∷ decimal (address_of shape block) ∷ []))
-  line_row (Order core) h = rw (plain core (core_small core h)) (commas (codes "O") (decimal core ∷ []))
-  line_row (Respond block) h = rw (plain _ (address_small block h)) (commas (codes "R") (decimal (address_of shape block) ∷ []))
+  line_row (Ask core block word Load) h = two_written 76 core refl (core_small core h.0) _ (word_small block word h.1 h.2)
+  line_row (Ask core block word (Store value)) h = three_written 83 core refl (core_small core h.0) _ value (word_small block word h.1 h.2) h.3
+  line_row (Ask core block word Evict) h = two_written 69 core refl (core_small core h.0) _ (address_small block h.1)
+  line_row (Order core) h = one_written 79 core refl (core_small core h)
+  line_row (Respond block) h = one_written 82 _ refl (address_small block h)
 
   block_back : (n block : ℕ) → block < shape.blocks → block_in shape n (address_of shape block) ≡ Ok block
   block_back n block h = rw (mul-div_cancel block (power_some shape.block_bytes limits.block_bytes.0), lt-ltb block shape.blocks h) refl
@@ -130,8 +140,8 @@ module _ (shape : Extent) (limits : IsWithinLimits shape) where
   small = omega arith
 
   -- what csv writes of a heading
-  heading_written : (protocol : Protocol)
-      → row_text default_writer (heading_row (heading_for protocol shape)) ≡ heading_text (heading_for protocol shape) ++ codes "\n"
+  pub heading_written : (protocol : Protocol)
+      → row_text record_writer (codes "V" ∷ codes "2" ∷ protocol_name protocol ∷ decimal shape.cores ∷ decimal shape.blocks ∷ decimal shape.block_bytes ∷ decimal shape.words ∷ []) ≡ heading_text (heading_for protocol shape) ++ codes "\n"
   unfolding fields_text is_blank
   heading_written protocol = rw ((protocol_read protocol).0, plain _ small.0, plain _ small.1, plain _ small.2, plain _ small.3) (commas (codes "V") (codes "2" ∷ protocol_name protocol ∷ decimal shape.cores ∷ decimal shape.blocks ∷ decimal shape.block_bytes ∷ decimal shape.words ∷ []))
 

@@ -2,7 +2,7 @@
 pub use Rattle.csv.{proofs.WriteFacts.slice-end, specs.{Records.fields_of, declared.parser.State.State}}
 pub use Rattle.snoop_trace.specs.{Extent.{Extent, IsWithinLimits}, Output.{AppendsFront, Gathers, IsReadableStep, Spills, address_of}, Progress.records_left}
 pub use Rattle.snoop_trace.specs.{Output.{step_text, steps_text, text_of, word_address}, Progress.IsSaid}
-pub use Rattle.snoop_trace.specs.{Words.HasWord, declared.{fault.TextFault.TextFault, record.Heading.Heading, step.Row.Row}}
+pub use Rattle.snoop_trace.specs.{Records.{IsReady, record_writer}, Words.HasWord, declared.{fault.TextFault.TextFault, record.Heading.Heading, step.Row.Row}}
 pub use Rattle.snoop_trace.specs.declared.step.{Op.TheVariants.{Evict, Load, Store}, Step.Step}
 pub use Rattle.std.proofs.lemmas.{Bool.{and_right, cases_Bool, cases_lt, false_from_ne_true, lt-ltb, Decides.nat_tests}, Grind.common_steps}
 pub use Rattle.std.proofs.lemmas.{Fmt.{decimal_is_IsNumeral, length-decimal-le}, List.{append-nil, length-append, length-drop, take-append-drop}}

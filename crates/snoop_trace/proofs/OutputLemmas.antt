@@ -1,7 +1,7 @@
 -- What a writer holds after several writes.
-use Rattle.std.proofs.Common.{ℕ, ◌+◌, List, [], ◌++◌, length, take, drop, Option, Some, None, refl, sym, ◌∙◌, append_assoc}
-use Rattle.std.{specs.{Prelude.{Result, Ok, Err, OnErr, ◌-◌}}, proofs.{Math.Seq.take-add}}
-use Rattle.snoop_trace.proofs.Common.{Appends, AppendsFront, Keeps, slice-end, take-append-drop}
+use Rattle.std.proofs.Common.{ℕ, ◌+◌, List, [], ◌++◌, length, take, drop, Option, Some, None, refl, sym, ◌∙◌, append_assoc, ◌≡◌, ◌≤◌, ap, arith}
+use Rattle.std.{specs.{Prelude.{Result, Ok, Err, OnErr, ◌-◌}, List.slice_range}, proofs.{Math.Seq.take-add, lemmas.List.Concat.flat_map-append}}
+use Rattle.snoop_trace.proofs.Common.{Appends, AppendsFront, Extent, Keeps, Step, slice-end, steps_text, take-append-drop}
 pub use Rattle.csv.proofs.WriteFacts.{appends-more as appends_more, appends-none as appends_none}
 
 appends_same : (a b c : Option (List ℕ)) (x : List ℕ) → Appends a b x → Keeps b c → Appends a c x
@@ -37,3 +37,30 @@ front_cut a b x y f = record { front = f.front; rest = f.rest ++ y; whole = cc (
 pub front_after : (a b c : Option (List ℕ)) (x y : List ℕ) → Appends a b x → AppendsFront b c y → AppendsFront a c (x ++ y)
 front_after a b c x y p f =
     record { front = x ++ f.front; rest = f.rest; whole = cc (append_assoc x f.front f.rest); appends = appends_more a b c x f.front p f.appends }
+
+-- the lines of the first steps, and then those to come
+lines_split : (shape : Extent) (steps : List Step) (i : ℕ) → steps_text shape steps ≡ steps_text shape (take i steps) ++ steps_text shape (drop i steps)
+lines_split shape steps i = ap (steps_text shape) (sym (take-append-drop i steps)) ∙ flat_map-append _ (take i steps) (drop i steps)
+
+-- a stop before a write
+pub batch_stop : (a b : Option (List ℕ)) (shape : Extent) (steps : List Step) (i : ℕ)
+    → Appends a b (steps_text shape (take i steps)) → AppendsFront a b (steps_text shape steps)
+batch_stop a b shape steps i far = record { front = steps_text shape (take i steps); rest = steps_text shape (drop i steps); whole = lines_split shape steps i; appends = far }
+
+-- a batch of steps more
+batch_lines : (shape : Extent) (steps : List Step) (i j : ℕ) → i ≤ j → steps_text shape (take j steps) ≡ steps_text shape (take i steps) ++ steps_text shape (slice_range steps i j)
+batch_lines shape steps i j le =
+    let sum : i + (j - i) ≡ j = omega (arith, le) in
+    let split : take j steps ≡ take i steps ++ slice_range steps i j = rw sum at (take-add {A = Step} i (j - i) steps) in
+    ap (steps_text shape) split ∙ flat_map-append _ (take i steps) (slice_range steps i j)
+
+-- a batch was written
+pub batch_more : (a b c : Option (List ℕ)) (shape : Extent) (steps : List Step) (i j : ℕ) → i ≤ j
+    → Appends a b (steps_text shape (take i steps)) → Appends b c (steps_text shape (slice_range steps i j)) → Appends a c (steps_text shape (take j steps))
+batch_more a b c shape steps i j le far more = rw (batch_lines shape steps i j le) (appends_more a b c (steps_text shape (take i steps)) (steps_text shape (slice_range steps i j)) far more)
+
+-- a stop in a write
+pub batch_cut : (a b c : Option (List ℕ)) (shape : Extent) (steps : List Step) (i j : ℕ) → i ≤ j
+    → Appends a b (steps_text shape (take i steps)) → AppendsFront b c (steps_text shape (slice_range steps i j)) → AppendsFront a c (steps_text shape steps)
+batch_cut a b c shape steps i j le far cut =
+    rw (lines_split shape steps j, batch_lines shape steps i j le) (front_cut a c _ (steps_text shape (drop j steps)) (front_after a b c _ (steps_text shape (slice_range steps i j)) far cut))

@@ -9,3 +9,4 @@ pub mod Text
 pub mod Asked
 pub mod Progress
 pub mod Output
+pub mod Records
