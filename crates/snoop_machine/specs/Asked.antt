@@ -7,7 +7,7 @@ use Rattle.snoop_rules.specs.{declared.names.CacheState.CacheState, Cell.Cell, T
 use Rattle.snoop_rules.specs.declared.names.CacheState.TheVariants as state
 use Rattle.snoop_rules.specs.declared.names.CacheAction.TheVariants as action
 use Rattle.snoop_model.specs.{Pictures.Lines.Line, declared.replies.Refused.{Refused, TheVariants.Stalled}, Moves.Move.Hits}
-use Rattle.snoop_machine.specs.{Cache.changed, declared.plan.Asked.{Asked, TheVariants.{Absent, Hit, Issue, Drop}}}
+use Rattle.snoop_machine.specs.{Cache.changed, declared.parts.step.Asked.{Asked, TheVariants.{Absent, Hit, Issue, Drop}}}
 use Rattle.snoop_machine.specs.declared.cache.LineChange.TheVariants as change
 
 -- a line after the hit of an operation on this word

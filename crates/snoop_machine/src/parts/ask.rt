@@ -11,7 +11,7 @@ ghost use Rattle.snoop_machine.specs.Following.{LosesLines};
 ghost use Rattle.snoop_model.specs.Pictures.Picture.{held_by, with_line};
 ghost use Rattle.snoop_model.specs.Pictures.Situation.{picture_of, state_of, with_picture};
 ghost use Rattle.snoop_model.specs.Pictures.Proper.{IsProper};
-ghost use Rattle.snoop_model.specs.Moves.Move.{AskMove, is_load, as_access, next_did};
+ghost use Rattle.snoop_model.specs.Moves.Move.{AskMove, is_load, next_did};
 ghost use Rattle.snoop_machine.specs.declared.cache.LineChange.TheVariants.{Hit};
 ghost use Rattle.snoop_machine.specs.Cache.{changed, IsOfWords, line_or_nothing};
 ghost use Rattle.snoop_machine.specs.Asked.{TakesAsk, RefusesAsk};
@@ -24,8 +24,8 @@ ghost use Rattle.snoop_rules.specs.Takers.{asked as asked_event};
 ghost use Rattle.snoop_model.specs.Moves.LookUps.{HasRow};
 
 use super::Parts;
+use super::step::{Asked, Plan};
 use crate::cache::{Entry, LineChange, state_of};
-use crate::plan::{Asked, Plan};
 use snoop_history::Item;
 use snoop_model::{Access, Refused, Reply};
 use snoop_rules::{CacheAction, CacheState, Protocol, cache_cell, event_asked};
@@ -81,9 +81,8 @@ impl<B: Block> Parts<B> {
                 hit_reply(op, value)
             }
             Asked::Issue(request, next) => {
-                let waiting = waiting_for(word, op);
-                self.lines
-                    .change(core, block, next, LineChange::Wait(waiting));
+                let waiting = LineChange::Wait(Access { word, op });
+                self.lines.change(core, block, next, waiting);
                 self.bus.issue(core, request, block);
                 Reply::Issued(request)
             }
@@ -131,16 +130,6 @@ impl<B: Block> Parts<B> {
             return;
         }
         self.move_line(core, block, next, LineChange::Hit(access));
-    }
-}
-
-/// The load or store that waits once its request is issued.
-fn waiting_for(word: u32, op: Op) -> Option<Access>
-    ensures { result ≡ as_access word op }
-{
-    match op {
-        Op::Load | Op::Store(_) => Some(Access { word, op }),
-        Op::Evict => None,
     }
 }
 

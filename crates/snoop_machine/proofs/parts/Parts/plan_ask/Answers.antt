@@ -1,6 +1,6 @@
 use Rattle.snoop_machine.proofs.{Common.{Some, refl, err_from_is_err_and, Ask, finds_rows, arith}, PartsViews.{protocol_seen, words_seen}, Plans.plan-allowed}
 use Rattle.snoop_rules.specs.Takers.{asked as event_of}
-use Rattle.snoop_machine.specs.declared.plan.Plan.TheVariants as plan
+use Rattle.snoop_machine.specs.declared.parts.step.Plan.TheVariants as plan
 use Rattle.snoop_machine.proofs.parts.Parts.plan_ask.Goals as goal
 
 pub returns-in_err-asked-clause-denied : goal.returns-in_err-asked-clause-denied
