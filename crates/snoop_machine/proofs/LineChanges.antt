@@ -1,5 +1,5 @@
 -- One map was given another line of one block, and the holders have followed.
-use Rattle.snoop_machine.proofs.Common.{◌≡◌, ℕ, ◌<◌, false, List, length, refl, sym, ◌∙◌, ap, inl, inr, arith, slice_index_or, slice_set, nat_eq, cases_eq, ne_eqb, length-set, set-get_or, CacheState, Line, IsProper, Contents, WritesEntry, gone, no_cache, line_in, lines_held, AreHolders, HaveFollowed, StandsAs, no_holders, Held, AreLines, Holders, ◌+◌, None, [], ◌⊎◌, map, lookup, map-set, get_or-set_same, get_or-set_other, is_some-lookup, line_or_nothing, blocks_of, KeepsMapRoom, KeepsMapsRoom, WritesLine, held, held_by_block, line_at, each_place, get_or-map, length-map}
+use Rattle.snoop_machine.proofs.Common.{◌≡◌, ℕ, ◌<◌, false, List, length, sym, ◌∙◌, ap, inl, inr, arith, slice_index_or, slice_set, nat_eq, cases_eq, ne_eqb, length-set, set-get_or, CacheState, Line, IsProper, Contents, WritesEntry, no_cache, line_in, lines_held, AreHolders, HaveFollowed, StandsAs, no_holders, Held, AreLines, Holders, [], map, map-set, get_or-set_same, get_or-set_other, is_some-lookup, line_or_nothing, blocks_of, KeepsMapRoom, KeepsMapsRoom, WritesLine, held, held_by_block, line_at, each_place, get_or-map, length-map}
 use Rattle.snoop_machine.proofs.LineMaps.{IsMap, HasLine, row-same, rows-same, row-set, AreHolders-moved, rows-set, blocks_seen, spare_seen, maps-long}
 use Rattle.std.proofs.lemmas.Map.Entries.{length-keys_of}
 

@@ -1,4 +1,4 @@
-use Rattle.snoop_machine.proofs.{Common.{◌∙◌, ap, arith, Line, changed, line_at}, LineChanges.{HasWritten, lines_after, writes, stands}}
+use Rattle.snoop_machine.proofs.{Common.{arith, changed, line_at}, LineChanges.{HasWritten, lines_after, writes, stands}}
 use Rattle.snoop_machine.proofs.{LineMaps.{has_line, in_rows, held_placed, among_seen, settled}, lines.Lines.change.Goals.After-follow}
 use Rattle.snoop_machine.proofs.lines.Lines.change.Goals as goal
 
