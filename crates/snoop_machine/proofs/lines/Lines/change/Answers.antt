@@ -5,21 +5,16 @@ use Rattle.snoop_machine.proofs.lines.Lines.change.Goals as goal
 pub index_mut-cache-requires : goal.index_mut-cache-requires
 index_mut-cache-requires g c = let within = in_rows c.self.invariant c.self.view_is c.args.core c.args.block c.requires.block c.requires.core in omega arith
 
-pub change-before-requires-clause-place : goal.change-before-requires-clause-place
-change-before-requires-clause-place g c =
+pub change-before-requires : goal.change-before-requires
+change-before-requires g c =
     let has = has_line c.self.invariant c.self.view_is c.args.core c.args.block c.requires.block c.requires.core _ c.index_mut-cache.ensures.value in
     let held = held_placed c.self.invariant c.self.view_is c.args.core c.args.block in
-    rw has.its.read (grind (arith, held, among_seen c.self.invariant c.self.view_is c.args.core c.args.block, c.requires.place))
-
-pub change-before-requires-clause-leaves : goal.change-before-requires-clause-leaves
-change-before-requires-clause-leaves g c =
-    let has = has_line c.self.invariant c.self.view_is c.args.core c.args.block c.requires.block c.requires.core _ c.index_mut-cache.ensures.value in
-    grind (arith, has.was, c.requires.place)
-
-pub change-before-requires-clause-settled : goal.change-before-requires-clause-settled
-change-before-requires-clause-settled g c =
-    let has = has_line c.self.invariant c.self.view_is c.args.core c.args.block c.requires.block c.requires.core _ c.index_mut-cache.ensures.value in
-    rw has.was (settled _ c.requires.proper)
+    record {
+      place = rw has.its.read (grind (arith, held, among_seen c.self.invariant c.self.view_is c.args.core c.args.block, c.requires.place));
+      words = c.requires.words;
+      leaves = grind (arith, has.was, c.requires.place);
+      settled = rw has.was (settled _ c.requires.proper);
+    }
 
 pub follow-requires : goal.follow-requires
 follow-requires g c =

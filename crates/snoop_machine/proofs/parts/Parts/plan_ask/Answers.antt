@@ -1,17 +1,14 @@
-use Rattle.snoop_machine.proofs.{Common.{◌≡◌, ℕ, Some, refl, ap, ◌∙◌, Ask, Cell, I, Invariant, Situation, asked, finds_rows, arith, common_steps, state_of, Line, Protocol, CacheState, IsProper, held_by, picture_of}, PartsViews.protocol_seen, parts.Parts.plan_ask.Goals.In-Some}
-use Rattle.snoop_trace.specs.declared.step.Op.{Op, TheVariants.{Evict, Store}}
+use Rattle.snoop_machine.proofs.{Common.{ℕ, Some, refl, ap, ◌∙◌, Ask, Cell, asked, finds_rows, Step, arith, common_steps, state_of, Line, Protocol, CacheState, IsProper, held_by, picture_of}, PartsViews.protocol_seen, parts.Parts.plan_ask.Goals.In-Some}
+use Rattle.snoop_trace.specs.declared.step.Op.{TheVariants.{Store}}
 use Rattle.snoop_rules.specs.declared.names.CacheAction.TheVariants.{Hit}
-use Rattle.snoop_model.specs.Moves.{LookUps.HasRow, Move.Hits}
+use Rattle.snoop_model.specs.Moves.{Move.Hits}
 use Rattle.snoop_machine.specs.Asked.{after_hit}
 use Rattle.snoop_machine.proofs.parts.Parts.plan_ask.Goals as goal
 
--- an Ask meets no impossible cell
-possible : (s : Situation) → Invariant s → (core block word : ℕ) (asking : Op) → ¬ ((asking ≡ Evict) × (state_of s core block ≡ I)) → HasRow s.protocol (state_of s core block) (asked asking)
-possible s kept core block word asking busy = (finds_rows s kept (Ask core block word asking)).cache core block (Some (asked asking)) (refl, refl, busy, refl)
-
 pub unreachable-requires : goal.unreachable-requires
 unreachable-requires g c =
-    let row = possible c.args.self.now.situation c.requires.inductive c.args.core c.args.block c.args.word c.args.op in
+    let asks : Step = Ask c.args.core c.args.block c.args.word c.args.op in
+    let row = (finds_rows c.args.self.now.situation c.requires.inductive asks).cache c.args.core c.args.block (Some (asked c.args.op)) in
     grind (arith, common_steps, row, c.line-found.ensures.line, protocol_seen c.self.invariant c.self.view_is)
 
 -- the row that was found
