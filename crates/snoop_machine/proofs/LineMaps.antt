@@ -49,23 +49,23 @@ AreHolders-moved row core line old new within fits moved = record {
       (λ k ne. moved.other_readers k ne ∙ fits.readers k);
 }
 
--- a core's map and its line of a block, where callers see both
-pub record IsMap (caches : List Contents) (holders : List Holders) (now : Held) (core block : ℕ) (map : Contents) : Type 0 where
+-- the map of a core, of which callers see this
+pub record IsMap (caches : List Contents) (holders : List Holders) (now : Held) (core : ℕ) (map : Contents) : Type 0 where
   pub lines : AreLines caches holders
   pub view : held caches holders ≡ now
-  pub in_blocks : block < length holders
   pub in_cores : core < length caches
   pub read : map ≡ slice_index_or caches core no_cache
+
+-- and of its line of a block
+pub record HasLine (caches : List Contents) (holders : List Holders) (now : Held) (core block : ℕ) (map : Contents) : Type 0 where
+  pub its : IsMap caches holders now core map
+  pub in_blocks : block < length holders
   pub was : line_in map block ≡ line_at now.rows core block
 
 -- what holds of the lines, of which callers see this
 module _ {caches : List Contents} {holders : List Holders} (lines : AreLines caches holders) {now : Held} (view : held caches holders ≡ now) where
   pub maps-long : length now.lines ≡ length caches
   maps-long = sym (ap (λ (h : Held). length h.lines) view) ∙ length-map caches blocks_of
-
-  -- a core with a map
-  pub in_maps : (core : ℕ) → core < length now.lines → core < length caches
-  in_maps core within = rw maps-long at within
 
   rows-long : length now.rows ≡ length holders
   rows-long = sym (ap (λ (h : Held). length h.rows) view) ∙ length-map-range_with_len (lines_held caches) 0 (length holders)
@@ -92,12 +92,17 @@ module _ {caches : List Contents} {holders : List Holders} (lines : AreLines cac
   among_seen core block =
       is_some-lookup (nat_eq block) (slice_index_or caches core no_cache).entries ∙ ap (λ (blocks : List ℕ). is_among blocks block) (blocks_seen core)
 
-  pub is_map : (core block : ℕ) → block < length now.rows → core < length (row_of now.rows block) → (map : Contents) → map ≡ get_or caches core map
-      → IsMap caches holders now core block map
-  is_map core block in_blocks in_cores map found =
+  pub is_map : (core : ℕ) → core < length now.lines → (map : Contents) → map ≡ get_or caches core map → IsMap caches holders now core map
+  is_map core within map found =
+      let in_cores = rw maps-long at within in
+      record { lines = lines; view = view; in_cores = in_cores; read = get_or_read caches core map in_cores found no_cache }
+
+  pub has_line : (core block : ℕ) → block < length now.rows → core < length (row_of now.rows block) → (map : Contents) → map ≡ get_or caches core map
+      → HasLine caches holders now core block map
+  has_line core block in_blocks in_cores map found =
       let within = in_rows core block in_blocks in_cores in
-      let read = get_or_read caches core map within.1 found no_cache in
-      grind (arith, lines, view, within, read, line_seen core block within.0)
+      let its = is_map core (rw maps-long within.1) map found in
+      record { its = its; in_blocks = within.0; was = rw its.read (line_seen core block within.0) }
 
   -- where the map has no line the core is in I
   pub none_held : (core block : ℕ) → is_some (lookup (nat_eq block) (slice_index_or caches core no_cache).entries) ≡ false → (line_at now.rows core block).state ≡ I

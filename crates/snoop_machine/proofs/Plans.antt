@@ -1,7 +1,7 @@
 -- What a planned step adds and needs, and how many lines each core's map has after it, or after the room for it was made.
 use Rattle.snoop_machine.proofs.Common.{◌≡◌, ℕ, ◌++◌, Option, append-nil, arith, ◌⊎◌, option_to_list, Step, Item, FirstMove, Refuses, Situation, Refused, Reply, IsPlan, IsPlanFor, HasRoom, planned_step, room_for, entry_of, IsFull, IsPrepared, Standing, Plan, ◌+◌, cases_eq, get_or-set_other, LosesLines, AddsLines, NeedsLine, MovesToI, HoldsOn, KeepsRoom, line_count, get_or-set_same}
 use Rattle.snoop_trace.specs.declared.step.Step.TheVariants as step
-use Rattle.snoop_machine.specs.declared.plan.Plan.TheVariants as plan
+use Rattle.snoop_machine.specs.declared.parts.step.Plan.TheVariants as plan
 use Rattle.snoop_model.proofs.Tables.Rows.{no_row}
 
 -- a planned step is refused for no cause

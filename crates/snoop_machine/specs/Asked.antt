@@ -6,8 +6,8 @@ use Rattle.snoop_trace.specs.declared.step.Op.TheVariants as op
 use Rattle.snoop_rules.specs.{declared.names.CacheState.CacheState, Cell.Cell, Takers.asked}
 use Rattle.snoop_rules.specs.declared.names.CacheState.TheVariants as state
 use Rattle.snoop_rules.specs.declared.names.CacheAction.TheVariants as action
-use Rattle.snoop_model.specs.{Pictures.Lines.Line, declared.replies.Refused.{Refused, TheVariants.Stalled}, Moves.Move.Hits}
-use Rattle.snoop_machine.specs.{Cache.changed, declared.plan.Asked.{Asked, TheVariants.{Absent, Hit, Issue, Drop}}}
+use Rattle.snoop_model.specs.{Pictures.Lines.Line, Moves.Move.Hits}
+use Rattle.snoop_machine.specs.{Cache.changed, declared.parts.step.Asked.{Asked, TheVariants.{Absent, Hit, Issue, Drop}}}
 use Rattle.snoop_machine.specs.declared.cache.LineChange.TheVariants as change
 
 -- a line after the hit of an operation on this word
@@ -20,8 +20,3 @@ TakesAsk protocol old word asking Absent = (asking ≡ op.Evict) × (old.state �
 TakesAsk protocol old word asking (Hit next value) = Cell protocol old.state (asked asking) action.Hit next × Hits next old (after_hit next word asking old) word asking value
 TakesAsk protocol old word asking (Issue request next) = Cell protocol old.state (asked asking) (action.Issue request) next
 TakesAsk protocol old word asking (Drop next) = Cell protocol old.state (asked asking) action.Drop next
-
--- why the Ask is refused on this line
-abbrev pub RefusesAsk : Protocol → Line → Op → Refused → Type 0
-RefusesAsk protocol old asking (Stalled state) = (state ≡ old.state) × ((next : CacheState) × Cell protocol old.state (asked asking) action.Stall next)
-RefusesAsk protocol old asking _ = ⊥

@@ -1,11 +1,11 @@
 -- The lines of one core, as its map keeps them.
 -- Source: this project's profile.
-use Rattle.std.specs.Prelude.{◌≡◌, ◌≢◌, ℕ, ◌+◌, ◌-◌, ◌<◌, ◌≤◌, List, [], Option, Some, None, ⊤, length, unwrap_or, option_map, nat_eq, map, slice_set}
+use Rattle.std.specs.Prelude.{◌≡◌, ℕ, ◌+◌, ◌-◌, ◌<◌, ◌≤◌, Bool, true, false, if◌then◌else◌, List, [], Option, Some, None, ⊤, length, unwrap_or, option_map, nat_eq, map, slice_set}
 use Rattle.std.specs.Map.{lookup, keys_of}
-use Rattle.snoop_model.specs.{Pictures.{Lines.Line, Picture.{nothing_held, kept_on}}, declared.access.Access.Access, Moves.Move.moves_to}
-use Rattle.snoop_trace.specs.{Words.Data, declared.{protocol.Protocol.Protocol, step.Op.Op}}
+use Rattle.snoop_model.specs.{Pictures.{Lines.Line, Picture.{nothing_held, kept_on}}, declared.access.Access.Access, Moves.Move.as_access}
+use Rattle.snoop_trace.specs.{Words.Data, declared.step.Op.Op}
 use Rattle.snoop_trace.specs.declared.step.Op.TheVariants as op
-use Rattle.snoop_rules.specs.{declared.names.{CacheState.{CacheState, TheVariants.I}, CacheEvent.CacheEvent, CacheAction.CacheAction}, Cell.Cell}
+use Rattle.snoop_rules.specs.declared.names.CacheState.{CacheState, TheVariants.I}
 use Rattle.snoop_machine.specs.declared.cache.LineChange.{LineChange, TheVariants.{Hit, Wait}}
 
 -- the entries of a core's map, by block, and for how many more there is room
@@ -49,7 +49,7 @@ kept_after next _ kept = kept_on next kept
 
 -- what waits after a change
 abbrev pub waiting_after : LineChange → Option Access → Option Access
-waiting_after (Wait waiting) before = waiting
+waiting_after (Wait access) before = as_access access.word access.op
 waiting_after _ before = before
 
 -- a line after a change
@@ -65,18 +65,20 @@ abbrev pub IsOfWords : ℕ → LineChange → Type 0
 IsOfWords count (Hit access) = access.word < count
 IsOfWords count _ = ⊤
 
--- the row of the block's line for an event leaves it as it is
-pub record StaysByRow (protocol : Protocol) (event : CacheEvent) (block : ℕ) (old new : Contents) : Type 0 where
-  pub row : (action : CacheAction) × (next : CacheState) × (Cell protocol (line_in old block).state event action next × (next ≡ (line_in old block).state))
-  pub same : line_in new block ≡ line_in old block
-  pub places : blocks_of new ≡ blocks_of old
+-- whether this is I
+abbrev pub is_invalid : CacheState → Bool
+is_invalid I = true
+is_invalid _ = false
 
--- the block's line takes its row for an event, which moves it from one state to another; one that moves to I is taken out
-pub record MovesByRow (protocol : Protocol) (event : CacheEvent) (block : ℕ) (before after : CacheState) (old new : Contents) : Type 0 where
-  pub from : before ≡ (line_in old block).state
-  pub differs : after ≢ before
-  pub row : (action : CacheAction) × Cell protocol (line_in old block).state event action after
-  pub here : after ≢ I → line_in new block ≡ moves_to after (line_in old block)
-  pub places : after ≢ I → blocks_of new ≡ blocks_of old
-  pub taken : after ≡ I → lookup (nat_eq block) new.entries ≡ None
-  pub fewer : after ≡ I → length new.entries + 1 ≡ length old.entries
+-- how many lines go where a line moves from one state to another: one where it moves to I
+abbrev pub gone : CacheState → CacheState → ℕ
+gone old new = if is_invalid new then (if is_invalid old then 0 else 1) else 0
+
+-- the block has this line in a map now, and each other block has the one that it had; where another state gave way to I there is one line less, and none for the block
+pub record WritesEntry (block : ℕ) (line : Line) (old new : Contents) : Type 0 where
+  pub here : line_in new block ≡ line
+  pub others : (b : ℕ) → nat_eq block b ≡ false → lookup (nat_eq b) new.entries ≡ lookup (nat_eq b) old.entries
+  pub stays : gone (line_in old block).state line.state ≡ 0 → blocks_of new ≡ blocks_of old
+  pub taken : gone (line_in old block).state line.state ≡ 1 → lookup (nat_eq block) new.entries ≡ None
+  pub fewer : gone (line_in old block).state line.state ≡ 1 → length new.entries + 1 ≡ length old.entries
+  pub room : KeepsMapRoom old new

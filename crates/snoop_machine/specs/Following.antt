@@ -1,7 +1,7 @@
 -- What a step does to how many lines each core's map has.
 -- Source: this project's profile.
 use Rattle.std.specs.Prelude.{◌≡◌, ℕ, ◌+◌, ◌⊎◌, false}
-use Rattle.snoop_machine.specs.{declared.plan.{Asked.{Asked, TheVariants.Issue}, Plan.{Plan, TheVariants.Ask}}, Standing.{Standing, line_count, has_line}}
+use Rattle.snoop_machine.specs.{declared.parts.step.{Asked.{Asked, TheVariants.Issue}, Plan.{Plan, TheVariants.Ask}}, Standing.{Standing, line_count, has_line}}
 use Rattle.snoop_rules.specs.declared.names.CacheState.TheVariants.{I}
 use Rattle.snoop_model.specs.Pictures.Situation.{state_of}
 use Rattle.snoop_machine.specs.Holding.{MovesToI}

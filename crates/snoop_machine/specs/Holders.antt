@@ -3,7 +3,7 @@
 use Rattle.std.specs.Prelude.{◌≡◌, ◌≢◌, ℕ, Bool, true, false, List, [], slice_index_or, slice_set}
 use Rattle.snoop_rules.specs.declared.names.{CacheState.CacheState, Request.{Request, TheVariants.{GetS, GetM, PutM}}}
 use Rattle.snoop_model.specs.{Pictures.{Lines.Line, Picture.held_at, Proper.keeps}, Invariant.Fits.is_owner}
-use Rattle.snoop_machine.specs.declared.holders.Holders.{Holders}
+use Rattle.snoop_machine.specs.declared.lines.Holders.{Holders}
 use Rattle.snoop_blocks.specs.CoreSet.{has}
 
 -- whether another's request concerns a core, by whether it is an owner and whether it is a reader

@@ -1,11 +1,11 @@
 -- The lines of all caches.
 -- Source: this project's profile.
-use Rattle.std.specs.Prelude.{◌≡◌, ◌≢◌, ℕ, ◌+◌, ◌-◌, ◌<◌, ◌≤◌, Bool, true, false, List, [], length, map, nat_eq, slice_index_or, slice_set, ◌⊎◌, if◌then◌else◌}
+use Rattle.std.specs.Prelude.{◌≡◌, ◌≢◌, ℕ, ◌+◌, ◌-◌, ◌<◌, ◌≤◌, Bool, true, false, List, [], length, map, nat_eq, slice_index_or, slice_set, ◌⊎◌}
 use Rattle.std.specs.List.{range_with_len, list_any}
 use Rattle.snoop_rules.specs.{declared.names.{CacheState.{CacheState, TheVariants.I}, CacheAction.CacheAction, CacheEvent.CacheEvent}, Cell.Cell}
 use Rattle.snoop_trace.specs.declared.protocol.Protocol.{Protocol}
 use Rattle.snoop_model.specs.{Moves.Move.moves_to, Pictures.{Lines.Line, Picture.held_at, Proper.IsProper}}
-use Rattle.snoop_machine.specs.{declared.holders.Holders.Holders, Holders.{AreHolders, no_holders}, Cache.{Contents, no_cache, line_in, blocks_of, lines_held}}
+use Rattle.snoop_machine.specs.{declared.lines.Holders.Holders, Holders.{AreHolders, no_holders}, Cache.{Contents, no_cache, line_in, blocks_of, lines_held, gone}}
 
 -- what each core holds of the block
 abbrev pub row_of : List (List Line) → ℕ → List Line
@@ -55,15 +55,6 @@ is_among blocks block = list_any (nat_eq block) blocks
 -- the line may move to this state: the core holds the block, or its map has a line for it, which leaves I
 abbrev pub MayMoveTo : Held → ℕ → ℕ → CacheState → Type 0
 MayMoveTo l core block next = ((line_at l.rows core block).state ≢ I) ⊎ ((is_among (slice_index_or l.lines core []) block ≡ true) × (next ≢ I))
-
--- whether this is I
-abbrev pub is_invalid : CacheState → Bool
-is_invalid I = true
-is_invalid _ = false
-
--- how many lines go where a line moves from one state to another: one where it moves to I
-abbrev pub gone : CacheState → CacheState → ℕ
-gone old new = if is_invalid new then (if is_invalid old then 0 else 1) else 0
 
 -- of each core's map as many lines go as its line of the block moves to I
 abbrev pub LinesGo : ℕ → Held → Held → Type 0

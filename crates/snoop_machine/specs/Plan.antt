@@ -7,7 +7,7 @@ use Rattle.snoop_rules.specs.declared.names.{MemState.MemState, MemCell.MemCell,
 use Rattle.snoop_rules.specs.Takers.{at_memory, seen_by}
 use Rattle.snoop_history.specs.declared.items.{Came.Came, Item.Item}
 use Rattle.snoop_history.specs.declared.items.Item.TheVariants as item
-use Rattle.snoop_machine.specs.declared.plan.{Asked.{Asked, TheVariants.{Absent, Hit, Issue, Drop}}, Plan.{Plan, TheVariants.{Ask, Order, Writeback, Fill}}}
+use Rattle.snoop_machine.specs.declared.parts.step.{Asked.{Asked, TheVariants.{Absent, Hit, Issue, Drop}}, Plan.{Plan, TheVariants.{Ask, Order, Writeback, Fill}}}
 use Rattle.snoop_machine.specs.{Standing.{Standing, has_line}, Prepared.room_to_issue, Cache.filled_line, Asked.TakesAsk}
 use Rattle.snoop_model.specs.Pictures.{Situation.{Situation, picture_of, state_of, IsHead}, Picture.held_by, Sends.IsOnlySender, Proper.IsProper}
 use Rattle.snoop_model.specs.Moves.{LookUps.HasRow, Move.{Fills, Settles, IsWithin, TakesMemRow, came_of, next_did}}

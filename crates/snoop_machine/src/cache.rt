@@ -1,10 +1,12 @@
 //! The lines of one core.
-ghost use Rattle.std.specs.Prelude.{◌≡◌, ℕ, ◌+◌, ◌<◌, ◌≤◌, ◌∷◌, ◌++◌, [], length, option_copied, option_map, unwrap_or, OnOk, OnErr, IfSome, IfNone, IsSome, false, is_some, nat_eq, Option, None, if◌then◌else◌};
+ghost use Rattle.std.specs.Prelude.{◌≡◌, ◌≢◌, ℕ, ◌<◌, ◌≤◌, ◌∷◌, ◌++◌, [], length, option_copied, option_map, unwrap_or, OnOk, OnErr, IsSome, false, is_some, nat_eq, Option, None, if◌then◌else◌};
 ghost use Rattle.snoop_trace.specs.Words.{word_at, zero_words};
 ghost use Rattle.std.specs.Map.{lookup};
 ghost use Rattle.snoop_rules.specs.declared.names.CacheState.TheVariants.{I};
 ghost use Rattle.snoop_model.specs.Pictures.Picture.{nothing_held};
-ghost use Rattle.snoop_machine.specs.Cache.{line_in, line_or_nothing, blocks_of, changed, filled_line, IsOfWords, KeepsMapRoom, StaysByRow, MovesByRow};
+ghost use Rattle.snoop_model.specs.Pictures.Proper.{IsProper};
+ghost use Rattle.snoop_model.specs.Moves.Move.{moves_to};
+ghost use Rattle.snoop_machine.specs.Cache.{line_in, line_or_nothing, blocks_of, changed, filled_line, IsOfWords, KeepsMapRoom, WritesEntry};
 ghost use Rattle.snoop_machine.specs.declared.cache.LineChange.TheVariants.{Hit};
 ghost use Rattle.snoop_rules.specs.declared.names.CacheState.{CacheState};
 ghost use Rattle.snoop_rules.specs.declared.names.CacheAction.{CacheAction};
@@ -25,8 +27,8 @@ pub(crate) enum LineChange {
     Move,
     /// This is performed on the kept words. The code builds it for stores alone; a load's hit, which changes no words, stands in contracts.
     Hit(Access),
-    /// From now on this waits.
-    Wait(Option<Access>),
+    /// From now on this waits, or nothing where it is an eviction.
+    Wait(Access),
 }
 
 /// A line as a map holds it: whether it keeps words, whether an operation waits, and its word, lie beside the state, where they take no
@@ -125,12 +127,11 @@ impl<B: Block> Entry<B> {
                 }
                 return;
             }
-            LineChange::Wait(Some(access)) => {
-                self.is_waiting = true;
+            LineChange::Wait(access) => {
+                self.is_waiting = !matches!(&access.op, Op::Evict);
                 self.word = access.word;
                 self.op = access.op;
             }
-            LineChange::Wait(None) => self.is_waiting = false,
             LineChange::Move => {}
         }
         if matches!(&next, CacheState::I | CacheState::ImAd | CacheState::IiA) {
@@ -221,7 +222,8 @@ impl<B: Block> Cache<B> {
         ensures ok { OnOk result (0 < self.new.spare) }
         ensures full { OnErr result (self.old.spare ≡ 0) }
         ensures refused { OnErr result (self.new ≡ self.old) }
-        ensures same { self.new.entries ≡ self.old.entries }
+        ensures same { (b : ℕ) → line_in self.new b ≡ line_in self.old b }
+        ensures blocks { blocks_of self.new ≡ blocks_of self.old }
         ensures room { KeepsMapRoom self.old self.new }
     {
         // The room alone decides: a refused growth may have left some.
@@ -256,14 +258,10 @@ impl<B: Block> Cache<B> {
     pub(crate) fn change(&mut self, block: u32, next: CacheState, change: LineChange) -> CacheState
         requires place { IsSome (lookup (nat_eq block) self.old.entries) }
         requires words { IsOfWords B.count change }
+        requires leaves { next ≡ I → (line_in self.old block).state ≢ I }
         requires settled { next ≡ I → changed next change (line_in self.old block) ≡ nothing_held }
         ensures before { result ≡ (line_in self.old block).state }
-        ensures here { line_in self.new block ≡ changed next change (line_in self.old block) }
-        ensures others { (b : ℕ) → nat_eq block b ≡ false → lookup (nat_eq b) self.new.entries ≡ lookup (nat_eq b) self.old.entries }
-        ensures taken { next ≡ I → lookup (nat_eq block) self.new.entries ≡ None }
-        ensures fewer { next ≡ I → length self.new.entries + 1 ≡ length self.old.entries }
-        ensures stays { ¬ (next ≡ I) → blocks_of self.new ≡ blocks_of self.old }
-        ensures room { KeepsMapRoom self.old self.new }
+        ensures wrote { WritesEntry block (changed next change (line_in self.old block)) self.old self.new }
     {
         let Some(entry) = self.lines.get_mut(&block) else {
             unreachable!();
@@ -287,11 +285,9 @@ impl<B: Block> Cache<B> {
     ) -> CacheState
         requires place { IsSome (lookup (nat_eq block) self.old.entries) }
         requires word { access.word < B.count }
+        requires stays { next ≢ I }
         ensures before { result ≡ (line_in self.old block).state }
-        ensures here { line_in self.new block ≡ filled_line next access words.now }
-        ensures others { (b : ℕ) → nat_eq block b ≡ false → lookup (nat_eq b) self.new.entries ≡ lookup (nat_eq b) self.old.entries }
-        ensures blocks { blocks_of self.new ≡ blocks_of self.old }
-        ensures room { KeepsMapRoom self.old self.new }
+        ensures wrote { WritesEntry block (filled_line next access words.now) self.old self.new }
     {
         let Some(entry) = self.lines.get_mut(&block) else {
             unreachable!();
@@ -301,35 +297,37 @@ impl<B: Block> Cache<B> {
         before
     }
 
-    /// Takes the row of the block's line for an event, and answers the states before and after, or `None` where the line stays as it is. A
-    /// line that moves to I is taken out.
+    /// Takes the row of the block's line for an event, and answers the states before and after. A line that moves to I is taken out.
     #[inline(always)]
     pub(crate) fn take_row(
         &mut self,
         protocol: Protocol,
         block: u32,
         event: CacheEvent,
-    ) -> Option<(CacheState, CacheState)>
+    ) -> (CacheState, CacheState)
+        requires proper { IsProper (line_in self.old block) }
         requires row { HasRow protocol (line_in self.old block).state event }
+        requires lands { (action : CacheAction) → (next : CacheState) → Cell protocol (line_in self.old block).state event action next → IsProper (moves_to next (line_in self.old block)) }
         requires absent { (action : CacheAction) → (next : CacheState) → Cell protocol I event action next → next ≡ I }
-        ensures still { IfNone result (StaysByRow protocol event block self.old self.new) }
-        ensures moved { IfSome result (λ states. MovesByRow protocol event block states.0 states.1 self.old self.new) }
-        ensures others { (b : ℕ) → nat_eq block b ≡ false → lookup (nat_eq b) self.new.entries ≡ lookup (nat_eq b) self.old.entries }
-        ensures room { KeepsMapRoom self.old self.new }
+        ensures before { result.0 ≡ (line_in self.old block).state }
+        ensures row { (action : CacheAction) × Cell protocol (line_in self.old block).state event action result.1 }
+        ensures wrote { WritesEntry block (moves_to result.1 (line_in self.old block)) self.old self.new }
     {
-        let entry = self.lines.get_mut(&block)?;
+        let Some(entry) = self.lines.get_mut(&block) else {
+            return (CacheState::I, CacheState::I);
+        };
         let before = entry.state();
         let Some(cell) = cache_cell(protocol, before, event) else {
             unreachable!();
         };
         if cell.next == before {
-            return None;
+            return (before, before);
         }
         if matches!(&cell.next, CacheState::I) {
             let _ = self.lines.swap_remove(&block);
         } else {
             entry.change(cell.next, LineChange::Move);
         }
-        Some((before, cell.next))
+        (before, cell.next)
     }
 }

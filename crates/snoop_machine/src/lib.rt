@@ -2,12 +2,10 @@
 #![tactic(auto)]
 
 mod cache;
-mod holders;
 mod lines;
 mod machine;
 mod memory;
 mod parts;
-mod plan;
 mod turn;
 
 pub use machine::{Machine, run_steps};

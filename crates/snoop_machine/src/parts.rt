@@ -3,7 +3,7 @@ ghost use Rattle.std.specs.Prelude.{◌≡◌, ◌<◌, ◌≤◌, ◌↔◌, �
 ghost use Rattle.snoop_trace.specs.Words.{AreZeroFrom, word_at};
 ghost use Rattle.snoop_bus.specs.Queues.{place_in, queue_of};
 ghost use Rattle.snoop_rules.specs.Waits.{waiting_request};
-ghost use Rattle.snoop_model.specs.Pictures.Picture.{first_memory, held_by};
+ghost use Rattle.snoop_model.specs.Pictures.Picture.{held_by};
 ghost use Rattle.snoop_model.specs.Pictures.Situation.{picture_of, reset, state_of};
 ghost use Rattle.snoop_model.specs.Pictures.Proper.{IsProper, keeps};
 ghost use Rattle.snoop_model.specs.Moves.Move.{next_did};
@@ -72,7 +72,11 @@ impl<B: Block> Parts<B> {
     {
         prove!(shape.cores() <= 256);
         prove!(shape.words() <= 64);
-        let memory = Memory::new(alloc, shape.blocks(), first_state(protocol))?;
+        let first = match protocol {
+            Protocol::Msi => MemState::IorS,
+            Protocol::Mesi => MemState::I,
+        };
+        let memory = Memory::new(alloc, shape.blocks(), first)?;
         let lines = Lines::new(alloc, shape)?;
         let bus = Bus::new(alloc, shape)?;
         let log = Log::new(alloc, shape)?;
@@ -298,15 +302,5 @@ fn word_kept<B: Block>(found: Option<&Entry<B>>, word: u32) -> Option<u64>
     match found {
         Some(entry) => entry.at(word),
         None => None,
-    }
-}
-
-/// Memory's state at reset.
-fn first_state(protocol: Protocol) -> MemState
-    ensures { result ≡ first_memory protocol }
-{
-    match protocol {
-        Protocol::Msi => MemState::IorS,
-        Protocol::Mesi => MemState::I,
     }
 }

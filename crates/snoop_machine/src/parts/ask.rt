@@ -1,7 +1,7 @@
 //! An Ask: found, and made.
-ghost use Rattle.std.specs.Prelude.{◌≡◌, ◌≢◌, ◌<◌, ℕ, [], ◌∷◌, ◌++◌, IfOk, IfErr, None, Some, true, Err, if◌then◌else◌, ◌⊎◌, option_copied};
+ghost use Rattle.std.specs.Prelude.{◌≡◌, ◌≢◌, ◌<◌, ℕ, [], ◌∷◌, ◌++◌, IfOk, IfErr, None, Some, true, Err, if◌then◌else◌};
 ghost use Rattle.snoop_trace.specs.declared.step.Step.TheVariants.{Ask};
-ghost use Rattle.snoop_trace.specs.declared.step.Op.TheVariants.{Load, Evict};
+ghost use Rattle.snoop_trace.specs.declared.step.Op.TheVariants.{Load};
 ghost use Rattle.snoop_trace.specs.Words.{HasWord, IsWord};
 ghost use Rattle.snoop_rules.specs.Waits.{waiting_request};
 ghost use Rattle.snoop_history.specs.declared.items.Item.TheVariants.{Did as ItemDid};
@@ -11,24 +11,22 @@ ghost use Rattle.snoop_machine.specs.Following.{LosesLines};
 ghost use Rattle.snoop_model.specs.Pictures.Picture.{held_by, with_line};
 ghost use Rattle.snoop_model.specs.Pictures.Situation.{picture_of, state_of, with_picture};
 ghost use Rattle.snoop_model.specs.Pictures.Proper.{IsProper};
-ghost use Rattle.snoop_model.specs.Moves.Move.{AskMove, is_load, as_access, next_did};
+ghost use Rattle.snoop_model.specs.Moves.Move.{AskMove, is_load, next_did};
 ghost use Rattle.snoop_machine.specs.declared.cache.LineChange.TheVariants.{Hit};
-ghost use Rattle.snoop_machine.specs.Cache.{changed, IsOfWords, line_or_nothing};
-ghost use Rattle.snoop_machine.specs.Asked.{TakesAsk, RefusesAsk};
+ghost use Rattle.snoop_machine.specs.Cache.{changed, IsOfWords};
+ghost use Rattle.snoop_machine.specs.Asked.{TakesAsk};
 ghost use Rattle.snoop_model.specs.Moves.Refuses.{Refuses};
 ghost use Rattle.snoop_machine.specs.Plan.{IsPlanFor, HasRoomToAsk};
 ghost use Rattle.snoop_model.specs.Invariant.Invariant.{Invariant};
 ghost use Rattle.snoop_model.specs.declared.replies.Refused.{Refused};
 ghost use Rattle.snoop_model.specs.declared.replies.Reply.TheVariants as reply;
-ghost use Rattle.snoop_rules.specs.Takers.{asked as asked_event};
-ghost use Rattle.snoop_model.specs.Moves.LookUps.{HasRow};
 
 use super::Parts;
-use crate::cache::{Entry, LineChange, state_of};
-use crate::plan::{Asked, Plan};
+use super::step::{Asked, Plan};
+use crate::cache::{LineChange, state_of};
 use snoop_history::Item;
 use snoop_model::{Access, Refused, Reply};
-use snoop_rules::{CacheAction, CacheState, Protocol, cache_cell, event_asked};
+use snoop_rules::{CacheAction, CacheState, cache_cell, event_asked};
 use snoop_trace::{Block, Op};
 
 impl<B: Block> Parts<B> {
@@ -44,7 +42,25 @@ impl<B: Block> Parts<B> {
         ensures exactly { (cause : Refused) → Refuses self.now.situation (Ask core block word op) cause → result ≡ Err cause }
     {
         let found = self.line(core, block);
-        let asked = ask(self.protocol, found, word, op)?;
+        let state = state_of(found);
+        let asked = if matches!((&state, &op), (CacheState::I, Op::Evict)) {
+            Asked::Absent
+        } else {
+            let Some(cell) = cache_cell(self.protocol, state, event_asked(op)) else {
+                unreachable!();
+            };
+            match (cell.action, op, found) {
+                (CacheAction::Stall, _, _) => return Err(Refused::Stalled(state)),
+                (CacheAction::Hit, Op::Load, Some(entry)) => match entry.at(word) {
+                    Some(value) => Asked::Hit(cell.next, value),
+                    None => unreachable!(),
+                },
+                (CacheAction::Hit, Op::Store(value), _) => Asked::Hit(cell.next, value),
+                (CacheAction::Issue(request), _, _) => Asked::Issue(request, cell.next),
+                (CacheAction::Drop, _, _) => Asked::Drop(cell.next),
+                _ => unreachable!(),
+            }
+        };
         Ok(Plan::Ask {
             core,
             block,
@@ -81,9 +97,8 @@ impl<B: Block> Parts<B> {
                 hit_reply(op, value)
             }
             Asked::Issue(request, next) => {
-                let waiting = waiting_for(word, op);
-                self.lines
-                    .change(core, block, next, LineChange::Wait(waiting));
+                let waiting = LineChange::Wait(Access { word, op });
+                self.lines.change(core, block, next, waiting);
                 self.bus.issue(core, request, block);
                 Reply::Issued(request)
             }
@@ -134,16 +149,6 @@ impl<B: Block> Parts<B> {
     }
 }
 
-/// The load or store that waits once its request is issued.
-fn waiting_for(word: u32, op: Op) -> Option<Access>
-    ensures { result ≡ as_access word op }
-{
-    match op {
-        Op::Load | Op::Store(_) => Some(Access { word, op }),
-        Op::Evict => None,
-    }
-}
-
 /// The reply to a hit of a load or a store; an Evict never hits.
 fn hit_reply(op: Op, value: u64) -> Reply
     ensures { result ≡ (if is_load op then reply.Hit value else reply.StoreHit) }
@@ -151,38 +156,5 @@ fn hit_reply(op: Op, value: u64) -> Reply
     match op {
         Op::Load => Reply::Hit(value),
         Op::Store(_) | Op::Evict => Reply::StoreHit,
-    }
-}
-
-/// What an Ask of the operation does to this line.
-fn ask<B: Block>(
-    protocol: Protocol,
-    found: Option<&Entry<B>>,
-    word: u32,
-    op: Op,
-) -> Result<Asked, Refused>
-    requires proper { IsProper (line_or_nothing (option_copied found)) }
-    requires word { word < B.count ⊎ (op ≡ Evict) }
-    requires possible { (¬ ((op ≡ Evict) × ((line_or_nothing (option_copied found)).state ≡ I))) → HasRow protocol (line_or_nothing (option_copied found)).state (asked_event op) }
-    ensures taken { IfOk result (λ taken. TakesAsk protocol (line_or_nothing (option_copied found.entry)) word op taken) }
-    ensures refused { IfErr result (λ cause. RefusesAsk protocol (line_or_nothing (option_copied found.entry)) op cause) }
-{
-    let state = state_of(found);
-    if matches!((&state, &op), (CacheState::I, Op::Evict)) {
-        return Ok(Asked::Absent);
-    }
-    let Some(cell) = cache_cell(protocol, state, event_asked(op)) else {
-        unreachable!();
-    };
-    match (cell.action, op, found) {
-        (CacheAction::Stall, _, _) => Err(Refused::Stalled(state)),
-        (CacheAction::Hit, Op::Load, Some(entry)) => match entry.at(word) {
-            Some(value) => Ok(Asked::Hit(cell.next, value)),
-            None => unreachable!(),
-        },
-        (CacheAction::Hit, Op::Store(value), _) => Ok(Asked::Hit(cell.next, value)),
-        (CacheAction::Issue(request), _, _) => Ok(Asked::Issue(request, cell.next)),
-        (CacheAction::Drop, _, _) => Ok(Asked::Drop(cell.next)),
-        _ => unreachable!(),
     }
 }

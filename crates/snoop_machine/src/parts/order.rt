@@ -21,10 +21,10 @@ ghost use Rattle.snoop_machine.specs.Lines.{LinesGo, KeepsMapsRoom};
 ghost use Rattle.snoop_machine.specs.Memory.{memory_line};
 
 use super::Parts;
+use super::step::Plan;
 use crate::cache::words_of;
 use crate::lines::Lines;
 use crate::memory::Memory;
-use crate::plan::Plan;
 use snoop_history::{Item, Sent};
 use snoop_model::Refused;
 use snoop_rules::{

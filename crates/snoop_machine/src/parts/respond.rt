@@ -19,8 +19,8 @@ ghost use Rattle.snoop_model.specs.Pictures.Proper.{IsProper};
 ghost use Rattle.snoop_model.specs.Moves.LookUps.{HasRow, HasMemRow};
 
 use super::Parts;
+use super::step::{Filled, Plan};
 use crate::cache::{Entry, state_of, waiting_of};
-use crate::plan::{Filled, Plan};
 use snoop_bus::Open;
 use snoop_history::{Came, Did, Item};
 use snoop_model::{Access, Refused};

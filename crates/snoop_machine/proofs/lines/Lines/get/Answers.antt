@@ -1,4 +1,4 @@
-use Rattle.snoop_machine.proofs.{Common.{◌∙◌, ap, arith, line_or_nothing}, LineMaps.{is_map, in_rows}}
+use Rattle.snoop_machine.proofs.{Common.{◌∙◌, ap, arith, line_or_nothing}, LineMaps.{has_line, in_rows}}
 use Rattle.snoop_machine.proofs.lines.Lines.get.Goals as goal
 
 pub index-cache-requires : goal.index-cache-requires
@@ -6,8 +6,8 @@ index-cache-requires g c = let within = in_rows c.self.invariant c.self.view_is 
 
 pub returns : goal.returns
 returns g c =
-    let its = is_map c.self.invariant c.self.view_is c.args.core c.args.block c.requires.block c.requires.core _ c.index-cache.ensures in
+    let has = has_line c.self.invariant c.self.view_is c.args.core c.args.block c.requires.block c.requires.core _ c.index-cache.ensures in
     record {
-      line = ap line_or_nothing c.get.ensures ∙ its.was;
-      proper = rw (c.get.ensures, its.read) (c.self.invariant.proper c.args.core c.args.block);
+      line = ap line_or_nothing c.get.ensures ∙ has.was;
+      proper = rw (c.get.ensures, has.its.read) (c.self.invariant.proper c.args.core c.args.block);
     }

@@ -34,11 +34,8 @@ loop-preserved g c = (
   grind (arith, common_steps),
 )
 
-pub returns-in_err-holders-clause-rows : goal.returns-in_err-holders-clause-rows
-returns-in_err-holders-clause-rows g c = rw (err_from_is_err_and c.from_residual-in_err-holders.result c.from_residual-in_err-holders.ensures.1).1 tt
-
-pub returns-in_err-holders-clause-lines : goal.returns-in_err-holders-clause-lines
-returns-in_err-holders-clause-lines g c = rw (err_from_is_err_and c.from_residual-in_err-holders.result c.from_residual-in_err-holders.ensures.1).1 tt
+pub returns-in_err-holders : goal.returns-in_err-holders
+returns-in_err-holders g c = rw (err_from_is_err_and c.from_residual-in_err-holders.result c.from_residual-in_err-holders.ensures.1).1 (record { rows = tt; lines = tt })
 
 pub invariant_of-result : goal.invariant_of-result
 unfolding is_owner

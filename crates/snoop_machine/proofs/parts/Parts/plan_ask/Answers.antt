@@ -1,25 +1,42 @@
-use Rattle.snoop_machine.proofs.{Common.{Some, refl, err_from_is_err_and, Ask, finds_rows, arith}, PartsViews.{protocol_seen, words_seen}, Plans.plan-allowed}
-use Rattle.snoop_rules.specs.Takers.{asked as event_of}
-use Rattle.snoop_machine.specs.declared.plan.Plan.TheVariants as plan
+use Rattle.snoop_machine.proofs.{Common.{ℕ, Some, refl, ap, ◌∙◌, Ask, Cell, asked, finds_rows, Step, arith, common_steps, state_of, Line, Protocol, CacheState, IsProper, held_by, picture_of}, PartsViews.protocol_seen, parts.Parts.plan_ask.Goals.In-Some}
+use Rattle.snoop_trace.specs.declared.step.Op.{TheVariants.{Store}}
+use Rattle.snoop_rules.specs.declared.names.CacheAction.TheVariants.{Hit}
+use Rattle.snoop_model.specs.Moves.{Move.Hits}
+use Rattle.snoop_machine.specs.Asked.{after_hit}
 use Rattle.snoop_machine.proofs.parts.Parts.plan_ask.Goals as goal
 
-pub returns-in_err-asked-clause-denied : goal.returns-in_err-asked-clause-denied
-returns-in_err-asked-clause-denied g c =
-    let p = err_from_is_err_and c.from_residual.result c.from_residual.ensures.1 in
-    rw (p.1, p.2) (grind (arith, c.in_err-asked.ensures.refused, c.line-found.ensures.line, protocol_seen c.self.invariant c.self.view_is, c.requires))
+pub unreachable-requires : goal.unreachable-requires
+unreachable-requires g c =
+    let asks : Step = Ask c.args.core c.args.block c.args.word c.args.op in
+    let row = (finds_rows c.args.self.now.situation c.requires.inductive asks).cache c.args.core c.args.block (Some (asked c.args.op)) in
+    grind (arith, common_steps, row, c.line-found.ensures.line, protocol_seen c.self.invariant c.self.view_is)
 
-pub returns-clause-exactly : goal.returns-clause-exactly
-returns-clause-exactly g c =
-    let takes = rw (c.line-found.ensures.line, protocol_seen c.self.invariant c.self.view_is) at c.in_ok-asked.ensures.taken in
+-- the row that was found
+row_is : (g : _) (c : In-Some g) → Cell c.args.self.now.situation.protocol (state_of c.args.self.now.situation c.args.core c.args.block) (asked c.args.op) c.in-Some.cell.action c.in-Some.cell.next
+row_is g c = rw (c.event_asked.ensures, c.state_of-state.ensures, c.line-found.ensures.line, protocol_seen c.self.invariant c.self.view_is) at c.in-Some.ensures.row
+
+pub returns-in-Stall-default-default-clause-denied : goal.returns-in-Stall-default-default-clause-denied
+returns-in-Stall-default-default-clause-denied g c =
+    let row = row_is g (goal.at.returns-in-Stall-default-default-clause-denied g c).In-Some in
+    let state = c.state_of-state.ensures ∙ ap (λ (x : Line). x.state) c.line-found.ensures.line in
+    ((c.requires.core, c.requires.block), state, (c.in-Some.cell.next, rw c.in-Stall-default-default.is-0 at row), c.requires.word)
+
+pub unreachable-requires-in_default-2 : goal.unreachable-requires-in_default-2
+unreachable-requires-in_default-2 g c =
+    let row = row_is g (goal.at.unreachable-requires-in_default-2 g c).In-Some in
     let proper = rw c.line-found.ensures.line at c.line-found.ensures.proper in
-    λ cause refuses. absurd (plan-allowed c.args.self.now.situation (plan.Ask c.args.core c.args.block c.args.word c.args.op c.in_ok-asked.asked)
-    ((c.requires.core, c.requires.block), takes, proper, c.requires.word) cause refuses)
+    grind (arith, common_steps, row, proper, c.line-found.ensures.line)
 
-pub ask-requires-clause-possible : goal.ask-requires-clause-possible
-ask-requires-clause-possible g c =
-    rw (c.line-found.ensures.line, protocol_seen c.self.invariant c.self.view_is)
-    (λ busy. (finds_rows c.args.self.now.situation c.requires.inductive (Ask c.args.core c.args.block c.args.word c.args.op)).cache c.args.core c.args.block
-    (Some (event_of c.args.op)) (refl, refl, busy, refl))
+-- a store hits on the words that its line keeps
+store_hits : (p : Protocol) (old : Line) (word value : ℕ) (next : CacheState) → IsProper old → Cell p old.state (asked (Store value)) Hit next
+    → Hits next old (after_hit next word (Store value) old) word (Store value) value
+store_hits p old word value next proper row = grind arith
 
-pub ask-requires-clause-word : goal.ask-requires-clause-word
-ask-requires-clause-word g c = grind (arith, words_seen c.self.invariant c.self.view_is, c.requires.word)
+pub returns-in-Hit-Store-default-clause-found : goal.returns-in-Hit-Store-default-clause-found
+returns-in-Hit-Store-default-clause-found g c =
+    let row = row_is g (goal.at.returns-in-Hit-Store-default-clause-found g c).In-Some in
+    let proper = rw c.line-found.ensures.line at c.line-found.ensures.proper in
+    let line = held_by (picture_of c.args.self.now.situation c.args.block) c.args.core in
+    let op = c.in-Hit-Store-default.is-1 in
+    let hit = rw c.in-Hit-Store-default.is-0 at row in
+    (refl, ((c.requires.core, c.requires.block), (hit, rw (← op) at (store_hits c.args.self.now.situation.protocol line c.args.word c.in-Hit-Store-default.value c.in-Some.cell.next proper (rw op at hit))), proper, c.requires.word))

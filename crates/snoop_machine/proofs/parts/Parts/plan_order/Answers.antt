@@ -1,6 +1,6 @@
 use Rattle.snoop_machine.proofs.Common.{◌≡◌, Option, Some, None, refl, sym, ap, ◌∙◌, false, ℕ, is_some, option_copied, Order, seen_by, Open, Picture, free_picture, picture_of, row_of, memory_line, Fields, standing, IsWhole, IsPlan, Standing, orders_follow_sender_table, finds_rows, arith}
 use Rattle.std.specs.Borrow.{Bor}
-use Rattle.snoop_machine.specs.declared.plan.Plan.TheVariants as plan
+use Rattle.snoop_machine.specs.declared.parts.step.Plan.TheVariants as plan
 use Rattle.snoop_machine.proofs.{Plans.plan-allowed, parts.Parts.plan_order.Goals.After-sender-from, PartsViews.{seen, line_seen, protocol_seen}}
 use Rattle.snoop_machine.proofs.parts.Parts.plan_order.Goals as goal
 

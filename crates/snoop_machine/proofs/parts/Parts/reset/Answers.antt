@@ -28,7 +28,7 @@ module _ (shape : Extent) (bus : Traffic) (long : length bus.queues ≡ shape.co
 pub invariant_of-result : goal.invariant_of-result
 invariant_of-result g c =
     let lines = length-replicate {A = List ℕ} c.args.shape.cores [] in
-    let states = length-replicate c.blocks-2.result c.first_state.result in
+    let states = length-replicate c.blocks-2.result c.match-protocol.first in
     let words = length-replicate c.blocks-2.result zero_words in
     record {
       sized = grind (arith, c.in_ok-lines.ensures.lines, c.in_ok-memory.ensures, c.blocks-2.ensures.value, c.in_ok-log.ensures, c.requires.words, lines, states, words);
@@ -40,8 +40,9 @@ returns g c =
     let shape = c.args.shape in
     let bus = c.in_ok-bus.ensures in
     let queues = queues_of-reset shape c.in_ok-bus.bus bus.queues.0 bus.queues.1 bus.transactions in
+    let first : c.match-protocol.first ≡ first_memory c.args.protocol = grind (arith, c.match-protocol.branch) in
     let pictures = pictures_of-replicate shape.blocks (replicate shape.cores nothing_held) (first_memory c.args.protocol) zero_words None in
     record {
-      situation = rw (c.in_ok-lines.ensures.rows, c.in_ok-memory.ensures, bus.transactions, c.blocks-2.ensures.value, c.first_state.ensures, pictures, queues, bus.queues.0, c.in_ok-log.ensures) refl;
+      situation = rw (c.in_ok-lines.ensures.rows, c.in_ok-memory.ensures, bus.transactions, c.blocks-2.ensures.value, first, pictures, queues, bus.queues.0, c.in_ok-log.ensures) refl;
       empty = λ core. rw (c.in_ok-lines.ensures.lines, replicated {X = List ℕ} shape.cores core []) refl;
     }

@@ -1,7 +1,6 @@
-use Rattle.snoop_machine.proofs.Common.{◌-◌, ◌∷◌, [], None, append-nil, arith, asked, Cell, changed, drop-waits, fields, held_by, inr, IsProper-drop, IsProper-hit, IsProper-issue, issue-waits, length-append, line_at, picture_of, refl, sym, Wait, waiting_of, with_line}
+use Rattle.snoop_machine.proofs.Common.{◌-◌, ◌∷◌, [], None, append-nil, arith, asked, Cell, changed, drop-waits, fields, held_by, inr, IsProper-drop, IsProper-hit, IsProper-issue, issue-waits, length-append, line_at, picture_of, refl, Wait, waiting_of, with_line}
 use Rattle.snoop_machine.proofs.PartsViews.{follows-set, held_in-set, IsSound-issue, keeps_room, line-written, line_seen, picture_in, queues_of-issue, seen, sized_on}
 use Rattle.snoop_rules.specs.declared.names.CacheAction.TheVariants as action
-use Rattle.snoop_model.specs.Moves.Move.{as_access}
 use Rattle.snoop_machine.proofs.parts.Parts.take_ask.Goals as goal
 use Rattle.snoop_machine.proofs.parts.Parts.take_ask.Goals.{In-Issue}
 
@@ -24,7 +23,7 @@ issued g c = rw c.in-Issue.is at c.requires.found
 pub change-requires-clause-proper : goal.change-requires-clause-proper
 change-requires-clause-proper g c =
     let row = issued g (goal.at.change-requires-clause-proper g c).In-Issue in
-    rw (line_seen c.self.invariant c.self.view_is c.args.core c.args.block, ← c.waiting_for-waiting.ensures) at
+    rw (line_seen c.self.invariant c.self.view_is c.args.core c.args.block) at
     (IsProper-issue _ _ c.args.word c.args.op _ _ c.requires.proper row)
 
 pub invariant_of-self : goal.invariant_of-self
@@ -35,7 +34,7 @@ invariant_of-self g c =
     record {
       sound = rw c.change.ensures.rows (IsSound-issue c.self.invariant.sound c.args.core c.args.block _
           (rw (← c.self.view_is) at c.requires.core) (rw (← c.self.view_is) at c.requires.block)
-          (rw (here, ← c.waiting_for-waiting.ensures) at (IsProper-issue _ _ c.args.word c.args.op _ _ c.requires.proper row))
+          (rw here at (IsProper-issue _ _ c.args.word c.args.op _ _ c.requires.proper row))
           c.issue.new.self c.in-Issue.request _ c.issue.ensures.queue c.issue.ensures.transactions (rw here at waits.0) waits.1);
       sized = sized_on _ _ c.self.invariant.sized refl c.change.ensures.many (refl, refl) (refl, refl, refl);
     }
@@ -45,12 +44,11 @@ returns-in-Issue g c =
     let m = fields c.self.inside.protocol c.self.inside.shape c.self.inside.lines c.self.inside.memory c.self.inside.bus c.self.inside.log in
     let core = c.args.core in
     let block = c.args.block in
-    let line = changed c.in-Issue.next (Wait c.waiting_for-waiting.result) (line_at m.lines.rows core block) in
+    let line = changed c.in-Issue.next (Wait (record { word = c.args.word; op = c.args.op })) (line_at m.lines.rows core block) in
     let before = waiting_of m.bus core in
     let long = length-append before.requests ((c.in-Issue.request, block) ∷ []) in
     let shown = queues_of-issue m.bus.queues core block (before.room - 1) c.in-Issue.request in
     let here = seen c.self.invariant refl block in
-    let waits = sym c.waiting_for-waiting.ensures in
     let wrote = line-written c.self.invariant refl block c.change.new.self.rows core line c.change.ensures.rows in
     record {
       moved = record {
@@ -59,10 +57,10 @@ returns-in-Issue g c =
         moves = inr (record {
           row = record { action = action.Issue c.in-Issue.request; next = c.in-Issue.next };
           is_row = issued g (goal.at.returns-in-Issue g c).In-Issue;
-          held = changed c.in-Issue.next (Wait (as_access c.args.word c.args.op)) (held_by (picture_of c.args.self.now.situation block) core);
+          held = changed c.in-Issue.next (Wait (record { word = c.args.word; op = c.args.op })) (held_by (picture_of c.args.self.now.situation block) core);
           entry = None;
           taken = (refl, refl, refl);
-          after = rw (← c.self.view_is, here, c.issue.ensures.transactions, wrote, c.issue.ensures.queue, shown, waits, append-nil m.log.items) refl;
+          after = rw (← c.self.view_is, here, c.issue.ensures.transactions, wrote, c.issue.ensures.queue, shown, append-nil m.log.items) refl;
         });
         has_word = c.requires.word;
       };

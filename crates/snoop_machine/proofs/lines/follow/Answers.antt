@@ -1,5 +1,5 @@
 use Rattle.snoop_machine.proofs.Common.{◌∙◌, get_or_default, no_holders}
-use Rattle.snoop_machine.proofs.holders.follow.Goals as goal
+use Rattle.snoop_machine.proofs.lines.follow.Goals as goal
 
 pub returns : goal.returns
 returns c =
