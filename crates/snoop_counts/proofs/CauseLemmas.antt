@@ -1,15 +1,14 @@
 -- The last steps in which something happened, and one step more.
-use Rattle.std.{proofs.lemmas.List.{reverse-append, Folds.list_any-append}, specs.List.list_any}
+use Rattle.std.{proofs.lemmas.{Grind.common_steps, List.{reverse-append, Folds.list_any-append}}, specs.List.list_any}
 use Rattle.snoop_engine.specs.Frames.{FramesFrom}
-use Rattle.snoop_counts.proofs.Common.{[], ℕ, ◌++◌, ◌+◌, ◌∙◌, ◌∷◌, ◌≡◌, arith, Bool, Did, Frame, if◌then◌else◌, length, length-append, lines_of_step, List, MarksLines, operation_in, Option, Situation, sym, Taken}
+use Rattle.snoop_counts.proofs.Common.{[], ℕ, ◌++◌, ◌+◌, ◌∙◌, ◌∷◌, ◌≡◌, arith, Bool, Did, Frame, if◌then◌else◌, length, lines_of_step, List, MarksLines, operation_in, Option, Situation, sym, Taken}
 use Rattle.snoop_counts.specs.{Causes.{gives_up, is_stored_to, last_step, loses, takes_such_row}, Counted.{is_giving_up, is_loss}}
 use Rattle.snoop_counts.specs.{LastSteps.{HasLastSteps, KnowsLastSteps, Marks, MarksStore}, declared.copies.Copies.Copies}
 use Rattle.snoop_counts.specs.declared.last_steps.LastSteps.{LastSteps}
 
 -- one step more is the last, if it passes
 last_more : (test : Frame → Bool) (frames : List Frame) (frame : Frame) → last_step test (frames ++ frame ∷ []) ≡ (if test frame then 1 + length frames else last_step test frames)
-last_more test frames frame =
-    rw (reverse-append frames (frame ∷ []), length-append frames (frame ∷ [])) (grind arith)
+last_more test frames frame = grind (arith, common_steps, reverse-append frames (frame ∷ []))
 
 -- the number of the step is written where the test passes of it
 module _ (test : ℕ → ℕ → Frame → Bool) (frames : List Frame) (frame : Frame) (number : ℕ) (old new : LastSteps) where

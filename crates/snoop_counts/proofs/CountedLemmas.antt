@@ -1,20 +1,17 @@
 -- What a count of items alone counts of a line: nothing.
 use Rattle.snoop_engine.proofs.Common.{CacheEvent, CacheState}
-use Rattle.snoop_counts.proofs.Common.{◌||◌, ◌∙◌, ◌≡◌, Bool, Cause, Core, Count, counts, false, None, Ok, Option, option_map_or, refl, Refused, Reply, Result, Some, Step, Taken}
+use Rattle.snoop_counts.proofs.Common.{◌||◌, ◌∙◌, ◌≡◌, arith, Bool, Cause, Count, counts, false, Option, option_map_or, Refused, Reply, Result, Step, Taken}
 use Rattle.snoop_counts.specs.Counted.{counts_cause, counts_lines, counts_refusal, counts_row, has_row, is_refused}
 use Rattle.snoop_counts.specs.declared.count.Happening.TheVariants as happening
 
 pub no_row : (line : Taken) → has_row (λ state event. false) line ≡ false
-no_row (Core core block (Some event) before) = refl
-no_row line = refl
+no_row line = grind arith
 
 pub not_refused : (outcome : Result Reply Refused) → is_refused (λ cause. false) outcome ≡ false
-not_refused (Ok answer) = refl
-not_refused outcome = refl
+not_refused outcome = grind arith
 
 pub no_cause : (why : Option Cause) → option_map_or (λ (cause : Cause). false) why false ≡ false
-no_cause None = refl
-no_cause why = refl
+no_cause why = grind arith
 
 -- what a count counts of lines: all, by their rows, of refused steps, and by the causes of misses
 abbrev OfLines : Type 0

@@ -2,10 +2,9 @@
 use Rattle.std.proofs.{Common.Contains, lemmas.List.Elements.{All-contains_itself, All-map, Contains-append_left, Contains-append_right}}
 use Rattle.std.specs.Prelude.{option_to_list}
 use Rattle.snoop_engine.proofs.Common.{All-append, Item}
-use Rattle.snoop_counts.proofs.Common.{[], ℕ, ◌&&◌, ◌++◌, ◌+◌, ◌||◌, ◌∷◌, ◌≡◌, All, All-head, All-nil, All-tail, append-nil, append_assoc, arith, Bool, Cause, cause_of, cond, Core, Count, Did, false, filter-append, flat_map, Frame, get_or, Happening, happenings, if◌then◌else◌, is_counted, length, length-append, lines_of_step, List, map, None, operation_in, Option, option_map_or, refl, Refused, Reply, Result, Some, Step, Subjects, Taken, times_counted, true}
+use Rattle.snoop_counts.proofs.Common.{[], ℕ, ◌&&◌, ◌++◌, ◌+◌, ◌||◌, ◌∷◌, ◌≡◌, All, All-head, All-nil, All-tail, append-nil, append_assoc, arith, Bool, Cause, cause_of, cond, Core, Count, Did, false, filter-append, flat_map, Frame, get_or, Happening, happenings, if◌then◌else◌, is_counted, length, length-append, lines_of_step, List, map, None, operation_in, Option, option_map_or, refl, Refused, Reply, Result, Some, Step, Subjects, Taken, times_counted}
 use Rattle.snoop_counts.{proofs.CountedLemmas.not_refused, specs.{Causes.item_of, Counted.{counts_cause, is_miss}, Happenings.{seen_after, seen_in}}}
 use Rattle.snoop_counts.specs.Laws.{CausesAreAll, PartsAddUp}
-use Rattle.snoop_counts.specs.declared.count.Cause.TheVariants as cause
 use Rattle.snoop_counts.specs.declared.count.Count.TheVariants as count
 use Rattle.snoop_counts.specs.declared.count.Happening.TheVariants as happening
 use Rattle.snoop_counts.specs.declared.count.Subjects.TheVariants as subjects
@@ -57,10 +56,7 @@ of_miss : (mine miss : Bool) (why : Cause) → let found : Option Cause = if mis
     once ((miss || false || option_map_or (counts_cause count.Misses) found false) && mine)
     ≡ once (option_map_or (counts_cause count.Cold) found false && mine) + once (option_map_or (counts_cause count.GivenUp) found false && mine)
     + once (option_map_or (counts_cause count.TrueSharing) found false && mine) + once (option_map_or (counts_cause count.FalseSharing) found false && mine)
-of_miss true true cause.Cold = refl
-of_miss mine false why = refl
-of_miss false true cause.Cold = refl
-of_miss mine true why = refl
+of_miss mine miss why = grind arith
 
 module _ (whose : Subjects) (subject : ℕ) where
   abbrev times_one : Count → Happening → ℕ

@@ -1,8 +1,8 @@
 -- A list that falls, with those that tie in the order of another, is the other one ranked.
 use Rattle.std.proofs.lemmas.{Bool.{cases_lt, le-ltb, lt-ltb, ltb-false}, List.Elements.filter_agree}
-use Rattle.std.proofs.lemmas.List.{Sorted.{IsStrictWeakOrder-by_number, IsStrictWeakOrder-flip, sorted_far}, Sums.prefix_len-le-length}
+use Rattle.std.proofs.lemmas.List.{Sorted.{IsStrictWeakOrder-by_number, IsStrictWeakOrder-flip}, Sums.prefix_len-le-length}
 use Rattle.std.specs.{Cmp.IsStrictWeakOrder, List.{position_or_len, Sorted.{IsSortedBy, IsStableBy, ties}}, Prelude.nat_lt}
-use Rattle.snoop_counts.proofs.Common.{[], ℕ, ◌++◌, ◌+◌, ◌<◌, ◌==◌, ◌∙◌, ◌∷◌, ◌≡◌, ◌≤◌, ap, append-nil, append_assoc, arith, Bool, cond, eq-eqb, false, filter, filter-append, fold, get_or, inl, inr, length, List, nat_tests, ne_eqb, not, refl, suc, sym, true}
+use Rattle.snoop_counts.proofs.Common.{[], ℕ, ◌++◌, ◌+◌, ◌<◌, ◌==◌, ◌∙◌, ◌∷◌, ◌≡◌, ◌≤◌, ap, append-nil, append_assoc, arith, Bool, cond, eq-eqb, filter, filter-append, fold, inl, inr, length, List, nat_tests, not, refl, suc, sym}
 use Rattle.snoop_counts.specs.{ByBlock.{placed, ranked}, declared.ranking.Ranked.Ranked}
 
 -- the first goes before the second: it has more requests
@@ -27,24 +27,20 @@ abbrev Falls : ℕ → List Ranked → Type 0
 Falls most [] = Unit {0}
 Falls most (block ∷ blocks) = (block.requests ≤ most) × Falls block.requests blocks
 
-falls_sorted : (block : Ranked) (blocks : List Ranked)
-    → ((i j : ℕ) (d : Ranked) → i ≤ j → j < length (block ∷ blocks) → goes_before (get_or (block ∷ blocks) j d) (get_or (block ∷ blocks) i d) ≡ false)
-    → Falls block.requests blocks
-falls_sorted block [] far = tt
-falls_sorted block (next ∷ blocks) far =
-    (ltb-false _ _ (far 0 1 block (omega arith) (omega arith)), falls_sorted next blocks (λ i j d le within. far (suc i) (suc j) d (omega arith) (omega arith)))
+falls_sorted : (block : Ranked) (blocks : List Ranked) → IsSortedBy goes_before (block ∷ blocks) → Falls block.requests blocks
+falls_sorted block [] up = tt
+falls_sorted block (next ∷ blocks) up =
+    let later = λ (k : ℕ) (d : Ranked) (low : 0 ≤ k) (within : k + 1 < length (next ∷ blocks)).
+    let same : suc k + 1 ≡ suc (k + 1) = omega arith in rw same at (up (suc k) d (omega arith) (omega arith)) in
+    (ltb-false _ _ (up 0 block (omega arith) (omega arith)), falls_sorted next blocks later)
 
 -- one of more requests ties with none
 none_tied : (most : ℕ) (one : Ranked) (blocks : List Ranked) → Falls most blocks → most < one.requests → tied one blocks ≡ []
 none_tied most one [] falls more = refl
-none_tied most one (block ∷ blocks) falls more =
-    rw (ne_eqb one.requests block.requests (λ same. omega arith)) (none_tied block.requests one blocks falls.1 (omega arith))
+none_tied most one (block ∷ blocks) falls more = grind (arith, nat_tests, falls.0, none_tied block.requests one blocks falls.1)
 
 some_tied : (most : ℕ) (one : Ranked) (blocks rest : List Ranked) → Falls most blocks → tied one blocks ≡ one ∷ rest → one.requests ≤ most
-some_tied most one blocks rest falls some = elim (cases_lt most one.requests) [
-  | inl more ↦ let none = none_tied most one blocks falls more in absurd cc
-  | inr few ↦ few
-]
+some_tied most one blocks rest falls some = grind (arith, cases_lt most one.requests, none_tied most one blocks falls)
 
 -- two lists that fall, in which those that tie with any one are the same, are the same
 same_blocks : (m n : ℕ) (bs os : List Ranked) → Falls m bs → Falls n os → ((one : Ranked) → tied one bs ≡ tied one os) → bs ≡ os
@@ -52,12 +48,9 @@ same_blocks m n [] [] falls fall same = refl
 same_blocks m n [] (o ∷ os) falls fall same = let none = rw (eq-eqb o.requests o.requests refl) at (same o) in cc
 same_blocks m n (b ∷ bs) [] falls fall same = let none = rw (eq-eqb b.requests b.requests refl) at (same b) in cc
 same_blocks m n (b ∷ bs) (o ∷ os) falls fall same =
-    let here : b ∷ tied b bs ≡ tied b (o ∷ os) = rw (eq-eqb b.requests b.requests refl) at (same b) in
-    let there : o ∷ tied o os ≡ tied o (b ∷ bs) = rw (eq-eqb o.requests o.requests refl) at (sym (same o)) in
-    let up = some_tied o.requests b (o ∷ os) (tied b bs) (omega arith, fall.1) (sym here) in
-    let down = some_tied b.requests o (b ∷ bs) (tied o os) (omega arith, falls.1) (sym there) in
-    let first : b ∷ tied b bs ≡ o ∷ tied b os = rw (eq-eqb b.requests o.requests (omega arith)) at here in
-    let head : o ≡ b = cc in
+    let up = some_tied o.requests b os (tied b bs) fall.1 in
+    let down = some_tied b.requests o bs (tied o os) falls.1 in
+    let head : o ≡ b = grind (arith, nat_tests, same b, same o, up, down) in
     let rest : (one : Ranked) → tied one bs ≡ tied one os = λ one. let e = rw head at (same one) in grind arith in
     rw head (ap (λ (l : List Ranked). b ∷ l) (same_blocks b.requests o.requests bs os falls.1 fall.1 rest))
 
@@ -75,10 +68,9 @@ module _ (next : Ranked) where
   placed_so most [] few falls = ((few, tt), λ one. refl)
   placed_so most (b ∷ bs) few falls = rw placed_on (elim (cases_lt b.requests next.requests) [
     | inl less ↦
-        let none : (one : Ranked) → ties_with one next ≡ true → tied one (b ∷ bs) ≡ [] = λ one ties.
-        none_tied b.requests one (b ∷ bs) (omega arith, falls.1) (grind (arith, nat_tests)) in
+        let none = λ (one : Ranked). none_tied b.requests one bs falls.1 in
         rw (lt-ltb b.requests next.requests less)
-        ((few, (omega arith, falls.1)), λ one. grind (arith, none one, append-nil, filter-append (ties_with one) (b ∷ bs) (next ∷ [])))
+        ((few, (omega arith, falls.1)), λ one. grind (arith, nat_tests, none one, append-nil, filter-append (ties_with one) bs (next ∷ [])))
     | inr more ↦
         let on = placed_so b.requests bs more falls.1 in
         rw (le-ltb b.requests next.requests more) ((falls.0, on.0), λ one. ap (λ (l : List Ranked). cond (ties_with one b) (b ∷ l) l) (on.1 one))
@@ -106,4 +98,4 @@ sorted_is_ranked blocks sorted up stable =
   where
     falls_all : (list : List Ranked) → IsSortedBy goes_before list → (m : ℕ) × Falls m list
     falls_all [] up = (0, tt)
-    falls_all (b ∷ bs) up = (b.requests, (omega arith, falls_sorted b bs (sorted_far goes_before order (b ∷ bs) up)))
+    falls_all (b ∷ bs) up = (b.requests, (omega arith, falls_sorted b bs up))

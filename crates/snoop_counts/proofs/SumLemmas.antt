@@ -1,17 +1,17 @@
 -- Sums of counts over cores, over blocks, and over the words of a block: those of the report, and of what cores do to others.
 use Rattle.std.proofs.{Common.{◌^◌, zero}, Math.Bool.or-false, lemmas.Bool.{both_ways, false≢true, lt-ltb}}
 use Rattle.std.proofs.lemmas.List.{Elements.All-contains, Folds.fold_stays, Sums.{length-filter, sum_by_from}}
-use Rattle.std.{proofs.lemmas.{Grind.common_steps, Nat.{mul-add-lt, mul-le, same_from_place}, Option.gets}, specs.{List.sum_by, Option.ForSome}}
-use Rattle.std.specs.Prelude.{Err, is_some, IsSomeAnd, nat_lt, option_to_list, slice_get}
+use Rattle.std.{proofs.lemmas.{Grind.common_steps, Nat.{mul-add-lt, mul-le, same_from_place}, Option.gets}, specs.{List.sum_by}}
+use Rattle.std.specs.Prelude.{Err, IsSomeAnd, nat_lt, option_to_list, slice_get}
 use Rattle.snoop_trace.specs.Extent.{IsWithinLimits}
-use Rattle.snoop_rules.specs.declared.names.{CacheEvent.TheVariants.OtherGetM, CacheState.TheVariants.{S, SmAd}, Payload.{Payload, TheVariants.Data}}
-use Rattle.snoop_history.specs.{Totals.{how_many, is_put_m, performed, totals_of}, Within.{block_of, IsItemWithin}}
+use Rattle.snoop_rules.specs.declared.names.{CacheEvent.TheVariants.OtherGetM, Payload.{Payload}}
+use Rattle.snoop_history.specs.{Totals.{how_many, performed, totals_of}, Within.{block_of, IsItemWithin}}
 use Rattle.snoop_model.proofs.{Queues.keeps_well, Runs.{GoOn.{IsSteady, reset_steady, steady_on}, Replies.move_tells}}
 use Rattle.snoop_model.specs.{Moves.Replies.Tells, Pictures.Situation.{IsShaped, nothing_there}}
 use Rattle.snoop_model.specs.declared.replies.Reply.TheVariants.{Absent, Came, Gone, Hit, Issued, Ordered, StoreHit}
-use Rattle.snoop_engine.proofs.Common.{All-append, All-cons, arrival, Ask, CacheEvent, CacheState, cases_lt, ConsultsCache, Contains, Extent, get_or_past, GoesFirst, held_by, I, IfSome, Invariant, Item, Line, nothing_held, Order, Picture, picture_of, Protocol, reset, Respond, ShowsRows, state_of, waiting_request}
+use Rattle.snoop_engine.proofs.Common.{All-append, All-cons, arrival, Ask, CacheEvent, CacheState, cases_lt, ConsultsCache, Contains, Extent, get_or_past, GoesFirst, I, IfSome, Invariant, Item, nothing_held, Order, picture_of, Protocol, reset, Respond, ShowsRows, state_of, waiting_request}
 use Rattle.snoop_engine.{proofs.{RangeLemmas.filter_range, TakenLemmas.goes_alike, TrueLines.lines_fit}, specs.{Frames.FramesFrom, TrueLines.FitsStep}}
-use Rattle.snoop_counts.proofs.Common.{[], ℕ, ◌&&◌, ◌*◌, ◌++◌, ◌+◌, ◌<◌, ◌==◌, ◌∙◌, ◌∷◌, ◌≡◌, ◌≤◌, All, All-head, All-nil, All-tail, ap, append-nil, append_assoc, arith, Blocks, Bool, Cause, cause_of, cond, Core, Cores, Count, counts, Did, false, filter, filter-append, Frame, get_or, Happening, happenings, inl, inr, is_counted, length, length-append, lines_of_step, List, map, nat_tests, None, not, Ok, operation_in, Option, range_with_len, refl, Refused, Reply, Result, Situation, Some, Step, Subjects, suc, sym, Taken, times_counted, true, Words}
+use Rattle.snoop_counts.proofs.Common.{[], ℕ, ◌&&◌, ◌*◌, ◌++◌, ◌+◌, ◌<◌, ◌==◌, ◌∙◌, ◌∷◌, ◌≡◌, ◌≤◌, All, All-head, All-nil, All-tail, ap, append-nil, append_assoc, arith, Blocks, Bool, Cause, cause_of, cond, Core, Cores, Count, counts, Did, false, filter, filter-append, Frame, get_or, Happening, happenings, is_counted, length, length-append, lines_of_step, List, map, nat_tests, None, not, Ok, operation_in, Option, range_with_len, refl, Refused, Reply, Result, Situation, Some, Step, Subjects, suc, sym, Taken, times_counted, true, Words}
 use Rattle.snoop_counts.proofs.{CountedLemmas.{IsOfItems, no_cause, no_line, not_refused}, LawLemmas.{all_seen, items_in, kept_if, once}}
 use Rattle.snoop_counts.specs.Causes.{item_of}
 use Rattle.snoop_counts.specs.Counted.{core_counted, counts_item, has_row, is_invalidation, is_it, named_place, own_core, own_word, place_of_word, requestor_of, response_sender, subject_of}
@@ -55,8 +55,7 @@ step_adds old new step (Ok answer) kept move = told_adds step answer (move_tells
 step_adds old new step (Err cause) kept refused = none_added (ap (λ (s : Situation). s.log) refused.1)
 
 last_got : {X : Type 0} (xs : List X) (entry : Option X) → slice_get (xs ++ option_to_list entry) (length xs) ≡ entry
-last_got xs None = grind (arith, gets, common_steps)
-last_got xs (Some x) = grind (arith, gets, common_steps)
+last_got xs entry = grind (arith, gets, common_steps)
 
 frame_adds : (frame : Frame) → (entry : Option Item) × Adds frame.before.log frame.after.log entry → Adds frame.before.log frame.after.log (item_of frame)
 frame_adds frame adds = rw (ap (λ (l : List Item). slice_get l (length frame.before.log)) adds.1.logged ∙ last_got frame.before.log adds.0) adds.1
@@ -153,19 +152,12 @@ sum_once whose many c seen there =
 -- a core sent it, and is there
 sender_there : (cores blocks words : ℕ) (entry : Item) → IsItemWithin cores blocks words entry → counts_item count.Supplied entry ≡ true
     → IsSomeAnd (response_sender (happening.Item entry)) (λ k. k < cores)
-sender_there cores blocks words (item.Came came did) within = sent came.from within.sender
-  where
-    sent : (from : Option ℕ) → ForSome from (λ sender. sender < cores) → (is_some from && not (is_put_m came.request)) ≡ true → IsSomeAnd from (λ k. k < cores)
-    sent None there by_core = cc
-    sent (Some k) there by_core = there k refl
-sender_there cores blocks words entry within = λ by_core. absurd (false≢true by_core)
+sender_there cores blocks words (item.Came came did) within by_core = grind (arith, within.sender)
+sender_there cores blocks words entry within by_core = absurd (false≢true by_core)
 
 -- words of different blocks stand in different places
 same_place : (a b words x y : ℕ) → x < words → y < words → (a * words + x == b * words + y) ≡ (a == b && x == y)
-same_place a b words x y in_x in_y =
-    let apart : a * words + x ≡ b * words + y → (a ≡ b) × (x ≡ y) = λ e. same_from_place a x b y words in_x in_y e in
-    let near : a ≡ b → x ≡ y → a * words + x ≡ b * words + y = λ e f i. e i * words + f i in
-    grind (arith, nat_tests, apart, near)
+same_place a b words x y in_x in_y = grind (arith, nat_tests, same_from_place a x b y words in_x in_y)
 
 -- how often something passes that an item performed, for a word and for its block
 module _ (cores blocks words b : ℕ) (few : words * blocks ≤ 2 ^ 32) (test : Did → Bool) where
@@ -190,23 +182,17 @@ module _ (cores blocks words b : ℕ) (few : words * blocks ≤ 2 ^ 32) (test : 
 
 -- an invalidation is another's GetM, of a core that holds something
 invalidated : (state : CacheState) (event : CacheEvent) → is_invalidation state event ≡ true → (event ≡ OtherGetM) × (state ≡ I → ⊥)
-invalidated S OtherGetM is = (refl, λ idle. cc)
-invalidated SmAd OtherGetM is = (refl, λ idle. cc)
-invalidated state event is = absurd (false≢true is)
+invalidated state event is = grind arith
 
 not_arriving : (payload : Payload) → Some OtherGetM ≡ arrival payload → ⊥
-not_arriving Data is = cc
-not_arriving payload is = cc
+not_arriving payload is = grind arith
 
 -- a core that holds something is there
 core_in : (s : Situation) → IsShaped s → (core block : ℕ) → (state_of s core block ≡ I → ⊥) → core < s.shape.cores
-core_in s shaped core block held = elim (cases_lt core s.shape.cores) [
-  | inl there ↦ there
-  | inr past ↦ absurd (held (elim (cases_lt block s.shape.blocks) [
-    | inl low ↦ ap (λ (l : Line). l.state) (get_or_past (picture_of s block).caches core nothing_held (omega (arith, shaped.row block low)))
-    | inr high ↦ ap (λ (x : Picture). (held_by x core).state) (get_or_past s.pictures block nothing_there (omega (arith, shaped.pictures)))
-  ]))
-]
+core_in s shaped core block held =
+    let row = get_or_past (picture_of s block).caches core nothing_held in
+    let picture = get_or_past s.pictures block nothing_there in
+    grind (arith, cases_lt core s.shape.cores, cases_lt block s.shape.blocks, held, row, picture, shaped.row block, shaped.pictures)
 
 -- for a line that is an invalidation the cores are there, that of the line and that whose Order the step is
 abbrev AreThere : ℕ → Happening → Type 0

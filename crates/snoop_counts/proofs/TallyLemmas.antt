@@ -1,10 +1,10 @@
 -- Rows of counters, and how they go up.
-use Rattle.std.proofs.{Common.{get_or-set_other, subst}, lemmas.{Bool.{and_left, and_right, cases_Bool}, Grind.get_or-set_at}}
-use Rattle.std.proofs.lemmas.{List.{length-set, Folds.fold_stays, Sums.{length-filter, sum_by_push}}, Option.{gets, slice_get-map, slice_get_within}}
-use Rattle.std.specs.Prelude.{Err, option_map, slice_get}
+use Rattle.std.proofs.{Common.{get_or-set_other, subst}, lemmas.{Bool.{and_right, cases_Bool}, Grind.get_or-set_at}}
+use Rattle.std.proofs.lemmas.{List.{length-set, set-get_or, Folds.fold_stays, Sums.{length-filter, sum_by_push}}, Option.{gets, slice_get-map, slice_get_within}}
+use Rattle.std.specs.Prelude.{Err, slice_get}
 use Rattle.snoop_history.specs.{Journal.counted, Totals.capped}
 use Rattle.snoop_blocks.specs.Places.{changed_at}
-use Rattle.snoop_engine.proofs.Common.{same_Some, take_more}
+use Rattle.snoop_engine.proofs.Common.{take_more}
 use Rattle.snoop_counts.proofs.Common.{[], ℕ, ◌&&◌, ◌++◌, ◌+◌, ◌<◌, ◌==◌, ◌∙◌, ◌∷◌, ◌≡◌, ap, append_assoc, arith, Bool, cond, Count, counter_in, counts, false, filter, fold, get_or, Happening, HasCounted, if◌then◌else◌, inl, inr, is_counted, length, List, map, nat_tests, None, Ok, Option, option_map_or, refl, Some, Subjects, sym, take, times_counted, true}
 use Rattle.snoop_counts.{proofs.CountedLemmas.{no_cause, no_row}, specs.{BySteps.machine_counts, Counted.{is_it, subject_of}}}
 use Rattle.snoop_counts.specs.{Tally.{number, own_raised, raised_all, raised_by, raised_if, raised_row, row_at, tried}, declared.tally.Counters.Counters}
@@ -27,13 +27,9 @@ at_place c = refl
 pub place_below : (c : Count) → number c < 31
 place_below c = slice_get_within all_counts (number c) c (at_place c)
 
--- so what holds of all counts by their places holds of each
-each_count : {Y : Type 0} (f g : Count → Y) → map f all_counts ≡ map g all_counts → (c : Count) → f c ≡ g c
-each_count {Y} f g same c =
-    same_Some (f c) (g c) (sym (place_of f) ∙ ap (λ (l : List Y). slice_get l (number c)) same ∙ place_of g)
-  where
-    place_of : (h : Count → Y) → slice_get (map h all_counts) (number c) ≡ Some (h c)
-    place_of h = slice_get-map h all_counts (number c) ∙ ap (option_map h) (at_place c)
+-- what two give of an element is the same, where they give the same of a list that has it
+same_at : {Y : Type 0} (f g : Count → Y) (all : List Count) (n : ℕ) (c : Count) → slice_get all n ≡ Some c → map f all ≡ map g all → f c ≡ g c
+same_at f g all n c at same = grind (arith, slice_get-map f all n, slice_get-map g all n, at, same)
 
 -- one counter, after a count has counted what has happened, where its row may be the one for whom it counts
 abbrev up : Happening → Count → Bool → ℕ → Count → ℕ
@@ -87,20 +83,17 @@ raises_all seen found list rows = record {
   each = λ s there long. rw (row_going rows (raised_all list seen) found s there) (rises seen list (row_at rows s) long (is_it found s));
 }
 
+-- rows that go on as they are
+same_going : (rows : List Counters) (found : Option ℕ) → going rows found (λ row. row) ≡ rows
+same_going rows found = grind (arith, gets, set-get_or)
+
 raises_one : (whose : Subjects) (a : Count) (seen : Happening) (rows : List Counters)
     → Raises seen (subject_of whose a seen) (a ∷ []) rows (raised_by whose a seen rows)
-raises_one whose a seen rows = elim (cases_Bool (counts a seen)) [
-  | inl on ↦
-      let same : going rows (subject_of whose a seen) (raised_all (a ∷ []) seen) ≡ raised_by whose a seen rows = rw on refl in
-      subst (Raises seen (subject_of whose a seen) (a ∷ []) rows) same (raises_all seen (subject_of whose a seen) (a ∷ []) rows)
-  | inr off ↦ rw off (record {
-    many = refl;
-    each = λ s there long. record {
-      long = long;
-      done = λ c. ap (counted (counter_in (row_at rows s) c)) (sym (and_right (number a == number c) _ (and_left (counts a seen) _ off)));
-    };
-  })
-]
+raises_one whose a seen rows =
+    let found : Option ℕ = subject_of whose a seen in
+    let same : going rows found (raised_all (a ∷ []) seen) ≡ raised_by whose a seen rows =
+    elim (cases_Bool (counts a seen)) [ inl on ↦ rw on refl | inr off ↦ rw off (same_going rows found) ] in
+    subst (Raises seen found (a ∷ []) rows) same (raises_all seen found (a ∷ []) rows)
 
 -- the count of what the core does to others
 abbrev pub other : Happening → Count
@@ -164,7 +157,7 @@ counted_more whose many all seen old before =
             let n : ℕ = counter_in (row_at rows s) c in
             (both s there').done c
             ∙ ap (λ (k : ℕ). up seen c (is_it (subject_of old.subjects (other seen) seen) s) k (other seen)) ((first s there').done c)
-            ∙ each_count (after_tried old.subjects seen s n) (λ a. counted n (is_counted old.subjects s a seen)) (all_tried seen old.subjects s n) c
+            ∙ same_at (after_tried old.subjects seen s n) (λ a. counted n (is_counted old.subjects s a seen)) all_counts (number c) c (at_place c) (all_tried seen old.subjects s n)
             ∙ (λ i. counted (before.counted.counted s c there' i) (is_counted (before.subjects i) s c seen))
             ∙ counted_capped (times_counted whose all s c) (is_counted whose s c seen) ∙ ap capped (sym (one_more (is_counted whose s c) all seen));
       };

@@ -1,7 +1,7 @@
 -- The last so many steps, and one step more.
-use Rattle.std.proofs.{Common.{◌%◌, drop}, Math.Nat.{mod-eq_of_lt, mod-le, mod-lt, mod_self, suc-mod}}
+use Rattle.std.proofs.{Common.{◌%◌, drop}, lemmas.Bool.cases_lt, Math.Nat.{mod-eq_of_lt, mod-le, mod-lt, mod_self, suc-mod}}
 use Rattle.std.proofs.lemmas.List.{drop-append-le, drop_all, take-append-drop, take-append-le}
-use Rattle.snoop_counts.proofs.Common.{[], ℕ, ◌++◌, ◌+◌, ◌-◌, ◌<◌, ◌∙◌, ◌∷◌, ◌≡◌, ◌≤◌, ap, arith, cases_eq, eq-eqb, Frame, inl, inr, length, length-append, List, ne_eqb, refl, Situation, suc, sym, take}
+use Rattle.snoop_counts.proofs.Common.{[], ℕ, ◌++◌, ◌+◌, ◌-◌, ◌<◌, ◌∙◌, ◌∷◌, ◌≡◌, ◌≤◌, ap, arith, cases_eq, eq-eqb, Frame, length, length-append, List, ne_eqb, refl, Situation, suc, sym, take}
 use Rattle.snoop_counts.{proofs.LawLemmas.seen_on, specs.{BySteps.{seen_last, steps_fields, steps_left, steps_shown}, Happenings.seen_in}}
 
 -- one step more
@@ -13,22 +13,19 @@ seen_last_more size frames frame le =
     rw (same, take-append-le k frames (frame ∷ []) within, drop-append-le k frames (frame ∷ []) within)
     (rw (seen_on (take k frames) (drop k frames) frame, take-append-drop k frames))
 
--- no step
-pub seen_last_none : (frames : List Frame) → seen_last 0 frames ≡ []
-seen_last_none frames = rw (drop_all (length frames - 0) frames (omega arith))
+-- none of some steps, or as many as there are of none
+pub seen_last_none : (size : ℕ) (frames : List Frame) → length frames ≤ length frames - size → seen_last size frames ≡ []
+seen_last_none size frames none = rw (drop_all (length frames - size) frames none) refl
 
 -- one more is left over, or all stand in lines
 left_over : (n every : ℕ) → 0 < every → ((n + 1) % every ≡ 0 → n % every + 1 ≡ every) × (((n + 1) % every ≡ 0 → ⊥) → (n + 1) % every ≡ n % every + 1)
 left_over n every some =
-    let below : n % every < every = mod-lt n some in
     let up : n + 1 ≡ suc n = omega arith in
     let next : (n + 1) % every ≡ suc (n % every) % every = rw up (suc-mod n every) in
-    elim (cases_eq (suc (n % every)) every) [
-      | inl e ↦ (λ none. omega arith, λ more. absurd (more (next ∙ rw e (mod_self every))))
-      | inr ne ↦
-          let last : suc (n % every) % every ≡ suc (n % every) = mod-eq_of_lt (omega arith) in
-          (λ none. absurd (omega arith), λ more. omega arith)
-    ]
+    let last = λ (low : suc (n % every) < every). mod-eq_of_lt low in (
+      λ none. grind (arith, cases_lt (suc (n % every)) every, mod-lt n some, none, next, last),
+      λ more. grind (arith, cases_eq (suc (n % every)) every, mod-lt n some, mod_self every, more, next, last),
+    )
 
 module _ (every : ℕ) (some : 0 < every) (frames : List Frame) (frame : Frame) where
   abbrev next : List Frame
@@ -63,11 +60,7 @@ module _ (every : ℕ) (some : 0 < every) (frames : List Frame) (frame : Frame) 
 
   -- and nothing since
   pub begins_anew : length next % every ≡ 0 → [] ≡ seen_last (length next % every) next
-  begins_anew none = rw (none, seen_last_none next) refl
-
--- before the first step
-pub none_begun : (size : ℕ) → seen_last size [] ≡ []
-none_begun size = rw (drop_all {X = Frame} (length {A = Frame} [] - size) [] (omega arith)) refl
+  begins_anew none = rw (none, seen_last_none 0 next (omega arith)) refl
 
 -- the steps that are left over at the end
 pub left_line : (every : ℕ) (frames : List Frame) (final : Situation) (first : ℕ)

@@ -6,7 +6,7 @@ use Rattle.snoop_trace.specs.{Extent.Extent, Output.address_of}
 use Rattle.snoop_history.specs.Totals.{capped}
 use Rattle.snoop_model.specs.Pictures.Situation.{Situation}
 use Rattle.snoop_engine.specs.Frames.{Frame}
-use Rattle.snoop_counts.specs.{CoreTable.count_fields, Counted.{counted_of, is_named}, Happenings.happenings, Sharers.sharers, declared.ranking.Ranked.Ranked}
+use Rattle.snoop_counts.specs.{CoreTable.count_fields, Counted.{counted_of, is_named}, Happenings.happenings, Sharers.sharing_fields, declared.ranking.Ranked.Ranked}
 use Rattle.snoop_counts.specs.declared.count.{Count.Count, Happening.Happening, Subjects.TheVariants.Blocks}
 use Rattle.snoop_counts.specs.declared.count.Count.TheVariants as count
 
@@ -21,15 +21,10 @@ block_counts =
     ∷ count.Misses ∷ count.Cold ∷ count.GivenUp ∷ count.TrueSharing ∷ count.FalseSharing
     ∷ count.Upgrades ∷ count.UpgradesLost ∷ count.Invalidated ∷ count.Taken ∷ count.Downgraded ∷ count.Overtaken ∷ count.Stalled ∷ count.BusTaken ∷ count.NoTransaction ∷ []
 
--- how many cores a line of the block names, how many performed a load of it, and how many a store
-abbrev pub sharing_fields : ℕ → List Happening → ℕ → List ℕ
-sharing_fields cores seen block =
-    codes "," ++ decimal (sharers Blocks count.Lines cores seen block) ++ codes "," ++ decimal (sharers Blocks count.Loads cores seen block) ++ codes "," ++ decimal (sharers Blocks count.Stores cores seen block)
-
--- the line of a block
+-- the line of a block, with the cores that a line of it names
 abbrev pub block_line : Extent → List Happening → ℕ → List ℕ
 block_line shape seen block =
-    decimal block ++ codes "," ++ decimal (address_of shape block) ++ sharing_fields shape.cores seen block ++ count_fields block_counts (counted_of Blocks seen block) ++ codes "\n"
+    decimal block ++ codes "," ++ decimal (address_of shape block) ++ sharing_fields Blocks count.Lines shape.cores seen block ++ count_fields block_counts (counted_of Blocks seen block) ++ codes "\n"
 
 -- the blocks that a line names, rising
 abbrev pub blocks_named : ℕ → List Happening → List ℕ

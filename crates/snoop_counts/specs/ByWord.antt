@@ -4,7 +4,7 @@ use Rattle.std.specs.{Prelude.{ℕ, Bool, List, [], ◌∷◌, ◌++◌, codes, 
 use Rattle.snoop_trace.specs.{Extent.Extent, Output.word_address}
 use Rattle.snoop_model.specs.Pictures.Situation.{Situation}
 use Rattle.snoop_engine.specs.Frames.{Frame}
-use Rattle.snoop_counts.specs.{CoreTable.count_fields, Counted.{counted_of, place_of_word}, Happenings.happenings, Sharers.sharers, declared.count.Count.Count}
+use Rattle.snoop_counts.specs.{CoreTable.count_fields, Counted.{counted_of, place_of_word}, Happenings.happenings, Sharers.{sharers, sharing_fields}, declared.count.Count.Count}
 use Rattle.snoop_counts.specs.declared.count.Count.TheVariants as count
 use Rattle.snoop_counts.specs.declared.count.{Happening.Happening, Subjects.TheVariants.{Blocks, Words}}
 
@@ -16,17 +16,11 @@ word_header = codes "block,word,address,cores,readers,writers,loads,load_hits,st
 abbrev pub word_counts : List Count
 word_counts = count.Loads ∷ count.LoadHits ∷ count.Stores ∷ count.StoreHits ∷ []
 
--- how many cores performed an operation on the word, how many a load of it, and how many a store
-abbrev pub word_sharing : Extent → List Happening → ℕ → List ℕ
-word_sharing shape seen place =
-    codes "," ++ decimal (sharers (Words shape.words) count.Operations shape.cores seen place) ++ codes "," ++ decimal (sharers (Words shape.words) count.Loads shape.cores seen place)
-    ++ codes "," ++ decimal (sharers (Words shape.words) count.Stores shape.cores seen place)
-
--- the line of a word
+-- the line of a word, with the cores that performed an operation on it
 abbrev pub word_line : Extent → List Happening → ℕ → ℕ → List ℕ
 word_line shape seen block word =
     let place = place_of_word shape.words block word in
-    decimal block ++ codes "," ++ decimal word ++ codes "," ++ decimal (word_address shape block word) ++ word_sharing shape seen place
+    decimal block ++ codes "," ++ decimal word ++ codes "," ++ decimal (word_address shape block word) ++ sharing_fields (Words shape.words) count.Operations shape.cores seen place
     ++ count_fields word_counts (counted_of (Words shape.words) seen place) ++ codes "\n"
 
 -- at least two cores performed an operation on the block

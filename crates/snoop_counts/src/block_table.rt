@@ -2,7 +2,7 @@
 ghost use Rattle.std.specs.Prelude.{◌≡◌, ◌<◌, ◌≤◌, ◌++◌, ◌∷◌, [], ℕ, true, List, All, IfOk, OnOk, map, if◌then◌else◌};
 ghost use Rattle.std.specs.List.{flat_map};
 ghost use Rattle.snoop_counts.specs.BlockTally.{CountsBlocks};
-ghost use Rattle.snoop_counts.specs.ByBlock.{block_line, block_table, blocks_named, blocks_shown, sharing_fields, with_requests};
+ghost use Rattle.snoop_counts.specs.ByBlock.{block_line, block_table, blocks_named, blocks_shown, with_requests};
 ghost use Rattle.snoop_counts.specs.Counted.{is_named};
 ghost use Rattle.snoop_counts.specs.declared.count.Happening.{Happening};
 ghost use Rattle.snoop_counts.specs.declared.count.Subjects.TheVariants.{Blocks};
@@ -11,6 +11,7 @@ use crate::block_tally::BlockTally;
 use crate::core_table::push_counts;
 use crate::count::Count;
 use crate::ranking::{Ranked, rank, requests};
+use crate::sharers::push_sharing;
 use snoop_trace::streams::{push_byte, push_decimal, push_text};
 use snoop_trace::{NoMemory, Shape};
 use std::alloc::Global;
@@ -45,25 +46,6 @@ static BLOCK_COUNTS: [Count; 26] = [
     Count::NoTransaction,
 ];
 
-// Appends how many cores a line of the block names, how many loaded of it, and how many stored in it.
-fn push_sharing(
-    out: &mut Vec<u8>,
-    tally: &BlockTally,
-    cores: u32,
-    block: u32,
-) -> Result<(), NoMemory>
-    requires { cores ≤ 256 }
-    ensures { (blocks : ℕ) (seen : List Happening) → CountsBlocks blocks seen tally.now → block < blocks
-        → OnOk result (out.new.items ≡ out.old.items ++ sharing_fields cores seen block) }
-{
-    push_byte(out, b',')?;
-    push_decimal(out, tally.named.of(block, cores))?;
-    push_byte(out, b',')?;
-    push_decimal(out, tally.readers.of(block, cores))?;
-    push_byte(out, b',')?;
-    push_decimal(out, tally.writers.of(block, cores))
-}
-
 // Appends the line of a block that a line of a step names.
 fn push_block(
     out: &mut Vec<u8>,
@@ -80,7 +62,14 @@ fn push_block(
             push_decimal(out, block as u64)?;
             push_byte(out, b',')?;
             push_decimal(out, shape.address_of(block))?;
-            push_sharing(out, tally, shape.cores(), block)?;
+            push_sharing(
+                out,
+                &tally.named,
+                &tally.readers,
+                &tally.writers,
+                block,
+                shape.cores(),
+            )?;
             push_counts(out, &row, &BLOCK_COUNTS)?;
             push_byte(out, b'\n')
         }

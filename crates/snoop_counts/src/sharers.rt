@@ -1,7 +1,8 @@
 //! For which cores something of each block, or each word, was counted.
-ghost use Rattle.std.specs.Prelude.{◌≡◌, ◌<◌, ◌≤◌, ◌++◌, ◌∷◌, [], ℕ, List, IfOk};
-ghost use Rattle.snoop_counts.specs.Sharers.{HasMarked, sharers};
+ghost use Rattle.std.specs.Prelude.{◌≡◌, ◌<◌, ◌≤◌, ◌++◌, ◌∷◌, [], ℕ, List, IfOk, OnOk};
+ghost use Rattle.snoop_counts.specs.Sharers.{HasMarked, sharers, sharing_fields};
 ghost use Rattle.snoop_counts.specs.declared.count.Count.{Count as Counted};
+ghost use Rattle.snoop_counts.specs.declared.count.Count.TheVariants.{Loads, Stores};
 ghost use Rattle.snoop_counts.specs.declared.count.Happening.{Happening as Seen};
 ghost use Rattle.snoop_counts.specs.declared.count.Subjects.{Subjects as Whose};
 
@@ -9,6 +10,7 @@ use crate::count::{Count, Happening, Subjects};
 use crate::counted::{counts, subject_of};
 use snoop_blocks::{BlockTable, CoreSet};
 use snoop_trace::NoMemory;
+use snoop_trace::streams::{push_byte, push_decimal};
 use std::alloc::Global;
 
 /// For each block, or each word, the cores for which this count has counted something of it.
@@ -64,4 +66,25 @@ impl Sharers {
             Some(set) => set.count(cores) as u64,
         }
     }
+}
+
+/// Appends for how many of so many cores something of the subject was counted, how many performed a load of it, and how many a store.
+pub(crate) fn push_sharing(
+    out: &mut Vec<u8>,
+    all: &Sharers,
+    readers: &Sharers,
+    writers: &Sharers,
+    subject: u32,
+    cores: u32,
+) -> Result<(), NoMemory>
+    requires { cores ≤ 256 }
+    ensures { (whose : Whose) (counted : Counted) (many : ℕ) (seen : List Seen) → HasMarked whose counted many seen all.now → HasMarked whose Loads many seen readers.now
+        → HasMarked whose Stores many seen writers.now → subject < many → OnOk result (out.new.items ≡ out.old.items ++ sharing_fields whose counted cores seen subject) }
+{
+    push_byte(out, b',')?;
+    push_decimal(out, all.of(subject, cores))?;
+    push_byte(out, b',')?;
+    push_decimal(out, readers.of(subject, cores))?;
+    push_byte(out, b',')?;
+    push_decimal(out, writers.of(subject, cores))
 }

@@ -1,13 +1,14 @@
 //! The counts of each word of the blocks that cores share, as a table.
 ghost use Rattle.std.specs.Prelude.{◌≡◌, ◌<◌, ◌*◌, ◌++◌, List, OnOk};
 ghost use Rattle.snoop_trace.specs.Output.{word_address};
-ghost use Rattle.snoop_counts.specs.ByWord.{word_line, word_lines, word_sharing, word_table};
+ghost use Rattle.snoop_counts.specs.ByWord.{word_line, word_lines, word_table};
 ghost use Rattle.snoop_counts.specs.Counted.{place_of_word};
 ghost use Rattle.snoop_counts.specs.WordTally.{CountsWords};
 ghost use Rattle.snoop_counts.specs.declared.count.Happening.{Happening};
 
 use crate::core_table::push_counts;
 use crate::count::Count;
+use crate::sharers::push_sharing;
 use crate::word_tally::WordTally;
 use snoop_trace::streams::{push_byte, push_decimal, push_text};
 use snoop_trace::{NoMemory, Shape};
@@ -28,25 +29,6 @@ fn place_of_word(shape: Shape, block: u32, word: u32) -> u32
 {
     shape.within_limits();
     block * shape.words() + word
-}
-
-// Appends how many cores performed an operation on the word, how many a load of it, and how many a store.
-fn push_word_sharing(
-    out: &mut Vec<u8>,
-    shape: Shape,
-    tally: &WordTally,
-    place: u32,
-) -> Result<(), NoMemory>
-    ensures { (seen : List Happening) → CountsWords shape seen tally.now → place < shape.blocks * shape.words
-        → OnOk result (out.new.items ≡ out.old.items ++ word_sharing shape seen place) }
-{
-    let cores = shape.cores();
-    push_byte(out, b',')?;
-    push_decimal(out, tally.cores.of(place, cores))?;
-    push_byte(out, b',')?;
-    push_decimal(out, tally.readers.of(place, cores))?;
-    push_byte(out, b',')?;
-    push_decimal(out, tally.writers.of(place, cores))
 }
 
 // Appends the line of a word.
@@ -70,7 +52,14 @@ fn push_word(
             push_decimal(out, word as u64)?;
             push_byte(out, b',')?;
             push_decimal(out, shape.word_address(block, word))?;
-            push_word_sharing(out, shape, tally, place)?;
+            push_sharing(
+                out,
+                &tally.cores,
+                &tally.readers,
+                &tally.writers,
+                place,
+                shape.cores(),
+            )?;
             push_counts(out, &row, &WORD_COUNTS)?;
             push_byte(out, b'\n')
         }

@@ -6,7 +6,7 @@ use Rattle.snoop_trace.specs.Grammar.{ask, order, respond, row_by_letter, row_in
 use Rattle.snoop_lint.specs.{Fewest.{AreFewest, resized}, Fields.{address_named, core_named}, Summary.can_be_taken, Tallies.{block_named, greatest}}
 use Rattle.snoop_lint.proofs.Common.{Extent, Form, Protocol, Rows, Steps, fault_at, findings, findings_from, first_fault, has_heading, heads, is_none}
 use Rattle.snoop_lint.proofs.Common.{is_other, list_any, nat_lt, nat_tests, records_of, refusal, tally_of, ◌&&◌}
-use Rattle.snoop_lint.proofs.FindingLemmas.{Fields, first_is_refusal, found, is_beyond, no_later_heading}
+use Rattle.snoop_lint.proofs.FindingLemmas.{Fields, first_is_refusal, found, is_beyond}
 
 -- a greatest number is below a bound exactly where each is
 all_below : (number : Fields → ℕ) (c m : ℕ) (rows : List Fields)
@@ -31,7 +31,7 @@ module _ (shape : Extent) (c b : ℕ) (some_core : 1 ≤ c) (some_block : 1 ≤ 
   unfolding findings_from
   all_bound form protocol n [] counts first none = refl
   all_bound form protocol n (row ∷ rows) counts first none =
-      let heading : heads form n row ≡ false = grind (arith, no_later_heading form n row) in
+      let heading : heads form n row ≡ false = grind (arith, nat_tests) in
       let at = λ (e : Extent). found n row (fault_at form protocol e n row) (findings_from (fault_at form protocol e) (n + 1) rows) in
       let others = (at shape).others in
       let later = (at (resized shape c b)).none in

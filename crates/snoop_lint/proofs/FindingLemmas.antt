@@ -41,16 +41,12 @@ first_of says fault n [] same = refl
 first_of says fault n (row ∷ rows) same =
     grind (arith, same n row (omega arith), first_of says fault (n + 1) rows (λ m fields h. same m fields (omega arith)))
 
--- a later record is no heading
-pub no_later_heading : (form : Form) (n : ℕ) (row : Fields) → 2 ≤ n → heads form n row ≡ false
-no_later_heading form n row h = grind (arith, nat_tests)
-
 steps_first : (protocol : Protocol) (shape : Extent) (rows : List Fields)
     → result_err (entries_in (step_in shape) (Some (heading_for protocol shape)) rows) ≡ first_fault (findings Steps protocol shape rows)
 unfolding entries_in entries_from findings_from
 steps_first protocol shape [] = refl
 steps_first protocol shape (first ∷ rest) =
-    grind (arith, first_of (step_in shape) (fault_at Steps protocol shape) 2 rest (λ n fields h. grind (arith, no_later_heading Steps n fields)))
+    grind (arith, first_of (step_in shape) (fault_at Steps protocol shape) 2 rest (λ n fields h. grind (arith, nat_tests)))
 
 -- the first fault is the one by which reading refuses the text, and there is none where reading takes it
 pub first_is_refusal : (form : Form) (protocol : Protocol) (shape : Extent) (bytes : List ℕ)

@@ -97,6 +97,7 @@ fn report_of(
 }
 
 /// Appends the lines of the first faulty records of a text, and counts all records.
+#[tactic(auto, using(crate::proofs::LookedLemmas::looked_none))]
 fn look(
     alloc: Global,
     out: &mut Vec<u8>,

@@ -1,11 +1,11 @@
 -- The table of a block, when one frame more is seen.
-use Rattle.std.proofs.Common.{◌&&◌, ◌-◌, ◌==◌, filter, if◌then◌else◌, leb-true, lt-ltb, nat_le, nat_lt, None, take_all}
-use Rattle.std.proofs.lemmas.{Bool.{and_left, and_parts, and_right, cases_lt, lt-leb, Decides.nat_tests}, List.{take-append-le, Elements.filter-append}}
+use Rattle.std.proofs.Common.{◌&&◌, ◌-◌, ◌==◌, filter, if◌then◌else◌, leb-true, lt-ltb, nat_le, nat_lt, take_all}
+use Rattle.std.proofs.lemmas.{Bool.{and_parts, cases_lt, Decides.nat_tests}, List.{take-append-le, Elements.filter-append}}
 use Rattle.std.specs.Option.{option_map_or}
 use Rattle.snoop_model.specs.Pictures.Situation.{reset}
 use Rattle.snoop_engine.{proofs.NumberedLemmas.{led_on, numbered, numbered_on}, specs.Chosen.{is_chosen, is_in_range}}
 use Rattle.snoop_engine.specs.{Numbered.{led_to, Numbered, numbered_from}, Views.block_of_step}
-use Rattle.snoop_states.proofs.Common.{[], ℕ, ◌++◌, ◌+◌, ◌<◌, ◌∙◌, ◌∷◌, ◌≡◌, ◌≤◌, ap, append-nil, append_assoc, arith, Bool, both_ways, cell_text, Chosen, codes, Column, Extent, false, Frame, Grows, inl, inr, IsEmpty, IsTable, length, length_push, line_text, List, map, map-append, Option, Protocol, refl, Situation, Some, sym, take, true}
+use Rattle.snoop_states.proofs.Common.{[], ℕ, ◌++◌, ◌+◌, ◌<◌, ◌∙◌, ◌∷◌, ◌≡◌, ◌≤◌, ap, append-nil, append_assoc, arith, Bool, both_ways, cell_text, Chosen, codes, Column, Extent, false, Frame, Grows, inl, inr, IsEmpty, IsTable, length, length_push, line_text, List, map, map-append, Option, Protocol, refl, Situation, sym, take, true}
 use Rattle.snoop_states.specs.{Rows.{cells_text, names_text}, Seen.HasRows}
 use Rattle.snoop_states.specs.{Tables.{first_row, first_shown, heading_text, is_of, rows_text, shown_block, shown_of, table_text}, declared.table.Table.Table}
 use Rattle.snoop_states.specs.declared.widths.Widths.{Widths}
@@ -21,9 +21,7 @@ rows_on widths shape block columns above (m ∷ ms) n = rw (rows_on widths shape
 none_yet : (choice : Chosen) (block number : ℕ) (frames : List Frame) → number + length frames ≤ choice.from
     → filter (λ (n : Numbered). is_in_range choice n.number && is_of block n.frame) (numbered_from number frames) ≡ []
 none_yet choice block number [] few = refl
-none_yet choice block number (f ∷ fs) few =
-    rw (and_left (is_in_range choice number) _ (and_left (nat_le choice.from number) _ (lt-leb choice.from number (omega arith))))
-    (none_yet choice block (number + 1) fs (omega arith))
+none_yet choice block number (f ∷ fs) few = grind (arith, nat_tests, none_yet choice block (number + 1) fs)
 
 -- one frame more
 shown_on : (choice : Chosen) (block : ℕ) (frames : List Frame) (frame : Frame)
@@ -42,10 +40,7 @@ led_stays start from frames frame late =
 shown_in : (choice : Chosen) (frame : Frame) (number block : ℕ) (found : Option ℕ) → is_chosen choice.block block ≡ true
     → shown_block choice (block_of_step frame.before frame.step) number ≡ found
     → (is_in_range choice number && is_of block frame) ≡ option_map_or (λ b. b == block) found false
-shown_in choice frame number block found chosen e = rw (← e) (by_block (block_of_step frame.before frame.step)) where
-  by_block : (of : Option ℕ) → (is_in_range choice number && option_map_or (λ b. b == block) of false) ≡ option_map_or (λ b. b == block) (shown_block choice of number) false
-  by_block None = and_right (is_in_range choice number) false refl
-  by_block (Some b) = let same : b ≡ block → is_chosen choice.block b ≡ true = λ is. rw is chosen in grind (arith, nat_tests, same)
+shown_in choice frame number block found chosen e = grind (arith, nat_tests, chosen, e)
 
 -- the text of a table, by whether it has a row of a step
 text_of : (widths : Widths) (choice : Chosen) (protocol : Protocol) (shape : Extent) (block : ℕ) (columns : List Column) (start : Situation) (shown : List Numbered) (some : Bool)

@@ -38,8 +38,11 @@ pub fn simulate_states_table<R: Source, W: Sink>(
     ensures blamed { BlamesWriter (W.failed writer.old) (W.failed writer.new) (result ≡ Err SimFault.Write) }
 {
     let steps = read_input(alloc, reader, protocol, shape, input).map_err(SimFault::Text)?;
-    write_tables(alloc, writer, protocol, shape, choice, &steps)?;
-    Ok(())
+    match write_tables(alloc, writer, protocol, shape, choice, &steps) {
+        Ok(()) => Ok(()),
+        Err(WriteFault::NoMemory) => Err(SimFault::NoMemory),
+        Err(WriteFault::Write) => Err(SimFault::Write),
+    }
 }
 
 /// Takes the steps on a machine at reset, and writes their tables.

@@ -2,6 +2,4 @@ use Rattle.snoop_counts.proofs.SumLemmas.{sums_are_totals}
 use Rattle.snoop_counts.proofs.laws.sums.Goals as goal
 
 pub returns : goal.returns
-returns c frames run =
-    let s = c.args.machine.now.situation in
-    sums_are_totals s.protocol s.shape frames s run c.kept.ensures
+returns c frames run = sums_are_totals _ _ frames c.args.machine.now.situation run c.kept.ensures

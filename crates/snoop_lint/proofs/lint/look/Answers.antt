@@ -1,10 +1,6 @@
-use Rattle.std.proofs.Common.{rules}
 use Rattle.csv.specs.Records.{fields_of}
-use Rattle.snoop_lint.proofs.LookedLemmas.{looked_all, looked_more, looked_none}
+use Rattle.snoop_lint.proofs.LookedLemmas.{looked_all, looked_more}
 use Rattle.snoop_lint.proofs.lint.look.Goals as goal
-
-pub loop-i-init : goal.loop-i-init
-loop-i-init c = (search rules, looked_none c.from_reader-records.ensures.source c.from_reader-records.ensures.state c.new-tally.ensures)
 
 pub returns-then-not-branch : goal.returns-then-not-branch
 returns-then-not-branch c =
