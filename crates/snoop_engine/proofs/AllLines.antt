@@ -9,8 +9,7 @@ has_in_range f line a (suc n) k low high has = elim (cases_eq k a) [
 ]
 
 has_unless_i : (requestor : ℕ) (s : CacheState) (line : Taken) → (DoesNothing (Order requestor) s → ⊥) → Contains (unless_i s line) line
-has_unless_i requestor I line h = absurd (h tt)
-has_unless_i requestor _ line h = Contains-push [] line
+has_unless_i requestor s line h = grind (arith, common_steps, Contains-push [] line)
 
 event_unless : (asking : Op) (s : CacheState) → ((asking ≡ Evict) × (s ≡ I) → ⊥) → event_asked asking s ≡ Some (asked asking)
 event_unless asking s h = grind (arith, common_steps)
@@ -34,8 +33,7 @@ module _ (s : Situation) where
 
   requestor_listed : (request : Request) (block : ℕ) (closing : Open) (event : CacheEvent) → (request ≡ PutM → ⊥) → closing.core < s.shape.cores → block < s.shape.blocks → Some event ≡ arrival closing.payload
       → Contains (of_requestor request s block closing) (Core closing.core block (Some event) (state_of s closing.core block))
-  requestor_listed PutM block closing event other x y comes = absurd (other refl)
-  requestor_listed _ block closing event other x y comes = rw (← comes) (core_listed closing.core block event x y)
+  requestor_listed request block closing event other x y comes = grind (arith, common_steps, core_listed closing.core block event x y)
 
   -- the row of an Ask
   pub asker_listed : (asker on word : ℕ) (asking : Op) → IsWithin s asker on → (core block : ℕ) (event : CacheEvent) → ConsultsCache s (Ask asker on word asking) core block (Some event)

@@ -76,8 +76,7 @@ left_of_rows shape rows asks lanes is left counted =
 
 -- a word below the shape's is there
 word_there : (shape : Extent) (word : ℕ) (asking : Op) → IsWithinLimits shape → word < shape.words → HasWord shape word asking
-word_there shape word Evict limits few = tt
-word_there shape word _ limits few = (few, omega (arith, limits.words.1))
+word_there shape word asking limits few = grind (arith, common_steps, limits.words.1)
 
 -- each work is of a block and a word that there are
 pub works_within : (protocol : Protocol) (shape : Extent) (asks : List Asked) (core : ℕ) → IsWithinLimits shape → All (IsAskedWithin shape) asks

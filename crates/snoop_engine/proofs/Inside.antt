@@ -19,5 +19,4 @@ pub none_placed : (s : Situation) (core block : ℕ) (state : CacheState) → So
 none_placed s core block state at queued still =
     let idle : is_some (waiting_request (state_of s core block)) ≡ false = rw (state_there s core block state (sym at)) still in
     let past = none_before block (queue_of s.queues core) (rw idle at queued) in
-    let after = le-ltb (position_or_len (λ b. b == block) (queue_of s.queues core)) (length (queue_of s.queues core)) (omega (arith, past)) in
-    rw after
+    grind (arith, common_steps, nat_tests)

@@ -7,10 +7,8 @@ numbered number frame = record { number = number; frame = frame }
 
 -- one frame more
 pub numbered_on : (number : ℕ) (frames : List Frame) (frame : Frame) → numbered_from number (frames ++ frame ∷ []) ≡ numbered_from number frames ++ numbered (number + length frames) frame ∷ []
-numbered_on number [] frame = let e : number ≡ number + 0 = omega arith in ap (λ (n : ℕ). numbered n frame ∷ []) e
-numbered_on number (f ∷ fs) frame =
-    let e : number + 1 + length fs ≡ number + length (f ∷ fs) = omega arith in
-    ap (λ (l : List Numbered). numbered number f ∷ l) (numbered_on (number + 1) fs frame ∙ ap (λ (n : ℕ). numbered_from (number + 1) fs ++ numbered n frame ∷ []) e)
+numbered_on number [] frame = grind (arith, common_steps)
+numbered_on number (f ∷ fs) frame = grind (arith, common_steps, numbered_on (number + 1) fs frame)
 
 -- where one frame more leads
 pub led_on : (here : Situation) (frames : List Frame) (frame : Frame) → led_to here (frames ++ frame ∷ []) ≡ frame.after

@@ -113,15 +113,10 @@ module _ {protocol : Protocol} {shape : Extent} {heading : Protocol → Extent �
           (begins_to_show (record { whole = refl; run = far.so_far.run }) (rw append-nil at (gathers_cut a b c grown (text far.so_far.frames to) [] all_lines cut)))
 
 -- a failed write, or out of memory, after the whole text was read
-pub simulates_view_front : (protocol : Protocol) (shape : Extent) (input : Input) (text : List Frame → Situation → List ℕ) (bytes : Option (List ℕ)) (steps : List Step) (fault : WriteFault) (result : Result (Unit {0}) SimFault) (old new : Option (List ℕ))
-    → result ≡ Err (fault_of_write fault) → GivesSteps protocol shape input bytes steps → BeginsToShow protocol shape text steps old new → SimulatesView protocol shape input text bytes result old new
-simulates_view_front protocol shape input text bytes steps write.Write result old new e gives begins = rw e (steps, (gives, begins))
-simulates_view_front protocol shape input text bytes steps write.NoMemory result old new e gives begins = rw e (steps, (gives, begins))
-
--- the same, by what is known of the fault
 pub view_faulted : {protocol : Protocol} {shape : Extent} {text : List Frame → Situation → List ℕ} {steps : List Step} {old new : Option (List ℕ)} (input : Input) (bytes : Option (List ℕ)) (result : Result (Unit {0}) SimFault) (fault : WriteFault)
     → IsErrAnd result (λ made. made ≡ fault_of_write fault) → GivesSteps protocol shape input bytes steps → BeginsToShow protocol shape text steps old new → SimulatesView protocol shape input text bytes result old new
-view_faulted input bytes (Err made) fault is gives begins = simulates_view_front _ _ _ _ _ _ fault _ _ _ (ap (λ (f : SimFault). Err f) is) gives begins
+view_faulted {steps = steps} input bytes (Err made) write.Write is gives begins = rw is (steps, (gives, begins))
+view_faulted {steps = steps} input bytes (Err made) write.NoMemory is gives begins = rw is (steps, (gives, begins))
 view_faulted input bytes (Ok u) fault is gives begins = absurd is
 
 -- another definition of the same text

@@ -12,7 +12,7 @@ use crate::fields::{
     action_field, event_field, memory_action_field, memory_event_field, memory_state_field,
     state_field,
 };
-use crate::line::push_outcome;
+use crate::lines::push_outcome;
 use crate::taken::{Taken, memory_at, state_at};
 use snoop_machine::{Machine, Refused, Reply};
 use snoop_rules::{
