@@ -134,6 +134,7 @@ impl<'a> Course for SerialDriver<'a> {
         Ok(Ok(reply))
     }
 
+    #[tactic(auto, using(crate::proofs::Completing::in_order_can_end))]
     fn can_end(&self) {
         runs_go_on();
         let _ = &self.machine;
