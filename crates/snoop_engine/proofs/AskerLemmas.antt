@@ -14,9 +14,6 @@ seen_row p own_one request row h = grind (arith, common_steps)
 no_row : (p : Protocol) (payload : Payload) → option_map_or (λ event. cell_of p I event) (arrival payload) None ≡ None
 no_row p payload = grind (arith, common_steps)
 
-no_fill : (p : Protocol) (payload : Payload) (event : CacheEvent) (row : CacheCell) → arrival payload ≡ Some event → cell_of p I event ≡ Some row → ⊥
-no_fill p payload event row comes is = let none = rw comes at (no_row p payload) in cc
-
 -- a core that is in I of a block before a step
 module _ (old new : Situation) (core block : ℕ) (idle : state_of old core block ≡ I) where
   idle_in : (b : ℕ) → block ≡ b → state_of old core b ≡ I

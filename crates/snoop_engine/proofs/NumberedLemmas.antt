@@ -14,11 +14,3 @@ numbered_on number (f ∷ fs) frame = grind (arith, common_steps, numbered_on (n
 pub led_on : (here : Situation) (frames : List Frame) (frame : Frame) → led_to here (frames ++ frame ∷ []) ≡ frame.after
 led_on here [] frame = refl
 led_on here (f ∷ fs) frame = led_on f.after fs frame
-
--- a step whose number is not chosen is not shown
-pub not_within : (choice : Chosen) (of : Option ℕ) (number : ℕ) → is_in_range choice number ≡ false → is_shown choice of number ≡ false
-not_within choice of number off = grind (arith, common_steps)
-
--- and the number of one that is shown is chosen
-pub within_of_shown : (choice : Chosen) (of : Option ℕ) (number : ℕ) → is_shown choice of number ≡ true → is_in_range choice number ≡ true
-within_of_shown choice of number on = grind (arith, common_steps)
