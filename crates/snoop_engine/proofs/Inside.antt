@@ -1,5 +1,5 @@
 -- What a getter answers that answers inside a shape alone, and what a core's line says nothing of: values in a state that may not be read, a place where no request waits.
-use Rattle.snoop_engine.proofs.Common.{common_steps, ◌≡◌, ℕ, Some, false, cond, refl, sym, arith, is_some, nat_tests, CacheState, Situation, state_of, state_at, List, [], ◌∷◌, length, ◌==◌, count_by, sum_by-cons, waiting_request, queue_of, held_by, picture_of, keeps, position_or_len, le-ltb, kept_at, kept_text, place_text, value_text}
+use Rattle.snoop_engine.proofs.Common.{common_steps, ◌≡◌, ℕ, Some, false, cond, refl, sym, arith, is_some, nat_tests, CacheState, Situation, state_of, state_at, List, [], ◌∷◌, length, ◌==◌, count_by, sum_by-cons, waiting_request, queue_of, held_by, picture_of, keeps, position_or_len, kept_at, kept_text, place_text, value_text}
 use Rattle.{snoop_model.specs.Pictures.InQueue.IsInQueue, snoop_engine.proofs.RangeLemmas.range_stops}
 
 -- a state that is found is the core's

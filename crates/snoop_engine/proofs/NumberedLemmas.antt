@@ -1,5 +1,5 @@
 -- Frames with their numbers, when one frame more is seen, and which of them are shown.
-use Rattle.snoop_engine.proofs.Common.{common_steps, ◌≡◌, ℕ, ◌+◌, true, false, List, [], ◌∷◌, ◌++◌, Option, length, refl, ap, ◌∙◌, arith, Situation, Chosen, is_shown, is_in_range, Frame, Numbered, led_to, numbered_from}
+use Rattle.snoop_engine.proofs.Common.{common_steps, ◌≡◌, ℕ, ◌+◌, List, [], ◌∷◌, ◌++◌, length, refl, arith, Situation, Frame, Numbered, led_to, numbered_from}
 
 -- a frame with its number
 abbrev pub numbered : ℕ → Frame → Numbered

@@ -1,5 +1,5 @@
 -- Packed steps, one more, and steps that all ask.
-use Rattle.snoop_engine.proofs.Common.{common_steps, ◌≡◌, ℕ, ◌+◌, ◌≤◌, List, [], ◌∷◌, ◌++◌, length, drop, sum_by-cons, slice_index_or, refl, arith, length-drop, step_by, step_of_head, steps_in, stored_by, stored_in, worded_by, worded_in, map, sym, ◌∙◌, ap, Result, Ok, Err, OnOk, OnErr, length-map, map-append, Asked, Step, Ask, step_of, asked_by}
+use Rattle.snoop_engine.proofs.Common.{common_steps, ◌≡◌, ℕ, ◌≤◌, List, [], ◌∷◌, ◌++◌, length, drop, sum_by-cons, slice_index_or, refl, arith, length-drop, step_by, step_of_head, steps_in, stored_by, stored_in, worded_by, worded_in, map, sym, ◌∙◌, ap, Result, OnOk, OnErr, length-map, map-append, Asked, Step, Ask, step_of, asked_by}
 use Rattle.std.proofs.lemmas.List.{drop-append-le, get_or_append_left}
 use Rattle.snoop_engine.specs.declared.packed.{Kind.Kind, Head.Head}
 

@@ -1,5 +1,5 @@
 -- The frames that a view was shown: what was written of them, or stands in the chunk.
-use Rattle.snoop_engine.proofs.Common.{map-append, ◌≡◌, ℕ, ◌+◌, List, [], ◌∷◌, ◌++◌, length, length-append, Option, refl, ap, ◌∙◌, append_assoc, append-nil, arith, Result, Ok, Err, IsErrAnd, subst, Appends, Extent, AppendsFront, Step, Protocol, WriteFault, gathers_cut, gathers_done, gathers_more, gathers_stop, appends_none_of, Reply, Refused, Situation, reset, GoesFirst, RunsGoOn, TheRun, CanEnd, LeadsToEndWith, Leading, LeadsOn, fault_of_write, AreFrames, Frame, FramesFrom, Gathers, GivesSteps, lines_of_step, IsNextSeen, block_of_step, frame_seen, shown, view_text, SimFault, Seen, steps_of, outcomes_of}
+use Rattle.snoop_engine.proofs.Common.{map-append, ◌≡◌, ℕ, ◌+◌, List, [], ◌∷◌, ◌++◌, length, length-append, Option, refl, ◌∙◌, append_assoc, append-nil, arith, Result, Ok, Err, IsErrAnd, subst, Appends, Extent, AppendsFront, Step, Protocol, WriteFault, gathers_cut, gathers_done, gathers_more, gathers_stop, appends_none_of, Reply, Refused, Situation, reset, GoesFirst, RunsGoOn, TheRun, CanEnd, LeadsToEndWith, Leading, LeadsOn, fault_of_write, AreFrames, Frame, FramesFrom, Gathers, GivesSteps, lines_of_step, IsNextSeen, block_of_step, frame_seen, shown, view_text, SimFault, Seen, steps_of, outcomes_of}
 use Rattle.snoop_trace.specs.declared.fault.WriteFault.TheVariants as write
 use Rattle.snoop_engine.specs.{SimulatedView.{BeginsToShow, ShowsRun, SimulatesView}, declared.{input.Input.Input, fault.SimFault.TheVariants.Text}}
 use Rattle.snoop_engine.proofs.{Gathering.{Gathering, gathering_more, ends_here, ends_on}, TakenLemmas.goes_alike, TrueLines.lines_fit}

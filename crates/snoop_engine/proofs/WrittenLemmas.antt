@@ -1,6 +1,5 @@
 -- The lines of a course's steps, written or in the chunk, and then the report.
-use Rattle.snoop_engine.proofs.Common.{arith, common_steps, ◌≡◌, ℕ, List, [], ◌∷◌, ◌++◌, Option, sym, ap, ◌∙◌, append_assoc, append-nil, inl, inr, ◌⊎◌, Result, Ok, Err, IsErrAnd, Appends, Extent, AppendsFront, WriteFault, Protocol, Row, Step, gathers_cut, gathers_done, gathers_stop, appends_none_of, Item, Reply, Refused, Situation, reset, GoesFirst, RunsGoOn, TheRun, appends_more, front_after, CanEnd, LeadsToEndWith, Leading, LeadsOn, fault_of_write, EndsInOrder, InOrder, IsAtTheEnd, IsAtTheStart, Progress, SimFault, Frame, outcomes_of, steps_of, refl}
-use Rattle.snoop_trace.specs.declared.fault.WriteFault.TheVariants as write
+use Rattle.snoop_engine.proofs.Common.{arith, common_steps, ◌≡◌, ℕ, List, [], ◌∷◌, ◌++◌, Option, sym, ◌∙◌, append_assoc, append-nil, inr, ◌⊎◌, Result, Err, IsErrAnd, Appends, Extent, AppendsFront, WriteFault, Protocol, Row, Step, gathers_cut, gathers_done, gathers_stop, appends_none_of, Item, Reply, Refused, Situation, reset, GoesFirst, RunsGoOn, TheRun, appends_more, front_after, CanEnd, LeadsToEndWith, Leading, LeadsOn, fault_of_write, EndsInOrder, InOrder, IsAtTheEnd, IsAtTheStart, Progress, SimFault, Frame, outcomes_of, steps_of, refl}
 use Rattle.snoop_history.specs.Report.{report_of}
 use Rattle.snoop_engine.specs.{Line.{line_text, line_texts}, Simulated.Begins, SimulatedRun.{BeginsRun, ReportsRun}, Written.run_text}
 use Rattle.snoop_engine.{specs.SimulatedSerial.{BeginsSerial, ReportsSerial}, proofs.{CourseLemmas.{driver_served, in_order_served}, FrameLemmas.frames_keep}}
