@@ -94,6 +94,7 @@ impl<'a> SerialDriver<'a> {
     }
 
     /// The step that comes next; `None` once every row is served.
+    #[tactic(auto, using(crate::proofs::CourseLemmas::in_order_end, crate::proofs::InOrderLemmas::at_rest))]
     fn turn(&mut self) -> Option<Step>
         ensures machine { self.new.situation ≡ self.old.situation }
         ensures takes_up { IfSome result (λ step. TakesUpNext self.old step self.new.left) }
