@@ -1,5 +1,5 @@
 -- No row of a step that is taken is left out of its lines.
-use Rattle.snoop_engine.proofs.Common.{common_steps, Evict, ◌≡◌, ℕ, ◌<◌, ◌≤◌, ◌+◌, true, zero, suc, List, [], Some, refl, sym, subst, ◌∙◌, inl, inr, lt-ltb, arith, Contains, Ok, flat_map, ap, range_with_len, cases_eq, cases_lt, get_or_past, Contains-append_left, Contains-append_right, Contains-push, same_Some, Op, Step, Ask, Order, Respond, CacheEvent, CacheState, I, MemEvent, Request, PutM, arrival, asked, at_memory, takes_payload, Open, Reply, Line, nothing_held, Situation, picture_of, state_of, ConsultsCache, IsWithin, TakesFirst, GoesFirst, Invariant, event_asked, of_ask, of_core, of_holder, of_memory, of_requestor, of_waiting_memory, unless_i, DoesNothing, HasAllLines, Taken, Core, Memory}
+use Rattle.snoop_engine.proofs.Common.{common_steps, Evict, ◌≡◌, ℕ, ◌<◌, ◌≤◌, ◌+◌, true, zero, suc, List, [], Some, sym, subst, ◌∙◌, inl, inr, lt-ltb, arith, Contains, Ok, flat_map, ap, range_with_len, cases_eq, cases_lt, get_or_past, Contains-append_left, Contains-append_right, Contains-push, same_Some, Op, Step, Ask, Order, Respond, CacheEvent, CacheState, I, MemEvent, Request, PutM, arrival, asked, at_memory, takes_payload, Open, Reply, Line, nothing_held, Situation, picture_of, state_of, ConsultsCache, IsWithin, TakesFirst, GoesFirst, Invariant, event_asked, of_ask, of_core, of_holder, of_memory, of_requestor, of_waiting_memory, unless_i, DoesNothing, HasAllLines, Taken, Core, Memory}
 
 has_in_range : (f : ℕ → List Taken) (line : Taken) (a n k : ℕ) → a ≤ k → k < a + n → Contains (f k) line → Contains (flat_map f (range_with_len a n)) line
 has_in_range f line a zero k low high has = absurd (omega arith)
@@ -9,8 +9,7 @@ has_in_range f line a (suc n) k low high has = elim (cases_eq k a) [
 ]
 
 has_unless_i : (requestor : ℕ) (s : CacheState) (line : Taken) → (DoesNothing (Order requestor) s → ⊥) → Contains (unless_i s line) line
-has_unless_i requestor I line h = absurd (h tt)
-has_unless_i requestor _ line h = Contains-push [] line
+has_unless_i requestor s line h = grind (arith, common_steps, Contains-push [] line)
 
 event_unless : (asking : Op) (s : CacheState) → ((asking ≡ Evict) × (s ≡ I) → ⊥) → event_asked asking s ≡ Some (asked asking)
 event_unless asking s h = grind (arith, common_steps)
@@ -34,8 +33,7 @@ module _ (s : Situation) where
 
   requestor_listed : (request : Request) (block : ℕ) (closing : Open) (event : CacheEvent) → (request ≡ PutM → ⊥) → closing.core < s.shape.cores → block < s.shape.blocks → Some event ≡ arrival closing.payload
       → Contains (of_requestor request s block closing) (Core closing.core block (Some event) (state_of s closing.core block))
-  requestor_listed PutM block closing event other x y comes = absurd (other refl)
-  requestor_listed _ block closing event other x y comes = rw (← comes) (core_listed closing.core block event x y)
+  requestor_listed request block closing event other x y comes = grind (arith, common_steps, core_listed closing.core block event x y)
 
   -- the row of an Ask
   pub asker_listed : (asker on word : ℕ) (asking : Op) → IsWithin s asker on → (core block : ℕ) (event : CacheEvent) → ConsultsCache s (Ask asker on word asking) core block (Some event)

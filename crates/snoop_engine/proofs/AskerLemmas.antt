@@ -1,5 +1,5 @@
 -- Only an Ask moves its core out of I.
-use Rattle.snoop_engine.proofs.Common.{common_steps, ◌≡◌, ℕ, ◌≤◌, Bool, true, false, List, [], length, Some, None, Option, refl, sym, ap, ◌∙◌, inl, inr, arith, ◌==◌, ◌%◌, Ok, slice_index_or, slice_set, if◌then◌else◌, option_map_or, cases_lt, get_or_past, Protocol, Op, Step, Ask, Order, Respond, CacheCell, CacheEvent, I, Request, PutM, arrival, Did, Open, Situation, picture_of, state_of, Reply, Line, Picture, held_at, held_by, nothing_held, ArrivesFor, GoesFirst, le-ltb, cell_of, other, own, nothing_there, with_line, AreAskers, of_holder}
+use Rattle.snoop_engine.proofs.Common.{common_steps, ◌≡◌, ℕ, ◌≤◌, Bool, true, false, List, [], length, Some, None, Option, refl, sym, ap, ◌∙◌, inl, inr, arith, ◌==◌, ◌%◌, Ok, slice_index_or, slice_set, if◌then◌else◌, option_map_or, cases_lt, get_or_past, Protocol, Op, Step, Ask, Order, Respond, CacheCell, I, Request, PutM, arrival, Did, Open, Situation, picture_of, state_of, Reply, Line, Picture, held_at, held_by, nothing_held, ArrivesFor, GoesFirst, le-ltb, cell_of, other, own, nothing_there, with_line, AreAskers, of_holder}
 use Rattle.snoop_rules.specs.declared.names.Payload.{Payload}
 use Rattle.snoop_blocks.specs.CoreSet.{Puts, has, set_of}
 use Rattle.snoop_model.proofs.Lists.{set_cases}
@@ -13,10 +13,6 @@ seen_row p own_one request row h = grind (arith, common_steps)
 -- no data comes to a core in I
 no_row : (p : Protocol) (payload : Payload) → option_map_or (λ event. cell_of p I event) (arrival payload) None ≡ None
 no_row p payload = grind (arith, common_steps)
-
-no_fill : (p : Protocol) (payload : Payload) (event : CacheEvent) (row : CacheCell) → arrival payload ≡ Some event → cell_of p I event ≡ Some row → ⊥
-no_fill p payload event row comes is =
-    let none = rw comes at (no_row p payload) in cc
 
 -- a core that is in I of a block before a step
 module _ (old new : Situation) (core block : ℕ) (idle : state_of old core block ≡ I) where

@@ -1,5 +1,5 @@
 -- What dealing the rows to their cores gives.
-use Rattle.snoop_engine.proofs.Common.{common_steps, nat_tests, Evict, ◌≡◌, ◌≢◌, ℕ, ◌+◌, ◌<◌, Bool, None, List, [], ◌∷◌, ◌++◌, length, map, filter, append_assoc, refl, sym, ◌∙◌, ap, arith, inl, inr, get_or, ◌==◌, All, Contains, slice_set, cases_eq, cases_lt, length_push, get_or_default, get_or_past, length-map, All-head, All-tail, All-push, Contains-push, Contains-append_left, Extent, Asked, Op, Row, IsRowWithin, Work, Protocol, reset, turn_rule, length-set, get_or-set_same, get_or-set_other, All-map, All-filter, All-weaker, sum_by-set, HasWord, IsWithinLimits, asked_of, asked_within, IsFit, IsWorkWithin, largest, IsAskedWithin, Todo, todo_of, nothing_to_do, lanes_under_way, left_in, works_by, works_of}
+use Rattle.snoop_engine.proofs.Common.{common_steps, nat_tests, ◌≡◌, ◌≢◌, ℕ, ◌+◌, ◌<◌, Bool, None, List, [], ◌∷◌, ◌++◌, length, map, filter, append_assoc, refl, sym, ◌∙◌, ap, arith, inl, inr, get_or, ◌==◌, All, Contains, slice_set, cases_eq, cases_lt, length_push, get_or_default, get_or_past, length-map, All-head, All-tail, All-push, Contains-push, Contains-append_left, Extent, Asked, Op, Row, IsRowWithin, Work, Protocol, reset, turn_rule, length-set, get_or-set_same, get_or-set_other, All-map, All-filter, All-weaker, sum_by-set, HasWord, IsWithinLimits, asked_of, asked_within, IsFit, IsWorkWithin, largest, IsAskedWithin, Todo, todo_of, nothing_to_do, lanes_under_way, left_in, works_by, works_of}
 use Rattle.snoop_engine.proofs.Fewer.{left_same}
 
 -- all asks but those that are left have been dealt
@@ -76,8 +76,7 @@ left_of_rows shape rows asks lanes is left counted =
 
 -- a word below the shape's is there
 word_there : (shape : Extent) (word : ℕ) (asking : Op) → IsWithinLimits shape → word < shape.words → HasWord shape word asking
-word_there shape word Evict limits few = tt
-word_there shape word _ limits few = (few, omega (arith, limits.words.1))
+word_there shape word asking limits few = grind (arith, common_steps, limits.words.1)
 
 -- each work is of a block and a word that there are
 pub works_within : (protocol : Protocol) (shape : Extent) (asks : List Asked) (core : ℕ) → IsWithinLimits shape → All (IsAskedWithin shape) asks

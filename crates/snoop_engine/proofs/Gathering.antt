@@ -57,8 +57,7 @@ module _ {protocol : Protocol} {shape : Extent} {text : List Frame → List ℕ}
   -- some of the chunk was written
   pub gathering_spilled : (c : Option (List ℕ)) (left : List ℕ) → Spills b chunk c left → Gathering protocol shape text holds first now here a c left
   gathering_spilled c left spills =
-      let lines = gathers_spilled a b c chunk left _ far.lines spills in
-      record { frames = far.frames; run = far.run; leads = far.leads; can_end = far.can_end; held = far.held; lines = lines }
+      record { frames = far.frames; run = far.run; leads = far.leads; can_end = far.can_end; held = far.held; lines = gathers_spilled a b c chunk left _ far.lines spills }
 
   -- what holds of these steps and then others to the end
   pub ends_on : (all : Leading) → (let end = far.can_end in all (steps_of far.frames ++ end.steps) (outcomes_of far.frames ++ end.outcomes) end.final)

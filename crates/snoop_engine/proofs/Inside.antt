@@ -1,5 +1,5 @@
 -- What a getter answers that answers inside a shape alone, and what a core's line says nothing of: values in a state that may not be read, a place where no request waits.
-use Rattle.snoop_engine.proofs.Common.{common_steps, ◌≡◌, ℕ, Some, false, cond, refl, sym, arith, is_some, nat_tests, CacheState, Situation, state_of, state_at, List, [], ◌∷◌, length, ◌==◌, count_by, sum_by-cons, waiting_request, queue_of, held_by, picture_of, keeps, position_or_len, le-ltb, kept_at, kept_text, place_text, value_text}
+use Rattle.snoop_engine.proofs.Common.{common_steps, ◌≡◌, ℕ, Some, false, cond, refl, sym, arith, is_some, nat_tests, CacheState, Situation, state_of, state_at, List, [], ◌∷◌, length, ◌==◌, count_by, sum_by-cons, waiting_request, queue_of, held_by, picture_of, keeps, position_or_len, kept_at, kept_text, place_text, value_text}
 use Rattle.{snoop_model.specs.Pictures.InQueue.IsInQueue, snoop_engine.proofs.RangeLemmas.range_stops}
 
 -- a state that is found is the core's
@@ -19,5 +19,4 @@ pub none_placed : (s : Situation) (core block : ℕ) (state : CacheState) → So
 none_placed s core block state at queued still =
     let idle : is_some (waiting_request (state_of s core block)) ≡ false = rw (state_there s core block state (sym at)) still in
     let past = none_before block (queue_of s.queues core) (rw idle at queued) in
-    let after = le-ltb (position_or_len (λ b. b == block) (queue_of s.queues core)) (length (queue_of s.queues core)) (omega (arith, past)) in
-    rw after
+    grind (arith, common_steps, nat_tests)

@@ -1,5 +1,5 @@
 -- Frames with their numbers, when one frame more is seen, and which of them are shown.
-use Rattle.snoop_engine.proofs.Common.{common_steps, ◌≡◌, ℕ, ◌+◌, true, false, List, [], ◌∷◌, ◌++◌, Option, length, refl, ap, ◌∙◌, arith, Situation, Chosen, is_shown, is_in_range, Frame, Numbered, led_to, numbered_from}
+use Rattle.snoop_engine.proofs.Common.{common_steps, ◌≡◌, ℕ, ◌+◌, List, [], ◌∷◌, ◌++◌, length, refl, arith, Situation, Frame, Numbered, led_to, numbered_from}
 
 -- a frame with its number
 abbrev pub numbered : ℕ → Frame → Numbered
@@ -7,20 +7,10 @@ numbered number frame = record { number = number; frame = frame }
 
 -- one frame more
 pub numbered_on : (number : ℕ) (frames : List Frame) (frame : Frame) → numbered_from number (frames ++ frame ∷ []) ≡ numbered_from number frames ++ numbered (number + length frames) frame ∷ []
-numbered_on number [] frame = let e : number ≡ number + 0 = omega arith in ap (λ (n : ℕ). numbered n frame ∷ []) e
-numbered_on number (f ∷ fs) frame =
-    let e : number + 1 + length fs ≡ number + length (f ∷ fs) = omega arith in
-    ap (λ (l : List Numbered). numbered number f ∷ l) (numbered_on (number + 1) fs frame ∙ ap (λ (n : ℕ). numbered_from (number + 1) fs ++ numbered n frame ∷ []) e)
+numbered_on number [] frame = grind (arith, common_steps)
+numbered_on number (f ∷ fs) frame = grind (arith, common_steps, numbered_on (number + 1) fs frame)
 
 -- where one frame more leads
 pub led_on : (here : Situation) (frames : List Frame) (frame : Frame) → led_to here (frames ++ frame ∷ []) ≡ frame.after
 led_on here [] frame = refl
 led_on here (f ∷ fs) frame = led_on f.after fs frame
-
--- a step whose number is not chosen is not shown
-pub not_within : (choice : Chosen) (of : Option ℕ) (number : ℕ) → is_in_range choice number ≡ false → is_shown choice of number ≡ false
-not_within choice of number off = grind (arith, common_steps)
-
--- and the number of one that is shown is chosen
-pub within_of_shown : (choice : Chosen) (of : Option ℕ) (number : ℕ) → is_shown choice of number ≡ true → is_in_range choice number ≡ true
-within_of_shown choice of number on = grind (arith, common_steps)

@@ -1,5 +1,5 @@
 -- Packed steps, one more, and steps that all ask.
-use Rattle.snoop_engine.proofs.Common.{common_steps, ◌≡◌, ℕ, ◌+◌, ◌≤◌, List, [], ◌∷◌, ◌++◌, length, length-append, drop, slice_index_or, refl, arith, length-drop, step_by, step_of_head, steps_in, stored_by, stored_in, worded_by, worded_in, map, sym, ◌∙◌, ap, Result, Ok, Err, OnOk, OnErr, length-map, map-append, Asked, Step, Ask, step_of, asked_by}
+use Rattle.snoop_engine.proofs.Common.{common_steps, ◌≡◌, ℕ, ◌≤◌, List, [], ◌∷◌, ◌++◌, length, drop, sum_by-cons, slice_index_or, refl, arith, length-drop, step_by, step_of_head, steps_in, stored_by, stored_in, worded_by, worded_in, map, sym, ◌∙◌, ap, Result, OnOk, OnErr, length-map, map-append, Asked, Step, Ask, step_of, asked_by}
 use Rattle.std.proofs.lemmas.List.{drop-append-le, get_or_append_left}
 use Rattle.snoop_engine.specs.declared.packed.{Kind.Kind, Head.Head}
 
@@ -13,20 +13,13 @@ pub steps_more : (hs : List Head) (ws vs : List ℕ) (h : Head) (mw mv : List �
     → steps_in (hs ++ h ∷ []) (ws ++ mw) (vs ++ mv) ≡ steps_in hs ws vs ++ step_of_head h (slice_index_or mw 0 0) (slice_index_or mv 0 0) ∷ []
 steps_more [] [] [] h mw mv e f = refl
 steps_more (k ∷ ks) ws vs h mw mv e f =
-    let w : worded_by k.kind ≤ length ws = omega (arith, e) in
-    let v : stored_by k.kind ≤ length vs = omega (arith, f) in
+    let worded = sum_by-cons (λ (h : Head). worded_by h.kind) k ks in
+    let stored = sum_by-cons (λ (h : Head). stored_by h.kind) k ks in
+    let w : worded_by k.kind ≤ length ws = omega arith in
+    let v : stored_by k.kind ≤ length vs = omega arith in
     rw (step_on k.kind k ws mw vs mv w v, drop-append-le (worded_by k.kind) ws mw w, drop-append-le (stored_by k.kind) vs mv v)
-    (rw (steps_more ks (drop (worded_by k.kind) ws) (drop (stored_by k.kind) vs) h mw mv (omega (arith, e, length-drop (worded_by k.kind) ws)) (omega (arith, f, length-drop (stored_by k.kind) vs))))
+    (rw (steps_more ks (drop (worded_by k.kind) ws) (drop (stored_by k.kind) vs) h mw mv (omega (arith, length-drop (worded_by k.kind) ws)) (omega (arith, length-drop (stored_by k.kind) vs))))
 steps_more _ ws vs h mw mv e f = absurd (omega arith)
-
--- as many words, or values, stand in a queue as its heads have
-module _ (by : Kind → ℕ) (in_all : List Head → ℕ) (none : in_all [] ≡ 0) (first : (h : Head) (hs : List Head) → in_all (h ∷ hs) ≡ by h.kind + in_all hs) where
-  in_longer : (hs : List Head) (h : Head) → in_all (hs ++ h ∷ []) ≡ in_all hs + by h.kind
-  in_longer [] h = omega (arith, none, first h [])
-  in_longer (k ∷ ks) h = omega (arith, first k ks, first k (ks ++ h ∷ []), in_longer ks h)
-
-  pub counted_after : (hs : List Head) (values more : List ℕ) (h : Head) → by h.kind ≡ length more → in_all hs ≡ length values → in_all (hs ++ h ∷ []) ≡ length (values ++ more)
-  counted_after hs values more h one e = omega (arith, in_longer hs h, length-append values more)
 
 -- there is a step for each head
 pub steps_counted : (hs : List Head) (ws vs : List ℕ) → length (steps_in hs ws vs) ≡ length hs
@@ -41,8 +34,7 @@ asked_on (step ∷ steps) asked = grind (arith, common_steps, asked_on steps ask
 -- and all steps ask still, also where there was no memory for it
 pub still_ask : {E : Type 0} (r : Result (Unit {0}) E) (old new : List Step) (asked : Asked) → old ≡ map step_of (asked_by old)
     → OnOk r (new ≡ old ++ step_of asked ∷ []) → OnErr r (new ≡ old) → new ≡ map step_of (asked_by new)
-still_ask (Ok u) old new asked kept ok err = rw (ok, asked_on old asked, map-append step_of (asked_by old) (asked ∷ []), ← kept)
-still_ask (Err e) old new asked kept ok err = rw err kept
+still_ask r old new asked kept ok err = grind (arith, common_steps, asked_on old asked, map-append step_of (asked_by old) (asked ∷ []))
 
 -- there is an Ask for each
 pub asked_counted : (steps : List Step) → steps ≡ map step_of (asked_by steps) → length (asked_by steps) ≡ length steps

@@ -1,5 +1,5 @@
 -- The frames that a view was shown: what was written of them, or stands in the chunk.
-use Rattle.snoop_engine.proofs.Common.{map-append, ◌≡◌, ℕ, ◌+◌, List, [], ◌∷◌, ◌++◌, length, length-append, Option, refl, ap, ◌∙◌, append_assoc, append-nil, arith, Result, Ok, Err, IsErrAnd, subst, Appends, Extent, AppendsFront, Step, Protocol, WriteFault, gathers_cut, gathers_done, gathers_more, gathers_stop, appends_none_of, Reply, Refused, Situation, reset, GoesFirst, RunsGoOn, TheRun, CanEnd, LeadsToEndWith, Leading, LeadsOn, fault_of_write, AreFrames, Frame, FramesFrom, Gathers, GivesSteps, lines_of_step, IsNextSeen, block_of_step, frame_seen, shown, view_text, SimFault, Seen, steps_of, outcomes_of}
+use Rattle.snoop_engine.proofs.Common.{map-append, ◌≡◌, ℕ, ◌+◌, List, [], ◌∷◌, ◌++◌, length, length-append, Option, refl, ◌∙◌, append_assoc, append-nil, arith, Result, Ok, Err, IsErrAnd, subst, Appends, Extent, AppendsFront, Step, Protocol, WriteFault, gathers_cut, gathers_done, gathers_more, gathers_stop, appends_none_of, Reply, Refused, Situation, reset, GoesFirst, RunsGoOn, TheRun, CanEnd, LeadsToEndWith, Leading, LeadsOn, fault_of_write, AreFrames, Frame, FramesFrom, Gathers, GivesSteps, lines_of_step, IsNextSeen, block_of_step, frame_seen, shown, view_text, SimFault, Seen, steps_of, outcomes_of}
 use Rattle.snoop_trace.specs.declared.fault.WriteFault.TheVariants as write
 use Rattle.snoop_engine.specs.{SimulatedView.{BeginsToShow, ShowsRun, SimulatesView}, declared.{input.Input.Input, fault.SimFault.TheVariants.Text}}
 use Rattle.snoop_engine.proofs.{Gathering.{Gathering, gathering_more, ends_here, ends_on}, TakenLemmas.goes_alike, TrueLines.lines_fit}
@@ -113,15 +113,10 @@ module _ {protocol : Protocol} {shape : Extent} {heading : Protocol → Extent �
           (begins_to_show (record { whole = refl; run = far.so_far.run }) (rw append-nil at (gathers_cut a b c grown (text far.so_far.frames to) [] all_lines cut)))
 
 -- a failed write, or out of memory, after the whole text was read
-pub simulates_view_front : (protocol : Protocol) (shape : Extent) (input : Input) (text : List Frame → Situation → List ℕ) (bytes : Option (List ℕ)) (steps : List Step) (fault : WriteFault) (result : Result (Unit {0}) SimFault) (old new : Option (List ℕ))
-    → result ≡ Err (fault_of_write fault) → GivesSteps protocol shape input bytes steps → BeginsToShow protocol shape text steps old new → SimulatesView protocol shape input text bytes result old new
-simulates_view_front protocol shape input text bytes steps write.Write result old new e gives begins = rw e (steps, (gives, begins))
-simulates_view_front protocol shape input text bytes steps write.NoMemory result old new e gives begins = rw e (steps, (gives, begins))
-
--- the same, by what is known of the fault
 pub view_faulted : {protocol : Protocol} {shape : Extent} {text : List Frame → Situation → List ℕ} {steps : List Step} {old new : Option (List ℕ)} (input : Input) (bytes : Option (List ℕ)) (result : Result (Unit {0}) SimFault) (fault : WriteFault)
     → IsErrAnd result (λ made. made ≡ fault_of_write fault) → GivesSteps protocol shape input bytes steps → BeginsToShow protocol shape text steps old new → SimulatesView protocol shape input text bytes result old new
-view_faulted input bytes (Err made) fault is gives begins = simulates_view_front _ _ _ _ _ _ fault _ _ _ (ap (λ (f : SimFault). Err f) is) gives begins
+view_faulted {steps = steps} input bytes (Err made) write.Write is gives begins = rw is (steps, (gives, begins))
+view_faulted {steps = steps} input bytes (Err made) write.NoMemory is gives begins = rw is (steps, (gives, begins))
 view_faulted input bytes (Ok u) fault is gives begins = absurd is
 
 -- another definition of the same text

@@ -19,11 +19,10 @@ memory_below s e = grind (arith, memory_event_within e)
 -- nothing is counted yet
 pub tallies_none : Tallies (replicate 203 0) []
 tallies_none =
-    let none : ℕ = 0 in
     record {
-      long = length-replicate 203 none;
-      cores = λ s e. let lt = core_below s e in get_or-replicate 203 (core_place s e) none none (omega arith);
-      memory = λ s e. get_or-replicate 203 (memory_place s e) none none (memory_below s e);
+      long = length-replicate {A = ℕ} 203 0;
+      cores = λ s e. let lt = core_below s e in get_or-replicate {A = ℕ} 203 (core_place s e) 0 0 (omega arith);
+      memory = λ s e. get_or-replicate {A = ℕ} 203 (memory_place s e) 0 0 (memory_below s e);
     }
 
 -- one line more, of which the test says whether its counter is the one here

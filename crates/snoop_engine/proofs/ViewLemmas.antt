@@ -1,13 +1,11 @@
 -- What views show of frames: of each by its number, or nothing before the end; their counts, and their states.
-use Rattle.snoop_engine.proofs.Common.{◌≡◌, ℕ, ◌+◌, List, [], ◌∷◌, ◌++◌, length, refl, ap, arith, flat_map, length_push, Situation, Frame, Numbered, numbered_from, shown, view_text, flat_map_more, Protocol, all_lines, counts_text, frames_counts_text, lines_of_step, Tallies, counts_in, memory_counts_in, true, false, Chosen, is_shown, shown_text, step_fields, taken_text, IsNextSeen, frame_seen, Seen}
+use Rattle.snoop_engine.proofs.Common.{common_steps, ◌≡◌, ℕ, ◌+◌, List, [], ◌∷◌, ◌++◌, length, refl, ap, arith, flat_map, length_push, Situation, Frame, Numbered, numbered_from, shown, view_text, flat_map_more, Protocol, all_lines, counts_text, frames_counts_text, lines_of_step, Tallies, counts_in, memory_counts_in, true, false, Chosen, is_shown, shown_text, step_fields, taken_text, IsNextSeen, frame_seen, Seen}
 
 -- what is shown of each frame by its number
 pub shown_numbered : (shows : ℕ → Frame → List ℕ) (before frames : List Frame)
     → shown (λ (seen : List Frame) (frame : Frame). shows (1 + length seen) frame) before frames ≡ flat_map (λ (n : Numbered). shows n.number n.frame) (numbered_from (1 + length before) frames)
 shown_numbered shows before [] = refl
-shown_numbered shows before (frame ∷ frames) =
-    let next : 1 + length (before ++ frame ∷ []) ≡ 1 + length before + 1 = omega (arith, length_push before frame) in
-    rw (shown_numbered shows (before ++ frame ∷ []) frames, next)
+shown_numbered shows before (frame ∷ frames) = grind (arith, common_steps, length_push before frame, shown_numbered shows (before ++ frame ∷ []) frames)
 
 -- nothing is shown
 pub nothing_shown : (before frames : List Frame) → shown (λ (fs : List Frame) (f : Frame). []) before frames ≡ []

@@ -1,6 +1,5 @@
 -- The lines of a course's steps, written or in the chunk, and then the report.
-use Rattle.snoop_engine.proofs.Common.{◌≡◌, ℕ, List, [], ◌∷◌, ◌++◌, Option, sym, ap, ◌∙◌, append_assoc, append-nil, inl, inr, ◌⊎◌, Result, Ok, Err, IsErrAnd, Appends, Extent, AppendsFront, WriteFault, Protocol, Row, Step, gathers_cut, gathers_done, gathers_stop, appends_none_of, Item, Reply, Refused, Situation, reset, GoesFirst, RunsGoOn, TheRun, appends_more, front_after, CanEnd, LeadsToEndWith, Leading, LeadsOn, fault_of_write, EndsInOrder, InOrder, IsAtTheEnd, IsAtTheStart, Progress, SimFault, Frame, outcomes_of, steps_of, refl}
-use Rattle.snoop_trace.specs.declared.fault.WriteFault.TheVariants as write
+use Rattle.snoop_engine.proofs.Common.{arith, common_steps, ◌≡◌, ℕ, List, [], ◌∷◌, ◌++◌, Option, sym, ◌∙◌, append_assoc, append-nil, inr, ◌⊎◌, Result, Err, IsErrAnd, Appends, Extent, AppendsFront, WriteFault, Protocol, Row, Step, gathers_cut, gathers_done, gathers_stop, appends_none_of, Item, Reply, Refused, Situation, reset, GoesFirst, RunsGoOn, TheRun, appends_more, front_after, CanEnd, LeadsToEndWith, Leading, LeadsOn, fault_of_write, EndsInOrder, InOrder, IsAtTheEnd, IsAtTheStart, Progress, SimFault, Frame, outcomes_of, steps_of, refl}
 use Rattle.snoop_history.specs.Report.{report_of}
 use Rattle.snoop_engine.specs.{Line.{line_text, line_texts}, Simulated.Begins, SimulatedRun.{BeginsRun, ReportsRun}, Written.run_text}
 use Rattle.snoop_engine.{specs.SimulatedSerial.{BeginsSerial, ReportsSerial}, proofs.{CourseLemmas.{driver_served, in_order_served}, FrameLemmas.frames_keep}}
@@ -116,6 +115,4 @@ module _ {protocol : Protocol} {shape : Extent} {rows : List Row} {start : InOrd
 
 -- a failed write, or out of memory: what a fault of a write becomes
 pub write_faulted : (cause : WriteFault) (result : Result (Unit {0}) SimFault) → IsErrAnd result (λ made. made ≡ fault_of_write cause) → (result ≡ Err fault.Write) ⊎ (result ≡ Err fault.NoMemory)
-write_faulted write.Write (Err made) is = inl (ap (λ (f : SimFault). Err f) is)
-write_faulted write.NoMemory (Err made) is = inr (ap (λ (f : SimFault). Err f) is)
-write_faulted cause (Ok u) is = absurd is
+write_faulted cause result is = grind (arith, common_steps)

@@ -1,6 +1,6 @@
 -- The steps that packed steps stand for.
 -- Source: this project's profile.
-use Rattle.std.specs.Prelude.{ℕ, ◌+◌, ◌==◌, List, [], ◌∷◌, drop, slice_index_or, if◌then◌else◌}
+use Rattle.std.specs.Prelude.{ℕ, ◌==◌, List, [], ◌∷◌, drop, sum_by, slice_index_or, if◌then◌else◌}
 use Rattle.snoop_trace.specs.{Extent.Extent, declared.step.Step.{Step, TheVariants.{Ask, Order, Respond}}}
 use Rattle.snoop_trace.specs.declared.step.Op.TheVariants as op
 use Rattle.snoop_engine.specs.declared.packed.{Kind.Kind, Head.Head}
@@ -50,13 +50,11 @@ stored_by _ = 0
 
 -- how many words the steps have
 abbrev pub worded_in : List Head → ℕ
-worded_in [] = 0
-worded_in (head ∷ heads) = worded_by head.kind + worded_in heads
+worded_in heads = sum_by (λ (head : Head). worded_by head.kind) heads
 
 -- how many values the steps store
 abbrev pub stored_in : List Head → ℕ
-stored_in [] = 0
-stored_in (head ∷ heads) = stored_by head.kind + stored_in heads
+stored_in heads = sum_by (λ (head : Head). stored_by head.kind) heads
 
 -- the steps of these heads, in order, with these words and these values where their kinds have them
 abbrev pub steps_in : List Head → List ℕ → List ℕ → List Step

@@ -42,6 +42,7 @@ impl AskQueue {
     }
 
     /// Takes the first away.
+    #[tactic(auto, using(crate::proofs::Packing::first_asks))]
     pub(crate) fn next(&mut self) -> Option<Asked>
         ensures first { self.old ≡ option_to_list result ++ self.new }
         ensures none { IfNone result (self.old ≡ []) }
@@ -66,6 +67,7 @@ impl Entries<Asked> for AskQueue {
 
     ghost fits = { λ asked. IsStepWithin largest (step_of asked) };
 
+    #[tactic(auto, using(crate::proofs::Packing::asked_on, crate::proofs::Packing::still_ask, crate::proofs::Packing::asked_counted))]
     fn append(&mut self, asked: Asked) -> Result<(), NoMemory> {
         let work = asked.work;
         self.steps.append(Step::Ask {

@@ -66,6 +66,7 @@ impl View for Tally {
         Ok(())
     }
 
+    #[tactic(auto, using(crate::proofs::ViewLemmas::text_of_frames))]
     fn end(&mut self, out: &mut Vec<u8>, machine: &Machine) -> Result<(), NoMemory> {
         push_counts(out, machine.protocol(), self)
     }

@@ -28,6 +28,7 @@ pub(crate) fn push_counts(
     push_memory_counts(out, protocol, tally)
 }
 
+#[tactic(auto, using(snoop_rules::proofs::TextLemmas::pieces_all), unfolding(crate::specs::Counts::cache_counts))]
 fn push_cache_counts(out: &mut Vec<u8>, protocol: Protocol, tally: &Tally) -> Result<(), NoMemory>
     ensures { OnOk result (out.new.items ≡ out.old.items ++ cache_counts protocol (counts_in tally.now.counters)) }
 {
@@ -84,6 +85,7 @@ fn does_nothing(state: CacheState, event: CacheEvent) -> bool
     }
 }
 
+#[tactic(auto, using(snoop_rules::proofs::TextLemmas::pieces_all), unfolding(crate::specs::Counts::memory_counts))]
 fn push_memory_counts(out: &mut Vec<u8>, protocol: Protocol, tally: &Tally) -> Result<(), NoMemory>
     ensures { OnOk result (out.new.items ≡ out.old.items ++ memory_counts protocol (memory_counts_in tally.now.counters)) }
 {
@@ -128,6 +130,7 @@ fn push_memory_row(
 }
 
 // Appends the line of a row.
+#[tactic(auto, using(std::proofs::lemmas::List::append_assoc))]
 fn push_line<S: Display + Copy, E: Display + Copy, A: Display + Copy>(
     out: &mut Vec<u8>,
     controller: &str,

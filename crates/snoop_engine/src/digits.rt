@@ -6,6 +6,7 @@ use snoop_trace::NoMemory;
 use snoop_trace::streams::{push_byte, push_decimal};
 
 // Appends a number of two digits.
+#[tactic(auto, using(std::proofs::lemmas::List::append_assoc, std::proofs::lemmas::Fmt::decimal_digit, std::proofs::lemmas::Fmt::decimal_step))]
 #[inline(always)]
 fn push_two(out: &mut Vec<u8>, number: u64) -> Result<(), NoMemory>
     requires low { 10 ≤ number }

@@ -184,6 +184,7 @@ impl Course for Driver {
         Ok(Ok(reply))
     }
 
+    #[tactic(auto, using(crate::proofs::Completing::driver_can_end))]
     fn can_end(&self) {
         runs_go_on();
         let _ = &self.machine;

@@ -25,25 +25,6 @@ pub(crate) enum Kind {
     Respond,
 }
 
-impl Kind {
-    /// The kind of an operation on a word.
-    fn of(op: Op, word: u32) -> Self
-        ensures words { worded_by result ≡ length (words_of (Ask 0 0 word op)) }
-        ensures values { stored_by result ≡ length (values_of (Ask 0 0 word op)) }
-        ensures step { (head : Head) → step_by result head (slice_index_or (words_of (Ask 0 0 word op)) 0 0) (slice_index_or (values_of (Ask 0 0 word op)) 0 0)
-            ≡ Ask head.core head.block word op }
-    {
-        match op {
-            Op::Load if word == 0 => Kind::Load,
-            Op::Load => Kind::LoadOfWord,
-            Op::Store(_) if word == 0 => Kind::Store,
-            Op::Store(_) => Kind::StoreOfWord,
-            Op::Evict if word == 0 => Kind::Evict,
-            Op::Evict => Kind::EvictOfWord,
-        }
-    }
-}
-
 /// A step of the largest shape or a smaller one, without its word and the value that it stores, in fewer bytes than a
 /// `Step`. A field that its kind does not need is arbitrary.
 #[derive(Clone, Copy, Debug)]
@@ -70,7 +51,14 @@ impl Head {
             } => Head {
                 block: block as u16,
                 core: core as u8,
-                kind: Kind::of(op, word),
+                kind: match op {
+                    Op::Load if word == 0 => Kind::Load,
+                    Op::Load => Kind::LoadOfWord,
+                    Op::Store(_) if word == 0 => Kind::Store,
+                    Op::Store(_) => Kind::StoreOfWord,
+                    Op::Evict if word == 0 => Kind::Evict,
+                    Op::Evict => Kind::EvictOfWord,
+                },
             },
             Step::Order { core } => Head {
                 block: 0,
@@ -164,38 +152,6 @@ impl Script for StepQueue {
     }
 }
 
-// Appends the step's word, if it is not of a first word, and what it stores, if it does.
-#[inline(always)]
-fn append_data(
-    words: &mut VecDeque<u8>,
-    values: &mut VecDeque<u64>,
-    step: Step,
-) -> Result<(), NoMemory>
-    requires { IsStepWithin largest step }
-    ensures words { OnOk result (words.new.items ≡ words.old.items ++ words_of step) }
-    ensures values { OnOk result (values.new.items ≡ values.old.items ++ values_of step) }
-    ensures err { OnErr result ((words.new.items ≡ words.old.items) × (values.new.items ≡ values.old.items)) }
-{
-    match step {
-        Step::Ask {
-            word,
-            op: Op::Store(value),
-            ..
-        } if word != 0 => {
-            words.reserve(1)?;
-            values.push_back(value).map_err(|_| NoMemory)?;
-            words.push_back_reserved(word as u8);
-            Ok(())
-        }
-        Step::Ask {
-            op: Op::Store(value),
-            ..
-        } => values.push_back(value).map_err(|_| NoMemory),
-        Step::Ask { word, .. } if word != 0 => words.push_back(word as u8).map_err(|_| NoMemory),
-        _ => Ok(()),
-    }
-}
-
 impl Entries<Step> for StepQueue {
     ghost listed = { λ q. q };
 
@@ -210,7 +166,25 @@ impl Entries<Step> for StepQueue {
         ensures err { OnErr result (self.new ≡ self.old) }
     {
         self.heads.reserve(1)?;
-        append_data(&mut self.words, &mut self.values, step)?;
+        match step {
+            Step::Ask {
+                word,
+                op: Op::Store(value),
+                ..
+            } if word != 0 => {
+                self.words.reserve(1)?;
+                self.values.push_back(value).map_err(|_| NoMemory)?;
+                self.words.push_back_reserved(word as u8);
+            }
+            Step::Ask {
+                op: Op::Store(value),
+                ..
+            } => self.values.push_back(value).map_err(|_| NoMemory)?,
+            Step::Ask { word, .. } if word != 0 => {
+                self.words.push_back(word as u8).map_err(|_| NoMemory)?;
+            }
+            _ => {}
+        }
         self.heads.push_back_reserved(Head::new(step));
         Ok(())
     }

@@ -94,6 +94,7 @@ impl<'a> SerialDriver<'a> {
     }
 
     /// The step that comes next; `None` once every row is served.
+    #[tactic(auto, using(crate::proofs::CourseLemmas::in_order_end, crate::proofs::InOrderLemmas::at_rest))]
     fn turn(&mut self) -> Option<Step>
         ensures machine { self.new.situation ≡ self.old.situation }
         ensures takes_up { IfSome result (λ step. TakesUpNext self.old step self.new.left) }
@@ -134,6 +135,7 @@ impl<'a> Course for SerialDriver<'a> {
         Ok(Ok(reply))
     }
 
+    #[tactic(auto, using(crate::proofs::Completing::in_order_can_end))]
     fn can_end(&self) {
         runs_go_on();
         let _ = &self.machine;

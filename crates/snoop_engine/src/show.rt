@@ -56,6 +56,7 @@ pub fn simulate_view<R: Source, W: Sink, V: View>(
 }
 
 /// Shows the steps of a text.
+#[tactic(auto, using(crate::proofs::ShownLemmas::view_faulted))]
 fn view_steps<R: Source, W: Sink, V: View>(
     alloc: Global,
     reader: &mut R,

@@ -102,6 +102,7 @@ impl View for States {
         )
     }
 
+    #[tactic(auto, using(crate::proofs::ViewLemmas::text_shown, crate::proofs::ViewLemmas::text_hidden))]
     fn see(
         &mut self,
         out: &mut Vec<u8>,

@@ -51,6 +51,7 @@ pub enum Taken {
 }
 
 /// The core's state of the block, where both are there.
+#[tactic(auto, using(std::proofs::lemmas::Bool::Decides::nat_tests))]
 pub fn state_at(machine: &Machine, core: u32, block: u32) -> Option<CacheState>
     ensures { result ≡ state_at machine.now.situation core block }
 {
@@ -58,6 +59,7 @@ pub fn state_at(machine: &Machine, core: u32, block: u32) -> Option<CacheState>
 }
 
 /// Memory's state of the block, where it is there.
+#[tactic(auto, using(std::proofs::lemmas::Bool::Decides::nat_tests))]
 pub fn memory_at(machine: &Machine, block: u32) -> Option<MemState>
     ensures { result ≡ memory_at machine.now.situation block }
 {
@@ -308,6 +310,7 @@ fn add_waiting_memory(
     }
 }
 
+#[tactic(auto, using(std::proofs::lemmas::List::append_assoc))]
 fn add_respond(
     lines: &mut Vec<Taken>,
     machine: &Machine,

@@ -12,7 +12,7 @@ use crate::fields::{
     action_field, event_field, memory_action_field, memory_event_field, memory_state_field,
     state_field,
 };
-use crate::line::push_outcome;
+use crate::lines::push_outcome;
 use crate::taken::{Taken, memory_at, state_at};
 use snoop_machine::{Machine, Refused, Reply};
 use snoop_rules::{
@@ -22,6 +22,7 @@ use snoop_trace::streams::{push_byte, push_decimal, push_step, push_text};
 use snoop_trace::{NoMemory, Shape, Step};
 
 /// The value of a word that the core keeps, where all of them are there.
+#[tactic(auto, using(std::proofs::lemmas::Bool::Decides::nat_tests))]
 pub(crate) fn kept_at(machine: &Machine, core: u32, block: u32, word: u32) -> Option<u64>
     ensures { result ≡ kept_at machine.now.situation core block word }
 {
@@ -29,6 +30,7 @@ pub(crate) fn kept_at(machine: &Machine, core: u32, block: u32, word: u32) -> Op
 }
 
 // Memory's value of a word, where it is there.
+#[tactic(auto, using(std::proofs::lemmas::Bool::Decides::nat_tests))]
 fn memory_value_at(machine: &Machine, block: u32, word: u32) -> Option<u64>
     ensures { result ≡ memory_value_at machine.now.situation block word }
 {
@@ -49,6 +51,7 @@ fn push_value(out: &mut Vec<u8>, word: u32, value: Option<u64>) -> Result<(), No
     }
 }
 
+#[tactic(auto, using(crate::proofs::RangeLemmas::range_piece))]
 fn push_kept(out: &mut Vec<u8>, machine: &Machine, core: u32, block: u32) -> Result<(), NoMemory>
     ensures { OnOk result (out.new.items ≡ out.old.items ++ kept_text machine.now.situation core block) }
 {
@@ -59,6 +62,7 @@ fn push_kept(out: &mut Vec<u8>, machine: &Machine, core: u32, block: u32) -> Res
 }
 
 /// Appends the values that memory has.
+#[tactic(auto, using(crate::proofs::RangeLemmas::range_piece))]
 pub(crate) fn push_memory_values(
     out: &mut Vec<u8>,
     machine: &Machine,

@@ -3,7 +3,6 @@ ghost use Rattle.std.specs.Prelude.{◌≡◌, ◌<◌, ◌+◌, ◌++◌, ◌�
 ghost use Rattle.snoop_history.specs.Totals.{capped};
 ghost use Rattle.snoop_engine.specs.Tallies.{Tallies, core_place, counts_in, memory_counts_in, memory_place};
 ghost use Rattle.snoop_engine.specs.declared.taken.Taken.{Taken as Line};
-ghost use Rattle.snoop_engine.specs.declared.taken.Taken.TheVariants.{Core};
 
 use crate::taken::Taken;
 use snoop_rules::{CacheEvent, CacheState, MemEvent, MemState};
@@ -46,32 +45,18 @@ impl Tally {
         self.counters[place] = self.counters[place].saturating_add(1);
     }
 
-    // Counts the row that a core takes at an event, if it meets one.
-    fn add_core(&mut self, event: Option<CacheEvent>, before: CacheState)
-        ensures { (lines : List Line) (core block : ℕ) → Tallies self.old.counters lines → Tallies self.new.counters (lines ++ Core core block event before ∷ []) }
-    {
-        if let Some(event) = event {
-            self.count(core_place(before, event));
-        }
-    }
-
     // Counts the row of a line, if it has one.
     fn add(&mut self, line: Taken)
         ensures { (lines : List Line) → Tallies self.old.counters lines → Tallies self.new.counters (lines ++ line ∷ []) }
     {
         match line {
             Taken::Core {
-                core: _,
-                block: _,
-                event,
+                event: Some(event),
                 before,
-            } => self.add_core(event, before),
-            Taken::Memory {
-                block: _,
-                event,
-                before,
-            } => self.count(memory_place(before, event)),
-            Taken::Nobody { core: _, block: _ } => {}
+                ..
+            } => self.count(core_place(before, event)),
+            Taken::Memory { event, before, .. } => self.count(memory_place(before, event)),
+            Taken::Core { event: None, .. } | Taken::Nobody { .. } => {}
         }
     }
 

@@ -5,7 +5,7 @@ ghost use Rattle.snoop_rules.specs.Names.{memory_state_name};
 ghost use Rattle.snoop_engine.specs.States.{memory_text};
 ghost use Rattle.snoop_engine.specs.Words.{answers, capitals, carried_words, core_words, data_words, kept_words, memory_state_words, memory_words, message_words, place_words, spaced, state_words};
 
-use crate::line::push_numbered;
+use crate::lines::push_numbered;
 use crate::taken::{memory_at, state_at};
 use crate::taken_text::{kept_at, push_memory_values};
 use snoop_bus::Open;
@@ -35,6 +35,7 @@ fn push_spaced(out: &mut Vec<u8>, value: Option<u64>) -> Result<(), NoMemory>
     }
 }
 
+#[tactic(auto, using(crate::proofs::RangeLemmas::range_piece))]
 fn push_kept(out: &mut Vec<u8>, machine: &Machine, core: u32, block: u32) -> Result<(), NoMemory>
     ensures { OnOk result (out.new.items ≡ out.old.items ++ kept_words machine.now.situation core block) }
 {
@@ -78,6 +79,7 @@ pub fn push_core_words(
     push_place(out, least, machine.place(core, block))
 }
 
+#[tactic(auto, using(crate::proofs::RangeLemmas::range_piece))]
 fn push_data(out: &mut Vec<u8>, count: u32, values: Words) -> Result<(), NoMemory>
     requires { count ≤ 64 }
     ensures { OnOk result (out.new.items ≡ out.old.items ++ data_words count values) }

@@ -1,9 +1,5 @@
-use Rattle.snoop_engine.{proofs.Common.{piece_more, pieces_all}, specs.Counts.cache_counts}
+use Rattle.snoop_engine.proofs.Common.{piece_more}
 use Rattle.snoop_engine.proofs.counts_text.push_cache_counts.Goals as goal
 
 pub loop-state-preserved : goal.loop-state-preserved
 loop-state-preserved c = piece_more _ _ _ _ _ _ _ c.loop-state-test.true c.loop-state.invariant c.in_ok-push_cache_rows.ensures
-
-pub returns : goal.returns
-unfolding cache_counts
-returns c = pieces_all _ _ _ _ _ c.loop-state-test.false c.loop-state.invariant

@@ -1,9 +1,5 @@
-use Rattle.snoop_engine.{proofs.Common.{piece_more, pieces_all}, specs.Counts.memory_counts}
+use Rattle.snoop_engine.proofs.Common.{piece_more}
 use Rattle.snoop_engine.proofs.counts_text.push_memory_counts.Goals as goal
 
 pub loop-state-preserved : goal.loop-state-preserved
 loop-state-preserved c = piece_more _ _ _ _ _ _ _ c.loop-state-test.true c.loop-state.invariant c.in_ok-push_memory_rows.ensures
-
-pub returns : goal.returns
-unfolding memory_counts
-returns c = pieces_all _ _ _ _ _ c.loop-state-test.false c.loop-state.invariant

@@ -1,5 +1,0 @@
-use Rattle.snoop_engine.proofs.{Common.{kept_at, spaced}, RangeLemmas.range_piece}
-use Rattle.snoop_engine.proofs.words.push_kept.Goals as goal
-
-pub loop-word-preserved : goal.loop-word-preserved
-loop-word-preserved c = range_piece (λ word. spaced (kept_at c.args.machine.now.situation c.args.core c.args.block word)) _ _ _ _ c.loop-word.invariant (rw c.kept_at.ensures at c.in_ok-push_spaced.ensures)
