@@ -135,7 +135,7 @@ fn is_table(out: &[u8], fields: &str, lines: &str) -> bool {
 fn counts_of_an_upgrade_race(rt: HostRuntime) -> Result<(), Fail> {
     let out = by_core(rt.alloc(), RACE, Shape::new(2, 4, 64)?)?;
     if !is_table(&out, CORE_FIELDS, RACE_BY_CORE) {
-        Err("by core")?
+        return Err(Fail::from("by core"));
     }
     Ok(())
 }
@@ -144,7 +144,7 @@ fn counts_of_an_upgrade_race(rt: HostRuntime) -> Result<(), Fail> {
 fn counts_of_two_blocks(rt: HostRuntime) -> Result<(), Fail> {
     let out = by_block(rt.alloc(), TWO_BLOCKS, None)?;
     if !is_table(&out, BLOCK_FIELDS, TWO_BLOCKS_BY_BLOCK) {
-        Err("all blocks")?
+        return Err(Fail::from("all blocks"));
     }
     Ok(())
 }
@@ -153,7 +153,7 @@ fn counts_of_two_blocks(rt: HostRuntime) -> Result<(), Fail> {
 fn block_of_most_requests(rt: HostRuntime) -> Result<(), Fail> {
     let out = by_block(rt.alloc(), TWO_BLOCKS, Some(1))?;
     if !is_table(&out, BLOCK_FIELDS, FIRST_BLOCK) {
-        Err("one block")?
+        return Err(Fail::from("one block"));
     }
     Ok(())
 }
@@ -162,7 +162,7 @@ fn block_of_most_requests(rt: HostRuntime) -> Result<(), Fail> {
 fn causes_of_shared_words(rt: HostRuntime) -> Result<(), Fail> {
     let out = by_core(rt.alloc(), SHARED_FALSELY, Shape::with_words(2, 4, 64, 8)?)?;
     if !is_table(&out, CORE_FIELDS, SHARED_FALSELY_BY_CORE) {
-        Err("by core")?
+        return Err(Fail::from("by core"));
     }
     Ok(())
 }
@@ -171,7 +171,7 @@ fn causes_of_shared_words(rt: HostRuntime) -> Result<(), Fail> {
 fn causes_of_copies_that_were_given_up(rt: HostRuntime) -> Result<(), Fail> {
     let out = by_block(rt.alloc(), GIVEN_UP, None)?;
     if !is_table(&out, BLOCK_FIELDS, GIVEN_UP_BY_BLOCK) {
-        Err("by block")?
+        return Err(Fail::from("by block"));
     }
     Ok(())
 }
@@ -180,7 +180,7 @@ fn causes_of_copies_that_were_given_up(rt: HostRuntime) -> Result<(), Fail> {
 fn counts_of_shared_words(rt: HostRuntime) -> Result<(), Fail> {
     let out = by_word(rt.alloc(), SHARED_FALSELY, Shape::with_words(2, 4, 64, 8)?)?;
     if !is_table(&out, WORD_FIELDS, SHARED_FALSELY_BY_WORD) {
-        Err("by word")?
+        return Err(Fail::from("by word"));
     }
     Ok(())
 }
@@ -189,7 +189,7 @@ fn counts_of_shared_words(rt: HostRuntime) -> Result<(), Fail> {
 fn words_of_no_shared_block(rt: HostRuntime) -> Result<(), Fail> {
     let out = by_word(rt.alloc(), TWO_BLOCKS, Shape::new(2, 4, 64)?)?;
     if !is_table(&out, WORD_FIELDS, "") {
-        Err("by word")?
+        return Err(Fail::from("by word"));
     }
     Ok(())
 }
@@ -199,7 +199,7 @@ fn counts_of_each_six_steps(rt: HostRuntime) -> Result<(), Fail> {
     let alloc = rt.alloc();
     let shape = Shape::new(2, 4, 64)?;
     let Some(six) = NonZeroU64::new(6) else {
-        return Err("six")?;
+        return Err(Fail::from("six"));
     };
     let mut text = RACE.as_bytes();
     let mut out = Vec::new(alloc);
@@ -213,7 +213,7 @@ fn counts_of_each_six_steps(rt: HostRuntime) -> Result<(), Fail> {
         six,
     )?;
     if !is_table(&out, STEPS_FIELDS, RACE_BY_STEPS) {
-        return Err("by steps")?;
+        return Err(Fail::from("by steps"));
     }
     Ok(())
 }

@@ -115,7 +115,7 @@ fn all() -> Result<Choice, Fail> {
 #[test]
 fn an_upgrade_race(rt: HostRuntime) -> Result<(), Fail> {
     if !is_drawn(rt.alloc(), RACE, Charset::Unicode, all()?, RACE_DRAWN)? {
-        Err("the race")?
+        return Err(Fail::from("the race"));
     }
     Ok(())
 }
@@ -123,7 +123,7 @@ fn an_upgrade_race(rt: HostRuntime) -> Result<(), Fail> {
 #[test]
 fn a_first_load_in_ascii(rt: HostRuntime) -> Result<(), Fail> {
     if !is_drawn(rt.alloc(), LOAD, Charset::Ascii, all()?, LOAD_DRAWN)? {
-        Err("the load")?
+        return Err(Fail::from("the load"));
     }
     Ok(())
 }
@@ -137,7 +137,7 @@ fn a_writeback_and_what_is_refused(rt: HostRuntime) -> Result<(), Fail> {
         all()?,
         WRITEBACK_DRAWN,
     )? {
-        Err("the writeback")?
+        return Err(Fail::from("the writeback"));
     }
     Ok(())
 }
@@ -146,10 +146,10 @@ fn a_writeback_and_what_is_refused(rt: HostRuntime) -> Result<(), Fail> {
 fn some_steps_of_one_block(rt: HostRuntime) -> Result<(), Fail> {
     let choice = Choice::new(Shape::new(2, 4, 64)?, Some(1), 2, 5)?;
     if choice.block() != Some(1) || choice.from() != 2 || choice.to() != 5 {
-        Err("the choice")?
+        return Err(Fail::from("the choice"));
     }
     if !is_drawn(rt.alloc(), BEHIND, Charset::Unicode, choice, BEHIND_DRAWN)? {
-        Err("the block")?
+        return Err(Fail::from("the block"));
     }
     Ok(())
 }

@@ -19,7 +19,7 @@ fn expect(alloc: Global, form: Form, most: u64, text: &[u8], expected: &str) -> 
         shape,
     )?;
     if output.as_slice() != expected.as_bytes() {
-        Err(output)?
+        return Err(Fail::from(output));
     }
     Ok(())
 }

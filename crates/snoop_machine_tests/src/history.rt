@@ -168,7 +168,7 @@ fn a_log_and_its_copy(rt: HostRuntime) -> Result<(), Fail> {
     let shape = Shape::new(2, 4, 64)?;
     let log = log_of(rt.alloc(), shape, block_boundary().as_slice())?;
     if !is_the_boundary(&log) || !has_an_equal_copy(&log) {
-        Err("the log or its copy")?
+        return Err(Fail::from("the log or its copy"));
     }
     Ok(())
 }
@@ -198,10 +198,10 @@ fn a_board_of_the_block_boundary(rt: HostRuntime) -> Result<(), Fail> {
     let mut board = board_of(rt.alloc(), shape, block_boundary().as_slice())?;
     let has_shape = board.has_shape(shape) && !board.has_shape(other);
     if !has_shape || !is_of_the_boundary(&board, BOUNDARY_TOTALS) {
-        Err("the board")?
+        return Err(Fail::from("the board"));
     }
     if !counts_a_request_outside(&mut board) {
-        Err("a request outside the shape")?
+        return Err(Fail::from("a request outside the shape"));
     }
     Ok(())
 }
@@ -215,7 +215,7 @@ fn what_an_item_is_of() -> Result<(), Fail> {
         (came(Request::GetS, Some(0), loaded), Some(loaded)),
     ] {
         if item.core() != 1 || item.block() != 3 || item.did() != performed {
-            Err(item)?
+            return Err(Fail::from(item));
         }
     }
     Ok(())
@@ -301,7 +301,7 @@ fn of_another_block() -> Item {
 fn look_at_report(alloc: Global, shape: Shape, items: &[Item], text: &str) -> Result<(), Fail> {
     let report = report_of(alloc, shape, items)?;
     if report.as_slice() != text.as_bytes() {
-        Err(report)?
+        return Err(Fail::from(report));
     }
     Ok(())
 }
@@ -337,7 +337,7 @@ fn failing_writer(rt: HostRuntime) -> Result<(), Fail> {
     let shape = Shape::new(2, 4, 64)?;
     let log = log_of(rt.alloc(), shape, block_boundary().as_slice())?;
     if !is_cut_off(rt.alloc(), &log) {
-        Err("a beginning")?
+        return Err(Fail::from("a beginning"));
     }
     Ok(())
 }
@@ -393,7 +393,7 @@ fn words_of_a_block_have_values_of_their_own(rt: HostRuntime) -> Result<(), Fail
     let shape = Shape::with_words(2, 4, 64, 2)?;
     let log = log_of(rt.alloc(), shape, two_words().as_slice())?;
     if log.len() != 2 || values_of_log(&log) != VALUES {
-        Err(values_of_log(&log))?
+        return Err(Fail::from(values_of_log(&log)));
     }
     Ok(())
 }
@@ -404,7 +404,7 @@ fn a_board_has_the_values_of_all_words(rt: HostRuntime) -> Result<(), Fail> {
     let of_one_word = Shape::new(2, 4, 64)?;
     let board = board_of(rt.alloc(), shape, two_words().as_slice())?;
     if board.has_shape(of_one_word) || values_of_board(&board) != VALUES {
-        Err(values_of_board(&board))?
+        return Err(Fail::from(values_of_board(&board)));
     }
     Ok(())
 }
@@ -420,7 +420,7 @@ fn a_report_has_the_values_of_all_words(rt: HostRuntime) -> Result<(), Fail> {
 fn a_word_that_there_is_not_is_left_out(rt: HostRuntime) -> Result<(), Fail> {
     let log = log_of(rt.alloc(), Shape::new(2, 4, 64)?, two_words().as_slice())?;
     if log.len() != 1 {
-        Err(log.len())?
+        return Err(Fail::from(log.len()));
     }
     Ok(())
 }

@@ -49,7 +49,7 @@ impl Trial {
         if is_well && left.calls_after == 0 {
             Ok(ended)
         } else {
-            Err(self)?
+            Err(Fail::from(self))
         }
     }
 
@@ -60,10 +60,10 @@ impl Trial {
             match trial.ends(rt, alloc)? {
                 Ended::Write => {}
                 Ended::Done => return Ok(calls),
-                _ => Err(trial)?,
+                _ => return Err(Fail::from(trial)),
             }
         }
-        Err(self)?
+        Err(Fail::from(self))
     }
 }
 
@@ -120,7 +120,7 @@ fn a_load_that_is_not_read_whole(rt: HostRuntime) -> Result<(), Fail> {
         let mut written = Vec::new(rt.alloc());
         let answer = simulate_steps(rt.alloc(), &mut reader, &mut written, Protocol::Msi, shape);
         if answer != Err(SimFault::Text(TextFault::Read)) || !written.is_empty() {
-            Err(left)?
+            return Err(Fail::from(left));
         }
     }
     Ok(())
@@ -142,7 +142,7 @@ fn a_writer_of_twelve_bytes(rt: HostRuntime) -> Result<(), Fail> {
         if answer != Err(SimFault::Write)
             || writer.inner.held.as_slice() != b"L,0,0: issue".as_slice()
         {
-            Err(most)?
+            return Err(Fail::from(most));
         }
     }
     Ok(())
@@ -219,7 +219,7 @@ fn run<T: Threads + Wait + Sync>(
     {
         Ok(())
     } else {
-        Err((line, case))?
+        Err(Fail::from((line, case)))
     }
 }
 

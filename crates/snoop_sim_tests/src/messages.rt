@@ -169,7 +169,7 @@ fn what_is_refused_is_named(rt: HostRuntime) -> Result<(), Fail> {
     for (line, text, expected, named) in REFUSALS {
         let (status, written, reported) = answered(&rt, rt.alloc(), line, text)?;
         if status != expected || !written.is_empty() || reported.as_slice() != named {
-            Err(line)?
+            return Err(Fail::from(line));
         }
     }
     Ok(())
@@ -180,7 +180,7 @@ fn what_is_asked_for_is_written(rt: HostRuntime) -> Result<(), Fail> {
     for (line, text, expected) in ANSWERS {
         let (status, written, reported) = answered(&rt, rt.alloc(), line, text)?;
         if status != 0 || written.as_slice() != expected || !reported.is_empty() {
-            Err(line)?
+            return Err(Fail::from(line));
         }
     }
     Ok(())

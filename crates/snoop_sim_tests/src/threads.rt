@@ -42,7 +42,7 @@ fn replays<T: Threads + Wait + Sync>(
     {
         Ok(())
     } else {
-        Err(protocol)?
+        Err(Fail::from(protocol))
     }
 }
 

@@ -544,7 +544,7 @@ fn a_first_load(rt: HostRuntime) -> Result<(), Fail> {
         paper,
         &drawn,
     )? {
-        Err("the load")?
+        return Err(Fail::from("the load"));
     }
     Ok(())
 }
@@ -572,7 +572,7 @@ fn three_rows_of_a_writeback(rt: HostRuntime) -> Result<(), Fail> {
         paper,
         &drawn,
     )? {
-        Err("the writeback")?
+        return Err(Fail::from("the writeback"));
     }
     Ok(())
 }
@@ -610,7 +610,7 @@ fn a_block_as_a_page(rt: HostRuntime) -> Result<(), Fail> {
         paper,
         &drawn,
     )? {
-        Err("the page")?
+        return Err(Fail::from("the page"));
     }
     Ok(())
 }
@@ -648,7 +648,7 @@ fn two_sheets(rt: HostRuntime) -> Result<(), Fail> {
         paper,
         &drawn,
     )? {
-        Err("the sheets")?
+        return Err(Fail::from("the sheets"));
     }
     Ok(())
 }

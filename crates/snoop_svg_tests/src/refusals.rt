@@ -43,7 +43,7 @@ fn a_faulty_text(rt: HostRuntime) -> Result<(), Fail> {
     let mut drawn = Vec::new(rt.alloc());
     let fault = DrawFault::Simulation(SimFault::Text(TextFault::NoCore(1)));
     if ends(rt.alloc(), b"L,2,0\n", shape, choice, &mut drawn) != Err(fault) || !drawn.is_empty() {
-        Err("the fault")?
+        return Err(Fail::from("the fault"));
     }
     Ok(())
 }
@@ -72,11 +72,11 @@ fn twenty_thousand_cells_and_no_more(rt: HostRuntime) -> Result<(), Fail> {
     if ends(alloc, &text, shape, large, &mut drawn) != Err(DrawFault::TooLarge)
         || !drawn.is_empty()
     {
-        Err("200 rows")?
+        return Err(Fail::from("200 rows"));
     }
     let small = Choice::new(shape, None, 1, 199)?;
     if ends(alloc, &text, shape, small, &mut drawn) != Ok(()) || drawn.is_empty() {
-        Err("a row less")?
+        return Err(Fail::from("a row less"));
     }
     Ok(())
 }
@@ -89,7 +89,7 @@ fn a_block_of_a_long_text(rt: HostRuntime) -> Result<(), Fail> {
     let mut drawn = Vec::new(alloc);
     let choice = Choice::new(shape, Some(3), 1, u64::MAX)?;
     if ends(alloc, &text, shape, choice, &mut drawn) != Ok(()) || drawn.is_empty() {
-        Err("the seven steps of block 3")?
+        return Err(Fail::from("the seven steps of block 3"));
     }
     Ok(())
 }

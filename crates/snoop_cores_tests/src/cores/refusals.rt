@@ -17,10 +17,12 @@ fn a_row_outside_the_shape(rt: HostRuntime) -> Result<(), Fail> {
     let fault = scene.run(&rt, rt.alloc(), rows.as_slice(), &Free).err();
     let shown = scene.shown(&rt, rt.alloc());
     scene.end(&rt);
-    assert_eq!(rt;
-        (fault, shown.map(|shown| shown.steps)),
-        (Some(RunFault::NoSeat { core: 0 }), Some(0))
-    );
+    let Some(shown) = shown else {
+        return Err(Fail::from("a gathering"));
+    };
+    if fault != Some(RunFault::NoSeat { core: 0 }) || shown.steps != 0 {
+        return Err(Fail::from("a row outside the shape"));
+    }
     Ok(())
 }
 
@@ -45,22 +47,22 @@ fn seats_that_do_not_gather(rt: HostRuntime) -> Result<(), Fail> {
     let all = scene.shown(&rt, rt.alloc()).is_some();
     scene.end(&rt);
     other.end(&rt);
-    assert_eq!(rt; (stored, all), (Some(Ok(Turn::Stored)), true));
-    assert_eq!(rt;
-        [none, alone, others],
-        [
-            Some(GatherFault::NotAllSeats { core: 0 }),
-            Some(GatherFault::NotAllSeats { core: 1 }),
-            Some(GatherFault::Mismatch { core: 0, place: 0 }),
-        ]
-    );
+    if stored != Some(Ok(Turn::Stored)) || !all {
+        return Err(Fail::from("a store, or all seats"));
+    }
+    if none != Some(GatherFault::NotAllSeats { core: 0 })
+        || alone != Some(GatherFault::NotAllSeats { core: 1 })
+        || others != Some(GatherFault::Mismatch { core: 0, place: 0 })
+    {
+        return Err(Fail::from("seats that do not gather"));
+    }
     Ok(())
 }
 
 #[test]
 fn places_for_seats_and_watches(rt: HostRuntime) -> Result<(), Fail> {
     let scene = Scene::new(&rt, rt.alloc(), 256)?;
-    let most = (scene.seats.len(), scene.watches.len());
+    let is_full = scene.seats.len() == 256 && scene.watches.len() == 1;
     scene.end(&rt);
     let shape = Shape::new(2, 4, 64)?;
     let fault = match Shared::new(&rt, rt.alloc(), Protocol::Msi, shape, u32::MAX) {
@@ -75,7 +77,9 @@ fn places_for_seats_and_watches(rt: HostRuntime) -> Result<(), Fail> {
         }
         Err(fault) => Some(fault),
     };
-    assert_eq!(rt; (most, fault), ((256, 1), Some(MakeFault::NoPlace)));
+    if !is_full || fault != Some(MakeFault::NoPlace) {
+        return Err(Fail::from("places"));
+    }
     Ok(())
 }
 

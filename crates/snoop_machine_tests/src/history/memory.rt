@@ -56,13 +56,13 @@ fn has_loaded(log: &Log) -> Result<bool, NoMemory> {
 
 fn look_at_log(log: &Log) -> Result<(), Fail> {
     if !has_items(log, &block_boundary()) || log.flat(1, 0) != Some(7) {
-        Err("the log")?
+        return Err(Fail::from("the log"));
     }
     if !is_copied(log)? {
-        Err("its copy")?
+        return Err(Fail::from("its copy"));
     }
     if !has_loaded(log)? {
-        Err("the core's operations")?
+        return Err(Fail::from("the core's operations"));
     }
     Ok(())
 }
@@ -91,7 +91,7 @@ fn is_filled(board: &mut Board) -> bool {
 fn a_board_is_made_and_absorbs_without_memory(rt: HostRuntime) -> Result<(), Fail> {
     let mut board = empty_board(rt.alloc(), Shape::new(2, 4, 64)?)?;
     if !is_filled(&mut board) {
-        Err("the board")?
+        return Err(Fail::from("the board"));
     }
     Ok(())
 }
@@ -106,7 +106,7 @@ fn look_at_report(alloc: Global, log: &Log) -> Result<(), Fail> {
         write_report(alloc, &mut report, log)?;
     }
     if !is_beginning || report.as_slice() != BLOCK_BOUNDARY.as_bytes() {
-        Err(report)?
+        return Err(Fail::from(report));
     }
     Ok(())
 }
