@@ -268,11 +268,18 @@ block 0 value 0
 block 1 value 7
 ";
 
-fn report_of(alloc: Global, shape: Shape, items: &[Item]) -> Result<Vec<u8>, Fail> {
-    let log = log_of(alloc, shape, items)?;
+// Whether the log's report is this text.
+fn is_reported(alloc: Global, log: &Log, text: &str) -> bool {
     let mut report = Vec::new(alloc);
-    write_report(alloc, &mut report, &log)?;
-    Ok(report)
+    write_report(alloc, &mut report, log).is_ok() && report.as_slice() == text.as_bytes()
+}
+
+// Whether the items' report is this text.
+fn are_reported(alloc: Global, shape: Shape, items: &[Item], text: &str) -> bool {
+    match log_of(alloc, shape, items) {
+        Ok(log) => is_reported(alloc, &log, text),
+        Err(_) => false,
+    }
 }
 
 // The core's first operation, a hit.
@@ -297,30 +304,23 @@ fn of_another_block() -> Item {
     )
 }
 
-// Compares the items' report.
-fn look_at_report(alloc: Global, shape: Shape, items: &[Item], text: &str) -> Result<(), Fail> {
-    let report = report_of(alloc, shape, items)?;
-    if report.as_slice() != text.as_bytes() {
-        return Err(Fail::from(report));
-    }
-    Ok(())
-}
-
 #[test]
 fn reports(rt: HostRuntime) -> Result<(), Fail> {
     let alloc = rt.alloc();
     let shape = Shape::new(2, 4, 64)?;
     let hits = [hit(1, 3, false, u64::MAX), hit(0, 0, true, 0)];
-    look_at_report(alloc, shape, &[], EMPTY)?;
-    look_at_report(alloc, shape, block_boundary().as_slice(), BLOCK_BOUNDARY)?;
-    look_at_report(alloc, shape, two_blocks_open().as_slice(), TWO_BLOCKS_OPEN)?;
-    look_at_report(alloc, shape, hits.as_slice(), LATER_BLOCK_FIRST)?;
-    look_at_report(
-        alloc,
-        shape,
-        [of_another_block()].as_slice(),
-        OF_ANOTHER_BLOCK,
-    )
+    if !are_reported(alloc, shape, &[], EMPTY)
+        || !are_reported(alloc, shape, &block_boundary(), BLOCK_BOUNDARY)
+        || !are_reported(alloc, shape, &two_blocks_open(), TWO_BLOCKS_OPEN)
+    {
+        return Err(Fail::from("no item, or those of a scene"));
+    }
+    if !are_reported(alloc, shape, &hits, LATER_BLOCK_FIRST)
+        || !are_reported(alloc, shape, &[of_another_block()], OF_ANOTHER_BLOCK)
+    {
+        return Err(Fail::from("items of several blocks"));
+    }
+    Ok(())
 }
 
 // Whether a writer that takes twelve bytes in all is blamed, and holds the beginning of the report.
@@ -412,7 +412,10 @@ fn a_board_has_the_values_of_all_words(rt: HostRuntime) -> Result<(), Fail> {
 #[test]
 fn a_report_has_the_values_of_all_words(rt: HostRuntime) -> Result<(), Fail> {
     let shape = Shape::with_words(2, 4, 64, 2)?;
-    look_at_report(rt.alloc(), shape, two_words().as_slice(), TWO_WORDS)
+    if !are_reported(rt.alloc(), shape, &two_words(), TWO_WORDS) {
+        return Err(Fail::from("the report"));
+    }
+    Ok(())
 }
 
 // Word 1 is one that blocks of one word do not have.

@@ -96,23 +96,24 @@ fn a_board_is_made_and_absorbs_without_memory(rt: HostRuntime) -> Result<(), Fai
     Ok(())
 }
 
-// Writes the report, again where it is refused, which leaves a beginning of it.
-fn look_at_report(alloc: Global, log: &Log) -> Result<(), Fail> {
+// Whether the report is written, again where it is refused, which leaves a beginning of it.
+fn is_reported_at_last(alloc: Global, log: &Log) -> bool {
     let mut report = Vec::new(alloc);
-    let mut is_beginning = true;
-    if write_report(alloc, &mut report, log).is_err() {
-        is_beginning = BLOCK_BOUNDARY.as_bytes().starts_with(&report);
-        report.clear();
-        write_report(alloc, &mut report, log)?;
+    if write_report(alloc, &mut report, log).is_ok() {
+        return report.as_slice() == BLOCK_BOUNDARY.as_bytes();
     }
-    if !is_beginning || report.as_slice() != BLOCK_BOUNDARY.as_bytes() {
-        return Err(Fail::from(report));
-    }
-    Ok(())
+    let is_beginning = BLOCK_BOUNDARY.as_bytes().starts_with(&report);
+    report.clear();
+    is_beginning
+        && write_report(alloc, &mut report, log).is_ok()
+        && report.as_slice() == BLOCK_BOUNDARY.as_bytes()
 }
 
 #[test]
 fn a_report_is_whole_or_a_beginning(rt: HostRuntime) -> Result<(), Fail> {
     let log = full_log(rt.alloc(), Shape::new(2, 4, 64)?)?;
-    look_at_report(rt.alloc(), &log)
+    if !is_reported_at_last(rt.alloc(), &log) {
+        return Err(Fail::from("the report"));
+    }
+    Ok(())
 }
