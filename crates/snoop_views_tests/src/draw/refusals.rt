@@ -69,11 +69,13 @@ fn wide_text(alloc: Global) -> Result<Vec<u8>, Fail> {
 fn a_million_cells_and_no_more(rt: HostRuntime) -> Result<(), Fail> {
     let alloc = rt.alloc();
     let shape = Shape::new(35, 28, 64)?;
+    let large = Choice::new(shape, None, 1, 1000)?;
+    let small = Choice::new(shape, None, 1, 999)?;
     let text = wide_text(alloc)?;
-    if ends(alloc, &text, shape, Choice::new(shape, None, 1, 1000)?) != Err(DrawFault::TooLarge) {
+    if ends(alloc, &text, shape, large) != Err(DrawFault::TooLarge) {
         return Err(Fail::from("a thousand rows"));
     }
-    if ends(alloc, &text, shape, Choice::new(shape, None, 1, 999)?) != Ok(()) {
+    if ends(alloc, &text, shape, small) != Ok(()) {
         return Err(Fail::from("a row less"));
     }
     Ok(())
