@@ -163,11 +163,17 @@ fn has_an_equal_copy(log: &Log) -> bool {
     }
 }
 
+// Whether the log of its items is, and has an equal copy.
+fn has_the_boundary(alloc: Global, shape: Shape) -> bool {
+    match log_of(alloc, shape, &block_boundary()) {
+        Ok(log) => is_the_boundary(&log) && has_an_equal_copy(&log),
+        Err(_) => false,
+    }
+}
+
 #[test]
 fn a_log_and_its_copy(rt: HostRuntime) -> Result<(), Fail> {
-    let shape = Shape::new(2, 4, 64)?;
-    let log = log_of(rt.alloc(), shape, block_boundary().as_slice())?;
-    if !is_the_boundary(&log) || !has_an_equal_copy(&log) {
+    if !has_the_boundary(rt.alloc(), Shape::new(2, 4, 64)?) {
         return Err(Fail::from("the log or its copy"));
     }
     Ok(())
@@ -332,11 +338,17 @@ fn is_cut_off(alloc: Global, log: &Log) -> bool {
         && writer.inner.calls_after == 1
 }
 
+// The same of the log of the block boundary.
+fn is_boundary_cut_off(alloc: Global, shape: Shape) -> bool {
+    match log_of(alloc, shape, &block_boundary()) {
+        Ok(log) => is_cut_off(alloc, &log),
+        Err(_) => false,
+    }
+}
+
 #[test]
 fn failing_writer(rt: HostRuntime) -> Result<(), Fail> {
-    let shape = Shape::new(2, 4, 64)?;
-    let log = log_of(rt.alloc(), shape, block_boundary().as_slice())?;
-    if !is_cut_off(rt.alloc(), &log) {
+    if !is_boundary_cut_off(rt.alloc(), Shape::new(2, 4, 64)?) {
         return Err(Fail::from("a beginning"));
     }
     Ok(())
@@ -388,23 +400,35 @@ fn values_of_board(board: &Board) -> [Option<u64>; 5] {
     ]
 }
 
+// Whether the log of two words has both, and their values.
+fn has_both_words(alloc: Global, shape: Shape) -> bool {
+    match log_of(alloc, shape, &two_words()) {
+        Ok(log) => log.len() == 2 && values_of_log(&log) == VALUES,
+        Err(_) => false,
+    }
+}
+
 #[test]
 fn words_of_a_block_have_values_of_their_own(rt: HostRuntime) -> Result<(), Fail> {
-    let shape = Shape::with_words(2, 4, 64, 2)?;
-    let log = log_of(rt.alloc(), shape, two_words().as_slice())?;
-    if log.len() != 2 || values_of_log(&log) != VALUES {
-        return Err(Fail::from(values_of_log(&log)));
+    if !has_both_words(rt.alloc(), Shape::with_words(2, 4, 64, 2)?) {
+        return Err(Fail::from("the log"));
     }
     Ok(())
+}
+
+// Whether the board of two words has their values, and not the shape of one word.
+fn has_words_on_board(alloc: Global, shape: Shape, of_one_word: Shape) -> bool {
+    match board_of(alloc, shape, &two_words()) {
+        Ok(board) => !board.has_shape(of_one_word) && values_of_board(&board) == VALUES,
+        Err(_) => false,
+    }
 }
 
 #[test]
 fn a_board_has_the_values_of_all_words(rt: HostRuntime) -> Result<(), Fail> {
     let shape = Shape::with_words(2, 4, 64, 2)?;
-    let of_one_word = Shape::new(2, 4, 64)?;
-    let board = board_of(rt.alloc(), shape, two_words().as_slice())?;
-    if board.has_shape(of_one_word) || values_of_board(&board) != VALUES {
-        return Err(Fail::from(values_of_board(&board)));
+    if !has_words_on_board(rt.alloc(), shape, Shape::new(2, 4, 64)?) {
+        return Err(Fail::from("the board"));
     }
     Ok(())
 }
@@ -418,12 +442,19 @@ fn a_report_has_the_values_of_all_words(rt: HostRuntime) -> Result<(), Fail> {
     Ok(())
 }
 
+// Whether the log of two words has one of them.
+fn has_one_word(alloc: Global, shape: Shape) -> bool {
+    match log_of(alloc, shape, &two_words()) {
+        Ok(log) => log.len() == 1,
+        Err(_) => false,
+    }
+}
+
 // Word 1 is one that blocks of one word do not have.
 #[test]
 fn a_word_that_there_is_not_is_left_out(rt: HostRuntime) -> Result<(), Fail> {
-    let log = log_of(rt.alloc(), Shape::new(2, 4, 64)?, two_words().as_slice())?;
-    if log.len() != 1 {
-        return Err(Fail::from(log.len()));
+    if !has_one_word(rt.alloc(), Shape::new(2, 4, 64)?) {
+        return Err(Fail::from("the log"));
     }
     Ok(())
 }

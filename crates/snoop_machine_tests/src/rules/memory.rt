@@ -14,9 +14,7 @@ fn is_written_at_last(alloc: Global, protocol: Protocol, which: Which, table: &[
     }
     let is_beginning = begins_table(&text, table);
     text.clear();
-    is_beginning
-        && write_table(alloc, &mut text, protocol, which).is_ok()
-        && is_table(&text, table)
+    is_beginning && write_table(alloc, &mut text, protocol, which).is_ok() && is_table(&text, table)
 }
 
 #[test]

@@ -1,9 +1,9 @@
 //! Texts of steps whose first record says what the steps are for.
 
+use crate::trace::texts::{are_read, are_written};
 use snoop_trace::TextFault::{
     BadFields, BadKind, BadNumber, BadVersion, NoBlock, NoCore, OtherShape,
 };
-use crate::trace::texts::{are_read, are_written};
 use snoop_trace::{Protocol, Shape, Step, TextFault, read_rows, read_steps};
 use std::alloc::Global;
 use std::test::Fail;
