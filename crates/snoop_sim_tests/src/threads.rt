@@ -43,7 +43,12 @@ fn are_replayed(alloc: Global, mut steps: &[u8], protocol: Protocol, shape: Shap
 }
 
 /// Whatever order the threads take, the steps replay.
-fn replays<T: Threads + Wait + Sync>(rt: &T, alloc: Global, protocol: Protocol, shape: Shape) -> bool {
+fn replays<T: Threads + Wait + Sync>(
+    rt: &T,
+    alloc: Global,
+    protocol: Protocol,
+    shape: Shape,
+) -> bool {
     let mut rows = ROWS.as_bytes();
     let mut steps = Vec::new(alloc);
     simulate_threads(rt, alloc, &mut rows, &mut steps, protocol, shape).is_ok()

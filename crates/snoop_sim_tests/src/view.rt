@@ -72,15 +72,7 @@ fn the_answers_to_a_text(rt: HostRuntime) -> Result<(), Fail> {
 /// Whether those to the same steps are.
 fn are_shown_of(alloc: Global, shape: Shape, steps: &[Step]) -> bool {
     let mut shown = Vec::new(alloc);
-    show_steps(
-        alloc,
-        &mut shown,
-        Protocol::Msi,
-        shape,
-        steps,
-        &mut Answers,
-    )
-    .is_ok()
+    show_steps(alloc, &mut shown, Protocol::Msi, shape, steps, &mut Answers).is_ok()
         && shown.as_slice() == ANSWERS.as_bytes()
 }
 

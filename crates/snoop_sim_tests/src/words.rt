@@ -17,13 +17,7 @@ pub(crate) fn words_of(alloc: Global, line: &str) -> Result<Vec<String>, AllocEr
 }
 
 /// Whether such words are answered with the status, and this is reported by so many calls.
-fn are_refused(
-    alloc: Global,
-    kind: ErrorKind,
-    calls: usize,
-    status: u8,
-    reported: &str,
-) -> bool {
+fn are_refused(alloc: Global, kind: ErrorKind, calls: usize, status: u8, reported: &str) -> bool {
     let mut errors = FailingWriter::new(alloc, calls, 100, Fault::Refuses);
     refuse_words(io::Error::from(kind), &mut errors) == status
         && errors.held.as_slice() == reported.as_bytes()

@@ -37,8 +37,9 @@ fn a_turn_closes_the_work_of_another_core(rt: HostRuntime) -> Result<(), Fail> {
         bench.advance(&rt, 2, store(1)),
         bench.advance(&rt, 0, outside),
     ];
-    let is_left =
-        bench.work(0).is_none() && bench.work(1) == Some(store(2)) && bench.steps().len() == 4;
+    let is_left = bench.work(0).is_none()
+        && bench.work(1) == Some(store(2))
+        && bench.steps().len() == 4;
     bench.end(&rt);
     let expected = [
         Ok(Turn::Going),

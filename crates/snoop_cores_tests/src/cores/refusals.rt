@@ -94,7 +94,7 @@ fn faults_of_calls_are_shown_by_their_names(rt: HostRuntime) -> Result<(), Fail>
         value: 7,
         hit: false,
     };
-    let shown = format!(in rt.alloc();
+    let Ok(shown) = format!(in rt.alloc();
         "{} {} {} {} {} {} {} {} {} {}",
         SeatFault::NoBlock,
         SeatFault::NoMemory,
@@ -106,18 +106,19 @@ fn faults_of_calls_are_shown_by_their_names(rt: HostRuntime) -> Result<(), Fail>
         AdvanceFault::NoBlock,
         AdvanceFault::Other(work(Op::Load)),
         AdvanceFault::NoMemory
-    )
-    .map_err(|_| Fail::from("memory"))?;
-    assert_eq!(rt;
-        shown.as_str(),
-        "NoBlock NoMemory Busy Stranger NoBlock NoVersion NoCore NoBlock Other NoMemory"
-    );
+    ) else {
+        return Err(Fail::from("memory"));
+    };
+    let names = "NoBlock NoMemory Busy Stranger NoBlock NoVersion NoCore NoBlock Other NoMemory";
+    if shown.as_str() != names {
+        return Err(Fail::from("names"));
+    }
     Ok(())
 }
 
 #[test]
 fn faults_of_all_seats_are_shown_by_their_names(rt: HostRuntime) -> Result<(), Fail> {
-    let shown = format!(in rt.alloc();
+    let Ok(shown) = format!(in rt.alloc();
         "{} {} {} {} {} {} {} {} {}",
         MakeFault::NoMemory,
         MakeFault::NoPlace,
@@ -128,11 +129,12 @@ fn faults_of_all_seats_are_shown_by_their_names(rt: HostRuntime) -> Result<(), F
         GatherFault::NoMemory,
         GatherFault::NotAllSeats { core: 0 },
         Late
-    )
-    .map_err(|_| Fail::from("memory"))?;
-    assert_eq!(rt;
-        shown.as_str(),
-        "NoMemory NoPlace NoSeat NoMemory Mismatch Pending NoMemory NotAllSeats Late"
-    );
+    ) else {
+        return Err(Fail::from("memory"));
+    };
+    let names = "NoMemory NoPlace NoSeat NoMemory Mismatch Pending NoMemory NotAllSeats Late";
+    if shown.as_str() != names {
+        return Err(Fail::from("names"));
+    }
     Ok(())
 }

@@ -141,9 +141,11 @@ fn is_of_rows(
     gathered: &Gathered,
 ) -> Result<bool, Fail> {
     let shape = Shape::new(cores, 4, 64)?;
-    Ok(ends_with_report(alloc, protocol, shape, gathered)?
-        && is_taken_again(alloc, protocol, shape, gathered)?
-        && all_ask(&gathered.steps, rows, cores))
+    Ok(
+        ends_with_report(alloc, protocol, shape, gathered)?
+            && is_taken_again(alloc, protocol, shape, gathered)?
+            && all_ask(&gathered.steps, rows, cores),
+    )
 }
 
 /// A storm under each protocol.

@@ -146,10 +146,26 @@ fn an_upgrade_race(rt: HostRuntime) -> Result<(), Fail> {
     let shape = Shape::new(2, 4, 64)?;
     let all = Choice::new(shape, None, 1, u64::MAX)?;
     let one = Choice::new(shape, None, 12, 12)?;
-    if !are_tables(alloc, RACE, Protocol::Msi, shape, Input::Steps, all, RACE_TABLE) {
+    if !are_tables(
+        alloc,
+        RACE,
+        Protocol::Msi,
+        shape,
+        Input::Steps,
+        all,
+        RACE_TABLE,
+    ) {
         return Err(Fail::from("all steps"));
     }
-    if !are_tables(alloc, RACE, Protocol::Msi, shape, Input::Steps, one, CUT_TABLE) {
+    if !are_tables(
+        alloc,
+        RACE,
+        Protocol::Msi,
+        shape,
+        Input::Steps,
+        one,
+        CUT_TABLE,
+    ) {
         return Err(Fail::from("a step"));
     }
     Ok(())
@@ -161,7 +177,15 @@ fn a_block_of_two(rt: HostRuntime) -> Result<(), Fail> {
     let alloc = rt.alloc();
     let shape = Shape::new(2, 4, 64)?;
     let second = Choice::new(shape, Some(1), 1, 100)?;
-    if !are_tables(alloc, QUEUE, Protocol::Msi, shape, Input::Steps, second, QUEUE_TABLE) {
+    if !are_tables(
+        alloc,
+        QUEUE,
+        Protocol::Msi,
+        shape,
+        Input::Steps,
+        second,
+        QUEUE_TABLE,
+    ) {
         return Err(Fail::from("a block"));
     }
     Ok(())
@@ -173,7 +197,15 @@ fn two_blocks(rt: HostRuntime) -> Result<(), Fail> {
     let alloc = rt.alloc();
     let shape = Shape::with_words(2, 4, 64, 2)?;
     let all = Choice::new(shape, None, 1, u64::MAX)?;
-    if !are_tables(alloc, LEFT, Protocol::Mesi, shape, Input::Steps, all, LEFT_TABLES) {
+    if !are_tables(
+        alloc,
+        LEFT,
+        Protocol::Mesi,
+        shape,
+        Input::Steps,
+        all,
+        LEFT_TABLES,
+    ) {
         return Err(Fail::from("both blocks"));
     }
     Ok(())
@@ -185,10 +217,26 @@ fn rows(rt: HostRuntime) -> Result<(), Fail> {
     let alloc = rt.alloc();
     let shape = Shape::new(2, 4, 64)?;
     let all = Choice::new(shape, None, 1, u64::MAX)?;
-    if !are_tables(alloc, ROWS, Protocol::Msi, shape, Input::Rows, all, ROWS_TABLE) {
+    if !are_tables(
+        alloc,
+        ROWS,
+        Protocol::Msi,
+        shape,
+        Input::Rows,
+        all,
+        ROWS_TABLE,
+    ) {
         return Err(Fail::from("side by side"));
     }
-    if !are_tables(alloc, ROWS, Protocol::Msi, shape, Input::SerialRows, all, SERIAL_TABLE) {
+    if !are_tables(
+        alloc,
+        ROWS,
+        Protocol::Msi,
+        shape,
+        Input::SerialRows,
+        all,
+        SERIAL_TABLE,
+    ) {
         return Err(Fail::from("one after another"));
     }
     Ok(())
