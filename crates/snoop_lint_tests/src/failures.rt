@@ -88,7 +88,7 @@ fn a_text_that_is_not_read_whole(rt: HostRuntime) -> Result<(), Fail> {
     for readable in 0..TEXT.len() + 1 {
         let (answer, held) = ends(rt.alloc(), readable, 1000)?;
         if answer != Err(LintFault::Read) || !held.is_empty() {
-            Err(readable)?
+            return Err(Fail::from(readable));
         }
     }
     Ok(())
@@ -100,12 +100,12 @@ fn an_output_that_is_not_written_whole(rt: HostRuntime) -> Result<(), Fail> {
     for writable in 0..OUTPUT.len() {
         let (answer, held) = ends(rt.alloc(), 1000, writable)?;
         if answer != Err(LintFault::Write) || held.as_slice() != &OUTPUT[..writable] {
-            Err(writable)?
+            return Err(Fail::from(writable));
         }
     }
     let (answer, held) = ends(rt.alloc(), 1000, OUTPUT.len())?;
     if answer != Ok(()) || held.as_slice() != OUTPUT {
-        Err(held)?
+        return Err(Fail::from(held));
     }
     Ok(())
 }

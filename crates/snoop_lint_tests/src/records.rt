@@ -12,13 +12,13 @@ fn faults_of_one_record(rt: HostRuntime) -> Result<(), Fail> {
     let of_step = step_fault(Protocol::Msi, shape, 5, &record);
     let of_row = row_fault(shape, 5, &record);
     if of_step != Some(TextFault::NoCore(5)) {
-        Err("step")?
+        return Err(Fail::from("step"));
     }
     if of_row != Some(TextFault::BadKind(5)) {
-        Err("row")?
+        return Err(Fail::from("row"));
     }
     if kind_of(&record) != Some(b'O') || number_of(b"0x1F") != Some(31) {
-        Err("fields")?
+        return Err(Fail::from("fields"));
     }
     Ok(())
 }

@@ -95,14 +95,14 @@ fn go_through(bus: &mut Bus) -> Result<(), Fail>
         || bus.head(1).is_some()
         || bus.open(3) != Some(opened())
     {
-        Err("what is open")?
+        return Err(Fail::from("what is open"));
     }
     if !is_finished_once(bus) {
-        Err("what was open")?
+        return Err(Fail::from("what was open"));
     }
     bus.reserve(1)?;
     if !bus.has_room(1) || bus.has_room(2) {
-        Err("room")?
+        return Err(Fail::from("room"));
     }
     Ok(())
 }
@@ -137,16 +137,16 @@ fn go_in_order(bus: &mut Bus) -> Result<(), Fail>
     issue(bus, 0, Request::GetS, 1)?;
     issue(bus, 0, Request::GetS, 0)?;
     if bus.head(0) != Some((Request::GetS, 1)) || bus.head(1).is_some() {
-        Err("the oldest request")?
+        return Err(Fail::from("the oldest request"));
     }
     if !start(bus, 0, Payload::Data, 5, None) || !has_load_open(bus) {
-        Err("what is open")?
+        return Err(Fail::from("what is open"));
     }
     if bus.finish(2).is_some() || !has_load_open(bus) {
-        Err("a block with nothing open")?
+        return Err(Fail::from("a block with nothing open"));
     }
     if bus.finish(1) != Some(opened_load()) || bus.open(1).is_some() {
-        Err("what was open")?
+        return Err(Fail::from("what was open"));
     }
     Ok(())
 }

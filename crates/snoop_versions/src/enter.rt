@@ -1,4 +1,6 @@
 //! What a reader takes from one published version.
+#![tactic(auto, using(crate::proofs::Versions::sees))]
+
 ghost use Rattle.std.specs.Prelude.{◌≡◌, ◌&&◌, Some, None, IfSome, IfNone, IsTrue, true, if◌then◌else◌, nat_lt};
 ghost use Rattle.snoop_history.specs.History.{Legal, next_number, flat, last_of};
 ghost use Rattle.snoop_history.specs.Totals.{totals_of, capped, capped_totals};

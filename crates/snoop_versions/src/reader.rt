@@ -36,6 +36,7 @@ impl Readers {
     }
 
     /// A reader, which has read the current version. `None` where there is no place left, and where the writer has ended.
+    #[tactic(auto, using(crate::proofs::Versions::admits))]
     pub fn reader(&self) -> Option<VersionReader>
         ensures shape { IfSome result (λ reader. IsOfShape reader self.now) }
         ensures legal { IfSome result (λ reader. Legal reader.seen) }

@@ -37,12 +37,12 @@ fn issue_all(bus: &mut Bus) -> Result<(), Fail>
 {
     issue_at_last(bus, 1, Request::GetM, 3)?;
     if bus.head(1) != Some((Request::GetM, 3)) {
-        Err("the first request")?
+        return Err(Fail::from("the first request"));
     }
     issue_at_last(bus, 1, Request::GetS, 0)?;
     issue_at_last(bus, 0, Request::GetS, 2)?;
     if bus.head(0) != Some((Request::GetS, 2)) || bus.head(1) != Some((Request::GetM, 3)) {
-        Err("the oldest requests")?
+        return Err(Fail::from("the oldest requests"));
     }
     Ok(())
 }

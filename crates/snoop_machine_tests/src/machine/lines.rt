@@ -40,7 +40,7 @@ fn a_thousand_blocks_loaded_and_evicted(rt: HostRuntime) -> Result<(), Fail> {
     let evictions = evictions_of(rt.alloc(), 1_000)?;
     let mut machine = Machine::reset(rt.alloc(), Protocol::Msi, shape)?;
     if !lead_to(&mut machine, &loads, 1_000) || !lead_to(&mut machine, &evictions, 0) {
-        Err("a thousand lines and then none")?
+        return Err(Fail::from("a thousand lines and then none"));
     }
     Ok(())
 }
@@ -60,7 +60,7 @@ fn prepare_twice(machine: &mut Machine) -> Result<(), &'static str> {
 /// The line stays where it was put in ahead, whatever comes between.
 fn evict_and_load(machine: &mut Machine) -> Result<(), Fail> {
     if machine.step(ask(0, 1, Op::Evict)) != Ok(Reply::Absent) || !has_lines(machine, 1) {
-        Err("absent")?
+        return Err(Fail::from("absent"));
     }
     for (step, lines) in [
         (ask(0, 1, Op::Load), 1),
@@ -69,7 +69,7 @@ fn evict_and_load(machine: &mut Machine) -> Result<(), Fail> {
         (ask(0, 1, Op::Evict), 0),
     ] {
         if machine.step(step).is_err() || !has_lines(machine, lines) {
-            Err(step)?
+            return Err(Fail::from(step));
         }
     }
     Ok(())

@@ -71,7 +71,7 @@ fn take(machine: &mut Machine, step: Step) -> Result<Result<Reply, Refused>, Fai
         return Ok(outcome);
     }
     if seen_of(machine) != seen || lines_of(machine) != lines {
-        Err(step)?
+        return Err(Fail::from(step));
     }
     Ok(machine.step(step))
 }
@@ -80,12 +80,12 @@ fn take(machine: &mut Machine, step: Step) -> Result<Result<Reply, Refused>, Fai
 fn take_race(machine: &mut Machine) -> Result<(), Fail> {
     for (step, (answer, ..)) in UPGRADE_RACE.iter().zip(&RACE_ANSWERS) {
         if take(machine, *step)? != *answer {
-            Err(*step)?
+            return Err(Fail::from(*step));
         }
     }
     let log = machine.log();
     if log.flat(0, 0) != Some(5) || log.len() != 8 {
-        Err("the history")?
+        return Err(Fail::from("the history"));
     }
     Ok(())
 }
@@ -103,22 +103,22 @@ fn prepare_and_take(machine: &mut Machine, step: Step) -> Result<bool, Fail> {
     let mut prepared = machine.prepare(step);
     if prepared == Err(Refused::NoMemory) {
         if lines_of(machine) != lines || seen_of(machine) != seen {
-            Err(step)?
+            return Err(Fail::from(step));
         }
         prepared = machine.prepare(step);
     }
     if seen_of(machine) != seen {
-        Err(step)?
+        return Err(Fail::from(step));
     }
     match prepared {
         Ok(told) => {
             if machine.step(step).is_err() || machine.log().item(seen.items) != told {
-                Err(step)?
+                return Err(Fail::from(step));
             }
             Ok(true)
         }
         Err(Refused::BusTaken(0)) => Ok(false),
-        Err(cause) => Err(cause)?,
+        Err(cause) => Err(Fail::from(cause)),
     }
 }
 
@@ -129,7 +129,7 @@ fn take_prepared_race(machine: &mut Machine) -> Result<(), Fail> {
         taken = taken.saturating_add(u32::from(prepare_and_take(machine, *step)?));
     }
     if taken != 12 || machine.log().flat(0, 0) != Some(5) {
-        Err(taken)?
+        return Err(Fail::from(taken));
     }
     Ok(())
 }

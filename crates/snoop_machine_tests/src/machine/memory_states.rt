@@ -11,7 +11,7 @@ fn memory_goes(machine: &mut Machine, block: u32, steps: &[(Step, MemState)]) ->
     for (step, state) in steps {
         machine.step(*step)?;
         if machine.mem_state(block) != Some(*state) {
-            Err(*step)?
+            return Err(Fail::from(*step));
         }
     }
     Ok(())
@@ -68,11 +68,11 @@ static UPGRADED_WHILE_EVICTED: [(Step, MemState); 10] = [
 fn a_stale_writeback_leaves_memory_shared(rt: HostRuntime) -> Result<(), Fail> {
     let mut machine = machine_of(rt.alloc(), Protocol::Mesi, 2)?;
     if machine.mem_state(0) != Some(MemState::I) {
-        Err("at reset")?
+        return Err(Fail::from("at reset"));
     }
     memory_goes(&mut machine, 0, &UPGRADED_WHILE_EVICTED)?;
     if machine.mem_value(0, 0) != Some(4) {
-        Err("the value that was shared")?
+        return Err(Fail::from("the value that was shared"));
     }
     Ok(())
 }
@@ -108,7 +108,7 @@ fn memory_takes_what_an_owner_shares(rt: HostRuntime) -> Result<(), Fail> {
     let mut machine = two_cores(rt.alloc())?;
     memory_goes(&mut machine, 1, &STORED_AND_SHARED)?;
     if machine.mem_value(1, 0) != Some(7) || machine.mem_state(0) != Some(MemState::IorS) {
-        Err("the value that was shared")?
+        return Err(Fail::from("the value that was shared"));
     }
     Ok(())
 }

@@ -27,7 +27,7 @@ fn stands_aside(machine: &Machine) -> bool {
 fn requests_stand_in_the_order_of_issue(rt: HostRuntime) -> Result<(), Fail> {
     let mut machine = two_cores(rt.alloc())?;
     if !stands(&machine, None, None, None) {
-        Err("nothing waits")?
+        return Err(Fail::from("nothing waits"));
     }
     let asked = [
         ask(0, 2, Op::Load),
@@ -35,19 +35,19 @@ fn requests_stand_in_the_order_of_issue(rt: HostRuntime) -> Result<(), Fail> {
         ask(1, 1, Op::Store(8)),
     ];
     if run_steps(&mut machine, &asked) != 3 {
-        Err("three are issued")?
+        return Err(Fail::from("three are issued"));
     }
     if !stands(&machine, Some((Request::GetS, 2)), Some(1), Some(2)) || !stands_aside(&machine) {
-        Err("both wait")?
+        return Err(Fail::from("both wait"));
     }
     if run_steps(&mut machine, &[order(0)]) != 1 {
-        Err("the first is ordered")?
+        return Err(Fail::from("the first is ordered"));
     }
     if !stands(&machine, Some((Request::GetM, 1)), None, Some(1)) || !stands_aside(&machine) {
-        Err("one has gone")?
+        return Err(Fail::from("one has gone"));
     }
     if machine.head(2).is_some() || machine.place(0, 4).is_some() || machine.place(2, 1).is_some() {
-        Err("outside the shape")?
+        return Err(Fail::from("outside the shape"));
     }
     Ok(())
 }

@@ -48,7 +48,7 @@ fn of_thirteen_steps_one_is_refused(rt: HostRuntime) -> Result<(), Fail> {
     let mut machine = two_cores(rt.alloc())?;
     let taken = run_steps(&mut machine, &UPGRADE_RACE);
     if taken != 12 || !has_both_stores(&machine) {
-        Err(taken)?
+        return Err(Fail::from(taken));
     }
     Ok(())
 }
@@ -130,7 +130,7 @@ fn every_core_stores_after_the_one_before_it(rt: HostRuntime) -> Result<(), Fail
     let mut machine = machine_of(rt.alloc(), Protocol::Msi, 256)?;
     let taken = run_steps(&mut machine, &steps);
     if taken != 768 || !has_last_store(&machine) {
-        Err(taken)?
+        return Err(Fail::from(taken));
     }
     Ok(())
 }
@@ -183,7 +183,7 @@ fn write_back(alloc: Global, protocol: Protocol, steps: &[Step]) -> Result<(), F
     let mut machine = machine_of(alloc, protocol, 256)?;
     let taken = run_steps(&mut machine, steps);
     if taken != 1536 || !has_last_writeback(&machine) {
-        Err(taken)?
+        return Err(Fail::from(taken));
     }
     Ok(())
 }

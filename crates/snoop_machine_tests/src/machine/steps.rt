@@ -19,7 +19,7 @@ fn has_states(machine: &Machine, first: CacheState, second: CacheState, memory: 
 fn take_race(machine: &mut Machine) -> Result<(), Fail> {
     for (step, (answer, first, second, memory)) in UPGRADE_RACE.iter().zip(&RACE_ANSWERS) {
         if machine.step(*step) != *answer || !has_states(machine, *first, *second, *memory) {
-            Err(*step)?
+            return Err(Fail::from(*step));
         }
     }
     Ok(())
@@ -30,7 +30,7 @@ fn the_loser_of_an_upgrade_race_asks_for_the_whole_block(rt: HostRuntime) -> Res
     let mut machine = two_cores(rt.alloc())?;
     take_race(&mut machine)?;
     if machine.log().flat(0, 0) != Some(5) {
-        Err("the last store")?
+        return Err(Fail::from("the last store"));
     }
     Ok(())
 }
@@ -168,11 +168,11 @@ fn is_prepared(machine: &mut Machine, step: Step, entry: Option<Item>) -> bool {
 fn prepare_all(machine: &mut Machine) -> Result<(), Fail> {
     for (step, entry) in &STORED_AND_EVICTED {
         if !is_prepared(machine, *step, *entry) {
-            Err(*step)?
+            return Err(Fail::from(*step));
         }
     }
     if machine.prepare(Step::Order { core: 0 }) != Err(Refused::NothingWaiting) {
-        Err("nothing waits")?
+        return Err(Fail::from("nothing waits"));
     }
     Ok(())
 }
@@ -182,7 +182,7 @@ fn preparing_tells_the_item_and_changes_nothing(rt: HostRuntime) -> Result<(), F
     let mut machine = two_cores(rt.alloc())?;
     prepare_all(&mut machine)?;
     if machine.mem_value(1, 0) != Some(7) {
-        Err("what was written back")?
+        return Err(Fail::from("what was written back"));
     }
     Ok(())
 }
@@ -240,7 +240,7 @@ fn takes_turn(
 fn take_turns(machine: &mut Machine) -> Result<(), Fail> {
     for (core, op, under_way, step) in &TURNS {
         if !takes_turn(machine, *core, *op, *under_way, *step) {
-            Err(*core)?
+            return Err(Fail::from(*core));
         }
     }
     Ok(())
@@ -251,7 +251,7 @@ fn turns_of_two_cores(rt: HostRuntime) -> Result<(), Fail> {
     let mut machine = two_cores(rt.alloc())?;
     take_turns(&mut machine)?;
     if machine.kept(1, 0, 0) != Some(5) || machine.protocol() != Protocol::Msi {
-        Err("what was stored")?
+        return Err(Fail::from("what was stored"));
     }
     Ok(())
 }

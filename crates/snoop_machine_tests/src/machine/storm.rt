@@ -197,7 +197,7 @@ fn take_each(machine: &mut Machine, steps: &[Step]) -> Result<usize, Fail> {
     for step in steps {
         taken = taken.saturating_add(run_steps(machine, &[*step]));
         if !is_well(machine) {
-            Err(*step)?
+            return Err(Fail::from(*step));
         }
     }
     Ok(taken)
@@ -218,7 +218,7 @@ fn storm(alloc: Global, protocol: Protocol, steps: &[Step]) -> Result<(), Fail> 
     let mut machine = machine_of(alloc, protocol, CORES)?;
     let taken = take_each(&mut machine, steps)?;
     if !is_replayed(machine.log()) || !is_taken_whole(alloc, &machine, steps, taken)? {
-        Err("the history")?
+        return Err(Fail::from("the history"));
     }
     Ok(())
 }

@@ -89,14 +89,14 @@ const NONE: [Option<u64>; 5] = [None; 5];
 
 fn fill(machine: &mut Machine) -> Result<(), Fail> {
     if run_steps(machine, &TWO_STORES) != 6 {
-        Err("six steps")?
+        return Err(Fail::from("six steps"));
     }
     if kept(machine, 0) != NONE
         || kept(machine, 1) != BOTH
         || flat(machine) != BOTH
         || remembered(machine) != AT_FIRST
     {
-        Err(kept(machine, 1))?
+        return Err(Fail::from(kept(machine, 1)));
     }
     Ok(())
 }
@@ -106,14 +106,14 @@ fn hit_and_evict(machine: &mut Machine) -> Result<(), Fail> {
     if machine.step(ask_word(1, 0, Op::Load)) != Ok(Reply::Hit(7))
         || machine.step(ask_word(1, 3, Op::Store(4))) != Ok(Reply::StoreHit)
     {
-        Err("hits")?
+        return Err(Fail::from("hits"));
     }
     let evicted = [ask_word(1, 4, Op::Evict), order(1), respond(1)];
     if run_steps(machine, &evicted) != 3 {
-        Err("three steps")?
+        return Err(Fail::from("three steps"));
     }
     if kept(machine, 1) != NONE || remembered(machine) != ALL || flat(machine) != ALL {
-        Err(remembered(machine))?
+        return Err(Fail::from(remembered(machine)));
     }
     Ok(())
 }
@@ -128,11 +128,11 @@ fn a_fill_keeps_the_other_words_and_a_writeback_carries_all(rt: HostRuntime) -> 
 fn ask_outside(machine: &mut Machine) -> Result<(), Fail> {
     for (word, op) in [(4, Op::Load), (4, Op::Store(5)), (u32::MAX, Op::Store(5))] {
         if machine.step(ask_word(0, word, op)) != Err(Refused::NoBlock) {
-            Err(word)?
+            return Err(Fail::from(word));
         }
     }
     if machine.step(ask_word(0, u32::MAX, Op::Evict)) != Ok(Reply::Absent) {
-        Err("an eviction's word")?
+        return Err(Fail::from("an eviction's word"));
     }
     Ok(())
 }
@@ -142,7 +142,7 @@ fn a_word_that_there_is_not_is_refused(rt: HostRuntime) -> Result<(), Fail> {
     let mut machine = machine_of_words(rt.alloc())?;
     ask_outside(&mut machine)?;
     if machine.waiting(0) || !machine.log().is_empty() {
-        Err("something has changed")?
+        return Err(Fail::from("something has changed"));
     }
     Ok(())
 }

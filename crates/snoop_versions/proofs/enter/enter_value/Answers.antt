@@ -1,8 +1,5 @@
-use Rattle.snoop_versions.proofs.{Common.{ap, inside_all, knows, Sees, Version, ◌∙◌}, Versions.{enters, sees}}
+use Rattle.snoop_versions.proofs.{Common.{ap, inside_all, knows, Sees, Version, ◌∙◌}, Versions.enters}
 use Rattle.snoop_versions.proofs.enter.enter_value.Goals as goal
-
-pub enter_as-requires : goal.enter_as-requires
-enter_as-requires c = sees c.args.reader.place.id (knows c.args.reader.place)
 
 pub returns-in-Ok-clause-some : goal.returns-in-Ok-clause-some
 returns-in-Ok-clause-some c =
