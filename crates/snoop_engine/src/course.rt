@@ -1,24 +1,20 @@
 //! Courses of steps, each of which is found when the one before it was taken.
-ghost use Rattle.std.specs.Prelude.{◌≡◌, ◌<◌, ◌∷◌, [], ℕ, List, length, IfErr, IfOk, IfSome, IfNone, Result};
+ghost use Rattle.std.specs.Prelude.{◌≡◌, ◌<◌, [], ℕ, List, IfErr, IfOk, IfSome, IfNone, Result};
 ghost use Rattle.snoop_model.specs.declared.replies.Refused.{Refused as Cause};
 ghost use Rattle.snoop_model.specs.declared.replies.Refused.TheVariants.{NoMemory as OutOfMemory};
 ghost use Rattle.snoop_model.specs.declared.replies.Reply.{Reply as Answer};
-ghost use Rattle.snoop_model.specs.Pictures.Situation.{Situation, reset};
+ghost use Rattle.snoop_model.specs.Pictures.Situation.{Situation};
 ghost use Rattle.snoop_model.specs.Moves.Move.{FirstMove};
 ghost use Rattle.snoop_model.specs.Moves.Refuses.{RefusedFor};
 ghost use Rattle.snoop_model.specs.Runs.Run.{GoesFirst, TheRun};
 ghost use Rattle.snoop_trace.specs.Extent.{Extent};
 ghost use Rattle.snoop_trace.specs.declared.protocol.Protocol.{Protocol};
 ghost use Rattle.snoop_trace.specs.declared.step.Step.{Step as Given};
-ghost use Rattle.snoop_engine.specs.Courses.{CanEnd, FindsListed, LeadsListed, LeadsOn};
+ghost use Rattle.snoop_engine.specs.Courses.{CanEnd, LeadsOn};
 ghost use Rattle.snoop_engine.specs.Round.{IsEnabled};
 
-use crate::script::Script;
-use snoop_machine::laws::runs_go_on;
 use snoop_machine::{Machine, Refused, Reply};
-use snoop_rules::Protocol;
-use snoop_trace::{NoMemory, Shape, Step};
-use std::alloc::Global;
+use snoop_trace::{NoMemory, Step};
 
 /// Steps that are found and taken one after another, to an end, and the machine that takes them.
 pub(crate) trait Course {
@@ -72,58 +68,5 @@ pub(crate) fn take_enabled(machine: &mut Machine, step: Step) -> Result<Reply, N
         Ok(reply) => Ok(reply),
         Err(Refused::NoMemory) => Err(NoMemory),
         Err(_) => unreachable!(),
-    }
-}
-
-/// Steps that are all known before the first is taken.
-#[derive(Drop)]
-pub(crate) struct Listed<S> {
-    machine: Machine,
-    script: S,
-}
-
-impl<S: Script + Drop> Listed<S> {
-    /// The steps of a script, with a machine at reset.
-    pub(crate) fn new(
-        alloc: Global,
-        protocol: Protocol,
-        shape: Shape,
-        script: S,
-    ) -> Result<Self, NoMemory>
-        ensures situation { IfOk result (λ listed. listed.machine.situation ≡ reset protocol shape) }
-        ensures script { IfOk result (λ listed. listed.script ≡ script) }
-    {
-        let machine = Machine::reset(alloc, protocol, shape)?;
-        Ok(Listed { machine, script })
-    }
-}
-
-impl<S: Script + Drop> Course for Listed<S> {
-    ghost situation = { λ l. l.machine.situation };
-
-    ghost leads = { λ l steps outcomes final. LeadsListed (S.steps l.script) l.machine.situation steps outcomes final };
-
-    ghost left = { λ l. length (S.steps l.script) };
-
-    ghost finds = { λ before step now. FindsListed (S.steps before.script) before.machine.situation step (S.steps now.script) now.machine.situation };
-
-    fn machine(&self) -> &Machine {
-        &self.machine
-    }
-
-    fn find(&mut self) -> Option<Step> {
-        self.script.take_first()
-    }
-
-    #[inline(always)]
-    fn take(&mut self, step: Step) -> Result<Result<Reply, Refused>, NoMemory> {
-        match self.machine.step(step) {
-            Err(Refused::NoMemory) => Err(NoMemory),
-            outcome => Ok(outcome),
-        }
-    }
-
-    fn can_end(&self) {
-        runs_go_on();
     }
 }

@@ -10,7 +10,7 @@ ghost use Rattle.snoop_engine.specs.SimulatedView.{BeginsToShow, ShowsRun, Simul
 ghost use Rattle.snoop_engine.specs.Views.{view_text};
 
 use crate::askers::Askers;
-use crate::course::{Course, Listed};
+use crate::course::Course;
 use crate::fault::SimFault;
 use crate::gather::read_driver;
 use crate::input::Input;
@@ -18,6 +18,7 @@ use crate::packed::StepQueue;
 use crate::script::Script;
 use crate::seen::Seen;
 use crate::serial_driver::SerialDriver;
+use crate::steps::Listed;
 use crate::taken::{block_of, head_for, take_step};
 use crate::view::View;
 use snoop_machine::laws::runs_go_on;

@@ -1,19 +1,23 @@
 //! The command `steps`: the steps of a text, taken one after another.
-ghost use Rattle.std.specs.Prelude.{◌≡◌, ◌≢◌, true, Err};
+ghost use Rattle.std.specs.Prelude.{◌≡◌, ◌≢◌, length, true, Err, IfOk};
 ghost use Rattle.snoop_trace.specs.Output.{BlamesWriter};
 ghost use Rattle.snoop_trace.specs.Text.{BlamesReader};
 ghost use Rattle.snoop_trace.specs.declared.fault.TextFault.{TextFault};
 ghost use Rattle.snoop_trace.specs.declared.fault.TextFault.TheVariants as text_fault;
+ghost use Rattle.snoop_model.specs.Pictures.Situation.{reset};
+ghost use Rattle.snoop_engine.specs.Courses.{FindsListed, LeadsListed};
 ghost use Rattle.snoop_engine.specs.Simulated.{Simulates};
 
-use crate::course::Listed;
+use crate::course::Course;
 use crate::fault::SimFault;
 use crate::lines::write_lines;
 use crate::packed::StepQueue;
+use crate::script::Script;
 use snoop_machine::laws::runs_go_on;
+use snoop_machine::{Machine, Refused, Reply};
 use snoop_rules::Protocol;
-use snoop_trace::Shape;
 use snoop_trace::streams::{Sink, Source, gather_steps};
+use snoop_trace::{NoMemory, Shape, Step};
 use std::alloc::Global;
 
 /// Reads a text of steps for the protocol and the shape to its end, takes them in order on a machine at reset, and writes the line of each
@@ -43,4 +47,57 @@ pub fn simulate_steps<R: Source, W: Sink>(
     };
     write_lines(alloc, writer, &mut course)?;
     Ok(())
+}
+
+/// Steps that are all known before the first is taken.
+#[derive(Drop)]
+pub(crate) struct Listed<S> {
+    machine: Machine,
+    script: S,
+}
+
+impl<S: Script + Drop> Listed<S> {
+    /// The steps of a script, with a machine at reset.
+    pub(crate) fn new(
+        alloc: Global,
+        protocol: Protocol,
+        shape: Shape,
+        script: S,
+    ) -> Result<Self, NoMemory>
+        ensures situation { IfOk result (λ listed. listed.machine.situation ≡ reset protocol shape) }
+        ensures script { IfOk result (λ listed. listed.script ≡ script) }
+    {
+        let machine = Machine::reset(alloc, protocol, shape)?;
+        Ok(Listed { machine, script })
+    }
+}
+
+impl<S: Script + Drop> Course for Listed<S> {
+    ghost situation = { λ l. l.machine.situation };
+
+    ghost leads = { λ l steps outcomes final. LeadsListed (S.steps l.script) l.machine.situation steps outcomes final };
+
+    ghost left = { λ l. length (S.steps l.script) };
+
+    ghost finds = { λ before step now. FindsListed (S.steps before.script) before.machine.situation step (S.steps now.script) now.machine.situation };
+
+    fn machine(&self) -> &Machine {
+        &self.machine
+    }
+
+    fn find(&mut self) -> Option<Step> {
+        self.script.take_first()
+    }
+
+    #[inline(always)]
+    fn take(&mut self, step: Step) -> Result<Result<Reply, Refused>, NoMemory> {
+        match self.machine.step(step) {
+            Err(Refused::NoMemory) => Err(NoMemory),
+            outcome => Ok(outcome),
+        }
+    }
+
+    fn can_end(&self) {
+        runs_go_on();
+    }
 }

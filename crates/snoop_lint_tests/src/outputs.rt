@@ -5,35 +5,21 @@ use snoop_trace::{Protocol, Shape};
 use std::alloc::Global;
 use std::test::Fail;
 
-/// Whether this is written of a text under MSI.
-fn is_written(
-    alloc: Global,
-    shape: Shape,
-    form: Form,
-    most: u64,
-    text: &[u8],
-    expected: &str,
-) -> bool {
-    let mut reader = text;
+/// What is written of a text under MSI, for 2 cores and 4 blocks of 64 bytes, is this.
+fn expect(alloc: Global, form: Form, most: u64, text: &[u8], expected: &str) -> Result<(), Fail> {
+    let shape = Shape::new(2, 4, 64)?;
     let mut output = Vec::new(alloc);
     lint_text(
         alloc,
-        &mut reader,
+        &mut &*text,
         &mut output,
         form,
         most,
         Protocol::Msi,
         shape,
-    )
-    .is_ok()
-        && output.as_slice() == expected.as_bytes()
-}
-
-/// What is written of a text for 2 cores and 4 blocks of 64 bytes is this.
-fn expect(alloc: Global, form: Form, most: u64, text: &[u8], expected: &str) -> Result<(), Fail> {
-    let shape = Shape::new(2, 4, 64)?;
-    if !is_written(alloc, shape, form, most, text, expected) {
-        return Err(Fail::from("the output"));
+    )?;
+    if output.as_slice() != expected.as_bytes() {
+        Err(output)?
     }
     Ok(())
 }

@@ -163,18 +163,12 @@ fn has_an_equal_copy(log: &Log) -> bool {
     }
 }
 
-// Whether the log of its items is, and has an equal copy.
-fn has_the_boundary(alloc: Global, shape: Shape) -> bool {
-    match log_of(alloc, shape, &block_boundary()) {
-        Ok(log) => is_the_boundary(&log) && has_an_equal_copy(&log),
-        Err(_) => false,
-    }
-}
-
 #[test]
 fn a_log_and_its_copy(rt: HostRuntime) -> Result<(), Fail> {
-    if !has_the_boundary(rt.alloc(), Shape::new(2, 4, 64)?) {
-        return Err(Fail::from("the log or its copy"));
+    let shape = Shape::new(2, 4, 64)?;
+    let log = log_of(rt.alloc(), shape, block_boundary().as_slice())?;
+    if !is_the_boundary(&log) || !has_an_equal_copy(&log) {
+        Err("the log or its copy")?
     }
     Ok(())
 }
@@ -204,10 +198,10 @@ fn a_board_of_the_block_boundary(rt: HostRuntime) -> Result<(), Fail> {
     let mut board = board_of(rt.alloc(), shape, block_boundary().as_slice())?;
     let has_shape = board.has_shape(shape) && !board.has_shape(other);
     if !has_shape || !is_of_the_boundary(&board, BOUNDARY_TOTALS) {
-        return Err(Fail::from("the board"));
+        Err("the board")?
     }
     if !counts_a_request_outside(&mut board) {
-        return Err(Fail::from("a request outside the shape"));
+        Err("a request outside the shape")?
     }
     Ok(())
 }
@@ -221,7 +215,7 @@ fn what_an_item_is_of() -> Result<(), Fail> {
         (came(Request::GetS, Some(0), loaded), Some(loaded)),
     ] {
         if item.core() != 1 || item.block() != 3 || item.did() != performed {
-            return Err(Fail::from(item));
+            Err(item)?
         }
     }
     Ok(())
@@ -274,18 +268,11 @@ block 0 value 0
 block 1 value 7
 ";
 
-// Whether the log's report is this text.
-fn is_reported(alloc: Global, log: &Log, text: &str) -> bool {
+fn report_of(alloc: Global, shape: Shape, items: &[Item]) -> Result<Vec<u8>, Fail> {
+    let log = log_of(alloc, shape, items)?;
     let mut report = Vec::new(alloc);
-    write_report(alloc, &mut report, log).is_ok() && report.as_slice() == text.as_bytes()
-}
-
-// Whether the items' report is this text.
-fn are_reported(alloc: Global, shape: Shape, items: &[Item], text: &str) -> bool {
-    match log_of(alloc, shape, items) {
-        Ok(log) => is_reported(alloc, &log, text),
-        Err(_) => false,
-    }
+    write_report(alloc, &mut report, &log)?;
+    Ok(report)
 }
 
 // The core's first operation, a hit.
@@ -310,23 +297,30 @@ fn of_another_block() -> Item {
     )
 }
 
+// Compares the items' report.
+fn look_at_report(alloc: Global, shape: Shape, items: &[Item], text: &str) -> Result<(), Fail> {
+    let report = report_of(alloc, shape, items)?;
+    if report.as_slice() != text.as_bytes() {
+        Err(report)?
+    }
+    Ok(())
+}
+
 #[test]
 fn reports(rt: HostRuntime) -> Result<(), Fail> {
     let alloc = rt.alloc();
     let shape = Shape::new(2, 4, 64)?;
     let hits = [hit(1, 3, false, u64::MAX), hit(0, 0, true, 0)];
-    if !are_reported(alloc, shape, &[], EMPTY)
-        || !are_reported(alloc, shape, &block_boundary(), BLOCK_BOUNDARY)
-        || !are_reported(alloc, shape, &two_blocks_open(), TWO_BLOCKS_OPEN)
-    {
-        return Err(Fail::from("no item, or those of a scene"));
-    }
-    if !are_reported(alloc, shape, &hits, LATER_BLOCK_FIRST)
-        || !are_reported(alloc, shape, &[of_another_block()], OF_ANOTHER_BLOCK)
-    {
-        return Err(Fail::from("items of several blocks"));
-    }
-    Ok(())
+    look_at_report(alloc, shape, &[], EMPTY)?;
+    look_at_report(alloc, shape, block_boundary().as_slice(), BLOCK_BOUNDARY)?;
+    look_at_report(alloc, shape, two_blocks_open().as_slice(), TWO_BLOCKS_OPEN)?;
+    look_at_report(alloc, shape, hits.as_slice(), LATER_BLOCK_FIRST)?;
+    look_at_report(
+        alloc,
+        shape,
+        [of_another_block()].as_slice(),
+        OF_ANOTHER_BLOCK,
+    )
 }
 
 // Whether a writer that takes twelve bytes in all is blamed, and holds the beginning of the report.
@@ -338,18 +332,12 @@ fn is_cut_off(alloc: Global, log: &Log) -> bool {
         && writer.inner.calls_after == 1
 }
 
-// The same of the log of the block boundary.
-fn is_boundary_cut_off(alloc: Global, shape: Shape) -> bool {
-    match log_of(alloc, shape, &block_boundary()) {
-        Ok(log) => is_cut_off(alloc, &log),
-        Err(_) => false,
-    }
-}
-
 #[test]
 fn failing_writer(rt: HostRuntime) -> Result<(), Fail> {
-    if !is_boundary_cut_off(rt.alloc(), Shape::new(2, 4, 64)?) {
-        return Err(Fail::from("a beginning"));
+    let shape = Shape::new(2, 4, 64)?;
+    let log = log_of(rt.alloc(), shape, block_boundary().as_slice())?;
+    if !is_cut_off(rt.alloc(), &log) {
+        Err("a beginning")?
     }
     Ok(())
 }
@@ -400,35 +388,23 @@ fn values_of_board(board: &Board) -> [Option<u64>; 5] {
     ]
 }
 
-// Whether the log of two words has both, and their values.
-fn has_both_words(alloc: Global, shape: Shape) -> bool {
-    match log_of(alloc, shape, &two_words()) {
-        Ok(log) => log.len() == 2 && values_of_log(&log) == VALUES,
-        Err(_) => false,
-    }
-}
-
 #[test]
 fn words_of_a_block_have_values_of_their_own(rt: HostRuntime) -> Result<(), Fail> {
-    if !has_both_words(rt.alloc(), Shape::with_words(2, 4, 64, 2)?) {
-        return Err(Fail::from("the log"));
+    let shape = Shape::with_words(2, 4, 64, 2)?;
+    let log = log_of(rt.alloc(), shape, two_words().as_slice())?;
+    if log.len() != 2 || values_of_log(&log) != VALUES {
+        Err(values_of_log(&log))?
     }
     Ok(())
-}
-
-// Whether the board of two words has their values, and not the shape of one word.
-fn has_words_on_board(alloc: Global, shape: Shape, of_one_word: Shape) -> bool {
-    match board_of(alloc, shape, &two_words()) {
-        Ok(board) => !board.has_shape(of_one_word) && values_of_board(&board) == VALUES,
-        Err(_) => false,
-    }
 }
 
 #[test]
 fn a_board_has_the_values_of_all_words(rt: HostRuntime) -> Result<(), Fail> {
     let shape = Shape::with_words(2, 4, 64, 2)?;
-    if !has_words_on_board(rt.alloc(), shape, Shape::new(2, 4, 64)?) {
-        return Err(Fail::from("the board"));
+    let of_one_word = Shape::new(2, 4, 64)?;
+    let board = board_of(rt.alloc(), shape, two_words().as_slice())?;
+    if board.has_shape(of_one_word) || values_of_board(&board) != VALUES {
+        Err(values_of_board(&board))?
     }
     Ok(())
 }
@@ -436,25 +412,15 @@ fn a_board_has_the_values_of_all_words(rt: HostRuntime) -> Result<(), Fail> {
 #[test]
 fn a_report_has_the_values_of_all_words(rt: HostRuntime) -> Result<(), Fail> {
     let shape = Shape::with_words(2, 4, 64, 2)?;
-    if !are_reported(rt.alloc(), shape, &two_words(), TWO_WORDS) {
-        return Err(Fail::from("the report"));
-    }
-    Ok(())
-}
-
-// Whether the log of two words has one of them.
-fn has_one_word(alloc: Global, shape: Shape) -> bool {
-    match log_of(alloc, shape, &two_words()) {
-        Ok(log) => log.len() == 1,
-        Err(_) => false,
-    }
+    look_at_report(rt.alloc(), shape, two_words().as_slice(), TWO_WORDS)
 }
 
 // Word 1 is one that blocks of one word do not have.
 #[test]
 fn a_word_that_there_is_not_is_left_out(rt: HostRuntime) -> Result<(), Fail> {
-    if !has_one_word(rt.alloc(), Shape::new(2, 4, 64)?) {
-        return Err(Fail::from("the log"));
+    let log = log_of(rt.alloc(), Shape::new(2, 4, 64)?, two_words().as_slice())?;
+    if log.len() != 1 {
+        Err(log.len())?
     }
     Ok(())
 }

@@ -196,17 +196,13 @@ fn begins_table(text: &[u8], table: &[&str]) -> bool {
     left.is_empty()
 }
 
-// Whether the table that is written is this one.
-fn is_written(alloc: Global, protocol: Protocol, which: Which, table: &[&str]) -> bool {
-    let mut text = Vec::new(alloc);
-    write_table(alloc, &mut text, protocol, which).is_ok() && is_table(&text, table)
-}
-
 #[test]
 fn writes_the_four_tables(rt: HostRuntime) -> Result<(), Fail> {
     for (protocol, which, table) in &TABLES {
-        if !is_written(rt.alloc(), *protocol, *which, table) {
-            return Err(Fail::from((*protocol, *which)));
+        let mut text = Vec::new(rt.alloc());
+        write_table(rt.alloc(), &mut text, *protocol, *which)?;
+        if !is_table(&text, table) {
+            Err((*protocol, *which))?
         }
     }
     Ok(())
@@ -231,7 +227,7 @@ fn stops_at_a_failing_writer(rt: HostRuntime) -> Result<(), Fail> {
     for (place, room) in [(0, 0), (0, 20), (1, 1000), (2, 1), (3, 25)] {
         let (protocol, which, table) = TABLES[place];
         if !is_cut_off(rt.alloc(), protocol, which, table, room) {
-            return Err(Fail::from(room));
+            Err(room)?
         }
     }
     Ok(())
@@ -254,19 +250,16 @@ static PERMISSIONS: [(CacheState, bool, bool); 13] = [
     (CacheState::IiA, false, false),
 ];
 
-// Whether a core may load and store so in the state.
-fn may(protocol: Protocol, state: CacheState, loads: bool, stores: bool) -> bool {
-    may_load(protocol, state) == loads && may_store(protocol, state) == stores
-}
-
 #[test]
 fn readers_and_writers() -> Result<(), Fail> {
     for (state, loads, stores) in &PERMISSIONS {
-        let is_msi = !matches!(state, CacheState::E | CacheState::EiA);
-        if !may(Protocol::Msi, *state, is_msi && *loads, is_msi && *stores)
-            || !may(Protocol::Mesi, *state, *loads, *stores)
-        {
-            return Err(Fail::from(*state));
+        let of_mesi_alone = matches!(state, CacheState::E | CacheState::EiA);
+        for (protocol, has_state) in [(Protocol::Msi, !of_mesi_alone), (Protocol::Mesi, true)] {
+            if may_load(protocol, *state) != (has_state && *loads)
+                || may_store(protocol, *state) != (has_state && *stores)
+            {
+                Err((protocol, *state))?
+            }
         }
     }
     Ok(())
@@ -278,17 +271,17 @@ fn controllers_meet_events() -> Result<(), Fail> {
         || event_seen(1, 0, Request::GetM) != CacheEvent::OtherGetM
         || event_at_memory(Request::PutM) != MemEvent::PutM
     {
-        return Err(Fail::from("asked or ordered"));
+        Err("asked or ordered")?
     }
     if arrival(Payload::DataE) != Some(CacheEvent::DataE)
         || arrival_at_memory(Payload::NoData) != Some(MemEvent::NoData)
         || !takes_payload(Request::GetS, MemState::SD)
         || carries_value(Payload::NoDataE)
     {
-        return Err(Fail::from("came"));
+        Err("came")?
     }
     if !waits(CacheState::MiA) || waits(CacheState::IsD) {
-        return Err(Fail::from("waits"));
+        Err("waits")?
     }
     Ok(())
 }
@@ -296,10 +289,10 @@ fn controllers_meet_events() -> Result<(), Fail> {
 #[test]
 fn tables_have_an_order() -> Result<(), Fail> {
     if CACHE_STATES[0] != CacheState::I || CACHE_EVENTS[0] != CacheEvent::Load {
-        return Err(Fail::from("caches"));
+        Err("caches")?
     }
     if MEM_STATES[0] != MemState::IorS || MEM_EVENTS[0] != MemEvent::GetS {
-        return Err(Fail::from("memory"));
+        Err("memory")?
     }
     Ok(())
 }
@@ -307,10 +300,10 @@ fn tables_have_an_order() -> Result<(), Fail> {
 #[test]
 fn names_of_the_tables() -> Result<(), Fail> {
     if CacheEvent::OwnGetM.name() != "OwnGetM" || MemEvent::NoDataE.name() != "NoDataE" {
-        return Err(Fail::from("events"));
+        Err("events")?
     }
     if MemState::SD.name() != "S_D" || Target::Both.name() != "requestor and memory" {
-        return Err(Fail::from("states and takers"));
+        Err("states and takers")?
     }
     Ok(())
 }

@@ -9,6 +9,7 @@ use snoop_trace::streams::{Sink, Source};
 use snoop_trace::{Shape, TextFault, WriteFault};
 use std::alloc::Global;
 use std::sync::Wait;
+use std::test::Fail;
 use std::thread::Threads;
 
 /// Steps: core 0 stores, and core 1 loads from the last byte of the same block.
@@ -87,7 +88,7 @@ step,record,reply,block,controller,event,before,action,after,value,place
 ";
 
 /// One of the simulations.
-#[derive(Clone, Copy)]
+#[derive(Clone, Copy, Debug, PartialEq, Eq)]
 pub enum Engine {
     Steps,
     Run,
@@ -134,46 +135,30 @@ impl Engine {
         reader: &mut R,
         writer: &mut W,
         protocol: Protocol,
-    ) -> Ended {
-        let Ok(shape) = Shape::new(2, 4, 64) else {
-            return Ended::Otherwise;
-        };
-        match self {
+    ) -> Result<Ended, Fail> {
+        let shape = Shape::new(2, 4, 64)?;
+        Ok(match self {
             Engine::Steps => steps_ended(simulate_steps(alloc, reader, writer, protocol, shape)),
             Engine::Run => steps_ended(simulate_run(alloc, reader, writer, protocol, shape)),
             Engine::Serial => steps_ended(simulate_serial(alloc, reader, writer, protocol, shape)),
-            Engine::States => states_ended(alloc, reader, writer, protocol, shape),
+            Engine::States => steps_ended(simulate_states(
+                alloc,
+                reader,
+                writer,
+                protocol,
+                shape,
+                Input::Steps,
+                Choice::new(shape, None, 1, u64::MAX)?,
+            )),
             Engine::Threads => threads_ended(simulate_threads(
                 rt, alloc, reader, writer, protocol, shape,
             )),
-        }
-    }
-}
-
-/// How the states of all steps and blocks end.
-fn states_ended<R: Source, W: Sink>(
-    alloc: Global,
-    reader: &mut R,
-    writer: &mut W,
-    protocol: Protocol,
-    shape: Shape,
-) -> Ended {
-    match Choice::new(shape, None, 1, u64::MAX) {
-        Ok(all) => steps_ended(simulate_states(
-            alloc,
-            reader,
-            writer,
-            protocol,
-            shape,
-            Input::Steps,
-            all,
-        )),
-        Err(_) => Ended::Otherwise,
+        })
     }
 }
 
 /// How a simulation ends.
-#[derive(Clone, Copy, PartialEq, Eq)]
+#[derive(Clone, Copy, Debug, PartialEq, Eq)]
 pub enum Ended {
     Done,
     Text(TextFault),

@@ -4,6 +4,7 @@ use crate::engine::{Ended, Engine};
 use snoop_rules::Protocol;
 use snoop_trace::TextFault;
 use std::alloc::Global;
+use std::process::Abort;
 use std::sync::Wait;
 use std::test::Fail;
 use std::thread::Threads;
@@ -25,35 +26,27 @@ fn simulate<T: Threads + Wait + Sync>(
     alloc: Global,
     engine: Engine,
     protocol: Protocol,
-) -> (Ended, bool) {
+) -> Result<(Ended, bool), Fail> {
     let mut written = Vec::new(alloc);
-    let ended = engine.simulate(rt, alloc, &mut engine.text(), &mut written, protocol);
+    let ended = engine.simulate(rt, alloc, &mut engine.text(), &mut written, protocol)?;
     let is_left = is_left(ended, &written, engine.output());
-    (ended, is_left)
+    Ok((ended, is_left))
 }
 
 /// Runs the text twice: of two runs the refused growth meets one.
-fn is_whole_at_last<T: Threads + Wait + Sync>(
-    rt: &T,
-    alloc: Global,
-    engine: Engine,
-    protocol: Protocol,
-) -> bool {
-    let (first, is_first_left) = simulate(rt, alloc, engine, protocol);
-    let (second, is_second_left) = simulate(rt, alloc, engine, protocol);
-    is_first_left && is_second_left && (first == Ended::Done || second == Ended::Done)
-}
-
-fn leaves_a_beginning<T: Threads + Wait + Sync>(
+fn leaves_a_beginning<T: Abort + Threads + Wait + Sync>(
     rt: &T,
     alloc: Global,
     engine: Engine,
 ) -> Result<(), Fail> {
-    if !is_whole_at_last(rt, alloc, engine, Protocol::Msi) {
-        return Err(Fail::from("MSI"));
-    }
-    if !is_whole_at_last(rt, alloc, engine, Protocol::Mesi) {
-        return Err(Fail::from("MESI"));
+    for protocol in [Protocol::Msi, Protocol::Mesi] {
+        let (first, is_first_left) = simulate(rt, alloc, engine, protocol)?;
+        let (second, is_second_left) = simulate(rt, alloc, engine, protocol)?;
+        assert!(rt; is_first_left && is_second_left, "{first:?} {second:?}");
+        assert!(rt;
+            first == Ended::Done || second == Ended::Done,
+            "{first:?} {second:?}"
+        );
     }
     Ok(())
 }

@@ -1,6 +1,5 @@
 //! What a command line is answered: its status, and what is written and reported.
 
-use crate::words::words_of;
 use snoop_sim::command;
 use std::alloc::Global;
 use std::sync::Wait;
@@ -147,30 +146,30 @@ static ANSWERS: [Answer; 7] = [
     ),
 ];
 
-/// Whether the words are answered with the status, and this is written and reported.
-fn are_answered<T: Threads + Wait + Sync>(
+/// Does what the line asks for. Answers the status, what is written and what is reported.
+fn answered<T: Threads + Wait + Sync>(
     rt: &T,
     alloc: Global,
-    words: &[String],
+    line: &str,
     text: &[u8],
-    status: u8,
-    output: &[u8],
-    errors: &[u8],
-) -> bool {
+) -> Result<(u8, Vec<u8>, Vec<u8>), Fail> {
+    let mut words = Vec::new(alloc);
+    for word in line.split(' ') {
+        words.push(String::from_str(alloc, word)?)?;
+    }
     let mut reader = text;
     let mut written = Vec::new(alloc);
     let mut reported = Vec::new(alloc);
-    command(rt, alloc, words, &mut reader, &mut written, &mut reported) == status
-        && written.as_slice() == output
-        && reported.as_slice() == errors
+    let status = command(rt, alloc, &words, &mut reader, &mut written, &mut reported);
+    Ok((status, written, reported))
 }
 
 #[test]
 fn what_is_refused_is_named(rt: HostRuntime) -> Result<(), Fail> {
-    for (line, text, status, named) in &REFUSALS {
-        let words = words_of(rt.alloc(), line)?;
-        if !are_answered(&rt, rt.alloc(), &words, text, *status, b"", named) {
-            return Err(Fail::from(*line));
+    for (line, text, expected, named) in REFUSALS {
+        let (status, written, reported) = answered(&rt, rt.alloc(), line, text)?;
+        if status != expected || !written.is_empty() || reported.as_slice() != named {
+            Err(line)?
         }
     }
     Ok(())
@@ -178,10 +177,10 @@ fn what_is_refused_is_named(rt: HostRuntime) -> Result<(), Fail> {
 
 #[test]
 fn what_is_asked_for_is_written(rt: HostRuntime) -> Result<(), Fail> {
-    for (line, text, expected) in &ANSWERS {
-        let words = words_of(rt.alloc(), line)?;
-        if !are_answered(&rt, rt.alloc(), &words, text, 0, expected, b"") {
-            return Err(Fail::from(*line));
+    for (line, text, expected) in ANSWERS {
+        let (status, written, reported) = answered(&rt, rt.alloc(), line, text)?;
+        if status != 0 || written.as_slice() != expected || !reported.is_empty() {
+            Err(line)?
         }
     }
     Ok(())

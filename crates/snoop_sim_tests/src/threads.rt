@@ -24,45 +24,30 @@ L,0,128
 L,0,127
 ";
 
-/// Whether no step is refused in the output, and its report has the rows' loads and stores.
-fn reports_all(output: &[u8]) -> bool {
-    match std::str::from_utf8(output) {
-        Ok(report) => {
-            !report.contains("refused")
-                && report.contains("\nloads 7 ")
-                && report.contains("\nstores 4 ")
-        }
-        Err(_) => false,
-    }
-}
-
-/// Whether the steps replay so.
-fn are_replayed(alloc: Global, mut steps: &[u8], protocol: Protocol, shape: Shape) -> bool {
-    let mut output = Vec::new(alloc);
-    simulate_steps(alloc, &mut steps, &mut output, protocol, shape).is_ok() && reports_all(&output)
-}
-
-/// Whatever order the threads take, the steps replay.
+/// Whatever order the threads take, the steps replay: none is refused, and the report has the rows' loads and stores.
 fn replays<T: Threads + Wait + Sync>(
     rt: &T,
     alloc: Global,
     protocol: Protocol,
-    shape: Shape,
-) -> bool {
-    let mut rows = ROWS.as_bytes();
+) -> Result<(), Fail> {
+    let shape = Shape::with_words(2, 4, 64, 2)?;
     let mut steps = Vec::new(alloc);
-    simulate_threads(rt, alloc, &mut rows, &mut steps, protocol, shape).is_ok()
-        && are_replayed(alloc, &steps, protocol, shape)
+    simulate_threads(rt, alloc, &mut ROWS.as_bytes(), &mut steps, protocol, shape)?;
+    let mut output = Vec::new(alloc);
+    simulate_steps(alloc, &mut steps.as_slice(), &mut output, protocol, shape)?;
+    let report = std::str::from_utf8(&output).ok().ok_or("a text")?;
+    if !report.contains("refused")
+        && report.contains("\nloads 7 ")
+        && report.contains("\nstores 4 ")
+    {
+        Ok(())
+    } else {
+        Err(protocol)?
+    }
 }
 
 #[test]
 fn steps_of_two_cores_replay(rt: HostRuntime) -> Result<(), Fail> {
-    let shape = Shape::with_words(2, 4, 64, 2)?;
-    if !replays(&rt, rt.alloc(), Protocol::Msi, shape) {
-        return Err(Fail::from("MSI"));
-    }
-    if !replays(&rt, rt.alloc(), Protocol::Mesi, shape) {
-        return Err(Fail::from("MESI"));
-    }
-    Ok(())
+    replays(&rt, rt.alloc(), Protocol::Msi)?;
+    replays(&rt, rt.alloc(), Protocol::Mesi)
 }

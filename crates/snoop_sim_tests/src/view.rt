@@ -7,7 +7,6 @@ use snoop_machine::Machine;
 use snoop_rules::Protocol;
 use snoop_trace::streams::push_byte;
 use snoop_trace::{NoMemory, Op, Shape, Step};
-use std::alloc::Global;
 use std::test::Fail;
 
 /// Each answer on a line.
@@ -44,36 +43,22 @@ impl View for Answers {
 
 const ANSWERS: &str = "issued GetS\nordered GetS\nData from memory, load 0\n";
 
-/// Whether the answers to a text are shown.
-fn are_shown(alloc: Global, shape: Shape) -> bool {
-    let mut shown = Vec::new(alloc);
+#[test]
+fn the_answers_to_a_text(rt: HostRuntime) -> Result<(), Fail> {
+    let shape = Shape::new(2, 4, 64)?;
+    let mut shown = Vec::new(rt.alloc());
     let mut reader = b"L,0,64\nO,0\nR,64\n".as_slice();
     simulate_view(
-        alloc,
+        rt.alloc(),
         &mut reader,
         &mut shown,
         Protocol::Msi,
         shape,
         Input::Steps,
         &mut Answers,
-    )
-    .is_ok()
-        && shown.as_slice() == ANSWERS.as_bytes()
-}
-
-#[test]
-fn the_answers_to_a_text(rt: HostRuntime) -> Result<(), Fail> {
-    if !are_shown(rt.alloc(), Shape::new(2, 4, 64)?) {
-        return Err(Fail::from("the answers"));
-    }
+    )?;
+    assert!(rt; shown.as_slice() == ANSWERS.as_bytes());
     Ok(())
-}
-
-/// Whether those to the same steps are.
-fn are_shown_of(alloc: Global, shape: Shape, steps: &[Step]) -> bool {
-    let mut shown = Vec::new(alloc);
-    show_steps(alloc, &mut shown, Protocol::Msi, shape, steps, &mut Answers).is_ok()
-        && shown.as_slice() == ANSWERS.as_bytes()
 }
 
 #[test]
@@ -89,8 +74,15 @@ fn the_answers_to_a_list_of_steps(rt: HostRuntime) -> Result<(), Fail> {
         Step::Order { core: 0 },
         Step::Respond { block: 1 },
     ];
-    if !are_shown_of(rt.alloc(), shape, &steps) {
-        return Err(Fail::from("the answers"));
-    }
+    let mut shown = Vec::new(rt.alloc());
+    show_steps(
+        rt.alloc(),
+        &mut shown,
+        Protocol::Msi,
+        shape,
+        &steps,
+        &mut Answers,
+    )?;
+    assert!(rt; shown.as_slice() == ANSWERS.as_bytes());
     Ok(())
 }

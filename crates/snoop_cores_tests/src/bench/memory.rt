@@ -34,12 +34,13 @@ fn a_turn_out_of_memory_is_taken_again(rt: HostRuntime) -> Result<(), Fail> {
         turn(&rt, &mut bench),
         turn(&rt, &mut bench),
     ];
-    let is_stored = bench.steps().len() == 3
-        && bench.log().len() == 2
-        && bench.log().flat(0, 0) == Some(5);
+    let left = (
+        bench.steps().len(),
+        bench.log().len(),
+        bench.log().flat(0, 0),
+    );
     bench.end(&rt);
-    if turns != [Some(Turn::Going), Some(Turn::Going), Some(Turn::Stored)] || !is_stored {
-        return Err(Fail::from("turns, or what is left"));
-    }
+    let expected = [Some(Turn::Going), Some(Turn::Going), Some(Turn::Stored)];
+    assert_eq!(rt; (turns, left), (expected, (3, 2, Some(5))));
     Ok(())
 }

@@ -37,9 +37,7 @@ fn a_turn_closes_the_work_of_another_core(rt: HostRuntime) -> Result<(), Fail> {
         bench.advance(&rt, 2, store(1)),
         bench.advance(&rt, 0, outside),
     ];
-    let is_left = bench.work(0).is_none()
-        && bench.work(1) == Some(store(2))
-        && bench.steps().len() == 4;
+    let left = (bench.work(0), bench.work(1), bench.steps().len());
     bench.end(&rt);
     let expected = [
         Ok(Turn::Going),
@@ -51,9 +49,7 @@ fn a_turn_closes_the_work_of_another_core(rt: HostRuntime) -> Result<(), Fail> {
         Err(AdvanceFault::NoCore),
         Err(AdvanceFault::NoBlock),
     ];
-    if turns != expected || !is_left {
-        return Err(Fail::from("turns, or what is left"));
-    }
+    assert_eq!(rt; (turns, left), (expected, (None, Some(store(2)), 4)));
     Ok(())
 }
 
@@ -88,14 +84,15 @@ fn the_word_of_an_eviction_is_not_looked_at(rt: HostRuntime) -> Result<(), Fail>
         word: 0,
         op: Op::Evict,
     };
-    if stored != [Ok(Turn::Going), Ok(Turn::Going), Ok(Turn::Stored)] {
-        return Err(Fail::from("a store"));
-    }
-    if begun != Ok(Turn::Going) || under_way != Some(evict(0)) {
-        return Err(Fail::from("an eviction that is begun"));
-    }
-    if evicted != [Ok(Turn::Going), Ok(Turn::Evicted(Evicted::Put))] || asked != Some(expected) {
-        return Err(Fail::from("an eviction"));
-    }
+    assert_eq!(rt;
+        (stored, begun, under_way, evicted, asked),
+        (
+            [Ok(Turn::Going), Ok(Turn::Going), Ok(Turn::Stored)],
+            Ok(Turn::Going),
+            Some(evict(0)),
+            [Ok(Turn::Going), Ok(Turn::Evicted(Evicted::Put))],
+            Some(expected),
+        )
+    );
     Ok(())
 }

@@ -59,9 +59,11 @@ fn each_core_waits_for_the_other(rt: HostRuntime) -> Result<(), Fail> {
             counts: [2, 2, 2, 0, 0, 2, 0, 2, 0, 0, 0, 0],
             values: [Some(5), None, Some(6)],
         };
-        if !ran || !answered || shown != Some(expected) {
-            return Err(Fail::from(held));
-        }
+        assert_eq!(rt;
+            (ran && answered, shown),
+            (true, Some(expected)),
+            "core {held} is held"
+        );
     }
     Ok(())
 }
@@ -94,8 +96,9 @@ fn a_late_gate_stops_cores_at_their_rows(rt: HostRuntime) -> Result<(), Fail> {
     };
     let late = Some(Stop::Late(1));
     let [loads, _, stores, ..] = shown.counts;
-    if stops.as_slice() != [late, late, None].as_slice() || loads != 2 || stores != 1 {
-        return Err(Fail::from("where the cores stopped"));
-    }
+    assert_eq!(rt;
+        (stops.as_slice(), loads, stores),
+        ([late, late, None].as_slice(), 2, 1)
+    );
     Ok(())
 }

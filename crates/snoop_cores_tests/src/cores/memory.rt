@@ -191,20 +191,20 @@ fn a_pending_store_is_handed_over_once(rt: HostRuntime) -> Result<(), Fail> {
     let first = handed_over(&scene, &rt, rt.alloc());
     let second = handed_over(&scene, &rt, rt.alloc());
     scene.end(&rt);
-    if stored != Some(Ok(Turn::Stored)) || loaded != Some(Ok(Turn::Loaded(5))) {
-        return Err(Fail::from("a store or a load"));
-    }
-    if own != Some(Ok(5)) || value != Some(Ok(5)) {
-        return Err(Fail::from("readings"));
-    }
-    if before != Some([0, 0, 1, 0, 0, 1, 0, 1, 0, 0, 0, 0])
-        || after != Some([1, 0, 1, 0, 1, 1, 0, 1, 1, 0, 0, 0])
-    {
-        return Err(Fail::from("counts"));
-    }
-    if first != Some((true, true, 1)) || second != first {
-        return Err(Fail::from("what is handed over"));
-    }
+    assert_eq!(rt;
+        (stored, loaded),
+        (Some(Ok(Turn::Stored)), Some(Ok(Turn::Loaded(5))))
+    );
+    assert_eq!(rt; (own, value), (Some(Ok(5)), Some(Ok(5))));
+    assert_eq!(rt;
+        (before, after),
+        (
+            Some([0, 0, 1, 0, 0, 1, 0, 1, 0, 0, 0, 0]),
+            Some([1, 0, 1, 0, 1, 1, 0, 1, 1, 0, 0, 0]),
+        )
+    );
+    let handed = Some((true, true, 1));
+    assert_eq!(rt; (first, second), (handed, handed));
     Ok(())
 }
 
@@ -275,12 +275,12 @@ fn another_store_ends_an_open_transaction(rt: HostRuntime) -> Result<(), Fail> {
         };
         let ended = ends_in(&scene, &rt, rt.alloc(), count, orders);
         scene.end(&rt);
-        if !loaded || stored != Some(Ok(Turn::Stored)) || other != Some(Ok(Turn::Stored)) {
-            return Err(Fail::from(count));
-        }
-        if ended != Some((true, 1, 1)) {
-            return Err(Fail::from(count));
-        }
+        assert_eq!(rt;
+            (loaded, stored, other),
+            (true, Some(Ok(Turn::Stored)), Some(Ok(Turn::Stored))),
+            "after {count} loads"
+        );
+        assert_eq!(rt; ended, Some((true, 1, 1)), "after {count} loads");
     }
     Ok(())
 }
@@ -384,8 +384,6 @@ fn rows_go_on_where_they_stopped(rt: HostRuntime) -> Result<(), Fail> {
     let ran = run_rows(&mut scene, &rt, rt.alloc(), rows);
     let asked = asked(&scene, &rt, rt.alloc(), rows);
     scene.end(&rt);
-    if !ran || asked != Some((true, 3, 3)) {
-        return Err(Fail::from("rows that stopped"));
-    }
+    assert_eq!(rt; (ran, asked), (true, Some((true, 3, 3))));
     Ok(())
 }

@@ -50,11 +50,7 @@ fn counts_never_fall_beside_two_cores_that_store(rt: HostRuntime) -> Result<(), 
     );
     let shown = scene.shown(&rt, rt.alloc());
     scene.end(&rt);
-    let Some(shown) = shown else {
-        return Err(Fail::from("a gathering"));
-    };
-    if !all_ran(&stops) || !risen || shown.counts[2] != 200 {
-        return Err(Fail::from("rows or counts"));
-    }
+    let stores = shown.map(|shown| shown.counts[2]);
+    assert_eq!(rt; (all_ran(&stops), risen, stores), (true, true, Some(200)));
     Ok(())
 }

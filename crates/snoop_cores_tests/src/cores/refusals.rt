@@ -17,12 +17,10 @@ fn a_row_outside_the_shape(rt: HostRuntime) -> Result<(), Fail> {
     let fault = scene.run(&rt, rt.alloc(), rows.as_slice(), &Free).err();
     let shown = scene.shown(&rt, rt.alloc());
     scene.end(&rt);
-    let Some(shown) = shown else {
-        return Err(Fail::from("a gathering"));
-    };
-    if fault != Some(RunFault::NoSeat { core: 0 }) || shown.steps != 0 {
-        return Err(Fail::from("a row outside the shape"));
-    }
+    assert_eq!(rt;
+        (fault, shown.map(|shown| shown.steps)),
+        (Some(RunFault::NoSeat { core: 0 }), Some(0))
+    );
     Ok(())
 }
 
@@ -47,22 +45,22 @@ fn seats_that_do_not_gather(rt: HostRuntime) -> Result<(), Fail> {
     let all = scene.shown(&rt, rt.alloc()).is_some();
     scene.end(&rt);
     other.end(&rt);
-    if stored != Some(Ok(Turn::Stored)) || !all {
-        return Err(Fail::from("a store, or all seats"));
-    }
-    if none != Some(GatherFault::NotAllSeats { core: 0 })
-        || alone != Some(GatherFault::NotAllSeats { core: 1 })
-        || others != Some(GatherFault::Mismatch { core: 0, place: 0 })
-    {
-        return Err(Fail::from("seats that do not gather"));
-    }
+    assert_eq!(rt; (stored, all), (Some(Ok(Turn::Stored)), true));
+    assert_eq!(rt;
+        [none, alone, others],
+        [
+            Some(GatherFault::NotAllSeats { core: 0 }),
+            Some(GatherFault::NotAllSeats { core: 1 }),
+            Some(GatherFault::Mismatch { core: 0, place: 0 }),
+        ]
+    );
     Ok(())
 }
 
 #[test]
 fn places_for_seats_and_watches(rt: HostRuntime) -> Result<(), Fail> {
     let scene = Scene::new(&rt, rt.alloc(), 256)?;
-    let is_full = scene.seats.len() == 256 && scene.watches.len() == 1;
+    let most = (scene.seats.len(), scene.watches.len());
     scene.end(&rt);
     let shape = Shape::new(2, 4, 64)?;
     let fault = match Shared::new(&rt, rt.alloc(), Protocol::Msi, shape, u32::MAX) {
@@ -77,9 +75,7 @@ fn places_for_seats_and_watches(rt: HostRuntime) -> Result<(), Fail> {
         }
         Err(fault) => Some(fault),
     };
-    if !is_full || fault != Some(MakeFault::NoPlace) {
-        return Err(Fail::from("places"));
-    }
+    assert_eq!(rt; (most, fault), ((256, 1), Some(MakeFault::NoPlace)));
     Ok(())
 }
 
@@ -94,7 +90,7 @@ fn faults_of_calls_are_shown_by_their_names(rt: HostRuntime) -> Result<(), Fail>
         value: 7,
         hit: false,
     };
-    let Ok(shown) = format!(in rt.alloc();
+    let shown = format!(in rt.alloc();
         "{} {} {} {} {} {} {} {} {} {}",
         SeatFault::NoBlock,
         SeatFault::NoMemory,
@@ -106,19 +102,18 @@ fn faults_of_calls_are_shown_by_their_names(rt: HostRuntime) -> Result<(), Fail>
         AdvanceFault::NoBlock,
         AdvanceFault::Other(work(Op::Load)),
         AdvanceFault::NoMemory
-    ) else {
-        return Err(Fail::from("memory"));
-    };
-    let names = "NoBlock NoMemory Busy Stranger NoBlock NoVersion NoCore NoBlock Other NoMemory";
-    if shown.as_str() != names {
-        return Err(Fail::from("names"));
-    }
+    )
+    .map_err(|_| Fail::from("memory"))?;
+    assert_eq!(rt;
+        shown.as_str(),
+        "NoBlock NoMemory Busy Stranger NoBlock NoVersion NoCore NoBlock Other NoMemory"
+    );
     Ok(())
 }
 
 #[test]
 fn faults_of_all_seats_are_shown_by_their_names(rt: HostRuntime) -> Result<(), Fail> {
-    let Ok(shown) = format!(in rt.alloc();
+    let shown = format!(in rt.alloc();
         "{} {} {} {} {} {} {} {} {}",
         MakeFault::NoMemory,
         MakeFault::NoPlace,
@@ -129,12 +124,11 @@ fn faults_of_all_seats_are_shown_by_their_names(rt: HostRuntime) -> Result<(), F
         GatherFault::NoMemory,
         GatherFault::NotAllSeats { core: 0 },
         Late
-    ) else {
-        return Err(Fail::from("memory"));
-    };
-    let names = "NoMemory NoPlace NoSeat NoMemory Mismatch Pending NoMemory NotAllSeats Late";
-    if shown.as_str() != names {
-        return Err(Fail::from("names"));
-    }
+    )
+    .map_err(|_| Fail::from("memory"))?;
+    assert_eq!(rt;
+        shown.as_str(),
+        "NoMemory NoPlace NoSeat NoMemory Mismatch Pending NoMemory NotAllSeats Late"
+    );
     Ok(())
 }

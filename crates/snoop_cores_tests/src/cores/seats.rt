@@ -29,8 +29,6 @@ fn a_seat_alone_gives_blocks_up(rt: HostRuntime) -> Result<(), Fail> {
         counts: [1, 0, 1, 0, 1, 1, 1, 2, 0, 1, 0, 0],
         values: [Some(4), None, Some(0)],
     };
-    if answers != expected || shown != Some(gathered) {
-        return Err(Fail::from("answers or a gathering"));
-    }
+    assert_eq!(rt; (answers, shown), (expected, Some(gathered)));
     Ok(())
 }

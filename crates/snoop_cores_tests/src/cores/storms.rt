@@ -7,8 +7,9 @@ use snoop_engine::simulate_steps;
 use snoop_history::write_report;
 use snoop_machine::{Machine, run_steps};
 use snoop_rules::Protocol;
-use snoop_trace::{Op, Row, Shape, Step, write_steps};
+use snoop_trace::{Op, Row, Shape, write_steps};
 use std::alloc::Global;
+use std::process::Abort;
 use std::sync::Wait;
 use std::sync::atomic::{AtomicU64, Ordering};
 use std::test::Fail;
@@ -110,46 +111,8 @@ fn ends_with_report(
     Ok(output.as_slice().ends_with(report.as_slice()))
 }
 
-/// Whether a fresh machine takes all gathered steps, to an equal log.
-fn is_taken_again(
-    alloc: Global,
-    protocol: Protocol,
-    shape: Shape,
-    gathered: &Gathered,
-) -> Result<bool, Fail> {
-    let mut fresh = Machine::reset(alloc, protocol, shape)?;
-    let taken = run_steps(&mut fresh, &gathered.steps);
-    Ok(taken == gathered.steps.len() && fresh.log().equals(&gathered.log))
-}
-
-/// Whether each of so many cores asks for its rows.
-fn all_ask(steps: &[Step], rows: &[Row], cores: u32) -> bool {
-    for core in 0..cores {
-        if !ask_rows(steps, rows, core) {
-            return false;
-        }
-    }
-    true
-}
-
-/// Whether what is gathered has the rows of all cores, and replays.
-fn is_of_rows(
-    alloc: Global,
-    protocol: Protocol,
-    cores: u32,
-    rows: &[Row],
-    gathered: &Gathered,
-) -> Result<bool, Fail> {
-    let shape = Shape::new(cores, 4, 64)?;
-    Ok(
-        ends_with_report(alloc, protocol, shape, gathered)?
-            && is_taken_again(alloc, protocol, shape, gathered)?
-            && all_ask(&gathered.steps, rows, cores),
-    )
-}
-
 /// A storm under each protocol.
-fn storm<R: Threads + Wait + Sync>(
+fn storm<R: Threads + Wait + Sync + Abort>(
     rt: &R,
     alloc: Global,
     cores: u32,
@@ -157,9 +120,18 @@ fn storm<R: Threads + Wait + Sync>(
     in_step: u32,
 ) -> Result<(), Fail> {
     for protocol in [Protocol::Msi, Protocol::Mesi] {
+        let shape = Shape::new(cores, 4, 64)?;
         let gathered = perform(rt, alloc, protocol, cores, rows, in_step)?;
-        if !is_of_rows(alloc, protocol, cores, rows, &gathered)? {
-            return Err(Fail::from(cores));
+        assert!(rt; ends_with_report(alloc, protocol, shape, &gathered)?);
+        let steps = gathered.steps.as_slice();
+        let mut fresh = Machine::reset(alloc, protocol, shape)?;
+        let taken = run_steps(&mut fresh, steps);
+        assert!(rt;
+            taken == steps.len() && fresh.log().equals(&gathered.log),
+            "of {cores} cores"
+        );
+        for core in 0..cores {
+            assert!(rt; ask_rows(steps, rows, core), "core {core} of {cores}");
         }
     }
     Ok(())

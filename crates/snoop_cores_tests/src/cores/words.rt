@@ -43,18 +43,15 @@ fn two_seats_store_to_two_words_of_a_block(rt: HostRuntime) -> Result<(), Fail> 
         Some(Err(SeatFault::NoBlock)),
     ];
     let outside = Some(Err(ViewFault::NoBlock));
-    let Some(shown) = shown else {
-        return Err(Fail::from("a gathering"));
-    };
-    if answers != expected {
-        return Err(Fail::from("answers"));
-    }
-    if watched != [Some(Ok(7)), Some(Ok(9)), outside] || seated != [Some(Ok(9)), outside] {
-        return Err(Fail::from("readings"));
-    }
-    if shown.values != [Some(7), Some(9), Some(0)] {
-        return Err(Fail::from("values"));
-    }
+    assert_eq!(rt; answers, expected);
+    assert_eq!(rt;
+        (watched, seated),
+        ([Some(Ok(7)), Some(Ok(9)), outside], [Some(Ok(9)), outside])
+    );
+    assert_eq!(rt;
+        shown.map(|shown| shown.values),
+        Some([Some(7), Some(9), Some(0)])
+    );
     Ok(())
 }
 
@@ -67,8 +64,6 @@ fn a_work_of_a_word_that_there_is_not(rt: HostRuntime) -> Result<(), Fail> {
     ];
     let steps = bench.steps().len();
     bench.end(&rt);
-    if turns != [Some(AdvanceFault::NoBlock), None] || steps != 1 {
-        return Err(Fail::from("a word that there is not"));
-    }
+    assert_eq!(rt; (turns, steps), ([Some(AdvanceFault::NoBlock), None], 1));
     Ok(())
 }

@@ -122,9 +122,11 @@ fn an_item_out_of_memory_is_published_later(rt: HostRuntime) -> Result<(), Fail>
         .ok()
         .and_then(|readers| readers.reader().or_else(|| readers.reader()));
     let at_first = reader.as_mut().and_then(readings);
-    let added = add_at_last(&rt, &mut log, &mut writer, SENT)
-        && add_at_last(&rt, &mut log, &mut writer, Item::Did(STORED))
-        && add_at_last(&rt, &mut log, &mut writer, Item::Did(LOADED));
+    let added = (
+        add_at_last(&rt, &mut log, &mut writer, SENT),
+        add_at_last(&rt, &mut log, &mut writer, Item::Did(STORED)),
+        add_at_last(&rt, &mut log, &mut writer, Item::Did(LOADED)),
+    );
     let seen = reader.as_mut().and_then(readings);
     writer.end(&rt);
     let totals = Totals {
@@ -135,11 +137,13 @@ fn an_item_out_of_memory_is_published_later(rt: HostRuntime) -> Result<(), Fail>
         get_m: 1,
         ..Totals::default()
     };
-    if !added || at_first != Some((Some(0), Totals::default(), Some((Some(0), None)))) {
-        return Err(Fail::from("what is added, or read at first"));
-    }
-    if seen != Some((Some(7), totals, Some((Some(1), Some(LOADED))))) {
-        return Err(Fail::from("what is read"));
-    }
+    assert_eq!(rt; added, (true, true, true));
+    assert_eq!(rt;
+        (at_first, seen),
+        (
+            Some((Some(0), Totals::default(), Some((Some(0), None)))),
+            Some((Some(7), totals, Some((Some(1), Some(LOADED))))),
+        )
+    );
     Ok(())
 }

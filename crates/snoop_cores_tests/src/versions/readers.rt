@@ -17,8 +17,9 @@ fn no_version_to_read(rt: HostRuntime) -> Result<(), Fail> {
     let read = reader.as_mut().map(|reader| reader.value(1, 0));
     writer.end(&rt);
     let ended = reader.as_mut().map(|reader| (reader.value(1, 0), reader.totals(), reader.own(1)));
-    if !full || read != Some(Some(Some(0))) || ended != Some((None, None, None)) {
-        return Err(Fail::from("versions that are there, or are not"));
-    }
+    assert_eq!(rt;
+        (full, read, ended),
+        (true, Some(Some(Some(0))), Some((None, None, None)))
+    );
     Ok(())
 }

@@ -56,13 +56,13 @@ fn has_loaded(log: &Log) -> Result<bool, NoMemory> {
 
 fn look_at_log(log: &Log) -> Result<(), Fail> {
     if !has_items(log, &block_boundary()) || log.flat(1, 0) != Some(7) {
-        return Err(Fail::from("the log"));
+        Err("the log")?
     }
     if !is_copied(log)? {
-        return Err(Fail::from("its copy"));
+        Err("its copy")?
     }
     if !has_loaded(log)? {
-        return Err(Fail::from("the core's operations"));
+        Err("the core's operations")?
     }
     Ok(())
 }
@@ -91,29 +91,28 @@ fn is_filled(board: &mut Board) -> bool {
 fn a_board_is_made_and_absorbs_without_memory(rt: HostRuntime) -> Result<(), Fail> {
     let mut board = empty_board(rt.alloc(), Shape::new(2, 4, 64)?)?;
     if !is_filled(&mut board) {
-        return Err(Fail::from("the board"));
+        Err("the board")?
     }
     Ok(())
 }
 
-// Whether the report is written, again where it is refused, which leaves a beginning of it.
-fn is_reported_at_last(alloc: Global, log: &Log) -> bool {
+// Writes the report, again where it is refused, which leaves a beginning of it.
+fn look_at_report(alloc: Global, log: &Log) -> Result<(), Fail> {
     let mut report = Vec::new(alloc);
-    if write_report(alloc, &mut report, log).is_ok() {
-        return report.as_slice() == BLOCK_BOUNDARY.as_bytes();
+    let mut is_beginning = true;
+    if write_report(alloc, &mut report, log).is_err() {
+        is_beginning = BLOCK_BOUNDARY.as_bytes().starts_with(&report);
+        report.clear();
+        write_report(alloc, &mut report, log)?;
     }
-    let is_beginning = BLOCK_BOUNDARY.as_bytes().starts_with(&report);
-    report.clear();
-    is_beginning
-        && write_report(alloc, &mut report, log).is_ok()
-        && report.as_slice() == BLOCK_BOUNDARY.as_bytes()
+    if !is_beginning || report.as_slice() != BLOCK_BOUNDARY.as_bytes() {
+        Err(report)?
+    }
+    Ok(())
 }
 
 #[test]
 fn a_report_is_whole_or_a_beginning(rt: HostRuntime) -> Result<(), Fail> {
     let log = full_log(rt.alloc(), Shape::new(2, 4, 64)?)?;
-    if !is_reported_at_last(rt.alloc(), &log) {
-        return Err(Fail::from("the report"));
-    }
-    Ok(())
+    look_at_report(rt.alloc(), &log)
 }

@@ -1,7 +1,6 @@
 //! The tables as matrices.
 
 use snoop_rules::{Protocol, Which, write_matrix};
-use std::alloc::Global;
 use std::test::Fail;
 
 const MSI_MEMORY: &str = "\
@@ -32,38 +31,29 @@ state,Load,Store,Evict,OwnGetS,OwnGetM,OwnPutM,OtherGetS,OtherGetM,OtherPutM,Dat
 I,issue GetS/IS_AD,issue GetM/IM_AD,,,,,none/I,none/I,none/I,,
 ";
 
-// Whether memory's matrix is this one.
-fn is_memory(alloc: Global, protocol: Protocol, matrix: &str) -> bool {
-    let mut text = Vec::new(alloc);
-    write_matrix(alloc, &mut text, protocol, Which::Memory).is_ok()
-        && text.as_slice() == matrix.as_bytes()
-}
-
 #[test]
 fn writes_the_memory_matrices(rt: HostRuntime) -> Result<(), Fail> {
-    if !is_memory(rt.alloc(), Protocol::Msi, MSI_MEMORY) {
-        return Err(Fail::from("MSI"));
-    }
-    if !is_memory(rt.alloc(), Protocol::Mesi, MESI_MEMORY) {
-        return Err(Fail::from("MESI"));
+    for (protocol, matrix) in [(Protocol::Msi, MSI_MEMORY), (Protocol::Mesi, MESI_MEMORY)] {
+        let mut text = Vec::new(rt.alloc());
+        write_matrix(rt.alloc(), &mut text, protocol, Which::Memory)?;
+        if text.as_slice() != matrix.as_bytes() {
+            Err(protocol)?
+        }
     }
     Ok(())
 }
 
-// Whether a cache's matrix begins so.
-fn begins(alloc: Global, protocol: Protocol, beginning: &str) -> bool {
-    let mut text = Vec::new(alloc);
-    write_matrix(alloc, &mut text, protocol, Which::Cache).is_ok()
-        && text.starts_with(beginning.as_bytes())
-}
-
 #[test]
 fn cache_matrices_begin_with_events_and_i(rt: HostRuntime) -> Result<(), Fail> {
-    if !begins(rt.alloc(), Protocol::Msi, MSI_CACHE_BEGINS) {
-        return Err(Fail::from("MSI"));
-    }
-    if !begins(rt.alloc(), Protocol::Mesi, MESI_CACHE_BEGINS) {
-        return Err(Fail::from("MESI"));
+    for (protocol, beginning) in [
+        (Protocol::Msi, MSI_CACHE_BEGINS),
+        (Protocol::Mesi, MESI_CACHE_BEGINS),
+    ] {
+        let mut text = Vec::new(rt.alloc());
+        write_matrix(rt.alloc(), &mut text, protocol, Which::Cache)?;
+        if !text.starts_with(beginning.as_bytes()) {
+            Err(protocol)?
+        }
     }
     Ok(())
 }

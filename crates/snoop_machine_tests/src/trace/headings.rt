@@ -1,11 +1,9 @@
 //! Texts of steps whose first record says what the steps are for.
 
-use crate::trace::texts::{are_read, are_written};
 use snoop_trace::TextFault::{
     BadFields, BadKind, BadNumber, BadVersion, NoBlock, NoCore, OtherShape,
 };
-use snoop_trace::{Protocol, Shape, Step, TextFault, read_rows, read_steps};
-use std::alloc::Global;
+use snoop_trace::{Protocol, Shape, Step, TextFault, read_rows, read_steps, write_steps};
 use std::test::Fail;
 
 /// Texts whose steps are `O,0` and `R,64`, under MSI with 2 cores, 4 blocks and 64 bytes a block.
@@ -23,12 +21,15 @@ fn a_heading_is_no_step(rt: HostRuntime) -> Result<(), Fail> {
     let shape = Shape::new(2, 4, 64)?;
     let steps = [Step::Order { core: 0 }, Step::Respond { block: 1 }];
     for text in &TAKEN {
-        if !are_read(rt.alloc(), Protocol::Msi, shape, &steps, text.as_bytes()) {
-            return Err(Fail::from(*text));
+        let read = read_steps(rt.alloc(), &mut text.as_bytes(), Protocol::Msi, shape)?;
+        if read.as_slice() != steps.as_slice() {
+            Err(*text)?
         }
     }
-    if !are_read(rt.alloc(), Protocol::Msi, shape, &[], b"V,2,msi,2,4,64,1") {
-        return Err(Fail::from("a heading alone"));
+    let mut alone = b"V,2,msi,2,4,64,1".as_slice();
+    let read = read_steps(rt.alloc(), &mut alone, Protocol::Msi, shape)?;
+    if !read.is_empty() {
+        Err("a heading alone")?
     }
     Ok(())
 }
@@ -76,18 +77,13 @@ static REFUSED: [(&str, TextFault); 39] = [
     (" V,2,msi,2,4,64,1", BadKind(1)),
 ];
 
-/// Why no steps are read from the text.
-fn refused(alloc: Global, protocol: Protocol, shape: Shape, text: &[u8]) -> Option<TextFault> {
-    let mut reader = text;
-    read_steps(alloc, &mut reader, protocol, shape).err()
-}
-
 #[test]
 fn the_first_fault_of_a_heading(rt: HostRuntime) -> Result<(), Fail> {
     let shape = Shape::new(2, 4, 64)?;
     for (text, fault) in &REFUSED {
-        if refused(rt.alloc(), Protocol::Msi, shape, text.as_bytes()) != Some(*fault) {
-            return Err(Fail::from(*text));
+        let read = read_steps(rt.alloc(), &mut text.as_bytes(), Protocol::Msi, shape);
+        if read.err() != Some(*fault) {
+            Err(*text)?
         }
     }
     Ok(())
@@ -98,38 +94,31 @@ fn a_heading_that_is_cut_off(rt: HostRuntime) -> Result<(), Fail> {
     let shape = Shape::new(2, 4, 64)?;
     let heading = b"V,2,mesi,2,4,64,1".as_slice();
     for cut in 0..heading.len() {
+        let read = read_steps(rt.alloc(), &mut &heading[..cut], Protocol::Mesi, shape);
         let fault = match cut {
             0 => None,
             // The last field is empty.
             2 | 16 => Some(BadNumber(1)),
             _ => Some(BadFields(1)),
         };
-        if refused(rt.alloc(), Protocol::Mesi, shape, &heading[..cut]) != fault {
-            return Err(Fail::from(cut));
+        if read.err() != fault {
+            Err(cut)?
         }
     }
     Ok(())
 }
 
-/// Texts of rows, and their records that are headings.
-static OF_ROWS: [(&str, u64); 3] = [
-    ("V,2,msi,2,4,64,1\nL,0,0", 1),
-    ("V", 1),
-    ("L,0,0\nV,2,msi,2,4,64,1", 2),
-];
-
-/// Why no rows are read from the text.
-fn rows_refused(alloc: Global, shape: Shape, text: &[u8]) -> Option<TextFault> {
-    let mut reader = text;
-    read_rows(alloc, &mut reader, shape).err()
-}
-
 #[test]
 fn rows_have_no_heading(rt: HostRuntime) -> Result<(), Fail> {
     let shape = Shape::new(2, 4, 64)?;
-    for (text, number) in &OF_ROWS {
-        if rows_refused(rt.alloc(), shape, text.as_bytes()) != Some(BadKind(*number)) {
-            return Err(Fail::from(*text));
+    for (text, n) in [
+        ("V,2,msi,2,4,64,1\nL,0,0", 1),
+        ("V", 1),
+        ("L,0,0\nV,2,msi,2,4,64,1", 2),
+    ] {
+        let read = read_rows(rt.alloc(), &mut text.as_bytes(), shape);
+        if read.err() != Some(BadKind(n)) {
+            Err(text)?
         }
     }
     Ok(())
@@ -139,9 +128,10 @@ fn rows_have_no_heading(rt: HostRuntime) -> Result<(), Fail> {
 fn a_written_text_is_for_its_own_machine(rt: HostRuntime) -> Result<(), Fail> {
     let alloc = rt.alloc();
     let shape = Shape::with_words(2, 4, 64, 2)?;
-    let text = b"V,2,msi,2,4,64,2\n";
-    if !are_written(alloc, Protocol::Msi, shape, &[], text) {
-        return Err(Fail::from("the heading"));
+    let mut text = Vec::new(alloc);
+    write_steps(alloc, &mut text, Protocol::Msi, shape, &[])?;
+    if text.as_slice() != b"V,2,msi,2,4,64,2\n".as_slice() {
+        Err("the heading")?
     }
     let others = [
         (Protocol::Mesi, shape),
@@ -151,8 +141,9 @@ fn a_written_text_is_for_its_own_machine(rt: HostRuntime) -> Result<(), Fail> {
         (Protocol::Msi, Shape::with_words(2, 4, 64, 4)?),
     ];
     for (protocol, shape) in &others {
-        if refused(alloc, *protocol, *shape, text) != Some(OtherShape(1)) {
-            return Err(Fail::from(*shape));
+        let read = read_steps(alloc, &mut text.as_slice(), *protocol, *shape);
+        if read.err() != Some(OtherShape(1)) {
+            Err(*shape)?
         }
     }
     Ok(())

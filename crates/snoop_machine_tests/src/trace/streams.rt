@@ -44,14 +44,16 @@ impl Read for Failing<'_> {
     }
 }
 
-// Whether the steps are read where so many bytes are given in all.
-fn read_some(alloc: Global, shape: Shape, a_call: usize, left: usize) -> Result<bool, TextFault> {
+// The steps that are read where so many bytes are given in all.
+fn read_some(
+    alloc: Global,
+    shape: Shape,
+    a_call: usize,
+    left: usize,
+) -> Result<Vec<Step>, TextFault> {
     let text = TEXT;
     let mut reader = AnyReader::new(Failing { text, a_call, left });
-    match read_steps(alloc, &mut reader, Protocol::Msi, shape) {
-        Ok(steps) => Ok(steps.as_slice() == STEPS.as_slice()),
-        Err(fault) => Err(fault),
-    }
+    read_steps(alloc, &mut reader, Protocol::Msi, shape)
 }
 
 #[test]
@@ -59,12 +61,13 @@ fn a_reader_that_fails(rt: HostRuntime) -> Result<(), Fail> {
     let shape = Shape::new(2, 4, 64)?;
     for a_call in [1, 5, 100] {
         for left in 0..TEXT.len() {
-            if read_some(rt.alloc(), shape, a_call, left) != Err(TextFault::Read) {
-                return Err(Fail::from(left));
+            if read_some(rt.alloc(), shape, a_call, left).err() != Some(TextFault::Read) {
+                Err(left)?
             }
         }
-        if read_some(rt.alloc(), shape, a_call, 100) != Ok(true) {
-            return Err(Fail::from(a_call));
+        let steps = read_some(rt.alloc(), shape, a_call, 100)?;
+        if steps.as_slice() != STEPS.as_slice() {
+            Err(a_call)?
         }
     }
     Ok(())
@@ -88,7 +91,7 @@ fn an_earlier_faulty_record_decides(rt: HostRuntime) -> Result<(), Fail> {
                 TextFault::BadKind(2)
             };
             if rows_refused(rt.alloc(), shape, a_call, left) != Some(wanted) {
-                return Err(Fail::from(left));
+                Err(left)?
             }
         }
     }
@@ -126,7 +129,7 @@ fn a_writer_that_fails(rt: HostRuntime) -> Result<(), Fail> {
         for (a_call, calls) in [(1, TEXT.len()), (100, 2)] {
             for call in 0..=calls {
                 if !is_written(rt.alloc(), shape, failure, a_call, call, calls) {
-                    return Err(Fail::from(call));
+                    Err(call)?
                 }
             }
         }
@@ -147,7 +150,7 @@ fn has_a_heading(alloc: Global, shape: Shape) -> bool {
 #[test]
 fn no_steps_are_the_first_line_alone(rt: HostRuntime) -> Result<(), Fail> {
     if !has_a_heading(rt.alloc(), Shape::new(2, 4, 64)?) {
-        return Err(Fail::from("the first line"));
+        Err("the first line")?
     }
     Ok(())
 }

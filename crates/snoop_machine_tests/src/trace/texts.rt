@@ -2,7 +2,6 @@
 
 use snoop_trace::streams::{CHUNK, gather_steps, spill, write_whole};
 use snoop_trace::{Op, Protocol, Row, Shape, ShapeFault, Step, read_rows, read_steps, write_steps};
-use std::alloc::Global;
 use std::io;
 use std::test::Fail;
 
@@ -33,61 +32,33 @@ static STEPS: [Step; 5] = [
 const TEXT: &str =
     "V,2,mesi,256,65536,4096,1\nL,0,0\nS,255,268431360,18446744073709551615\nE,10,4096\nO,100\nR,12288\n";
 
-/// Whether the steps are written as this text.
-pub(super) fn are_written(
-    alloc: Global,
-    protocol: Protocol,
-    shape: Shape,
-    steps: &[Step],
-    text: &[u8],
-) -> bool {
-    let mut written = Vec::new(alloc);
-    write_steps(alloc, &mut &mut written, protocol, shape, steps).is_ok()
-        && written.as_slice() == text
-}
-
-/// Whether these steps are read from the text.
-pub(super) fn are_read(
-    alloc: Global,
-    protocol: Protocol,
-    shape: Shape,
-    steps: &[Step],
-    text: &[u8],
-) -> bool {
-    let mut reader = text;
-    match read_steps(alloc, &mut reader, protocol, shape) {
-        Ok(read) => read.as_slice() == steps,
-        Err(_) => false,
-    }
-}
-
 #[test]
 fn steps_are_written_and_read_again(rt: HostRuntime) -> Result<(), Fail> {
     let alloc = rt.alloc();
     let shape = Shape::new(256, 65536, 4096)?;
+    let mut text = Vec::new(alloc);
+    write_steps(alloc, &mut &mut text, Protocol::Mesi, shape, &STEPS)?;
     write_steps(alloc, &mut io::sink(), Protocol::Mesi, shape, &STEPS)?;
-    if !are_written(alloc, Protocol::Mesi, shape, &STEPS, TEXT.as_bytes()) {
-        return Err(Fail::from("the text"));
-    }
-    if !are_read(alloc, Protocol::Mesi, shape, &STEPS, TEXT.as_bytes()) {
-        return Err(Fail::from("the steps"));
+    let steps = read_steps(alloc, &mut text.as_slice(), Protocol::Mesi, shape)?;
+    if text.as_slice() != TEXT.as_bytes() || steps.as_slice() != STEPS.as_slice() {
+        Err(text)?
     }
     Ok(())
 }
 
-/// Whether the steps are gathered from their text.
-fn are_gathered(alloc: Global, shape: Shape) -> bool {
-    let none: Vec<Step> = Vec::new(alloc);
-    match gather_steps(alloc, &mut TEXT.as_bytes(), Protocol::Mesi, shape, none) {
-        Ok(gathered) => gathered.as_slice() == STEPS.as_slice(),
-        Err(_) => false,
-    }
-}
-
 #[test]
 fn steps_are_gathered(rt: HostRuntime) -> Result<(), Fail> {
-    if !are_gathered(rt.alloc(), Shape::new(256, 65536, 4096)?) {
-        return Err(Fail::from("the steps"));
+    let shape = Shape::new(256, 65536, 4096)?;
+    let none: Vec<Step> = Vec::new(rt.alloc());
+    let gathered = gather_steps(
+        rt.alloc(),
+        &mut TEXT.as_bytes(),
+        Protocol::Mesi,
+        shape,
+        none,
+    )?;
+    if gathered.as_slice() != STEPS.as_slice() {
+        Err(gathered)?
     }
     Ok(())
 }
@@ -110,25 +81,21 @@ static ROWS: [Row; 3] = [
     },
 ];
 
-/// Whether the rows are read from a text of theirs.
-fn are_rows_read(alloc: Global, shape: Shape) -> bool {
-    let mut text = b"S,1,0x7f,2\n\"L\",0,65\r\nE,1,255".as_slice();
-    match read_rows(alloc, &mut text, shape) {
-        Ok(rows) => rows.as_slice() == ROWS.as_slice(),
-        Err(_) => false,
-    }
-}
-
 #[test]
 fn rows_keep_their_addresses(rt: HostRuntime) -> Result<(), Fail> {
-    if !are_rows_read(rt.alloc(), Shape::new(2, 4, 64)?) {
-        return Err(Fail::from("the rows"));
+    let shape = Shape::new(2, 4, 64)?;
+    let mut text = b"S,1,0x7f,2\n\"L\",0,65\r\nE,1,255".as_slice();
+    let rows = read_rows(rt.alloc(), &mut text, shape)?;
+    if rows.as_slice() != ROWS.as_slice() {
+        Err(rows)?
     }
     Ok(())
 }
 
-/// Twenty thousand stores.
-fn many_steps(alloc: Global) -> Result<Vec<Step>, Fail> {
+#[test]
+fn a_long_text_is_written_in_chunks(rt: HostRuntime) -> Result<(), Fail> {
+    let alloc = rt.alloc();
+    let shape = Shape::new(2, 4, 64)?;
     let mut steps = Vec::new(alloc);
     for value in 0..20_000 {
         steps.push(Step::Ask {
@@ -138,39 +105,15 @@ fn many_steps(alloc: Global) -> Result<Vec<Step>, Fail> {
             op: Op::Store(value),
         })?;
     }
-    Ok(steps)
-}
-
-/// Whether the steps' text has so many bytes, and the steps are read from it.
-fn are_written_in_chunks(alloc: Global, shape: Shape, steps: &[Step], length: usize) -> bool {
     let mut text = Vec::new(alloc);
-    write_steps(alloc, &mut text, Protocol::Msi, shape, steps).is_ok()
-        && text.len() == length
-        && are_read(alloc, Protocol::Msi, shape, steps, &text)
-}
-
-#[test]
-fn a_long_text_is_written_in_chunks(rt: HostRuntime) -> Result<(), Fail> {
-    let shape = Shape::new(2, 4, 64)?;
-    let steps = many_steps(rt.alloc())?;
+    write_steps(alloc, &mut text, Protocol::Msi, shape, &steps)?;
+    let again = read_steps(alloc, &mut text.as_slice(), Protocol::Msi, shape)?;
     // The first line has 17 bytes; each other has eight, its value and its end.
     let length = 17 + 9 * 20_000 + 10 + 180 + 2_700 + 36_000 + 50_000;
-    if !are_written_in_chunks(rt.alloc(), shape, &steps, length) {
-        return Err(Fail::from("a long text"));
+    if text.len() != length || again.as_slice() != steps.as_slice() {
+        Err(text.len())?
     }
     Ok(())
-}
-
-/// Spills what lacks a byte of a full chunk, behind six bytes, and then the full chunk.
-fn are_spilled(held: &mut Vec<u8>, chunk: &mut Vec<u8>) -> bool {
-    spill(held, chunk).is_ok()
-        && held.len() == 6
-        && chunk.len() == CHUNK - 1
-        && chunk.push(b'y').is_ok()
-        && spill(held, chunk).is_ok()
-        && held.len() == 6 + CHUNK
-        && chunk.is_empty()
-        && held.last() == Some(&b'y')
 }
 
 #[test]
@@ -178,8 +121,14 @@ fn a_full_chunk_is_spilled(rt: HostRuntime) -> Result<(), Fail> {
     let mut held = Vec::new(rt.alloc());
     write_whole(&mut held, b"begun ")?;
     let mut chunk = vec![in rt.alloc(); b'x'; CHUNK - 1]?;
-    if !are_spilled(&mut held, &mut chunk) {
-        return Err(Fail::from("a chunk"));
+    spill(&mut held, &mut chunk)?;
+    if held.len() != 6 || chunk.len() != CHUNK - 1 {
+        Err("a chunk that is not full")?
+    }
+    chunk.push(b'y')?;
+    spill(&mut held, &mut chunk)?;
+    if held.len() != 6 + CHUNK || !chunk.is_empty() || held.last() != Some(&b'y') {
+        Err("a full chunk")?
     }
     Ok(())
 }
@@ -211,15 +160,16 @@ static OF_WORDS: [Step; 4] = [
 fn a_step_is_written_with_the_first_address_of_its_word(rt: HostRuntime) -> Result<(), Fail> {
     let alloc = rt.alloc();
     let shape = Shape::with_words(2, 4, 64, 8)?;
-    let text = b"L,0,63\nS,1,72,5\nE,1,255\nR,255";
-    let written = b"V,2,msi,2,4,64,8\nL,0,56\nS,1,72,5\nE,1,192\nR,192\n";
-    if !are_read(alloc, Protocol::Msi, shape, &OF_WORDS, text)
-        || !are_read(alloc, Protocol::Msi, shape, &OF_WORDS, written)
-    {
-        return Err(Fail::from("the steps"));
+    let mut text = b"L,0,63\nS,1,72,5\nE,1,255\nR,255".as_slice();
+    let steps = read_steps(alloc, &mut text, Protocol::Msi, shape)?;
+    let mut written = Vec::new(alloc);
+    write_steps(alloc, &mut written, Protocol::Msi, shape, &steps)?;
+    let again = read_steps(alloc, &mut written.as_slice(), Protocol::Msi, shape)?;
+    if steps.as_slice() != OF_WORDS.as_slice() || again.as_slice() != OF_WORDS.as_slice() {
+        Err(steps)?
     }
-    if !are_written(alloc, Protocol::Msi, shape, &OF_WORDS, written) {
-        return Err(Fail::from("the text"));
+    if written.as_slice() != b"V,2,msi,2,4,64,8\nL,0,56\nS,1,72,5\nE,1,192\nR,192\n".as_slice() {
+        Err(written)?
     }
     Ok(())
 }
@@ -243,7 +193,7 @@ static SHAPES: [(u32, u32, u32, Option<ShapeFault>); 11] = [
 fn words_that_blocks_can_have() -> Result<(), Fail> {
     for (cores, bytes, words, fault) in &SHAPES {
         if Shape::with_words(*cores, 4, *bytes, *words).err() != *fault {
-            return Err(Fail::from((*bytes, *words)));
+            Err((*bytes, *words))?
         }
     }
     Ok(())
@@ -259,10 +209,10 @@ fn words_of_addresses() -> Result<(), Fail> {
         shape.word_of(127),
     ];
     if shape.words() != 4 || Shape::new(2, 4, 64)?.words() != 1 || words != [0, 0, 1, 3] {
-        return Err(Fail::from(words));
+        Err(words)?
     }
     if shape.address_of(2) != 128 || shape.block_of(shape.address_of(3)) != Some(3) {
-        return Err(Fail::from(shape.address_of(2)));
+        Err(shape.address_of(2))?
     }
     Ok(())
 }

@@ -87,11 +87,11 @@ step   core 0          bus                 memory      line
 fn is_drawn(
     alloc: Global,
     text: &str,
-    shape: Shape,
     charset: Charset,
     choice: Choice,
     expected: &str,
-) -> bool {
+) -> Result<bool, Fail> {
+    let shape = Shape::new(2, 4, 64)?;
     let mut reader = text.as_bytes();
     let mut drawn = Vec::new(alloc);
     simulate_drawing(
@@ -103,58 +103,53 @@ fn is_drawn(
         Input::Steps,
         charset,
         choice,
-    )
-    .is_ok()
-        && drawn.as_slice() == expected.as_bytes()
+    )?;
+    Ok(drawn.as_slice() == expected.as_bytes())
 }
 
-// Whether the drawing of all its steps and blocks is this one.
-fn is_all_drawn(alloc: Global, text: &str, charset: Charset, expected: &str) -> Result<bool, Fail> {
-    let shape = Shape::new(2, 4, 64)?;
-    let all = Choice::new(shape, None, 1, u64::MAX)?;
-    Ok(is_drawn(alloc, text, shape, charset, all, expected))
+// All steps of all blocks.
+fn all() -> Result<Choice, Fail> {
+    Ok(Choice::new(Shape::new(2, 4, 64)?, None, 1, u64::MAX)?)
 }
 
 #[test]
 fn an_upgrade_race(rt: HostRuntime) -> Result<(), Fail> {
-    if !is_all_drawn(rt.alloc(), RACE, Charset::Unicode, RACE_DRAWN)? {
-        return Err(Fail::from("the race"));
+    if !is_drawn(rt.alloc(), RACE, Charset::Unicode, all()?, RACE_DRAWN)? {
+        Err("the race")?
     }
     Ok(())
 }
 
 #[test]
 fn a_first_load_in_ascii(rt: HostRuntime) -> Result<(), Fail> {
-    if !is_all_drawn(rt.alloc(), LOAD, Charset::Ascii, LOAD_DRAWN)? {
-        return Err(Fail::from("the load"));
+    if !is_drawn(rt.alloc(), LOAD, Charset::Ascii, all()?, LOAD_DRAWN)? {
+        Err("the load")?
     }
     Ok(())
 }
 
 #[test]
 fn a_writeback_and_what_is_refused(rt: HostRuntime) -> Result<(), Fail> {
-    if !is_all_drawn(rt.alloc(), WRITEBACK, Charset::Unicode, WRITEBACK_DRAWN)? {
-        return Err(Fail::from("the writeback"));
+    if !is_drawn(
+        rt.alloc(),
+        WRITEBACK,
+        Charset::Unicode,
+        all()?,
+        WRITEBACK_DRAWN,
+    )? {
+        Err("the writeback")?
     }
     Ok(())
 }
 
 #[test]
 fn some_steps_of_one_block(rt: HostRuntime) -> Result<(), Fail> {
-    let shape = Shape::new(2, 4, 64)?;
-    let choice = Choice::new(shape, Some(1), 2, 5)?;
+    let choice = Choice::new(Shape::new(2, 4, 64)?, Some(1), 2, 5)?;
     if choice.block() != Some(1) || choice.from() != 2 || choice.to() != 5 {
-        return Err(Fail::from("the choice"));
+        Err("the choice")?
     }
-    if !is_drawn(
-        rt.alloc(),
-        BEHIND,
-        shape,
-        Charset::Unicode,
-        choice,
-        BEHIND_DRAWN,
-    ) {
-        return Err(Fail::from("the block"));
+    if !is_drawn(rt.alloc(), BEHIND, Charset::Unicode, choice, BEHIND_DRAWN)? {
+        Err("the block")?
     }
     Ok(())
 }

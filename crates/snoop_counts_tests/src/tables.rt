@@ -80,13 +80,8 @@ const GIVEN_UP: &str =
 
 const GIVEN_UP_BY_BLOCK: &str = "0,0,2,2,2,2,0,2,0,2,2,1,3,1,0,0,1,4,2,2,0,0,0,0,1,0,0,1,0,0,0\n";
 
-// Whether a table has these fields, then these lines.
-fn is_table(out: &[u8], fields: &str, lines: &str) -> bool {
-    out.strip_prefix(fields.as_bytes()) == Some(lines.as_bytes())
-}
-
-// Whether the counts of the steps by core, under MSI, are these.
-fn are_by_core(alloc: Global, text: &str, shape: Shape, lines: &str) -> bool {
+// The counts of the steps by core, under MSI.
+fn by_core(alloc: Global, text: &str, shape: Shape) -> Result<Vec<u8>, Fail> {
     let mut text = text.as_bytes();
     let mut out = Vec::new(alloc);
     simulate_counts_by_core(
@@ -96,13 +91,12 @@ fn are_by_core(alloc: Global, text: &str, shape: Shape, lines: &str) -> bool {
         Protocol::Msi,
         shape,
         Input::Steps,
-    )
-    .is_ok()
-        && is_table(&out, CORE_FIELDS, lines)
+    )?;
+    Ok(out)
 }
 
-// Whether those by block are, of all blocks or of so many.
-fn are_by_block(alloc: Global, text: &str, shape: Shape, top: Option<u32>, lines: &str) -> bool {
+// Those by block, of all blocks or of so many, with one word a block.
+fn by_block(alloc: Global, text: &str, top: Option<u32>) -> Result<Vec<u8>, Fail> {
     let mut text = text.as_bytes();
     let mut out = Vec::new(alloc);
     simulate_counts_by_block(
@@ -110,16 +104,15 @@ fn are_by_block(alloc: Global, text: &str, shape: Shape, top: Option<u32>, lines
         &mut text,
         &mut out,
         Protocol::Msi,
-        shape,
+        Shape::new(2, 4, 64)?,
         Input::Steps,
         top,
-    )
-    .is_ok()
-        && is_table(&out, BLOCK_FIELDS, lines)
+    )?;
+    Ok(out)
 }
 
-// Whether those by word are.
-fn are_by_word(alloc: Global, text: &str, shape: Shape, lines: &str) -> bool {
+// Those by word.
+fn by_word(alloc: Global, text: &str, shape: Shape) -> Result<Vec<u8>, Fail> {
     let mut text = text.as_bytes();
     let mut out = Vec::new(alloc);
     simulate_counts_by_word(
@@ -129,14 +122,86 @@ fn are_by_word(alloc: Global, text: &str, shape: Shape, lines: &str) -> bool {
         Protocol::Msi,
         shape,
         Input::Steps,
-    )
-    .is_ok()
-        && is_table(&out, WORD_FIELDS, lines)
+    )?;
+    Ok(out)
 }
 
-// Whether those of so many steps each are.
-fn are_by_steps(alloc: Global, text: &str, shape: Shape, each: NonZeroU64, lines: &str) -> bool {
-    let mut text = text.as_bytes();
+// Whether a table has these fields, then these lines.
+fn is_table(out: &[u8], fields: &str, lines: &str) -> bool {
+    out.strip_prefix(fields.as_bytes()) == Some(lines.as_bytes())
+}
+
+#[test]
+fn counts_of_an_upgrade_race(rt: HostRuntime) -> Result<(), Fail> {
+    let out = by_core(rt.alloc(), RACE, Shape::new(2, 4, 64)?)?;
+    if !is_table(&out, CORE_FIELDS, RACE_BY_CORE) {
+        Err("by core")?
+    }
+    Ok(())
+}
+
+#[test]
+fn counts_of_two_blocks(rt: HostRuntime) -> Result<(), Fail> {
+    let out = by_block(rt.alloc(), TWO_BLOCKS, None)?;
+    if !is_table(&out, BLOCK_FIELDS, TWO_BLOCKS_BY_BLOCK) {
+        Err("all blocks")?
+    }
+    Ok(())
+}
+
+#[test]
+fn block_of_most_requests(rt: HostRuntime) -> Result<(), Fail> {
+    let out = by_block(rt.alloc(), TWO_BLOCKS, Some(1))?;
+    if !is_table(&out, BLOCK_FIELDS, FIRST_BLOCK) {
+        Err("one block")?
+    }
+    Ok(())
+}
+
+#[test]
+fn causes_of_shared_words(rt: HostRuntime) -> Result<(), Fail> {
+    let out = by_core(rt.alloc(), SHARED_FALSELY, Shape::with_words(2, 4, 64, 8)?)?;
+    if !is_table(&out, CORE_FIELDS, SHARED_FALSELY_BY_CORE) {
+        Err("by core")?
+    }
+    Ok(())
+}
+
+#[test]
+fn causes_of_copies_that_were_given_up(rt: HostRuntime) -> Result<(), Fail> {
+    let out = by_block(rt.alloc(), GIVEN_UP, None)?;
+    if !is_table(&out, BLOCK_FIELDS, GIVEN_UP_BY_BLOCK) {
+        Err("by block")?
+    }
+    Ok(())
+}
+
+#[test]
+fn counts_of_shared_words(rt: HostRuntime) -> Result<(), Fail> {
+    let out = by_word(rt.alloc(), SHARED_FALSELY, Shape::with_words(2, 4, 64, 8)?)?;
+    if !is_table(&out, WORD_FIELDS, SHARED_FALSELY_BY_WORD) {
+        Err("by word")?
+    }
+    Ok(())
+}
+
+#[test]
+fn words_of_no_shared_block(rt: HostRuntime) -> Result<(), Fail> {
+    let out = by_word(rt.alloc(), TWO_BLOCKS, Shape::new(2, 4, 64)?)?;
+    if !is_table(&out, WORD_FIELDS, "") {
+        Err("by word")?
+    }
+    Ok(())
+}
+
+#[test]
+fn counts_of_each_six_steps(rt: HostRuntime) -> Result<(), Fail> {
+    let alloc = rt.alloc();
+    let shape = Shape::new(2, 4, 64)?;
+    let Some(six) = NonZeroU64::new(6) else {
+        return Err("six")?;
+    };
+    let mut text = RACE.as_bytes();
     let mut out = Vec::new(alloc);
     simulate_counts_by_steps(
         alloc,
@@ -145,81 +210,10 @@ fn are_by_steps(alloc: Global, text: &str, shape: Shape, each: NonZeroU64, lines
         Protocol::Msi,
         shape,
         Input::Steps,
-        each,
-    )
-    .is_ok()
-        && is_table(&out, STEPS_FIELDS, lines)
-}
-
-#[test]
-fn counts_of_an_upgrade_race(rt: HostRuntime) -> Result<(), Fail> {
-    if !are_by_core(rt.alloc(), RACE, Shape::new(2, 4, 64)?, RACE_BY_CORE) {
-        return Err(Fail::from("by core"));
-    }
-    Ok(())
-}
-
-#[test]
-fn counts_of_two_blocks(rt: HostRuntime) -> Result<(), Fail> {
-    let shape = Shape::new(2, 4, 64)?;
-    if !are_by_block(rt.alloc(), TWO_BLOCKS, shape, None, TWO_BLOCKS_BY_BLOCK) {
-        return Err(Fail::from("all blocks"));
-    }
-    Ok(())
-}
-
-#[test]
-fn block_of_most_requests(rt: HostRuntime) -> Result<(), Fail> {
-    let shape = Shape::new(2, 4, 64)?;
-    if !are_by_block(rt.alloc(), TWO_BLOCKS, shape, Some(1), FIRST_BLOCK) {
-        return Err(Fail::from("one block"));
-    }
-    Ok(())
-}
-
-#[test]
-fn causes_of_shared_words(rt: HostRuntime) -> Result<(), Fail> {
-    let shape = Shape::with_words(2, 4, 64, 8)?;
-    if !are_by_core(rt.alloc(), SHARED_FALSELY, shape, SHARED_FALSELY_BY_CORE) {
-        return Err(Fail::from("by core"));
-    }
-    Ok(())
-}
-
-#[test]
-fn causes_of_copies_that_were_given_up(rt: HostRuntime) -> Result<(), Fail> {
-    let shape = Shape::new(2, 4, 64)?;
-    if !are_by_block(rt.alloc(), GIVEN_UP, shape, None, GIVEN_UP_BY_BLOCK) {
-        return Err(Fail::from("by block"));
-    }
-    Ok(())
-}
-
-#[test]
-fn counts_of_shared_words(rt: HostRuntime) -> Result<(), Fail> {
-    let shape = Shape::with_words(2, 4, 64, 8)?;
-    if !are_by_word(rt.alloc(), SHARED_FALSELY, shape, SHARED_FALSELY_BY_WORD) {
-        return Err(Fail::from("by word"));
-    }
-    Ok(())
-}
-
-#[test]
-fn words_of_no_shared_block(rt: HostRuntime) -> Result<(), Fail> {
-    if !are_by_word(rt.alloc(), TWO_BLOCKS, Shape::new(2, 4, 64)?, "") {
-        return Err(Fail::from("by word"));
-    }
-    Ok(())
-}
-
-#[test]
-fn counts_of_each_six_steps(rt: HostRuntime) -> Result<(), Fail> {
-    let shape = Shape::new(2, 4, 64)?;
-    let Some(six) = NonZeroU64::new(6) else {
-        return Err(Fail::from("six"));
-    };
-    if !are_by_steps(rt.alloc(), RACE, shape, six, RACE_BY_STEPS) {
-        return Err(Fail::from("by steps"));
+        six,
+    )?;
+    if !is_table(&out, STEPS_FIELDS, RACE_BY_STEPS) {
+        return Err("by steps")?;
     }
     Ok(())
 }

@@ -27,13 +27,13 @@ fn ends(alloc: Global, text: &[u8], shape: Shape, choice: Choice) -> Result<(), 
 fn choices(_rt: HostRuntime) -> Result<(), Fail> {
     let shape = Shape::new(2, 4, 64)?;
     if Choice::new(shape, Some(4), 0, 1) != Err(ChoiceFault::BadBlock) {
-        return Err(Fail::from("a block that there isn't"));
+        Err("a block that there isn't")?
     }
     if Choice::new(shape, Some(3), 0, 1) != Err(ChoiceFault::BadRange) {
-        return Err(Fail::from("the number 0"));
+        Err("the number 0")?
     }
     if Choice::new(shape, None, 3, 2) != Err(ChoiceFault::BadRange) {
-        return Err(Fail::from("an end before the beginning"));
+        Err("an end before the beginning")?
     }
     Ok(())
 }
@@ -46,7 +46,7 @@ fn a_faulty_text(rt: HostRuntime) -> Result<(), Fail> {
     if ends(rt.alloc(), b"L,2,0\n", shape, choice)
         != Err(DrawFault::Simulation(SimFault::Text(fault)))
     {
-        return Err(Fail::from("the fault"));
+        Err("the fault")?
     }
     Ok(())
 }
@@ -69,14 +69,12 @@ fn wide_text(alloc: Global) -> Result<Vec<u8>, Fail> {
 fn a_million_cells_and_no_more(rt: HostRuntime) -> Result<(), Fail> {
     let alloc = rt.alloc();
     let shape = Shape::new(35, 28, 64)?;
-    let large = Choice::new(shape, None, 1, 1000)?;
-    let small = Choice::new(shape, None, 1, 999)?;
     let text = wide_text(alloc)?;
-    if ends(alloc, &text, shape, large) != Err(DrawFault::TooLarge) {
-        return Err(Fail::from("a thousand rows"));
+    if ends(alloc, &text, shape, Choice::new(shape, None, 1, 1000)?) != Err(DrawFault::TooLarge) {
+        Err("a thousand rows")?
     }
-    if ends(alloc, &text, shape, small) != Ok(()) {
-        return Err(Fail::from("a row less"));
+    if ends(alloc, &text, shape, Choice::new(shape, None, 1, 999)?) != Ok(()) {
+        Err("a row less")?
     }
     Ok(())
 }

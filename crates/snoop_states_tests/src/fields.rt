@@ -62,15 +62,18 @@ step,record,reply,block,controller,event,before,action,after,value,place
 6,\"R,0\",\"Data from memory, store 6\",0,core 1,Data,IM_D,fill store,M,6,
 ";
 
-/// Whether the fields of a text under MSI are these.
-fn are_written(
+/// Whether the fields of a text under MSI, with 2 cores and 4 blocks of 64 bytes, are these.
+fn writes(
     alloc: Global,
     text: &[u8],
-    shape: Shape,
     input: Input,
-    choice: Choice,
+    block: Option<u32>,
+    from: u64,
+    to: u64,
     output: &str,
-) -> bool {
+) -> Result<bool, Fail> {
+    let shape = Shape::new(2, 4, 64)?;
+    let choice = Choice::new(shape, block, from, to)?;
     let mut reader = text;
     let mut written = Vec::new(alloc);
     simulate_states(
@@ -81,51 +84,64 @@ fn are_written(
         shape,
         input,
         choice,
-    )
-    .is_ok()
-        && written.as_slice() == output.as_bytes()
-}
-
-/// Looks at them, with 2 cores and 4 blocks of 64 bytes, for some steps of a block or of all.
-fn expect(
-    alloc: Global,
-    text: &[u8],
-    input: Input,
-    block: Option<u32>,
-    from: u64,
-    to: u64,
-    output: &str,
-) -> Result<(), Fail> {
-    let shape = Shape::new(2, 4, 64)?;
-    let choice = Choice::new(shape, block, from, to)?;
-    if !are_written(alloc, text, shape, input, choice, output) {
-        return Err(Fail::from(from));
-    }
-    Ok(())
+    )?;
+    Ok(written.as_slice() == output.as_bytes())
 }
 
 /// Some steps, one block, and no step at all.
 #[test]
 fn choices(rt: HostRuntime) -> Result<(), Fail> {
-    let alloc = rt.alloc();
-    expect(alloc, STEPS, Input::Steps, None, 3, 6, SOME_STEPS)?;
-    expect(alloc, STEPS, Input::Steps, Some(1), 1, u64::MAX, ONE_BLOCK)?;
-    expect(alloc, STEPS, Input::Steps, Some(3), 1, u64::MAX, NO_STEP)?;
-    expect(alloc, STEPS, Input::Steps, None, 8, 9, NO_STEP)
+    assert!(rt; writes(rt.alloc(), STEPS, Input::Steps, None, 3, 6, SOME_STEPS)?);
+    assert!(rt;
+        writes(
+            rt.alloc(),
+            STEPS,
+            Input::Steps,
+            Some(1),
+            1,
+            u64::MAX,
+            ONE_BLOCK
+        )?
+    );
+    assert!(rt;
+        writes(
+            rt.alloc(),
+            STEPS,
+            Input::Steps,
+            Some(3),
+            1,
+            u64::MAX,
+            NO_STEP
+        )?
+    );
+    assert!(rt; writes(rt.alloc(), STEPS, Input::Steps, None, 8, 9, NO_STEP)?);
+    Ok(())
 }
 
 /// The fields of rows, which are those of the steps that serve them.
 #[test]
 fn rows(rt: HostRuntime) -> Result<(), Fail> {
-    let alloc = rt.alloc();
-    expect(alloc, ROWS, Input::Rows, None, 1, u64::MAX, SIDE_BY_SIDE)?;
-    expect(
-        alloc,
-        ROWS,
-        Input::SerialRows,
-        None,
-        1,
-        u64::MAX,
-        ONE_AFTER_ANOTHER,
-    )
+    assert!(rt;
+        writes(
+            rt.alloc(),
+            ROWS,
+            Input::Rows,
+            None,
+            1,
+            u64::MAX,
+            SIDE_BY_SIDE
+        )?
+    );
+    assert!(rt;
+        writes(
+            rt.alloc(),
+            ROWS,
+            Input::SerialRows,
+            None,
+            1,
+            u64::MAX,
+            ONE_AFTER_ANOTHER
+        )?
+    );
+    Ok(())
 }

@@ -36,25 +36,14 @@ fn ends(
     )
 }
 
-// Whether it is refused so, and nothing is written.
-fn is_refused(alloc: Global, text: &[u8], shape: Shape, choice: Choice, fault: DrawFault) -> bool {
-    let mut drawn = Vec::new(alloc);
-    ends(alloc, text, shape, choice, &mut drawn) == Err(fault) && drawn.is_empty()
-}
-
-// Whether something is drawn.
-fn is_drawn(alloc: Global, text: &[u8], shape: Shape, choice: Choice) -> bool {
-    let mut drawn = Vec::new(alloc);
-    ends(alloc, text, shape, choice, &mut drawn) == Ok(()) && !drawn.is_empty()
-}
-
 #[test]
 fn a_faulty_text(rt: HostRuntime) -> Result<(), Fail> {
     let shape = Shape::new(2, 4, 64)?;
     let choice = Choice::new(shape, None, 1, 1)?;
+    let mut drawn = Vec::new(rt.alloc());
     let fault = DrawFault::Simulation(SimFault::Text(TextFault::NoCore(1)));
-    if !is_refused(rt.alloc(), b"L,2,0\n", shape, choice, fault) {
-        return Err(Fail::from("the fault"));
+    if ends(rt.alloc(), b"L,2,0\n", shape, choice, &mut drawn) != Err(fault) || !drawn.is_empty() {
+        Err("the fault")?
     }
     Ok(())
 }
@@ -77,14 +66,17 @@ fn wide_text(alloc: Global) -> Result<Vec<u8>, Fail> {
 fn twenty_thousand_cells_and_no_more(rt: HostRuntime) -> Result<(), Fail> {
     let alloc = rt.alloc();
     let shape = Shape::new(7, 12, 64)?;
-    let large = Choice::new(shape, None, 1, 200)?;
-    let small = Choice::new(shape, None, 1, 199)?;
     let text = wide_text(alloc)?;
-    if !is_refused(alloc, &text, shape, large, DrawFault::TooLarge) {
-        return Err(Fail::from("200 rows"));
+    let mut drawn = Vec::new(alloc);
+    let large = Choice::new(shape, None, 1, 200)?;
+    if ends(alloc, &text, shape, large, &mut drawn) != Err(DrawFault::TooLarge)
+        || !drawn.is_empty()
+    {
+        Err("200 rows")?
     }
-    if !is_drawn(alloc, &text, shape, small) {
-        return Err(Fail::from("a row less"));
+    let small = Choice::new(shape, None, 1, 199)?;
+    if ends(alloc, &text, shape, small, &mut drawn) != Ok(()) || drawn.is_empty() {
+        Err("a row less")?
     }
     Ok(())
 }
@@ -93,10 +85,11 @@ fn twenty_thousand_cells_and_no_more(rt: HostRuntime) -> Result<(), Fail> {
 fn a_block_of_a_long_text(rt: HostRuntime) -> Result<(), Fail> {
     let alloc = rt.alloc();
     let shape = Shape::new(7, 12, 64)?;
-    let choice = Choice::new(shape, Some(3), 1, u64::MAX)?;
     let text = wide_text(alloc)?;
-    if !is_drawn(alloc, &text, shape, choice) {
-        return Err(Fail::from("the seven steps of block 3"));
+    let mut drawn = Vec::new(alloc);
+    let choice = Choice::new(shape, Some(3), 1, u64::MAX)?;
+    if ends(alloc, &text, shape, choice, &mut drawn) != Ok(()) || drawn.is_empty() {
+        Err("the seven steps of block 3")?
     }
     Ok(())
 }

@@ -500,11 +500,11 @@ fn is_drawn(
     alloc: Global,
     text: &[u8],
     protocol: Protocol,
-    shape: Shape,
     choice: Choice,
     paper: Paper,
     expected: &str,
-) -> bool {
+) -> Result<bool, Fail> {
+    let shape = Shape::new(2, 4, 64)?;
     let mut reader = text;
     let mut drawn = Vec::new(alloc);
     simulate_svg(
@@ -516,32 +516,13 @@ fn is_drawn(
         Input::Steps,
         choice,
         paper,
-    )
-    .is_ok()
-        && drawn.as_slice() == expected.as_bytes()
+    )?;
+    Ok(drawn.as_slice() == expected.as_bytes())
 }
 
-// Looks at the drawing of the text's steps from a number on, of one block or of all.
-fn expect(
-    alloc: Global,
-    text: &[u8],
-    protocol: Protocol,
-    block: Option<u32>,
-    from: u64,
-    paper: Paper,
-    expected: &str,
-) -> Result<(), Fail> {
-    let shape = Shape::new(2, 4, 64)?;
-    let choice = Choice::new(shape, block, from, u64::MAX)?;
-    if !is_drawn(alloc, text, protocol, shape, choice, paper, expected) {
-        return Err(Fail::from("the drawing"));
-    }
-    Ok(())
-}
-
-fn push_load(out: &mut String) -> Result<(), Fail> {
-    push_all(out, &[LOAD_HEAD, STYLE, LOAD_ROWS])?;
-    push_legend(out, 262)
+// The steps from a number on, of one block or of all.
+fn from(block: Option<u32>, number: u64) -> Result<Choice, Fail> {
+    Ok(Choice::new(Shape::new(2, 4, 64)?, block, number, u64::MAX)?)
 }
 
 #[test]
@@ -553,14 +534,19 @@ fn a_first_load(rt: HostRuntime) -> Result<(), Fail> {
     };
     let text = LOAD.as_bytes();
     let mut drawn = String::new(rt.alloc());
-    push_load(&mut drawn)?;
-    expect(rt.alloc(), text, Protocol::Msi, None, 1, paper, &drawn)
-}
-
-fn push_writeback(out: &mut String) -> Result<(), Fail> {
-    push_all(out, &[WRITEBACK_HEAD, STYLE, DARK_STYLE, WRITEBACK_ROWS])?;
-    push_at(out, MARKS, 0, 507)?;
-    push_all(out, &[END])
+    push_all(&mut drawn, &[LOAD_HEAD, STYLE, LOAD_ROWS])?;
+    push_legend(&mut drawn, 262)?;
+    if !is_drawn(
+        rt.alloc(),
+        text,
+        Protocol::Msi,
+        from(None, 1)?,
+        paper,
+        &drawn,
+    )? {
+        Err("the load")?
+    }
+    Ok(())
 }
 
 #[test]
@@ -572,27 +558,23 @@ fn three_rows_of_a_writeback(rt: HostRuntime) -> Result<(), Fail> {
     };
     let text = WRITEBACK.as_bytes();
     let mut drawn = String::new(rt.alloc());
-    push_writeback(&mut drawn)?;
-    expect(rt.alloc(), text, Protocol::Mesi, None, 4, paper, &drawn)
-}
-
-fn push_page(out: &mut String) -> Result<(), Fail> {
     push_all(
-        out,
-        &[PAGE, ":root{color-scheme:light dark}\n", PAGE_STYLE, STYLE],
+        &mut drawn,
+        &[WRITEBACK_HEAD, STYLE, DARK_STYLE, WRITEBACK_ROWS],
     )?;
-    push_all(
-        out,
-        &[
-            "@media screen and (prefers-color-scheme:dark){\n",
-            DARK_STYLE,
-            "}\n",
-            BODY,
-            BEHIND_ROWS,
-        ],
-    )?;
-    push_legend(out, 316)?;
-    push_all(out, &[SCRIPT])
+    push_at(&mut drawn, MARKS, 0, 507)?;
+    drawn.push_str(END)?;
+    if !is_drawn(
+        rt.alloc(),
+        text,
+        Protocol::Mesi,
+        from(None, 4)?,
+        paper,
+        &drawn,
+    )? {
+        Err("the writeback")?
+    }
+    Ok(())
 }
 
 #[test]
@@ -604,39 +586,33 @@ fn a_block_as_a_page(rt: HostRuntime) -> Result<(), Fail> {
     };
     let text = BEHIND.as_bytes();
     let mut drawn = String::new(rt.alloc());
-    push_page(&mut drawn)?;
-    expect(rt.alloc(), text, Protocol::Msi, Some(1), 3, paper, &drawn)
-}
-
-// The steps of two sheets: all are refused.
-fn refused_steps(alloc: Global) -> Result<Vec<u8>, Fail> {
-    let mut text = Vec::new(alloc);
-    for _step in 0..25 {
-        text.extend_from_slice(b"O,0\n")?;
-    }
-    Ok(text)
-}
-
-fn push_sheets(out: &mut String) -> Result<(), Fail> {
     push_all(
-        out,
+        &mut drawn,
+        &[PAGE, ":root{color-scheme:light dark}\n", PAGE_STYLE, STYLE],
+    )?;
+    push_all(
+        &mut drawn,
         &[
-            PAGE,
-            ":root{color-scheme:light}\n",
-            PAGE_STYLE,
-            STYLE,
+            "@media screen and (prefers-color-scheme:dark){\n",
+            DARK_STYLE,
+            "}\n",
             BODY,
-            FIRST_SHEET,
         ],
     )?;
-    for number in 1..25 {
-        push_at(out, REFUSED, number, 28 + 54 * number)?;
+    drawn.push_str(BEHIND_ROWS)?;
+    push_legend(&mut drawn, 316)?;
+    drawn.push_str(SCRIPT)?;
+    if !is_drawn(
+        rt.alloc(),
+        text,
+        Protocol::Msi,
+        from(Some(1), 3)?,
+        paper,
+        &drawn,
+    )? {
+        Err("the page")?
     }
-    push_legend(out, 1396)?;
-    push_all(out, &[SECOND_SHEET])?;
-    push_at(out, REFUSED, 25, 82)?;
-    push_legend(out, 154)?;
-    push_all(out, &[SCRIPT])
+    Ok(())
 }
 
 #[test]
@@ -646,8 +622,33 @@ fn two_sheets(rt: HostRuntime) -> Result<(), Fail> {
         theme: Theme::Light,
         shown: u64::MAX,
     };
-    let text = refused_steps(rt.alloc())?;
+    let mut text = Vec::new(rt.alloc());
+    for _step in 0..25 {
+        text.extend_from_slice(b"O,0\n")?;
+    }
     let mut drawn = String::new(rt.alloc());
-    push_sheets(&mut drawn)?;
-    expect(rt.alloc(), &text, Protocol::Msi, None, 1, paper, &drawn)
+    push_all(
+        &mut drawn,
+        &[PAGE, ":root{color-scheme:light}\n", PAGE_STYLE, STYLE, BODY],
+    )?;
+    drawn.push_str(FIRST_SHEET)?;
+    for number in 1..25 {
+        push_at(&mut drawn, REFUSED, number, 28 + 54 * number)?;
+    }
+    push_legend(&mut drawn, 1396)?;
+    drawn.push_str(SECOND_SHEET)?;
+    push_at(&mut drawn, REFUSED, 25, 82)?;
+    push_legend(&mut drawn, 154)?;
+    drawn.push_str(SCRIPT)?;
+    if !is_drawn(
+        rt.alloc(),
+        &text,
+        Protocol::Msi,
+        from(None, 1)?,
+        paper,
+        &drawn,
+    )? {
+        Err("the sheets")?
+    }
+    Ok(())
 }

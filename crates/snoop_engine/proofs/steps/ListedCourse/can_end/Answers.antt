@@ -1,5 +1,5 @@
 use Rattle.snoop_engine.proofs.Common.{refl}
-use Rattle.snoop_engine.proofs.course.ListedCourse.can_end.Goals as goal
+use Rattle.snoop_engine.proofs.steps.ListedCourse.can_end.Goals as goal
 
 pub returns : goal.returns
 returns g c protocol shape steps outcomes run =

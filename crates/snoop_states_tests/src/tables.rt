@@ -123,7 +123,7 @@ fn are_tables(
     input: Input,
     choice: Choice,
     output: &str,
-) -> bool {
+) -> Result<bool, Fail> {
     let mut reader = text;
     let mut written = Vec::new(alloc);
     simulate_states_table(
@@ -134,141 +134,78 @@ fn are_tables(
         shape,
         input,
         choice,
-    )
-    .is_ok()
-        && written.as_slice() == output.as_bytes()
+    )?;
+    Ok(written.as_slice() == output.as_bytes())
+}
+
+/// Whether they are under MSI, with 2 cores and 4 blocks of 64 bytes.
+fn writes(
+    alloc: Global,
+    text: &[u8],
+    input: Input,
+    choice: Choice,
+    output: &str,
+) -> Result<bool, Fail> {
+    let shape = Shape::new(2, 4, 64)?;
+    are_tables(alloc, text, Protocol::Msi, shape, input, choice, output)
 }
 
 /// A whole table, with dots, places and values that memory does not send.
 #[test]
 fn an_upgrade_race(rt: HostRuntime) -> Result<(), Fail> {
-    let alloc = rt.alloc();
     let shape = Shape::new(2, 4, 64)?;
     let all = Choice::new(shape, None, 1, u64::MAX)?;
     let one = Choice::new(shape, None, 12, 12)?;
-    if !are_tables(
-        alloc,
-        RACE,
-        Protocol::Msi,
-        shape,
-        Input::Steps,
-        all,
-        RACE_TABLE,
-    ) {
-        return Err(Fail::from("all steps"));
-    }
-    if !are_tables(
-        alloc,
-        RACE,
-        Protocol::Msi,
-        shape,
-        Input::Steps,
-        one,
-        CUT_TABLE,
-    ) {
-        return Err(Fail::from("a step"));
-    }
+    assert!(rt; writes(rt.alloc(), RACE, Input::Steps, all, RACE_TABLE)?);
+    assert!(rt; writes(rt.alloc(), RACE, Input::Steps, one, CUT_TABLE)?);
     Ok(())
 }
 
-/// One block of two.
+/// One block of two, and both.
 #[test]
-fn a_block_of_two(rt: HostRuntime) -> Result<(), Fail> {
-    let alloc = rt.alloc();
+fn several_blocks(rt: HostRuntime) -> Result<(), Fail> {
     let shape = Shape::new(2, 4, 64)?;
     let second = Choice::new(shape, Some(1), 1, 100)?;
-    if !are_tables(
-        alloc,
-        QUEUE,
-        Protocol::Msi,
-        shape,
-        Input::Steps,
-        second,
-        QUEUE_TABLE,
-    ) {
-        return Err(Fail::from("a block"));
-    }
-    Ok(())
-}
-
-/// Both blocks.
-#[test]
-fn two_blocks(rt: HostRuntime) -> Result<(), Fail> {
-    let alloc = rt.alloc();
+    assert!(rt; writes(rt.alloc(), QUEUE, Input::Steps, second, QUEUE_TABLE)?);
     let shape = Shape::with_words(2, 4, 64, 2)?;
     let all = Choice::new(shape, None, 1, u64::MAX)?;
-    if !are_tables(
-        alloc,
-        LEFT,
-        Protocol::Mesi,
-        shape,
-        Input::Steps,
-        all,
-        LEFT_TABLES,
-    ) {
-        return Err(Fail::from("both blocks"));
-    }
+    assert!(rt;
+        are_tables(
+            rt.alloc(),
+            LEFT,
+            Protocol::Mesi,
+            shape,
+            Input::Steps,
+            all,
+            LEFT_TABLES
+        )?
+    );
     Ok(())
 }
 
 /// The tables of rows, which are those of the steps that serve them.
 #[test]
 fn rows(rt: HostRuntime) -> Result<(), Fail> {
-    let alloc = rt.alloc();
     let shape = Shape::new(2, 4, 64)?;
     let all = Choice::new(shape, None, 1, u64::MAX)?;
-    if !are_tables(
-        alloc,
-        ROWS,
-        Protocol::Msi,
-        shape,
-        Input::Rows,
-        all,
-        ROWS_TABLE,
-    ) {
-        return Err(Fail::from("side by side"));
-    }
-    if !are_tables(
-        alloc,
-        ROWS,
-        Protocol::Msi,
-        shape,
-        Input::SerialRows,
-        all,
-        SERIAL_TABLE,
-    ) {
-        return Err(Fail::from("one after another"));
-    }
+    assert!(rt; writes(rt.alloc(), ROWS, Input::Rows, all, ROWS_TABLE)?);
+    assert!(rt; writes(rt.alloc(), ROWS, Input::SerialRows, all, SERIAL_TABLE)?);
     Ok(())
-}
-
-/// Whether the choice says its block and its numbers, and has them and no others.
-fn is_of_block_3(choice: Choice) -> bool {
-    choice.block() == Some(3)
-        && choice.from() == 2
-        && choice.to() == 5
-        && choice.has_block(3)
-        && !choice.has_block(2)
-        && choice.has_number(5)
-        && !choice.has_number(6)
-        && choice.has_step(Some(3), 2)
-        && !choice.has_step(Some(3), 1)
-        && !choice.has_step(Some(2), 2)
-        && !choice.has_step(None, 2)
 }
 
 /// What a choice says, and why there is none.
 #[test]
-fn choices() -> Result<(), Fail> {
+fn choices(rt: HostRuntime) -> Result<(), Fail> {
     let shape = Shape::new(2, 4, 64)?;
-    if !is_of_block_3(Choice::new(shape, Some(3), 2, 5)?) {
-        return Err(Fail::from("a choice"));
-    }
-    if Choice::new(shape, Some(4), 0, 5) != Err(ChoiceFault::BadBlock)
-        || Choice::new(shape, None, 0, 5) != Err(ChoiceFault::BadRange)
-        || Choice::new(shape, None, 6, 5) != Err(ChoiceFault::BadRange)
-    {
-        return Err(Fail::from("no choice"));
-    }
+    let choice = Choice::new(shape, Some(3), 2, 5)?;
+    assert!(rt; choice.block() == Some(3) && choice.from() == 2 && choice.to() == 5);
+    assert!(rt;
+        choice.has_block(3) && !choice.has_block(2) && choice.has_number(5) && !choice.has_number(6)
+    );
+    assert!(rt; choice.has_step(Some(3), 2) && !choice.has_step(Some(3), 1));
+    assert!(rt; !choice.has_step(Some(2), 2) && !choice.has_step(None, 2));
+    assert!(rt; Choice::new(shape, Some(4), 0, 5) == Err(ChoiceFault::BadBlock));
+    assert!(rt; Choice::new(shape, None, 0, 5) == Err(ChoiceFault::BadRange));
+    assert!(rt; Choice::new(shape, None, 6, 5) == Err(ChoiceFault::BadRange));
     Ok(())
 }

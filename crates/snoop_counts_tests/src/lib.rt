@@ -1,0 +1,5 @@
+//! Tests of the tables of counts.
+#![tactic(auto)]
+
+#[cfg(test)]
+mod tables;

@@ -1,0 +1,7 @@
+//! Tests of the states as tables: they use public calls alone, so they stand in a crate of their own.
+#![tactic(auto)]
+
+#[cfg(test)]
+mod fields;
+#[cfg(test)]
+mod tables;

@@ -1,2 +1,0 @@
-mod drawings;
-mod refusals;
