@@ -308,7 +308,7 @@ def page_of(pages):
     lacking = list(lacks(shown, explained))
     if lacking:
         sys.exit("\n".join(lacking))
-    law = re.search(r"((?:^///.*\n)+)(pub fn coherent\(\)(?:\n .*)+)", specs.THEOREM.read_text(), re.MULTILINE)
+    law = re.search(r"((?:^///.*\n)+)(?:#.*\n)*(pub fn coherent\(\)(?:\n .*)+)", specs.THEOREM.read_text(), re.MULTILINE)
     doc = re.sub(r"(?<!\n)\n(?!\n)", " ", re.sub(r"^/// ?", "", law.group(1).strip(), flags=re.MULTILINE))
     records = RECORDS.read_text().split("\n\n", 1)[1].strip()
     text = HEAD.format(doc=wrapped(doc), contract=law.group(2), records=records, notation=rows, types=types_of(shown.values()).strip())

@@ -13,7 +13,7 @@ seen_last_more size frames frame le =
     rw (same, take-append-le k frames (frame ∷ []) within, drop-append-le k frames (frame ∷ []) within)
     (rw (seen_on (take k frames) (drop k frames) frame, take-append-drop k frames))
 
--- none of some steps, or as many as there are of none
+-- the last none of some steps are none, and so are the last so many of no steps
 pub seen_last_none : (size : ℕ) (frames : List Frame) → length frames ≤ length frames - size → seen_last size frames ≡ []
 seen_last_none size frames none = rw (drop_all (length frames - size) frames none) refl
 

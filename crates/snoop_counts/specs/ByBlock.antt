@@ -21,7 +21,7 @@ block_counts =
     ∷ count.Misses ∷ count.Cold ∷ count.GivenUp ∷ count.TrueSharing ∷ count.FalseSharing
     ∷ count.Upgrades ∷ count.UpgradesLost ∷ count.Invalidated ∷ count.Taken ∷ count.Downgraded ∷ count.Overtaken ∷ count.Stalled ∷ count.BusTaken ∷ count.NoTransaction ∷ []
 
--- the line of a block, with the cores that a line of it names
+-- the line of a block, with how many cores a line of it names
 abbrev pub block_line : Extent → List Happening → ℕ → List ℕ
 block_line shape seen block =
     decimal block ++ codes "," ++ decimal (address_of shape block) ++ sharing_fields Blocks count.Lines shape.cores seen block ++ count_fields block_counts (counted_of Blocks seen block) ++ codes "\n"

@@ -16,7 +16,7 @@ word_header = codes "block,word,address,cores,readers,writers,loads,load_hits,st
 abbrev pub word_counts : List Count
 word_counts = count.Loads ∷ count.LoadHits ∷ count.Stores ∷ count.StoreHits ∷ []
 
--- the line of a word, with the cores that performed an operation on it
+-- the line of a word, with how many cores performed an operation on it
 abbrev pub word_line : Extent → List Happening → ℕ → ℕ → List ℕ
 word_line shape seen block word =
     let place = place_of_word shape.words block word in

@@ -18,7 +18,7 @@ is_shared_by whose counted seen subject core = list_any (is_counted_for_both who
 abbrev pub sharers : Subjects → Count → ℕ → List Happening → ℕ → ℕ
 sharers whose counted cores seen subject = length (filter (is_shared_by whose counted seen subject) (range_with_len 0 cores))
 
--- for how many it is, how many performed a load of the subject, and how many a store; a comma before each
+-- for how many cores it is counted, how many performed a load of the subject, and how many a store; a comma before each
 abbrev pub sharing_fields : Subjects → Count → ℕ → List Happening → ℕ → List ℕ
 sharing_fields whose counted cores seen subject =
     codes "," ++ decimal (sharers whose counted cores seen subject) ++ codes "," ++ decimal (sharers whose count.Loads cores seen subject)

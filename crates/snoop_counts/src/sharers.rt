@@ -68,7 +68,8 @@ impl Sharers {
     }
 }
 
-/// Appends for how many of so many cores something of the subject was counted, how many performed a load of it, and how many a store.
+/// Appends three numbers, a comma before each: for how many of so many cores something of the subject was counted, how many
+/// performed a load of it, and how many a store.
 pub(crate) fn push_sharing(
     out: &mut Vec<u8>,
     all: &Sharers,

@@ -1,4 +1,4 @@
--- Frames with their numbers, when one frame more is seen, and which of them are shown.
+-- Frames with their numbers, when one frame more is seen.
 use Rattle.snoop_engine.proofs.Common.{common_steps, ◌≡◌, ℕ, ◌+◌, List, [], ◌∷◌, ◌++◌, length, refl, arith, Situation, Frame, Numbered, led_to, numbered_from}
 
 -- a frame with its number

@@ -1,4 +1,4 @@
-//! The command `steps`: the steps of a text, taken one after another.
+//! The command `steps`, and the course of steps that are all known before the first is taken.
 ghost use Rattle.std.specs.Prelude.{◌≡◌, ◌≢◌, length, true, Err, IfOk};
 ghost use Rattle.snoop_trace.specs.Output.{BlamesWriter};
 ghost use Rattle.snoop_trace.specs.Text.{BlamesReader};
