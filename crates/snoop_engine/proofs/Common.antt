@@ -11,7 +11,7 @@ pub use Rattle.snoop_trace.specs.{Asked.{step_of, asked_of}, Extent.{Extent, IsW
 pub use Rattle.snoop_trace.specs.{Output.{AppendsFront, Gathers, Spills}, Words.{word_at, HasWord}, declared.{fault.WriteFault.WriteFault, step.Asked.Asked}}
 pub use Rattle.snoop_trace.specs.declared.{protocol.Protocol.{Protocol, TheVariants.{Mesi, Msi}}, step.{Op.TheVariants.Evict, Row.Row, Step.Step, Work.Work}}
 pub use Rattle.snoop_trace.specs.declared.step.Step.TheVariants.{Ask, Order, Respond}
-pub use Rattle.snoop_rules.{proofs.TextLemmas.piece_more, specs.{Cell.{cell_of, Cell}, Waits.waiting_request, declared.names.CacheCell.CacheCell}}
+pub use Rattle.snoop_rules.{proofs.TextLemmas.{piece_more, pieces_all}, specs.{Cell.{cell_of, Cell}, Waits.waiting_request, declared.names.CacheCell.CacheCell}}
 pub use Rattle.snoop_rules.specs.{TableOrder.{cache_events, cache_states, memory_events, memory_states}, declared.names.CacheEvent.CacheEvent}
 pub use Rattle.snoop_rules.specs.{Takers.{arrival, arrival_at_memory, asked, at_memory, seen_by, takes_payload, other, own}, declared.names.MemEvent.MemEvent}
 pub use Rattle.snoop_rules.specs.declared.names.{CacheState.{CacheState, TheVariants.I}, MemState.MemState, Request.{Request, TheVariants.{GetM, GetS, PutM}}}

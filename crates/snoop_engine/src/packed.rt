@@ -3,7 +3,7 @@ ghost use Rattle.std.specs.Prelude.{◌≡◌, ◌<◌, ◌^◌, ◌++◌, ◌�
 ghost use Rattle.snoop_trace.specs.Grammar.{IsStepWithin};
 ghost use Rattle.snoop_trace.specs.declared.step.Step.TheVariants.{Ask};
 ghost use Rattle.snoop_engine.specs.declared.packed.Head.{Head};
-ghost use Rattle.snoop_engine.specs.Packed.{largest, step_of_head, stored_by, values_of, worded_by, words_of};
+ghost use Rattle.snoop_engine.specs.Packed.{largest, step_by, step_of_head, stored_by, values_of, worded_by, words_of};
 
 use crate::script::Script;
 use snoop_trace::streams::Entries;

@@ -13,7 +13,7 @@ module _ {caches : List Contents} {holders : List Holders} {now : Held} {core : 
       get_or-map (λ (cache : Contents). cache.spare) (slice_set caches core new) core no_cache
       ∙ ap (λ (cache : Contents). cache.spare) (get_or-set_same caches core new no_cache its.in_cores)
 
-  -- where it keeps its room for lines, each does
+  -- where it keeps its room for lines, all maps do
   pub spares_kept : (after : List Holders) → KeepsMapRoom old new → KeepsMapsRoom now (held (slice_set caches core new) after)
   spares_kept after kept k =
       let maps = slice_set caches core new in
@@ -80,7 +80,7 @@ module _ {caches : List Contents} {holders : List Holders} {now : Held} {core bl
             (λ b ne lt. rw (row-same caches core b new (others b ne)) (lines.indexed b (rw (length-set holders block moved) at lt)));
       })
 
-  -- those that the core's has, now and before
+  -- the blocks that the core's map has lines for, now and before
   blocks_now : slice_index_or (map blocks_of (slice_set caches core new)) core [] ≡ blocks_of new
   blocks_now = rw (blocks_set wrote.has.its new) (get_or-set_same now.lines core (blocks_of new) [] (rw (maps-long wrote.has.its.lines wrote.has.its.view) wrote.has.its.in_cores))
 

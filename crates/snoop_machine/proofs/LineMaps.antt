@@ -56,7 +56,7 @@ pub record IsMap (caches : List Contents) (holders : List Holders) (now : Held) 
   pub in_cores : core < length caches
   pub read : map ≡ slice_index_or caches core no_cache
 
--- and of its line of a block
+-- the same, and its line of a block, which callers see too
 pub record HasLine (caches : List Contents) (holders : List Holders) (now : Held) (core block : ℕ) (map : Contents) : Type 0 where
   pub its : IsMap caches holders now core map
   pub in_blocks : block < length holders

@@ -74,7 +74,7 @@ is_invalid _ = false
 abbrev pub gone : CacheState → CacheState → ℕ
 gone old new = if is_invalid new then (if is_invalid old then 0 else 1) else 0
 
--- the block has this line in a map now, and each other block has the one that it had; where another state gave way to I there is one line less, and none for the block
+-- the block has this line in a map now, and each other block has the one that it had; where another state gave way to I there is one line less, and none for the block; else the map has lines for the same blocks. It keeps its room
 pub record WritesEntry (block : ℕ) (line : Line) (old new : Contents) : Type 0 where
   pub here : line_in new block ≡ line
   pub others : (b : ℕ) → nat_eq block b ≡ false → lookup (nat_eq b) new.entries ≡ lookup (nat_eq b) old.entries

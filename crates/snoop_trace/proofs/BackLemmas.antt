@@ -18,6 +18,7 @@ use Rattle.csv.specs.declared.parser.State.TheVariants as st
 digit_plain : (c : ℕ) → digit_value c < 10 → needs_byte default_writer c ≡ false
 digit_plain c h = let r = digit_from_value c h in grind (arith, nat_tests)
 
+-- digits need no quotes, and each is a digit of base 10
 digits_read : (ds : List ℕ) → AllDigits 10 ds → (list_any (needs_byte default_writer) ds ≡ false) × (list_all (λ c. is_digit c 10) ds ≡ true)
 digits_read [] h = (refl, refl)
 digits_read (c ∷ ds) h = let rest = digits_read ds h.1 in (rw (digit_plain c h.0, rest.0) refl, rw (lt-ltb (digit_value c) 10 h.0, rest.1) refl)

@@ -45,7 +45,7 @@ action_claims s e n FillLoad = same_request (serving e) None also holds (keeps n
 action_claims s e n FillStore = same_request (serving e) None also holds (keeps n) also same_request (missed_request n) None also same_request (waiting_request n) (waiting_request s)
 action_claims s e n _ = same_request (serving e) None also holds true
 
--- of each row: what its action does, and that after what is asked the core awaits what it awaited
+-- of each row: what its action does; and after a row for what is asked the core awaits only what it awaited before
 abbrev every_row : Tested
 every_row = each_protocol λ p. each_of all_states all_states-at λ s. each_of all_events all_events-at λ e. given (cell_of p s e) λ row.
     action_claims s e row.next row.action also given (serving e) (λ _. given (awaited_request row.next) (λ r. same_request (awaited_request s) (Some r)))
