@@ -41,6 +41,7 @@ pub fn simulate_steps<R: Source, W: Sink>(
     ensures blamed { BlamesWriter (W.failed writer.old) (W.failed writer.new) (result ≡ Err SimFault.Write) }
 {
     let steps = gather_steps(alloc, reader, protocol, shape, StepQueue::new(alloc))?;
+    // For the proof alone.
     runs_go_on();
     let Ok(mut course) = Listed::new(alloc, protocol, shape, steps) else {
         return Err(SimFault::NoMemory);

@@ -27,7 +27,7 @@ pub(crate) enum LineChange {
     Move,
     /// This is performed on the kept words. The code builds it for stores alone; a load's hit, which changes no words, stands in contracts.
     Hit(Access),
-    /// From now on this waits, or nothing where it is an eviction.
+    /// This waits from now on; after an eviction, nothing does.
     Wait(Access),
 }
 

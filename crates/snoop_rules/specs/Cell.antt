@@ -1,5 +1,5 @@
 -- The cache table: a line for each row, and none where a pair of state and event is impossible.
--- Source: "A Primer on Memory Consistency and Cache Coherence", 2nd edition, chapter 7 (MSI and MESI over an atomic bus).
+-- Source: "A Primer on Memory Consistency and Cache Coherence", 2nd edition, chapter 7 (MSI and MESI, non-atomic requests, atomic transactions).
 -- The eviction from E, with EI_A and NoDataE, is this project's profile.
 use Rattle.std.specs.Prelude.{◌≡◌, Option, Some, None}
 use Rattle.snoop_trace.specs.declared.protocol.Protocol.{Protocol, TheVariants.Mesi}

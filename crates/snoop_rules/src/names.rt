@@ -1,8 +1,8 @@
 //! The words of the protocols: states, events, requests, payloads, and what a controller does.
 //!
-//! They are those of the snooping MSI and MESI protocols over an atomic bus of "A Primer on Memory
-//! Consistency and Cache Coherence", 2nd edition, chapter 7. `EiA`, `NoDataE` and MESI's memory
-//! states are this project's profile.
+//! They are those of the snooping MSI and MESI protocols with non-atomic requests and atomic
+//! transactions of "A Primer on Memory Consistency and Cache Coherence", 2nd edition, chapter 7.
+//! `EiA`, `NoDataE` and MESI's memory states are this project's profile.
 
 /// The state of a cache line, in the order of the tables; `E` and `EiA` are MESI's alone.
 ///

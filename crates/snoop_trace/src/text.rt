@@ -58,7 +58,8 @@ fn take_text<E: Entry, C: Entries<E>, R: Read>(
     unreachable!()
 }
 
-// What is known of a reader as a call begins, for the proof alone: a call at `Brand` picks it.
+// For the proof alone: whether a read of the reader had failed as a call began, as a type, so that the ghost fields of `Watched` can
+// speak of it. Callers write `Brand`, for which the proof picks what is so; there is nothing of it in the program.
 trait Begun {
     // Whether a read had failed, where that is known.
     ghost before: { Option Bool };
