@@ -109,7 +109,7 @@ impl<B: Block> Parts<B> {
         }
     }
 
-    /// The line gets this state and this change; what waits in it stays.
+    /// The line gets this state and this change; whether a request waits for it stays as it was.
     #[inline(always)]
     fn move_line(&mut self, core: u32, block: u32, next: CacheState, change: LineChange)
         requires core { core < self.old.situation.shape.cores }
