@@ -1,5 +1,6 @@
 -- What the steps of some frames come to, computed one after another.
-use Rattle.std.proofs.Common.{◌≡◌, List, [], ◌∷◌, refl}
+use Rattle.std.proofs.Common.{◌≡◌, List, [], ◌∷◌}
+pub use Rattle.std.proofs.Common.{refl}
 use Rattle.snoop_trace.specs.{Extent.Extent, declared.{step.Step.Step, protocol.Protocol.Protocol}}
 use Rattle.snoop_model.{proofs.{Queues.keeps_well, Steps.next_of}, specs.{Pictures.Situation.{reset, Situation}, Runs.Run.FirstRunFrom}}
 use Rattle.snoop_model.proofs.{Runs.GoOn.{IsSteady, reset_steady, steady_on}, Steps.goes_next}

@@ -1,6 +1,4 @@
-use Rattle.std.proofs.Common.{refl}
-use Rattle.snoop_scenes.proofs.Play.{told}
-use Rattle.snoop_scenes.proofs.scenes.stale_writeback.Goals as goal
+use Rattle.snoop_scenes.proofs.{Play.{refl, told}, scenes.stale_writeback.Goals.returns-clause-scene as goal}
 
-pub returns-clause-scene : goal.returns-clause-scene
+pub returns-clause-scene : goal
 returns-clause-scene c = told refl refl

@@ -1,6 +1,4 @@
-use Rattle.std.proofs.Common.{refl}
-use Rattle.snoop_scenes.proofs.Play.{told}
-use Rattle.snoop_scenes.proofs.scenes.two_blocks_open.Goals as goal
+use Rattle.snoop_scenes.proofs.{Play.{refl, told}, scenes.two_blocks_open.Goals.returns-clause-scene as goal}
 
-pub returns-clause-scene : goal.returns-clause-scene
+pub returns-clause-scene : goal
 returns-clause-scene c = told refl refl
