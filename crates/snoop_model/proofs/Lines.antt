@@ -1,6 +1,6 @@
 -- The loop in which each core takes its row, and the loop that looks for the one sender.
 use Rattle.snoop_model.proofs.Common.{ap, arith, at_memory, CacheAction, CacheState, Cell, FollowsSenderTable, get_or-set_other, held_at, held_by, IfSome, length, length-set, Line, List, MemAction, MemoryCell, MemState, moves_to, nothing_held, Option, Payload, Picture, Protocol, Request, seen_by, Sends, slice_set, TakesRow, Target, ℕ, ◌+◌, ◌<◌, ◌∙◌, ◌≡◌, ◌≢◌, ◌≤◌}
-use Rattle.snoop_model.proofs.{Lists.each_set, Tables.OrderTests.{sending, sending_memory, sends_is}}
+use Rattle.snoop_model.proofs.{Lists.each_set, Tables.OrderTests.sends_is}
 use Rattle.snoop_rules.specs.declared.names.CacheAction.TheVariants as action
 use Rattle.snoop_rules.specs.declared.names.MemAction.TheVariants as mem_action
 
@@ -51,7 +51,7 @@ module _ (p : Protocol) (before : Picture) (core : ℕ) (request : Request) wher
   -- memory does not send
   pub Silent-none : (act : MemAction) (next : MemState) → MemoryCell p before.memory.state (at_memory request) act next → ((payload : Payload) → act ≢ mem_action.Send payload) → SilentBelow p before core request 0
   Silent-none act next row none other payload below sends =
-      grind (arith, below, row, none payload, sending_memory act payload, sends_is p before core request other payload sends)
+      grind (arith, below, row, none payload, sends)
 
   -- not all can be silent
   pub Silent-all : SilentBelow p before core request (length before.caches) → ¬ FollowsSenderTable p before core request
@@ -62,7 +62,7 @@ module _ (p : Protocol) (before : Picture) (core : ℕ) (request : Request) wher
       → Cell p (held_by before n).state (seen_by n core request) act next
       → ((payload : Payload) (target : Target) → act ≡ action.Send payload target → ⊥) → SilentBelow p before core request (n + 1)
   Silent-more n act next so_far row silent other payload below sends =
-      grind (arith, so_far other payload, below, sends, row, silent payload, sending act payload, sends_is p before core request other payload sends)
+      grind (arith, so_far other payload, below, sends, row, silent payload)
 
   -- cores that have nothing to do are passed over
   pub Silent-past : (n to : ℕ) → n ≤ to → ((k : ℕ) → n ≤ k → k < to → Cell p (held_by before k).state (seen_by k core request) action.None (held_by before k).state)

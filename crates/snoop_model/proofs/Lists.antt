@@ -1,5 +1,5 @@
 -- Plain facts of lists and Booleans; what a write in one place does to a list and to sums over it; and how often a block stands in a queue.
-use Rattle.snoop_model.proofs.Common.{[], after_order, All, arith, Bool, CacheAction, cond, cond_both, Contains, count_by, count_by-le-length, eq-eqb, eqb, eqb_tells, false, filter, get_or, get_or-le-sum_by, get_or-replicate, get_or-set_other, get_or-set_same, get_or_from_slice_get, get_or_past, IfSome, if◌then◌else◌, inl, inr, is_some, length, length-filter, length-replicate, length_push, List, None, not, Option, queue_of, queues_after, refl, replicate, set_past, slice_get, slice_get_within, slice_index_or, slice_set, Some, suc, sum_by, sum_by-cons, sum_by-set, sum_by_push, zero-add, ℕ, ◌++◌, ◌+◌, ◌<◌, ◌==◌, ◌∷◌, ◌≡◌, ◌≢◌, ◌≤◌, ◌⊎◌}
+use Rattle.snoop_model.proofs.Common.{[], after_order, All, arith, Bool, CacheAction, cond, cond_both, Contains, count_by, count_by-le-length, eq-eqb, eqb, eqb_tells, false, filter, get_or, get_or-le-sum_by, get_or-replicate, get_or-set_other, get_or-set_same, get_or_from_slice_get, get_or_past, IfSome, if◌then◌else◌, inl, inr, length, length-filter, length-replicate, length_push, List, not, Option, queue_of, queues_after, refl, replicate, set_past, slice_get, slice_get_within, slice_index_or, slice_set, Some, suc, sum_by, sum_by-cons, sum_by-set, sum_by_push, zero-add, ℕ, ◌++◌, ◌+◌, ◌<◌, ◌==◌, ◌∷◌, ◌≡◌, ◌≢◌, ◌≤◌, ◌⊎◌}
 
 -- each place of a list of equal values has that value, and so has any place past its end
 pub replicated : {X : Type 0} (n i : ℕ) (x : X) → get_or (replicate n x) i x ≡ x
@@ -20,13 +20,6 @@ of_choice f t x y = grind arith
 -- what holds of the value, if there is one
 pub if_some : {A : Type 0} (o : Option A) (P : A → Type 0) → ((a : A) → o ≡ Some a → P a) → IfSome o P
 if_some o P each = grind (arith, each)
-
--- what holds of none where there is none, and of the value that there is, holds of an option
-pub option_both : {A : Type 0} (o : Option A) (P : Option A → Type 0) → (o ≡ None → P None) → ((a : A) → o ≡ Some a → P (Some a)) → P o
-option_both o P none some = grind (arith, none, some)
-
-pub is_none : {X : Type 0} (o : Option X) → is_some o ≡ false → o ≡ None
-is_none o h = grind arith
 
 -- what stands in a place after a write
 pub set_cases : {A : Type 0} (xs : List A) (i k : ℕ) (a d : A) → ((k ≡ i) × (slice_index_or (slice_set xs i a) k d ≡ a)) ⊎ (slice_index_or (slice_set xs i a) k d ≡ slice_index_or xs k d)
@@ -76,9 +69,6 @@ count_set test xs i a d none = sum_set (λ x. one_if (test x)) xs i a d (rw none
 abbrev pub times : ℕ → List ℕ → ℕ
 times block queue = count_by (λ b. eqb b block) queue
 
-pub times_cons : (block x : ℕ) (queue : List ℕ) → times block (x ∷ queue) ≡ one_if (eqb x block) + times block queue
-times_cons block x queue = sum_by-cons (λ b. cond (eqb b block) 1 0) x queue
-
 pub times_push : (block x : ℕ) (queue : List ℕ) → times block (queue ++ x ∷ []) ≡ times block queue + one_if (eqb x block)
 times_push block x queue = sum_by_push (λ b. cond (eqb b block) 1 0) queue x
 
@@ -99,5 +89,6 @@ in_counted block queue (k, below, is) = rw (is, eq-eqb block block refl) at (get
 pub times_left : (block taken : ℕ) (queue : List ℕ) → times block (filter (λ b. not (eqb b taken)) queue) ≡ (if block == taken then 0 else times block queue)
 times_left block taken [] = either_way (eqb block taken) 0
 times_left block taken (x ∷ queue) =
-    let more = times_cons block x (filter (λ b. not (eqb b taken)) queue) in
-    grind (arith, times_cons block x queue, more, eqb_tells x taken, eqb_tells x block, eqb_tells block taken, times_left block taken queue)
+    let cons = sum_by-cons (λ b. cond (eqb b block) 1 0) x in
+    let left = filter (λ b. not (eqb b taken)) queue in
+    grind (arith, cons queue, cons left, eqb_tells x taken, eqb_tells x block, eqb_tells block taken, times_left block taken queue)

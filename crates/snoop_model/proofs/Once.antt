@@ -1,9 +1,8 @@
 -- Each load and store that a run asks is done once, or waits; so what waited, or was asked, waits or is its core's last operation.
-use Rattle.snoop_model.proofs.Common.{[], Access, accesses_in, after_order, answers_of, ap, append-nil, append_assoc, append_cancel_left, arith, as_access, Ask, asked, asked_access, CacheAction, CacheState, came_of, cases_Bool, Cell, cond, cons_option, Contains, Contains-append_cases, Contains-append_left, Contains-append_right, Contains-permutation, Did, did_access, eq-eqb, eqb, eqb-true, Err, Extent, filter, filter-append, filter_map, filter_map-append, FirstMove, IfOk, Goes, held_at, held_by, Hit, IfSome, inl, inr, Invariant, IsLast, IsOwed, IsPermutation, IsPermutation-append_comm, IsPermutation-append_left, IsPermutation-append_right, IsPermutation-refl, IsPermutation-sym, IsPermutation-trans, IsProper, Item, last_or-append, length, Line, List, map, map-append, MoveOn, ne_eqb, None, nothing_held, of_core, Ok, Once, OnceMore, Op, operation_of, operations, Option, option_map, option_to_list, Order, Picture, picture_of, Protocol, queues_after, refl, Refused, Reply, reset, Respond, Result, RunBy, same_Some, Situation, slice_set, Some, Step, sym, taken, Takes, waiting_at, with_line, zero, ℕ, ◌&&◌, ◌++◌, ◌<◌, ◌==◌, ◌↔◌, ◌∙◌, ◌∷◌, ◌≡◌, ◌⊎◌, operations-push}
-use Rattle.snoop_model.proofs.Invariant.Runs.{goes_kept, move_keeps, nothing_waits, refusal_same, reset_invariant, reset_line}
-use Rattle.snoop_model.proofs.Lists.{each_set, either_way}
+use Rattle.snoop_model.proofs.Common.{[], Access, accesses_in, after_order, answers_of, ap, append-nil, append_assoc, append_cancel_left, arith, as_access, Ask, asked, asked_access, CacheAction, CacheState, came_of, cases_Bool, Cell, cond, cons_option, Contains, Contains-append_cases, Contains-append_left, Contains-append_right, Contains-permutation, Did, did_access, eq-eqb, eqb, eqb-true, Err, Extent, filter, filter-append, filter_map, filter_map-append, FirstMove, IfOk, Goes, held_at, held_by, Hit, IfSome, inl, inr, Invariant, IsLast, IsOwed, IsPermutation, last_of, last_or, IsPermutation-append_comm, IsPermutation-append_left, IsPermutation-append_right, IsPermutation-refl, IsPermutation-sym, IsPermutation-trans, IsProper, Item, last_or-append, length, Line, List, map, map-append, MoveOn, ne_eqb, None, nothing_held, of_core, Ok, Once, OnceMore, Op, operation_of, operations, Option, option_map, option_to_list, Order, Picture, picture_of, Protocol, queues_after, refl, Refused, Reply, reset, Respond, Result, RunBy, same_Some, Situation, slice_set, Some, Step, sym, taken, Takes, waiting_at, with_line, zero, ℕ, ◌&&◌, ◌++◌, ◌<◌, ◌==◌, ◌↔◌, ◌∙◌, ◌∷◌, ◌≡◌, ◌⊎◌, operations-push}
+use Rattle.snoop_model.proofs.Invariant.Runs.{goes_kept, move_keeps, refusal_same, reset_invariant, reset_line}
 use Rattle.snoop_model.proofs.OneBlock.{AfterMoves.{by_request, changed, each_picture, each_taken, in_pictures}, Facts.{did_in}}
-use Rattle.snoop_model.proofs.{Runs.Replies.on_stays, Tables.Rows.{action_rule}}
+use Rattle.snoop_model.proofs.{Lists.{each_set, either_way}, Runs.Replies.on_stays, Tables.Rows.action_rule}
 use Rattle.snoop_history.specs.declared.items.Item.TheVariants as item
 
 -- a core's operations with one item more
@@ -57,13 +56,10 @@ module _ (s t : Situation) (step : Step) (answer : Reply) (move : FirstMove s st
 
   -- what the move performs is then the core's last operation
   is_last : Contains done_here wanted → IsLast t core block wanted
-  is_last here = elim (one_or_none core (performed_by s t step answer move)) [
-    | inl none ↦ absurd (omega (arith, (rw none at here).1))
-    | inr (d, is) ↦ elim (cases_Bool (d.block == block)) [
-      | inl on ↦ (d, rw (answers_after, is, map-append, last_or-append) refl, eqb-true d.block block on, same_Some _ _ ((in_one (Some (did_access d)) wanted).0 (rw (is, on) at here)))
-      | inr off ↦ absurd (omega (arith, (rw (is, off) at here).1))
-    ]
-  ]
+  is_last here =
+      let did = performed_by s t step answer move in
+      let last : last_of t.log core ≡ last_or (last_of s.log core) (map Some (of_core core did)) = rw (answers_after, map-append, last_or-append) refl in
+      grind (arith, here, last, one_or_none core did, eqb-true)
 
   -- and what waited before it, or is asked by it, is performed by it or waits
   pub owed_after : ((held_by (picture_of s block) core).waiting ≡ Some wanted) ⊎ (asked_access core block step ≡ Some wanted) → IsOwed t core block wanted
@@ -100,7 +96,7 @@ module _ (p : Protocol) (next : CacheState) (log : List Item) (core block word :
   line_once : (act : CacheAction) → Cell p old.state (asked asking) act next → Takes act next log core block word asking old new answer entry
       → IsBy core block (did_in entry) × Evens old.waiting (as_access word asking) (done (did_in entry)) new.waiting
   line_once Hit row t = grind (arith, t)
-  line_once act row t = grind (arith, t, nothing_waits old.waiting, proper.waiting, action_rule p old.state (asked asking) act next row)
+  line_once act row t = grind (arith, t, proper.waiting, action_rule p old.state (asked asking) act next row)
 
 module _ (old : Situation) (b c : ℕ) where
   -- the core's operation on the block is done, and so it is in each of its lines, the core's own or not

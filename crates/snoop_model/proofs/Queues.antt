@@ -4,16 +4,12 @@ use Rattle.snoop_model.specs.Pictures.InQueue.{IsInQueue}
 use Rattle.snoop_model.proofs.Invariant.Runs.{reset_line, reset_open, reset_shaped}
 use Rattle.snoop_model.proofs.Lists.{counted_in, each_set, either_way, in_counted, of_choice, one_if, replicated, same_set, times, times_left, times_push}
 use Rattle.snoop_model.proofs.OneBlock.AfterMoves.{by_request, changed, each_picture, each_taken, filled_or_same, in_pictures, still_shaped, still_waiting}
-use Rattle.snoop_model.proofs.Tables.{OrderTests.{awaited-get, data_rule}, Rows.{action_rule, asked_missed, awaited-asked, fill-waits, issue-waits, order_rule, some_of}}
-
--- how often a core that holds the block in this state has it in its queue
-abbrev waits : CacheState → ℕ
-waits s = one_if (is_some (waiting_request s))
+use Rattle.snoop_model.proofs.Tables.{OrderTests.{awaited-get, data_rule}, Rows.{action_rule, awaited-asked, fill-waits, issue-waits, order_rule, some_of}}
 
 -- a core's queue, with the block this often in it, and its line are as the line's state and the block's open transaction say: the block is queued where the core waits,
 -- data that it awaits are of its own, and an operation waits only where one has missed
 record IsKeptAt (often : ℕ) (now : Option Open) (block core : ℕ) (line : Line) : Type 0 where
-  queued : often ≡ waits line.state
+  queued : often ≡ one_if (is_some (waiting_request line.state))
   awaits : (q : Request) → awaited_request line.state ≡ Some q → (o : Open) × ((now ≡ Some o) × (o.core ≡ core) × (o.request ≡ q))
   operations : (access : Access) → line.waiting ≡ Some access → IsSome (missed_request line.state)
 
@@ -48,7 +44,7 @@ module _ (s : Situation) (kept : IsWellKept s) (core block word : ℕ) (asking :
 
   -- one line and its core's queue change, and what that line awaits it awaited before
   one_line : (act : CacheAction) (queues : List (List ℕ)) → Cell s.protocol line.state (asked asking) act next → held.state ≡ next
-      → times block (queue_of queues core) ≡ waits next → ((k : ℕ) → k ≢ core → queue_of queues k ≡ queue_of s.queues k)
+      → times block (queue_of queues core) ≡ one_if (is_some (waiting_request next)) → ((k : ℕ) → k ≢ core → queue_of queues k ≡ queue_of s.queues k)
       → ((k b : ℕ) → b ≢ block → times b (queue_of queues k) ≡ times b (queue_of s.queues k)) → ((access : Access) → held.waiting ≡ Some access → IsSome (missed_request next))
       → KeepsOn s block (with_line (picture_of s block) core held) queues
   one_line act queues row is own others elsewhere missed = record {
@@ -73,7 +69,7 @@ module _ (s : Situation) (kept : IsWellKept s) (core block word : ℕ) (asking :
       (rw (is, own, times_push block block queue, eq-eqb block block refl, kept.queued core block, was) refl)
       (λ k apart. get_or-set_other s.queues core k _ [] apart)
       (λ k b apart. same_set (times b) s.queues core _ [] (rw (times_push b block queue, ne_eqb block b (λ e. apart (sym e))) (omega arith)) k)
-      (λ access h. grind (arith, taken, h, action_rule s.protocol line.state (asked asking) (Issue request) next row, asked_missed word asking))
+      (λ access h. grind (arith, taken, h, action_rule s.protocol line.state (asked asking) (Issue request) next row))
   -- else what waits and what has missed are as before
   kept_taken act row taken =
       let rule = action_rule s.protocol line.state (asked asking) act next row in

@@ -1,9 +1,8 @@
 -- What a step comes to, computed: what it is answered, and where it leads. Where a table has no row, which no run meets, the state stays.
 use Rattle.std.specs.Bool.{Decides}
-use Rattle.snoop_model.proofs.Common.{[], Access, after_order, ap, arith, arrival, arrival_at_memory, ArrivesFor, as_access, Ask, asked, at_memory, Bool, BusTaken, CacheAction, CacheCell, CacheState, came_of, CanOrder, cases_Bool, Cell, cell_of, cond_both, Data, Did, Drop, Err, Evict, Extent, false, fill_by_all, FillsRequestor, FirstMove, free_picture, get_or-map-range_with_len, GoesFirst, HasWord, held_at, held_by, Hit, Hits, if◌then◌else◌, inl, inr, Invariant, is_load, is_put_m, is_some, IsOnlySender, IsProper, Issue, IsWithin, Item, le-ltb, length, length-map-range_with_len, Line, List, lt-ltb, ltb, ltb-false, ltb-true, map, MemLine, memory_cell_of, moves_to, next_did, NoBlock, NoCore, None, none-some, none_from_not_some, nothing_held, NothingWaiting, NoTransaction, Ok, Op, Open, Option, option_and_then_some, option_map_or, option_to_list, Order, Orders, Payload, Picture, picture_of, Protocol, PutM, queue_of, queues_after, range_with_len, refl, Refused, Refuses, Reply, Request, Respond, Responds, Result, seen_by, Situation, slice_get, slice_set, Some, Stall, Stalled, state_of, Step, Store, suc, sym, Takes, takes_payload, true, unwrap_or, value_sent, waiting_request, with_line, with_picture, word_at, word_places, written, zero, zero_words, ℕ, ◌&&◌, ◌++◌, ◌<◌, ◌∙◌, ◌∷◌, ◌≡◌, ◌≤◌}
+use Rattle.snoop_model.proofs.Common.{[], Access, after_order, ap, arith, arrival, arrival_at_memory, ArrivesFor, as_access, Ask, asked, at_memory, Bool, BusTaken, CacheAction, CacheCell, CacheState, came_of, CanOrder, cases_Bool, Cell, cell_of, Data, Did, Drop, Err, Evict, Extent, false, fill_by_all, FillsRequestor, FirstMove, free_picture, get_or-map-range_with_len, GoesFirst, HasWord, held_at, held_by, Hit, Hits, if◌then◌else◌, inl, inr, Invariant, is_load, is_put_m, is_some, IsOnlySender, IsProper, Issue, IsWithin, Item, le-ltb, length, length-map-range_with_len, Line, List, lt-ltb, ltb, ltb-false, ltb-true, map, MemLine, memory_cell_of, moves_to, next_did, NoBlock, NoCore, None, none-some, none_from_not_some, nothing_held, NothingWaiting, NoTransaction, Ok, Op, Open, Option, option_map_or, option_to_list, Order, Orders, Payload, Picture, picture_of, Protocol, PutM, queue_of, queues_after, range_with_len, StandsFirst, refl, Refused, Refuses, Reply, Request, Respond, Responds, Result, seen_by, Situation, slice_get, slice_set, Some, Stall, Stalled, state_of, Step, Store, suc, sym, Takes, takes_payload, true, unwrap_or, value_sent, waiting_request, with_line, with_picture, word_at, word_places, written, zero, zero_words, ℕ, ◌&&◌, ◌++◌, ◌<◌, ◌∙◌, ◌∷◌, ◌≡◌, ◌≤◌}
 use Rattle.snoop_model.proofs.{Invariant.Coherence.{finds_rows, idle_evict, orders_follow_sender_table, waits_within}, Lines.{IsBelow, sends_below}}
-use Rattle.snoop_model.proofs.{Lists.{option_both}, OneBlock.{AfterMoves.changed, RespondStep.{answered, close}}}
-use Rattle.snoop_model.proofs.Queues.{AreQueued, first_waits, none_waits}
+use Rattle.snoop_model.proofs.{OneBlock.{AfterMoves.changed, RespondStep.{answered, close}}, Queues.{AreQueued, first_waits, none_waits}}
 use Rattle.snoop_model.proofs.Tables.{OrderTests.{data_rule, payload_from, row_for, sends_is, sends_row, settled_row, settled_so}, Rows.{action_rule, ask_rule, hit_keeps, is_idle_evict, serving-asked, some_of}}
 use Rattle.snoop_rules.specs.declared.names.MemAction.TheVariants as mem_action
 use Rattle.snoop_rules.specs.declared.names.Payload.TheVariants as payload
@@ -195,13 +194,8 @@ module _ (s : Situation) (core block word : ℕ) (asking : Op) (within : IsWithi
   goes_by Hit next row proper =
       let ws = unwrap_or (asker s core block word asking).kept zero_words in
       let asks = hit_keeps s.protocol (state_of s core block) (asked asking) next row in
-      let hits : Hits next (asker s core block word asking) _ word asking (value_of word asking ws) = record {
-        before = ws;
-        after = words_after word asking ws;
-        kept = rw (some_of _ (proper.kept ∙ asks.0)).1;
-        performed = grind (arith, asks.1);
-        held = refl;
-      } in
+      let held : Line = record { state = next; kept = Some (words_after word asking ws); waiting = (asker s core block word asking).waiting } in
+      let hits : Hits next (asker s core block word asking) held word asking (value_of word asking ws) = grind (arith, proper.kept, asks) in
       taken Hit next row _ _ _ (value_of word asking ws, (hits, refl, refl))
   goes_by Stall next row proper = ((within, refl, (next, row), has), refl)
   goes_by (Issue r) next row proper = taken (Issue r) next row _ _ None (refl, refl, refl)
@@ -255,27 +249,15 @@ module _ (p : Protocol) (log : List Item) (old : List Line) (o : Open) where
   fills_requestor : (row : CacheCell) → row_for p requestor.state (arrival o.payload) ≡ Some row → IsProper requestor → (let n = filled o p log old requestor.waiting in FillsRequestor o p log old n.0 n.1)
   fills_requestor row found proper =
       let fit = (data_rule p requestor.state o.payload row found).0 in
-      option_and_then_some (cell_of p requestor.state) (arrival o.payload) row found (λ e arrives is_row.
-      option_both requestor.waiting (λ waiting. let n = filled o p log old waiting in FillsRequestor o p log old n.0 n.1)
-      (λ none. let clash = rw (← proper.waiting, none) at fit in cc)
-      (λ access waits. rw found (record {
-        line = _;
+      let (access, waits) = some_of requestor.waiting (grind (arith, fit, proper.waiting)) in
+      rw (waits, found) (record {
+        line = record { state = row.next; kept = Some (words_after access.word access.op o.value); waiting = None };
         asking = access;
         value = value_of access.word access.op o.value;
-        fills = record {
-          event = e;
-          row = row;
-          after = words_after access.word access.op o.value;
-          arrives = arrives;
-          is_row = is_row;
-          waited = waits;
-          fill = grind (arith, fit, proper.waiting, waits);
-          performed = grind (arith, fit, proper.waiting, waits);
-          held = refl;
-        };
+        fills = grind (arith, found, fit, proper.waiting, waits);
         held = refl;
         logged = refl;
-      })))
+      })
 
   brings : (q : Request) → (is_put_m q ≡ false → (r : CacheCell) × (row_for p requestor.state (arrival o.payload) ≡ Some r)) → IsProper requestor
       → (let n = brought o p log old q in ArrivesFor q o p log old n.0 n.1)
@@ -300,19 +282,24 @@ module _ (s : Situation) (g : Invariant s) where
       } in
       (block, (tt, record { closing = o; did = _; on_block = refl; within = within; answered = refl; responds = responds }))
 
+  -- an Order of the block that stands first
+  goes_first : (core block : ℕ) (q : Request) → StandsFirst s core block → CanOrder s core block q
+      → (let n = next_ordered s core block q in GoesFirst s (Order core) n.0 n.1)
+  goes_first core block q first ready =
+      (block, (first, record { request = q; within = waits_within s g core block q ready.0; answered = refl; orders = order_made s g core block q ready }))
+
+  goes_queued : AreQueued s → (core : ℕ) → core < s.shape.cores → (first : Option ℕ) → slice_get (queue_of s.queues core) 0 ≡ first
+      → (let n = next_first s core first in GoesFirst s (Order core) n.0 n.1)
+  goes_queued queued core in_cores None none = ((in_cores, none_waits s queued core none), refl)
+  goes_queued queued core in_cores (Some block) is =
+      let (q, waits) = first_waits s queued core block is in
+      grind (arith, waits, is, in_cores, goes_first core block q is)
+
   pub goes_next : AreQueued s → (step : Step) → GoesFirst s step (next_of s step).0 (next_of s step).1
   goes_next queued (Ask core block word asking) =
       let goes = λ (within : IsWithin s core block) (has : HasWord s.shape word asking). goes_within s core block word asking within has g in
       grind (arith, ltb-true core s.shape.cores, ltb-false core s.shape.cores, place s core block word asking, goes)
   goes_next queued (Order core) =
-      let Goes = λ (n : Next). GoesFirst s (Order core) n.0 n.1 in
-      cond_both (ltb core s.shape.cores) _ _ Goes (λ below.
-      let in_cores = ltb-true core s.shape.cores below in
-      option_both (slice_get (queue_of s.queues core) 0) (λ first. Goes (next_first s core first)) (λ none. ((in_cores, none_waits s queued core none), refl)) (λ block is.
-      let waits = first_waits s queued core block is in
-      let within = waits_within s g core block waits.0 waits.1 in
-      let ordered = option_map_or (next_ordered s core block) (waiting_request (state_of s core block)) (Err NothingWaiting, s) in
-      option_both (picture_of s block).transaction (λ found. Goes (if is_some found then (Err (BusTaken block), s) else ordered))
-      (λ free. rw waits.1 (block, (is, record { request = waits.0; within = within; answered = refl; orders = order_made s g core block waits.0 (waits.1, free) })))
-      (λ o busy. ((in_cores, is, rw busy refl), refl)))) (λ past. (ltb-false core s.shape.cores past, refl))
+      let goes = λ (below : core < s.shape.cores). goes_queued queued core below _ refl in
+      grind (arith, ltb-true core s.shape.cores, ltb-false core s.shape.cores, goes)
   goes_next queued (Respond block) = grind (arith, ltb-true block s.shape.blocks, ltb-false block s.shape.blocks, closes block)

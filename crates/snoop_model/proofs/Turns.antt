@@ -1,7 +1,7 @@
 -- All laws of turns that follow the turn rule: what they keep, that they are never refused, what they cost, and when a work is over.
-use Rattle.snoop_model.proofs.Common.{[], Access, All, All-contains, All-filter, All-push, All-weaker, ap, arith, Ask, asked, awaited_request, CacheAction, CacheState, Contains-get_or, FirstMove, has_transaction, held_by, inl, inr, is_some, IsServing, Issue, Issued, IsWellKept, Item, Line, missed_request, NeverRefused, None, none-some, none_from_not_some, not, nothing_there, Op, Open, Option, or_cases, Order, Pays, Picture, picture_of, queue_of, queues_after, refl, Reply, Request, Respond, same_Some, ServesOn, Situation, slice_index_or, slice_set, Some, Stall, state_of, sym, Takes, true, TurnLaws, waiting_request, Waits, with_line, ℕ, ◌==◌, ◌∙◌, ◌≡◌, ◌⊎◌}
+use Rattle.snoop_model.proofs.Common.{[], Access, after_order, All, All-contains, All-filter, All-push, All-weaker, ap, arith, Ask, asked, awaited_request, CacheAction, CacheState, Contains-get_or, FirstMove, has_transaction, held_by, inl, inr, is_some, IsServing, Issue, Issued, IsWellKept, Item, Line, missed_request, NeverRefused, None, none-some, none_from_not_some, not, nothing_there, Op, Open, Option, or_cases, Order, Pays, Picture, picture_of, queue_of, queues_after, refl, Reply, Request, Respond, same_Some, ServesOn, Situation, slice_index_or, Some, Stall, state_of, sym, Takes, true, TurnLaws, waiting_request, Waits, with_line, ℕ, ◌==◌, ◌∙◌, ◌≡◌, ◌⊎◌, List}
 use Rattle.snoop_model.specs.Turns.Turn.{turn_of}
-use Rattle.snoop_model.proofs.{Lists.{all_first, count_set, each_still, sum_asked, sum_ordered}, Once.owed_after}
+use Rattle.snoop_model.proofs.{OneBlock.AfterMoves.changed, Lists.{all_first, count_set, each_still, sum_asked, sum_ordered}, Once.owed_after}
 use Rattle.snoop_model.proofs.{Queues.{keeps_well, queued_waits, starts_well, waits_queued}, Tables.Rows.{action_rule, is_busy, some_of}}
 
 -- for one of the two, or the other
@@ -24,20 +24,21 @@ never_refused s under_way core block word asking begun step serving kept has_cor
     grind (arith, is, refused, its, has_core, has_block, has_word, first, busy, action_rule s.protocol (state_of s core block) (asked asking) Stall)
 
 module _ {s : Situation} {under_way : ℕ → Option ℕ} (serving : IsServing under_way s) where
-  -- an open transaction where one block's picture was written
-  set_opened : (place : ℕ) (next : Picture) → ((o : Open) → next.transaction ≡ Some o → under_way o.core ≡ Some place)
-      → (block : ℕ) (o : Open) → (slice_index_or (slice_set s.pictures place next) block nothing_there).transaction ≡ Some o → under_way o.core ≡ Some block
-  set_opened place next its = each_still s.pictures place next nothing_there (λ b x. (o : Open) → x.transaction ≡ Some o → under_way o.core ≡ Some b) serving.opened its
+  -- where one block's picture was written, and the queues serve
+  served : (block : ℕ) (next : Picture) (queues : List (List ℕ)) (log : List Item) → ((core : ℕ) → All (λ b. under_way core ≡ Some b) (queue_of queues core))
+      → ((o : Open) → next.transaction ≡ Some o → under_way o.core ≡ Some block) → IsServing under_way (changed s block next queues log)
+  served block next queues log waits its = record {
+    waits = waits;
+    opened = each_still s.pictures block next nothing_there (λ b x. (o : Open) → x.transaction ≡ Some o → under_way o.core ≡ Some b) serving.opened its;
+  }
 
   -- an Ask, if one that issues is of a core that has the block under way
   asked_serves : (core on word : ℕ) (asking : Op) (answer : Reply) (t : Situation) (m : FirstMove s (Ask core on word asking) answer t)
       → ((request : Request) → answer ≡ Issued request → under_way core ≡ Some m.0) → IsServing under_way t
   asked_serves core on word asking answer t m its = elim m.1.1.moves [
     | inl absent ↦ rw absent.3 serving
-    | inr asks ↦ rw asks.after (record {
-      waits = queued asks.row.action asks.row.next asks.held asks.entry asks.taken;
-      opened = set_opened m.0 (with_line (picture_of s m.0) core asks.held) (serving.opened m.0);
-    })
+    | inr asks ↦ rw asks.after (served m.0 (with_line (picture_of s m.0) core asks.held) (queues_after asks.row.action s.queues core m.0) _
+        (queued asks.row.action asks.row.next asks.held asks.entry asks.taken) (serving.opened m.0))
   ]
     where
       queued : (act : CacheAction) (next : CacheState) (held : Line) (entry : Option Item) → Takes act next s.log core m.0 word asking (held_by (picture_of s m.0) core) held answer entry
@@ -59,19 +60,15 @@ serves_on s t before after (Ask core on word asking) answer serving move extends
 serves_on s t before after (Order core) answer serving move extends its =
     let now = more_served serving extends in
     let orders = move.1.1.orders in
-    rw orders.after (record {
-      waits = each_still s.queues core _ [] (λ k queue. All (λ b. after k ≡ Some b) queue) now.waits
-          (All-filter (λ b. not (b == move.0)) (λ b. after core ≡ Some b) (queue_of s.queues core) (now.waits core));
-      opened = set_opened now move.0 orders.next (λ o is. rw (ap (λ (x : Open). x.core) (same_Some _ _ (sym is ∙ orders.opened)))
-          (all_first (λ b. after core ≡ Some b) (queue_of s.queues core) move.0 (now.waits core) move.1.0));
-    })
+    rw orders.after (served now move.0 orders.next (after_order s.queues core move.0) _
+    (each_still s.queues core _ [] (λ k queue. All (λ b. after k ≡ Some b) queue) now.waits
+    (All-filter (λ b. not (b == move.0)) (λ b. after core ≡ Some b) (queue_of s.queues core) (now.waits core)))
+    (λ o is. rw (ap (λ (x : Open). x.core) (same_Some _ _ (sym is ∙ orders.opened)))
+    (all_first (λ b. after core ≡ Some b) (queue_of s.queues core) move.0 (now.waits core) move.1.0)))
 serves_on s t before after (Respond on) answer serving move extends its =
     let now = more_served serving extends in
     let responds = move.1.1.responds in
-    rw responds.after (record {
-      waits = now.waits;
-      opened = set_opened now move.0 responds.next (λ o is. absurd (none-some o (sym responds.closed ∙ is)));
-    })
+    rw responds.after (served now move.0 responds.next s.queues _ now.waits (λ o is. absurd (none-some o (sym responds.closed ∙ is))))
 
 pays : Pays
 pays s t (Ask core on word asking) answer move = elim move.1.1.moves [

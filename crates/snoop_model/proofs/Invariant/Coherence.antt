@@ -1,6 +1,6 @@
 -- What the invariant says of a situation: where nobody owns a block, what lies within the shape, which states a requestor is in, that all rows are found, that one sends.
 use Rattle.snoop_rules.specs.Possible.{MayStore}
-use Rattle.snoop_model.proofs.Common.{arith, arrival, arrival_at_memory, Ask, asked, awaited_request, BlockInvariant, CacheEvent, CacheState, CanOrder, Cell, eq-eqb, Evict, false, false_from_ne_true, flat_words, FollowsSenderTable, ForSome, get_or_past, GetS, HasOpen, held_by, Hit, I, Invariant, is_put_m, is_some, IsSomeAnd, IsWellKept, IsWithin, keeps, length, Line, List, MemEvent, ne_eqb, None, none-some, nothing_held, nothing_there, Op, Open, Option, Order, OrdersFollowSenderTable, Picture, picture_of, Protocol, PutM, refl, Request, Respond, seen_by, Situation, Some, state_of, Step, sym, true, waiting_request, Waits, ℕ, ◌<◌, ◌↔◌, ◌∙◌, ◌≡◌, ◌≢◌, ◌≤◌}
+use Rattle.snoop_model.proofs.Common.{arith, arrival, arrival_at_memory, Ask, asked, awaited_request, BlockInvariant, CacheEvent, CacheState, CanOrder, Cell, eq-eqb, Evict, false, false_from_ne_true, flat_words, FollowsSenderTable, ForSome, get_or_past, HasOpen, held_by, Hit, I, Invariant, is_put_m, is_some, IsSomeAnd, IsWellKept, IsWithin, keeps, length, Line, List, MemEvent, ne_eqb, None, none-some, nothing_held, nothing_there, Op, Open, Option, Order, OrdersFollowSenderTable, Picture, picture_of, Protocol, PutM, refl, Request, Respond, seen_by, Situation, Some, state_of, Step, sym, true, waiting_request, Waits, ℕ, ◌<◌, ◌↔◌, ◌∙◌, ◌≡◌, ◌≢◌, ◌≤◌, GetS}
 use Rattle.snoop_model.specs.Moves.LookUps.{ConsultsCache, ConsultsMemory, FindsRows, HasMemRow, HasRow}
 use Rattle.snoop_model.proofs.Lists.{if_some}
 use Rattle.snoop_model.proofs.OneBlock.{Facts.it_is, OrderStep.{each_row, look, meant, meant_in, sender_told, sends, sends_if_meant, sent}, RespondStep.{answered, close, Closing}}

@@ -1,7 +1,7 @@
 -- The invariant holds at reset, and after each move: flat memory and the log first, then the block, and what waits.
 use Rattle.snoop_history.proofs.Legal.{flat-grows, legal-grows}
-use Rattle.snoop_model.proofs.Common.{[], Access, after_order, All, All-append, All-cons, All-nil, ap, append-nil, arith, as_access, Ask, BlockInvariant, Bool, CacheAction, CacheState, came_of, claims_of, cond, Did, eqb_tells, Err, Extent, false, fill_by_all, first_memory, fits, flat, flat_words, get_or-map-range_with_len, get_or-replicate, get_or-set_other, get_or-set_same, get_or_past, Goes, HasWord, held_by, Hit, I, IfSome, IfSome_then, if◌then◌else◌, in_protocol, inl, inr, Invariant, is_clean, is_owner, is_sharer, is_store_to, IsNext, IsProper, IsShaped, IsWithin, IsWord, Item, keeps, Legal, length, length-map-range_with_len, length-replicate, length-set, Line, List, MoveOn, next_did, None, none-some, not, nothing_held, nothing_there, Ok, Op, Open, operation_of, operations, operations-push, Option, option_map, option_map_or, option_to_list, Order, Picture, picture_of, Protocol, queues_after, refl, Refused, replicate, Reply, request_for, reset, Respond, Result, same, same_Some, Situation, slice_set, Some, Step, sym, Takes, true, untouched, wait_fits, with_line, word_at, ℕ, ◌&&◌, ◌++◌, ◌<◌, ◌==◌, ◌∙◌, ◌∷◌, ◌≡◌, ◌≢◌}
-use Rattle.snoop_model.proofs.Lists.{each_set, is_none, replicated}
+use Rattle.snoop_model.proofs.Common.{[], Access, after_order, All, All-append, All-cons, All-nil, ap, append-nil, arith, Ask, BlockInvariant, Bool, CacheAction, CacheState, came_of, claims_of, cond, Did, eqb_tells, Err, Extent, false, fill_by_all, first_memory, fits, flat, flat_words, get_or-map-range_with_len, get_or-replicate, get_or-set_other, get_or-set_same, get_or_past, Goes, HasWord, held_by, Hit, I, IfSome, IfSome_then, if◌then◌else◌, in_protocol, inl, inr, Invariant, is_clean, is_owner, is_sharer, is_store_to, IsNext, IsProper, IsShaped, IsWithin, IsWord, Item, keeps, Legal, length, length-map-range_with_len, length-replicate, length-set, Line, List, MoveOn, next_did, None, none-some, not, nothing_held, nothing_there, Ok, Op, Open, operation_of, operations, operations-push, Option, option_map_or, option_to_list, Order, Picture, picture_of, Protocol, queues_after, refl, Refused, replicate, Reply, reset, Respond, Result, same, same_Some, Situation, slice_set, Some, Step, sym, Takes, true, untouched, wait_fits, with_line, word_at, ℕ, ◌&&◌, ◌++◌, ◌<◌, ◌==◌, ◌∙◌, ◌∷◌, ◌≡◌, ◌≢◌}
+use Rattle.snoop_model.proofs.Lists.{each_set, replicated}
 use Rattle.snoop_model.proofs.OneBlock.{AfterMoves.{by_request, changed, each_picture, each_taken, in_pictures, still_shaped, still_waiting}, AskStep.ask_keeps, Facts.{did_in, flat_after, IsLawful}, OrderStep.order_keeps, RespondStep.respond_keeps}
 use Rattle.snoop_history.specs.declared.items.Item.TheVariants as item
 use Rattle.snoop_trace.specs.declared.protocol.Protocol.TheVariants as protocol
@@ -85,9 +85,6 @@ kept old new block next queues entry after shaped g k =
       accesses = λ core. each_picture old block next queues log (λ b x. AccessWithin old.shape (held_by x core)) within (λ b apart. g.accesses core b) (k.accesses core);
     })
 
-issued_access : (s : Situation) (word : ℕ) (asking : Op) (access : Access) → HasWord s.shape word asking → as_access word asking ≡ Some access → IsWord s.shape access.word
-issued_access s word asking access within e = grind (arith, within)
-
 -- what waits after an Ask, and its item
 module _ (s : Situation) (core block word : ℕ) (asking : Op) (next : CacheState) (old new : Line) (answer : Reply) (entry : Option Item) (there : HasWord s.shape word asking) where
   takes_so : (a : CacheAction) → Takes a next s.log core block word asking old new answer entry → AccessWithin s.shape old → IsWithin s core block → IsLawful (flat_words s.log block) (did_in entry)
@@ -95,7 +92,7 @@ module _ (s : Situation) (core block word : ℕ) (asking : Op) (next : CacheStat
   takes_so Hit t was within lawful =
       let has : IsWord s.shape word = grind (arith, there, t.1.0.performed) in
       (rw t.1.0.held was, rw t.1.2 (refl, next_lawful s.log core block word asking t.0 true has.1 (rw t.1.2 at lawful), (within, has)))
-  takes_so a t was within lawful = (λ access waits. grind (arith, t, waits, was access, issued_access s word asking access there), grind (arith, t))
+  takes_so a t was within lawful = (λ access waits. grind (arith, t, waits, was access, there), grind (arith, t))
 
 -- a move keeps the invariant
 pub move_keeps : (block : ℕ) (old : Situation) (step : Step) (answer : Reply) (new : Situation) → Invariant old → MoveOn block old step answer new → Invariant new
@@ -155,13 +152,9 @@ move_keeps block old (Respond on) answer new g m =
 pub nothing_proper : IsProper nothing_held
 nothing_proper = record { kept = refl; waiting = refl }
 
--- in a line whose state has missed nothing no operation waits
-pub nothing_waits : (waiting : Option Access) → option_map (λ access. request_for access.op) waiting ≡ None → waiting ≡ None
-nothing_waits waiting h = grind arith
-
 -- a line in I holds nothing
 pub idle_line : (line : Line) → IsProper line → line.state ≡ I → line ≡ nothing_held
-idle_line line proper idle = grind (arith, proper.kept, proper.waiting, idle, is_none line.kept, nothing_waits line.waiting)
+idle_line line proper idle = grind (arith, proper.kept, proper.waiting, idle)
 
 -- where the block's value is at reset: with memory, and with each sharer under MSI
 first_claims : (p : Protocol) → (shared : Bool)

@@ -1,12 +1,11 @@
 -- What every machine keeps makes it safe, and its steps keep it.
-use Rattle.snoop_model.proofs.Common.{Absent, ap, arith, arrival_at_memory, Ask, asked, both_ways, CacheAction, CacheCell, CacheEvent, CacheState, Cell, Drop, E, EiA, Evict, Extent, flat, flat_words, Goes, Gone, held_by, Hit, I, IfSome, inl, inr, Invariant, is_clean, is_some, IsOpenByTable, IsProper, IsSenderLine, IsSome, Issue, IsWellKept, Item, keeps, Line, List, Load, MemCell, MoveOn, None, nothing_held, Op, Option, option_map, Order, Orders, Picture, picture_of, Protocol, PutM, refl, Refused, Reply, Request, reset, Respond, Result, RunBy, same_Some, Situation, Some, Stall, state_of, Step, Store, sym, Takes, takes_payload, true, with_line, with_picture, word_at, ℕ, ◌<◌, ◌↔◌, ◌∙◌, ◌≡◌, ◌≢◌, ◌≤◌, ◌⊎◌}
-use Rattle.snoop_model.specs.{Coherent.{IsCoherent, IsCoherentRun}, Invariant.MachineKeeps.{AreOnSenderLines, MachineKeeps}, Moves.Replies.{IsHit, MayHit}, Runs.{Run.EveryRun, Safe.{IsSafe, RowsAreFound}}}
+use Rattle.snoop_model.proofs.Common.{Absent, ap, arith, arrival_at_memory, Ask, asked, both_ways, CacheAction, CacheEvent, CacheState, Cell, E, EiA, Evict, Extent, flat, flat_words, Goes, Gone, held_by, Hit, I, IfSome, inl, inr, Invariant, is_clean, is_some, IsOpenByTable, IsProper, IsSenderLine, IsSome, IsWellKept, Item, keeps, Line, List, MemCell, MoveOn, None, nothing_held, Option, option_map, Order, Orders, Picture, picture_of, Protocol, PutM, refl, Refused, Reply, Request, reset, Respond, Result, RunBy, same_Some, Situation, Stall, state_of, Step, Store, sym, Takes, takes_payload, true, with_line, with_picture, word_at, ℕ, ◌<◌, ◌∙◌, ◌≡◌, ◌≤◌, ◌⊎◌, IsWithin}
+use Rattle.snoop_model.specs.{Coherent.{IsCoherent, IsCoherentRun}, Invariant.MachineKeeps.{AreOnSenderLines, MachineKeeps}, Runs.{Run.EveryRun, Safe.{IsSafe, RowsAreFound}}}
 use Rattle.snoop_model.proofs.Invariant.{Coherence.{data_awaited, each_line, finds_rows, held_within, hit_within, nobody_owns, opened_within, orders_follow_sender_table, requestor_fits, sender_within}, Runs.{goes_kept, idle_line, move_keeps, nothing_proper, reset_invariant, reset_open, word_flat}}
-use Rattle.snoop_model.proofs.{Lists.{if_some, is_none}, Once.run_asked_once}
+use Rattle.snoop_model.proofs.{Lists.if_some, Once.run_asked_once, Turns.busy_cases}
 use Rattle.snoop_model.proofs.{OneBlock.{AfterMoves.{ask_line, each_picture, in_pictures, respond_here}, Facts.owned_alone}, Queues.{on_kept, starts_well}}
 use Rattle.snoop_model.proofs.{Runs.{Along.kept_along, GoOn.moves_on, Replies.{run_stays, run_tells}}, Steps.order_made}
 use Rattle.snoop_model.proofs.Tables.{OrderTests.{sends_is, settled_so}, Rows.{action_rule, ask_rule, claims_rule, fit_rule, IsProper-drop, no_row}}
-use Rattle.snoop_model.proofs.Turns.{busy_cases}
 use Rattle.snoop_rules.specs.declared.names.CacheEvent.TheVariants as event
 
 -- each open transaction is on a line
@@ -22,10 +21,9 @@ module _ (s : Situation) (g : Invariant s) where
   pub kept_is_flat : s.shape.words ≤ 64 → (core block word : ℕ) → (found : Option ℕ) → IfSome found (λ _. (core < s.shape.cores) × (block < s.shape.blocks) × (word < s.shape.words))
       → (core < s.shape.cores → block < s.shape.blocks → word < s.shape.words → found ≡ option_map (λ ws. word_at ws word) (held_by (picture_of s block) core).kept)
       → (core < s.shape.cores → block < s.shape.blocks → word < s.shape.words → is_some found ≡ keeps (state_of s core block)) → IfSome found (λ value. value ≡ flat s.log block word)
-  kept_is_flat few core block word None within inside readable = tt
-  kept_is_flat few core block word (Some value) within inside readable =
-      let kept = (g.blocks block within.1).kept core within.0 (sym (readable within.0 within.1 within.2)) in
-      same_Some _ _ (inside within.0 within.1 within.2 ∙ ap (λ o. option_map (λ (ws : List ℕ). word_at ws word) o) kept) ∙ word_flat s.log block word (omega (arith, few, within.2))
+  kept_is_flat few core block word found within inside readable =
+      let kept = λ (there : IsWithin s core block). (g.blocks block there.1).kept core there.0 in
+      grind (arith, few, within, inside, readable, kept, word_flat s.log block word)
 
   -- of a clean copy memory has the words
   pub clean_in_memory : (core block : ℕ) → (state_of s core block ≡ E) ⊎ (state_of s core block ≡ EiA) → (picture_of s block).memory.value ≡ flat_words s.log block
@@ -35,39 +33,21 @@ module _ (s : Situation) (g : Invariant s) where
       let within = held_within s g core block (λ x. is_clean x.state ≡ true) (λ h. cc) is in
       (g.blocks block within.1).clean core within.0 is
 
-  -- a row that is no hit stands where the core may not hit
-  no_hit : (core block : ℕ) (act : CacheAction) (next : CacheState) (asking : Op) → Cell s.protocol (state_of s core block) (asked asking) act next → act ≢ Hit
-      → ¬ MayHit s.protocol (state_of s core block) asking
-  no_hit core block act next asking row other may = other (ap (λ (cell : CacheCell). cell.action) (same_Some _ _ (sym row ∙ may.1)))
-
-  -- a hit is by a row that is one, and such a row is taken by a hit
-  hits_may : (core block word : ℕ) (act : CacheAction) (next : CacheState) (asking : Op)
-      → Cell s.protocol (state_of s core block) (asked asking) act next → (held : Line) (answer : Reply) (entry : Option Item)
-      → Takes act next s.log core block word asking (held_by (picture_of s block) core) held answer entry → IsHit answer ↔ MayHit s.protocol (state_of s core block) asking
-  hits_may core block word Hit next Load row held answer entry t = rw t.1.1 ((λ _. (next, row)), (λ _. tt))
-  hits_may core block word Hit next (Store value) row held answer entry t = rw t.1.1 ((λ _. (next, row)), (λ _. tt))
-  hits_may core block word (Issue request) next asking row held answer entry t = rw t.1 (absurd, no_hit core block (Issue request) next asking row (λ is. cc))
-  hits_may core block word Drop next asking row held answer entry t = rw t.1 (absurd, no_hit core block Drop next asking row (λ is. cc))
-  hits_may core block word _ next asking row held answer entry t = absurd (grind (arith, t))
-
   -- an eviction that is answered Gone or Absent leaves nothing
   gone_leaves : (core block word : ℕ) (answer : Reply) → (answer ≡ Gone) ⊎ (answer ≡ Absent)
       → (act : CacheAction) (next : CacheState) → Cell s.protocol (state_of s core block) (asked Evict) act next → (held : Line) (entry : Option Item)
       → Takes act next s.log core block word Evict (held_by (picture_of s block) core) held answer entry → held ≡ nothing_held
-  gone_leaves core block word answer leaves Drop next row held entry t =
-      let proper = IsProper-drop s.protocol (held_by (picture_of s block) core) (asked Evict) next (all_proper core block) row in
-      grind (arith, t, idle_line _ proper, action_rule s.protocol (state_of s core block) (asked Evict) Drop next row)
-  gone_leaves core block word answer leaves act next row held entry t = absurd (grind (arith, leaves, t))
+  gone_leaves core block word answer leaves act next row held entry t =
+      let proper = IsProper-drop s.protocol (held_by (picture_of s block) core) (asked Evict) next (all_proper core block) in
+      grind (arith, leaves, t, row, proper, idle_line, action_rule s.protocol (state_of s core block) (asked Evict) act next row)
 
   -- an Order is a line of the table
   pub order_is_line : (core block : ℕ) (q : Request) (new : Situation) (made : Orders s core block q new) → IsSenderLine s.protocol (picture_of s block) core q made.from made.payload made.next.memory.state
   order_is_line core block q new o =
       let f = orders_follow_sender_table s g core block q o.ready in
-      let from : f.from ≡ o.from = o.sent.alone f.from f.payload f.sent.sends in
-      let sends = sends_is s.protocol (picture_of s block) core q f.from f.payload f.sent.sends in
-      let same : f.payload ≡ o.payload = cc (sends, sends_is s.protocol (picture_of s block) core q o.from o.payload o.sent.sends) in
-      let memory : f.next ≡ o.next.memory.state = cc (f.ordered.1, f.ordered.2, o.memory.1, o.memory.2) in
-      rw (← from, ← same, ← memory) f.is_line
+      let sends = sends_is s.protocol (picture_of s block) core q in
+      let alone = o.sent.alone f.from f.payload f.sent.sends in
+      grind (arith, f.is_line, alone, sends f.from f.payload f.sent.sends, sends o.from o.payload o.sent.sends, f.ordered, o.memory)
 
   on_lines : AreOnSenderLines s → (block : ℕ) → block < s.shape.blocks → (next : Picture) → OnLine s.protocol next → AreOnSenderLines (with_picture s block next)
   on_lines lines block within next here =
@@ -123,14 +103,14 @@ is_coherent s g on_lines well_kept = record {
       ];
   hits = λ core block word asking answer new m. elim m.moves [
     | inl absent ↦ rw (absent.0, absent.1, absent.2) (λ hit. absurd hit, λ may. no_row s.protocol I Evict Hit may.0 refl refl may.1)
-    | inr a ↦ hits_may s g core block word a.row.action a.row.next asking a.is_row a.held answer a.entry a.taken
+    | inr a ↦ (λ hit. (a.row.next, grind (arith, hit, a.is_row, a.taken)), λ may. grind (arith, may, a.is_row, a.taken))
   ];
   gone = λ core block word answer new leaves m. elim m.moves [
     | inl absent ↦ rw absent.3 (idle_line (held_by (picture_of s block) core) (all_proper s g core block) absent.1)
     | inr a ↦ ask_line s core block word Evict answer new g m.within a
         ∙ gone_leaves s g core block word answer leaves a.row.action a.row.next a.is_row a.held a.entry a.taken
   ];
-  given_up = λ core block opened. is_none _ ((all_proper s g core block).kept ∙ (requestor_fits s g core block PutM opened).1.1 refl);
+  given_up = λ core block opened. grind (arith, (all_proper s g core block).kept, (requestor_fits s g core block PutM opened).1.1);
   moves = moves_on s g well_kept.queued;
   orders = λ core block q ready. (_, order_made s g core block q ready);
   by_table = order_is_line s g;

@@ -1,7 +1,7 @@
 -- An Ask keeps the invariant, and a load that it performs gives the flat value.
 use Rattle.snoop_model.proofs.Common.{arith, asked, Asks, BlockInvariant, Bool, both_ways, CacheAction, Cell, Drop, false, held_by, Hit, inl, inr, Issue, length, Line, List, Load, nothing_held, Op, own_open, owns, Picture, picture_of, refl, Reply, same_Some, Situation, Store, sym, Takes, true, with_line, ℕ, ◌<◌, ◌∙◌, ◌≡◌, ◌⊎◌}
 use Rattle.snoop_model.proofs.{Lists.each_set, OneBlock.Facts.{carried_line, did_in, flat_after, IsLawful, line_of, LineFits, owned_alone, still_fits}}
-use Rattle.snoop_model.proofs.Tables.Rows.{ask_rule, asked_row, hit_keeps, IsProper-drop, IsProper-hit, IsProper-issue, kept_reader}
+use Rattle.snoop_model.proofs.Tables.Rows.{ask_rule, asked_row, hit_keeps, IsProper-drop, IsProper-hit, IsProper-issue}
 use Rattle.snoop_rules.specs.declared.names.CacheEvent.TheVariants as event
 
 module _ (s : Situation) (core block word : ℕ) (asking : Op) (answer : Reply) (new : Situation) (asks : Asks s core block word asking answer new)
@@ -29,10 +29,10 @@ module _ (s : Situation) (core block word : ℕ) (asking : Op) (answer : Reply) 
       rw (hit.held, entry) (record { fit = fit; kept = λ h. cc; clean = λ h. absurd (both_ways _ unclean h); proper = proper }, inr owning, λ e. cc)
   asker (Issue r) o row (fit, (carry, _)) (held, _, entry) =
       let proper = IsProper-issue s.protocol old word o r asks.row.next (g.proper core asker_in) row in
-      rw (held, entry) (carried_line old (line_of g core asker_in) _ (kept_reader asks.row.next old.kept) fit (carry refl) proper, inl refl, tt)
+      rw (held, entry) (carried_line old (line_of g core asker_in) _ (λ h. grind (arith, h)) fit (carry refl) proper, inl refl, tt)
   asker Drop o row (fit, (carry, _)) (held, _, entry) =
       let proper = IsProper-drop s.protocol old (asked o) asks.row.next (g.proper core asker_in) row in
-      rw (held, entry) (carried_line old (line_of g core asker_in) _ (kept_reader asks.row.next old.kept) fit (carry refl) proper, inl refl, tt)
+      rw (held, entry) (carried_line old (line_of g core asker_in) _ (λ h. grind (arith, h)) fit (carry refl) proper, inl refl, tt)
   asker a o row so took = absurd (grind (arith, took))
 
   -- an Ask keeps the invariant of a picture, and a load that it performs gives the flat value

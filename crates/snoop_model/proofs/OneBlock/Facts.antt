@@ -1,9 +1,6 @@
 -- What follows from the invariant of one block.
-use Rattle.snoop_model.proofs.Common.{arith, BlockInvariant, Bool, cond, Did, eqb-true, false, fits, held_by, IfSome, is_clean, is_some, IsProper, Item, keeps, Line, List, ne_eqb, None, not, operation_of, Option, option_and_then, option_map_or, own_open, owns, Picture, Protocol, refl, Request, same, slice_set, Some, sym, talk_of, true, word_at, ℕ, ◌<◌, ◌||◌, ◌↔◌, ◌∙◌, ◌≡◌, ◌≢◌}
-use Rattle.snoop_model.proofs.Tables.{Rows.{brings_data, carries, claims_rule, clean_reads}, Tested.of_open}
-
-pub owns_owned : (owner : Option ℕ) (d : ℕ) (b : Bool) → is_some owner ≡ b → (not (owns owner d) || b) ≡ true
-owns_owned owner d b e = grind arith
+use Rattle.snoop_model.proofs.Common.{arith, BlockInvariant, Bool, cond, Did, eqb-true, false, fits, held_by, IfSome, is_clean, is_some, IsProper, Item, keeps, Line, List, ne_eqb, None, not, operation_of, Option, option_and_then, option_map_or, own_open, owns, Picture, Protocol, refl, Request, same, slice_set, Some, sym, talk_of, true, word_at, ℕ, ◌<◌, ◌↔◌, ◌∙◌, ◌≡◌, ◌≢◌}
+use Rattle.snoop_model.proofs.Tables.{Rows.{brings_data, carries, claims_rule}, Tested.of_open}
 
 -- what the invariant says of one core's line, where the block's words and memory's are these
 pub record LineFits (p : Protocol) (shared owning : Bool) (wait : Option Request) (words memory : List ℕ) (line : Line) : Type 0 where
@@ -21,7 +18,8 @@ module _ {p : Protocol} {shared owning shared' owning' : Bool} {wait wait' : Opt
   -- a line that stays as it is fits the block's new words, which are the old ones if the line may be read
   pub still_fits : {words memory' : List ℕ} → (keeps old.state ≡ true → words ≡ flat) → (memory ≡ flat → memory' ≡ flat) → fits p shared' owning' wait' old.state ≡ true
       → LineFits p shared' owning' wait' words memory' old
-  still_fits same stays fit = record { fit = fit; kept = λ h. rw (same h) (was.kept h); clean = λ h. stays (was.clean h) ∙ sym (same (clean_reads old.state h)); proper = was.proper }
+  unfolding is_clean
+  still_fits same stays fit = record { fit = fit; kept = λ h. rw (same h) (was.kept h); clean = λ h. stays (was.clean h) ∙ sym (same (grind (arith, h))); proper = was.proper }
 
 pub owner_is : (owner : Option ℕ) (d : ℕ) → owns owner d ≡ true → owner ≡ Some d
 owner_is owner d h = grind (arith, eqb-true d)

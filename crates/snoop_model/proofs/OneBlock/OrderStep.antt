@@ -1,8 +1,7 @@
 -- An Order finds all its rows and one sender, and keeps the invariant.
 use Rattle.snoop_model.proofs.Common.{ap, arith, at_memory, BlockInvariant, Bool, CacheCell, carries_value, cases_eq, cell_of, Claims, claims_of, cond, cond_both, cond_some, eq-eqb, eqb, false, fits, held_by, inl, inr, is_put_m, is_some, keeps, length, List, MemCell, memory_cell_of, ne_eqb, None, not, Open, Option, or_cases, Orders, own, own_open, owns, Payload, Picture, picture_of, Protocol, refl, Request, same_Some, seen_by, sender_of, Sends, Situation, Some, sym, true, value_sent, waiting_request, ℕ, ◌<◌, ◌∙◌, ◌≡◌}
-use Rattle.snoop_model.proofs.{Lines.{IsBelow, sends_below}, Lists.of_choice}
-use Rattle.snoop_model.proofs.OneBlock.Facts.{carried_line, is_it, it_is, line_of, LineFits, OwnerIn, owns_owned}
-use Rattle.snoop_model.proofs.Tables.{OrderTests.{end_claims, follows_sender_table, memory_sends_row, payload_from, payload_of, sends_is, sends_row, sends_rule, sends_so}, Rows.{carries, IsProper-order, kept_reader}, Tested.Tested}
+use Rattle.snoop_model.proofs.{Lines.{IsBelow, sends_below}, Lists.of_choice, OneBlock.Facts.{carried_line, is_it, it_is, line_of, LineFits, OwnerIn}}
+use Rattle.snoop_model.proofs.Tables.{OrderTests.{end_claims, follows_sender_table, memory_sends_row, payload_from, payload_of, sends_is, sends_row, sends_rule, sends_so}, Rows.{carries, IsProper-order}, Tested.Tested}
 
 -- all that an Order looks up of a picture that keeps its invariant
 pub record Looked {p : Protocol} {flat : List ℕ} {before : Picture} (good : BlockInvariant p (length before.caches) flat before) (c : ℕ) (q : Request) : Type 0 where
@@ -20,7 +19,7 @@ pub look : {p : Protocol} {flat : List ℕ} {before : Picture} (good : BlockInva
     → (c : ℕ) (q : Request) → c < length before.caches → waiting_request (held_by before c).state ≡ Some q → Looked good c q
 look {p} {flat} {before} good calm c q c_in waits =
     let (memory, is_memory, (row, is_row, (next, is_next, ends))) =
-    sends_rule p before.memory.state good.claims (rw calm at good.is_claims) _ _ (rw calm at (good.states c c_in)) (owns_owned good.owner c _ good.is_owned) q waits in
+    sends_rule p before.memory.state good.claims (rw calm at good.is_claims) _ _ (rw calm at (good.states c c_in)) (grind (arith, good.is_owned)) q waits in
     record { requestor_in = c_in; calm = calm; memory = memory; is_memory = is_memory; row = row; is_row = is_row; next = next; is_next = is_next; ends = ends }
 
 -- what an Order finds of a picture that keeps its invariant
@@ -94,7 +93,7 @@ order_keeps s core block q new flat good in_row o =
     let (taken, is_taken, moved) = o.taken.rows d d_in in
     let same : row ≡ taken = same_Some _ _ (sym is_row ∙ is_taken) in
     let old = held_by before d in
-    rw (moved, of_choice (λ x. owns x d) l.next.owned good.owner None) (carried_line old (line_of good d d_in) _ (kept_reader taken.next old.kept)
+    rw (moved, of_choice (λ x. owns x d) l.next.owned good.owner None) (carried_line old (line_of good d d_in) _ (λ h. grind (arith, h))
     (rw same at fit) (rw same at carry) (IsProper-order p old d core q taken.action taken.next (good.proper d d_in) is_taken)) in
     record {
       claims = l.next;

@@ -1,7 +1,7 @@
 -- A Respond finds its rows and keeps the invariant, and a load that it performs gives the flat value.
 use Rattle.snoop_model.proofs.Common.{ap, inl, inr, arith, arrival, arrival_at_memory, BlockInvariant, Bool, CacheCell, Claims, claims_of, cond, cond_both, Did, eq-eqb, false, FillsRequestor, held_at, held_by, is_get_m, is_put_m, keeps, length, List, MemCell, ne_eqb, None, nothing_held, Open, Option, owns, Picture, picture_of, Protocol, refl, Responds, same_Some, Situation, Some, sym, takes_payload, true, ℕ, ◌<◌, ◌∙◌, ◌≡◌}
-use Rattle.snoop_model.proofs.Tables.OrderTests.{answer_claims, fills_store, gains, respond_claims, respond_rule, row_for, settled_row, settled_so, stays_so, writes}
-use Rattle.snoop_model.proofs.OneBlock.{AfterMoves.by_request, Facts.{flat_after, IsLawful, line_of, LineFits, OwnerIn, owns_owned, still_fits}}
+use Rattle.snoop_model.proofs.Tables.OrderTests.{answer_claims, gains, respond_claims, respond_rule, row_for, settled_row, settled_so, stays_so, writes}
+use Rattle.snoop_model.proofs.OneBlock.{AfterMoves.by_request, Facts.{flat_after, IsLawful, line_of, LineFits, OwnerIn, still_fits}}
 use Rattle.snoop_model.proofs.{Lists.{each_set, of_choice}, Tables.{Rows.IsProper-fill, Tested.of_open}}
 
 -- all that a Respond looks up of a picture that keeps its invariant
@@ -56,7 +56,7 @@ module _ (s : Situation) (block : ℕ) (o : Open) (did : Option Did) (new : Situ
       → (stays_so p o.request g.claims found.next (held_by before d).state (owns g.owner d)).claim
       → LineFits p found.next.shared (cond gained false (owns g.owner d)) None words r.next.memory.value (held_by before d)
   stays words same d d_in so =
-      let (fit, blind) = so (owns_owned g.owner d g.claims.owned g.is_owned) in
+      let (fit, blind) = so (grind (arith, g.is_owned)) in
       let reads : keeps (held_by before d).state ≡ true → words ≡ flat = λ h. grind (arith, same, blind, h) in
       still_fits (held_by before d) (line_of g d d_in) reads (λ is. memory_flat (λ w. is)) fit
 
@@ -87,20 +87,19 @@ module _ (s : Situation) (block : ℕ) (o : Open) (did : Option Did) (new : Situ
       → BlockInvariant p n (flat_after flat did) r.next × IsLawful flat did
   respond_get get f =
       let c = o.core in
-      let (row, is_row, (fit, (clean, stores))) = answered found get in
+      let (row, is_row, (fit, (clean, performs))) = answered found get in
       let row_is : row ≡ f.fills.row = same_Some _ _ (sym is_row ∙ rw f.fills.arrives f.fills.is_row) in
-      let words : (f.fills.after ≡ flat_after flat did) × IsLawful flat did × (fills_store f.fills.row.action ≡ false → flat_after flat did ≡ flat) =
-      grind (arith, f.logged, g.carried o r.opened (found.tests.0 get), f.fills.fill, f.fills.performed) in
-      let same : is_get_m o.request ≡ false → flat_after flat did ≡ flat = λ h. words.2 (rw row_is at stores ∙ h) in
+      let words : (f.fills.after ≡ flat_after flat did) × IsLawful flat did × (is_get_m o.request ≡ false → flat_after flat did ≡ flat) =
+      grind (arith, f.logged, g.carried o r.opened (found.tests.0 get), f.fills.fill, f.fills.performed, rw row_is at performs) in
       let filled : LineFits p found.next.shared (owns (cond gained (Some c) g.owner) c) None (flat_after flat did) r.next.memory.value f.line = rw f.fills.held (record {
         fit = rw (of_choice (λ x. owns x c) gained (Some c) g.owner, eq-eqb c c refl) (rw row_is at fit);
         kept = λ h. rw words.0 refl;
-        clean = λ h. let (fresh, get_s) = clean (rw row_is h) in memory_flat (λ w. g.fresh fresh) ∙ sym (same get_s);
+        clean = λ h. let (fresh, get_s) = clean (rw row_is h) in memory_flat (λ w. g.fresh fresh) ∙ sym (words.2 get_s);
         proper = IsProper-fill p (held_by before c).state f.fills.event f.fills.row.action f.fills.row.next f.asking.op f.fills.after f.fills.fill f.fills.is_row;
       }) in (
-        closed (flat_after flat did) same (simp f.held (each_set before.caches c f.line nothing_held
+        closed (flat_after flat did) words.2 (simp f.held (each_set before.caches c f.line nothing_held
             (λ d x. d < n → LineFits p found.next.shared (owns (cond gained (Some c) g.owner) d) None (flat_after flat did) r.next.memory.value x) in_row (λ c_in. filled)
-            (λ d apart d_in. rw (of_choice (λ x. owns x d) gained (Some c) g.owner, ne_eqb d c apart) (stays (flat_after flat did) same d d_in
+            (λ d apart d_in. rw (of_choice (λ x. owns x d) gained (Some c) g.owner, ne_eqb d c apart) (stays (flat_after flat did) words.2 d d_in
             (found.tests.1.1.1.1.1.1.0 get _ _ (rw (r.opened, ne_eqb d c apart) at (g.states d d_in))))))),
         words.1,
       )

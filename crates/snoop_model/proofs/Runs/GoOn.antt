@@ -64,8 +64,7 @@ taken_goes_on protocol shape steps step answer middle new taken move =
 
 -- the same steps as a run on any block
 goes_on_any : (old : Situation) (step : Step) (outcome : Result Reply Refused) (new : Situation) → GoesFirst old step outcome new → Goes old step outcome new
-goes_on_any old step (Ok answer) new goes = (goes.0, goes.1.1)
-goes_on_any old step (Err cause) new goes = grind (arith, goes)
+goes_on_any old step outcome new goes = grind (arith, goes)
 
 -- none of them was refused
 none_refused : (old new : Situation) (steps : List Step) (replies : List Reply) → FirstRunFrom old steps (all_ok replies) new → taken steps (all_ok replies) ≡ steps

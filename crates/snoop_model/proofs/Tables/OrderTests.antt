@@ -1,7 +1,7 @@
 -- What a row sends, and tests of the rows of an Order and of a Respond, and of the table of senders, computed over the whole tables.
 use Rattle.std.proofs.lemmas.Map.Views.{Contains-from_any}
-use Rattle.snoop_model.proofs.Common.{all_memories, all_payloads, all_protocols, all_requests, all_states, all_states-at, and_parts, ap, arith, arrival, arrival_at_memory, at_memory, awaited_request, Bool, CacheAction, CacheCell, CacheEvent, CacheState, carries_value, cell_of, Claims, claims_of, cond, false, FillLoad, FillStore, fits, GetM, GetS, held_by, in_protocol, is_clean, is_get_m, is_owner, is_put_m, is_sharer, IsSenderLine, IsSomeAnd, keeps, lines_of, list_any, MatchBool, MemAction, MemCell, MemEvent, memories, Memory, memory_cell_of, MemoryCell, MemState, missed_request, None, not, Option, option_and_then, option_or, Other, other, own, Payload, payloads, Picture, Protocol, PutM, refl, Request, Requestor, requests, same, same_Some, same_true, sameb, seen_by, Sender, sender_of, Sends, Some, states, takes_payload, Target, true, unwrap_or, wait_fits, waiting_request, ℕ, ◌&&◌, ◌||◌, ◌↔◌, ◌≡◌}
-use Rattle.snoop_model.proofs.Tables.{Rows.carries, Tested.{alike, each_fitting, each_memory, each_of, each_open, each_payload, each_protocol, each_request, equal, fails, found, given, holds, provided, Tested, unless, ◌also◌}}
+use Rattle.snoop_model.proofs.Common.{all_memories, all_payloads, all_payloads-at, all_protocols, all_requests, all_requests-at, all_states, all_states-at, arith, arrival, arrival_at_memory, at_memory, awaited_request, Bool, CacheAction, CacheCell, CacheEvent, CacheState, carries_value, cell_of, Claims, claims_of, cond, false, FillLoad, FillStore, fits, GetM, GetS, held_by, in_protocol, is_clean, is_get_m, is_owner, is_put_m, is_sharer, IsSenderLine, IsSomeAnd, keeps, lines_of, list_any, MatchBool, MemAction, MemCell, MemEvent, memories, Memory, memory_cell_of, MemoryCell, MemState, missed_request, None, not, Option, option_and_then, option_or, Other, other, own, Payload, payloads, Picture, Protocol, PutM, refl, Request, Requestor, requests, same, same_true, sameb, seen_by, Sender, sender_of, Sends, Some, states, takes_payload, Target, true, unwrap_or, wait_fits, waiting_request, ℕ, ◌&&◌, ◌||◌, ◌↔◌, ◌≡◌, ap, same_Some, and_parts}
+use Rattle.snoop_model.proofs.Tables.{Rows.carries, Tested.{each_fitting, each_memory, each_of, each_open, each_protocol, equal, fails, found, given, holds, provided, Tested, unless, ◌also◌}}
 use Rattle.snoop_rules.specs.declared.names.CacheAction.TheVariants as action
 use Rattle.snoop_rules.specs.declared.names.MemAction.TheVariants as mem_action
 use Rattle.snoop_rules.specs.declared.names.Payload.TheVariants as payload_kind
@@ -26,12 +26,9 @@ abbrev pub sent_by_memory : Option MemCell → Option Payload
 sent_by_memory found = option_and_then (λ row. memory_payload row.action) found
 
 -- an action that sends
-pub sending : (act : CacheAction) (payload : Payload) → payload_sent act ≡ Some payload → (target : Target) × (act ≡ action.Send payload target)
+sending : (act : CacheAction) (payload : Payload) → payload_sent act ≡ Some payload → (target : Target) × (act ≡ action.Send payload target)
 sending (action.Send sent target) payload h = (target, ap (λ (x : Payload). action.Send x target) (same_Some _ _ h))
 sending _ payload h = cc
-
-pub sending_memory : (act : MemAction) (payload : Payload) → memory_payload act ≡ Some payload → act ≡ mem_action.Send payload
-sending_memory act payload h = grind arith
 
 -- a row that sends
 pub sends_row : (found : Option CacheCell) (payload : Payload) → sent_by found ≡ Some payload → (target : Target) × ((next : CacheState) × (found ≡ Some (record { action = action.Send payload target; next = next })))
@@ -40,7 +37,7 @@ sends_row (Some row) payload h = let (target, does) = sending row.action payload
 
 pub memory_sends_row : (found : Option MemCell) (payload : Payload) → sent_by_memory found ≡ Some payload → (next : MemState) × (found ≡ Some (record { action = mem_action.Send payload; next = next }))
 memory_sends_row None payload h = cc
-memory_sends_row (Some row) payload h = (row.next, rw (← (sending_memory row.action payload h)))
+memory_sends_row (Some row) payload h = (row.next, grind (arith, h))
 
 module _ (p : Protocol) (before : Picture) (core : ℕ) (q : Request) where
   -- what the row of memory, or of a core, sends for the core's request
@@ -74,19 +71,21 @@ abbrev pub writes : MemAction → Bool
 writes mem_action.Write = true
 writes _ = false
 
-abbrev pub fills_store : CacheAction → Bool
-fills_store FillStore = true
-fills_store _ = false
+-- data performs the operation that has missed
+abbrev pub fills : Option Request → CacheAction → Bool
+fills (Some GetS) FillLoad = true
+fills (Some GetM) FillStore = true
+fills _ _ = false
 
 -- the requestor owns the block from then on
 abbrev pub gains : Claims → Claims → Bool
 gains before after = not before.owned && after.owned
 
--- the requestor's row for the data: its state fits after it, it is clean only where memory's value is the block's, and it stores at a GetM
+-- the requestor's row for the data: its state fits after it, it is clean only where memory's value is the block's, and it performs what the request asked
 abbrev pub answer_claims : Protocol → Request → Claims → Claims → Bool → CacheCell → Tested
 answer_claims p q st after owns row =
     holds (fits p after.shared (cond (gains st after) true owns) None row.next)
-    also provided (is_clean row.next) (λ _. holds st.fresh also fails (is_get_m q)) also alike (fills_store row.action) (is_get_m q)
+    also provided (is_clean row.next) (λ _. holds st.fresh also fails (is_get_m q)) also holds (fills (Some q) row.action)
 
 -- another core fits after it as it is, and after a GetM it may not read, if it owns the block only where one does
 abbrev pub stays_so : Protocol → Request → Claims → Claims → CacheState → Bool → Tested
@@ -105,22 +104,16 @@ respond_claims p q pl st row after =
     also provided (is_put_m q) (λ _. each_open p st.shared (Some (q, pl)) (stays_so p q st after))
 
 abbrev every_respond : Tested
-every_respond = each_protocol λ p. each_memory λ m. each_request λ q. each_payload λ pl. given (claims_of p m (Some (q, pl))) λ st.
-    found (settled_row p q m pl) λ row. found (claims_of p row.next None) λ after. respond_claims p q pl st row after
+every_respond = each_protocol λ p. each_memory λ m. each_of all_requests all_requests-at λ q. each_of all_payloads all_payloads-at λ pl.
+    given (claims_of p m (Some (q, pl))) λ st. found (settled_row p q m pl) λ row. found (claims_of p row.next None) λ after. respond_claims p q pl st row after
 
 pub respond_rule : every_respond.claim
 unfolding all_protocols all_memories all_states all_requests all_payloads claims_of fits is_owner is_sharer is_clean wait_fits in_protocol same
 respond_rule = every_respond.sound refl
 
--- data performs the operation that has missed
-abbrev pub fills : Option Request → CacheAction → Bool
-fills (Some GetS) FillLoad = true
-fills (Some GetM) FillStore = true
-fills _ _ = false
-
--- and is awaited no more
+-- data performs the operation that has missed, and is awaited no more
 abbrev every_data : Tested
-every_data = each_protocol λ p. each_of all_states all_states-at λ s. each_payload λ message. given (row_for p s (arrival message)) λ row.
+every_data = each_protocol λ p. each_of all_states all_states-at λ s. each_of all_payloads all_payloads-at λ message. given (row_for p s (arrival message)) λ row.
     holds (fills (missed_request s) row.action) also equal requests tt (awaited_request row.next) None
 
 pub data_rule : every_data.claim

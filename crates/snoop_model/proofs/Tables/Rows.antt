@@ -1,6 +1,6 @@
 -- What holds of every row, of the states, and of the table of claims, found by trying all.
-use Rattle.snoop_model.proofs.Common.{[], all_events, all_events-at, all_memories, all_payloads, all_payloads-at, all_protocols, all_requests, all_requests-at, all_states, all_states-at, and-false, and-true, arith, as_access, asked, awaited_request, Bool, CacheAction, CacheCell, CacheEvent, CacheState, carries_value, Cell, cell_of, claims_of, Drop, Evict, false, FillLoad, FillStore, fits, GetM, GetS, Hit, I, if◌then◌else◌, in_protocol, is_clean, is_load, is_owner, is_put_m, is_sharer, is_some, IsProper, Issue, keeps, kept_on, Line, List, Load, missed_request, moves_to, None, not, Op, Option, option_map, option_map_or, other, own, Protocol, PutM, refl, Request, request_for, requests, same, seen_by, Some, Stall, states, sym, Talk, true, wait_fits, waiting_request, ℕ, ◌&&◌, ◌==◌, ◌||◌, ◌∙◌, ◌≡◌}
-use Rattle.snoop_model.proofs.Tables.Tested.{alike, each_bool, each_fitting, each_memory, each_of, each_open, each_option, each_protocol, each_request, equal, fails, found, given, holds, provided, Tested, unless, ◌also◌}
+use Rattle.snoop_model.proofs.Common.{[], all_events, all_events-at, all_memories, all_payloads, all_payloads-at, all_protocols, all_requests, all_requests-at, all_states, all_states-at, and-false, and-true, arith, as_access, asked, awaited_request, Bool, CacheAction, CacheCell, CacheEvent, CacheState, carries_value, Cell, cell_of, claims_of, Drop, Evict, false, FillLoad, FillStore, fits, GetM, GetS, Hit, I, if◌then◌else◌, in_protocol, is_clean, is_load, is_owner, is_put_m, is_sharer, is_some, IsProper, Issue, keeps, kept_on, Line, List, missed_request, moves_to, None, not, Op, Option, option_map_or, other, own, Protocol, PutM, refl, Request, request_for, requests, same, seen_by, Some, Stall, states, Talk, true, wait_fits, waiting_request, ℕ, ◌&&◌, ◌==◌, ◌||◌, ◌≡◌}
+use Rattle.snoop_model.proofs.Tables.Tested.{alike, each_bool, each_fitting, each_memory, each_of, each_open, each_option, each_protocol, equal, fails, found, given, holds, provided, Tested, unless, ◌also◌}
 use Rattle.snoop_rules.specs.declared.names.CacheEvent.TheVariants as event
 
 -- the same requests, or none
@@ -10,10 +10,6 @@ same_request = equal requests tt
 -- kept words are given up in this state
 abbrev given_up : CacheState → Bool
 given_up s = not (is_some (kept_on s (Some [])))
-
-abbrev pub is_evict : CacheEvent → Bool
-is_evict event.Evict = true
-is_evict _ = false
 
 -- the request that has missed once one is issued at this event
 abbrev pub missed_at : CacheEvent → Option Request
@@ -36,10 +32,10 @@ action_claims s e n (Issue q) =
     alike (keeps n) (keeps s && not (given_up n)) also (same_request (waiting_request s) None also same_request (waiting_request n) (Some q))
     also (same_request (missed_request s) None also same_request (missed_request n) (missed_at e)) also same_request (Some q) (serving e)
 action_claims s e n Hit =
-    holds (keeps n) also same_request (missed_request s) (missed_request n) also same_request (waiting_request n) (waiting_request s) also holds (keeps s) also fails (is_evict e)
+    holds (keeps n) also same_request (missed_request s) (missed_request n) also same_request (waiting_request n) (waiting_request s) also holds (keeps s) also holds (is_some (missed_at e))
 action_claims s e n Drop =
     alike (keeps n) (keeps s && not (given_up n)) also same_request (missed_request s) (missed_request n) also same_request (waiting_request n) (waiting_request s)
-    also (holds (is_evict e) also equal states tt (Some n) (Some I))
+    also (same_request (serving e) (Some PutM) also equal states tt (Some n) (Some I))
 action_claims s e n Stall = holds (is_busy s)
 action_claims s e n FillLoad = same_request (serving e) None also holds (keeps n) also same_request (missed_request n) None also same_request (waiting_request n) (waiting_request s)
 action_claims s e n FillStore = same_request (serving e) None also holds (keeps n) also same_request (missed_request n) None also same_request (waiting_request n) (waiting_request s)
@@ -64,7 +60,8 @@ order_claims s mine q n =
     also given (awaited_request n) (λ r. holds mine also same_request (Some q) (Some r))
 
 abbrev every_order : Tested
-every_order = each_protocol λ p. each_of all_states all_states-at λ s. each_bool λ mine. each_request λ q. given (cell_of p s (if mine then own q else other q)) λ row. order_claims s mine q row.next
+every_order = each_protocol λ p. each_of all_states all_states-at λ s. each_bool λ mine. each_of all_requests all_requests-at λ q.
+    given (cell_of p s (if mine then own q else other q)) λ row. order_claims s mine q row.next
 
 every_order_rule : every_order.claim
 unfolding all_protocols all_states all_requests same
@@ -78,15 +75,11 @@ module _ (p : Protocol) (s : CacheState) (e : CacheEvent) (a : CacheAction) (n :
   abbrev IsFill : Op → Type 0
   IsFill asking = a ≡ (if is_load asking then FillLoad else FillStore)
 
-  fill_facts : (asking : Op) → IsFill asking → Cell p s e a n → (action_claims s e n FillLoad).claim
-  fill_facts Load fill row = rw fill at (action_rule p s e a n row)
-  fill_facts _ fill row = rw fill at (action_rule p s e a n row)
-
   pub fill-waits : (asking : Op) → IsFill asking → Cell p s e a n → waiting_request n ≡ waiting_request s
-  fill-waits asking fill row = (fill_facts asking fill row).1.1.1
+  fill-waits asking fill row = grind (arith, fill, action_rule p s e a n row)
 
   pub IsProper-fill : (asking : Op) (after : List ℕ) → IsFill asking → Cell p s e a n → IsProper (record { state = n; kept = Some after; waiting = None })
-  IsProper-fill asking after fill row = let f = fill_facts asking fill row in record { kept = sym f.1.0; waiting = sym f.1.1.0 }
+  IsProper-fill asking after fill row = grind (arith, fill, action_rule p s e a n row)
 
 pub serving-asked : (asking : Op) → serving (asked asking) ≡ Some (request_for asking)
 serving-asked asking = grind arith
@@ -98,27 +91,19 @@ awaited-asked p s asking a n row = (rule p s (asked asking) (record { action = a
 is_some-kept_on : (next : CacheState) (kept : Option (List ℕ)) (b : Bool) → is_some kept ≡ b → is_some (kept_on next kept) ≡ (b && not (given_up next))
 is_some-kept_on next kept b h = grind (arith, and-false b, and-true b)
 
--- a move that keeps what the next state keeps, and leaves what has missed
-IsProper-move : (old : Line) (n : CacheState) → IsProper old → keeps n ≡ (keeps old.state && not (given_up n)) → missed_request old.state ≡ missed_request n
-    → IsProper (moves_to n old)
-IsProper-move old n proper kept missed = record { kept = is_some-kept_on n old.kept (keeps old.state) proper.kept ∙ sym kept; waiting = proper.waiting ∙ missed }
-
-module _ (p : Protocol) (s : CacheState) (e : CacheEvent) (q : Request) (n : CacheState) (row : Cell p s e (Issue q) n) where
-  -- an issue makes a core wait that did not
-  pub issue-waits : (waiting_request s ≡ None) × (waiting_request n ≡ Some q)
-  issue-waits = (action_rule p s e (Issue q) n row).1.0
-
-pub asked_missed : (word : ℕ) (asking : Op) → option_map (λ access. request_for access.op) (as_access word asking) ≡ missed_at (asked asking)
-asked_missed word asking = grind arith
+-- an issue makes a core wait that did not
+pub issue-waits : (p : Protocol) (s : CacheState) (e : CacheEvent) (q : Request) (n : CacheState) → Cell p s e (Issue q) n
+    → (waiting_request s ≡ None) × (waiting_request n ≡ Some q)
+issue-waits p s e q n row = (action_rule p s e (Issue q) n row).1.0
 
 pub IsProper-issue : (p : Protocol) (old : Line) (word : ℕ) (asking : Op) (q : Request) (n : CacheState) → IsProper old → Cell p old.state (asked asking) (Issue q) n
     → IsProper (record { state = n; kept = kept_on n old.kept; waiting = as_access word asking })
 IsProper-issue p old word asking q n proper row =
     let kept = is_some-kept_on n old.kept (keeps old.state) proper.kept in
-    grind (arith, proper, kept, action_rule p old.state (asked asking) (Issue q) n row, asked_missed word asking)
+    grind (arith, proper, kept, action_rule p old.state (asked asking) (Issue q) n row)
 
--- a hit is no Evict, of words that are kept
-pub hit_keeps : (p : Protocol) (s : CacheState) (e : CacheEvent) (n : CacheState) → Cell p s e Hit n → (keeps s ≡ true) × (is_evict e ≡ false)
+-- a hit is of a load or a store, of words that are kept
+pub hit_keeps : (p : Protocol) (s : CacheState) (e : CacheEvent) (n : CacheState) → Cell p s e Hit n → (keeps s ≡ true) × (is_some (missed_at e) ≡ true)
 hit_keeps p s e n row = (action_rule p s e Hit n row).1.1.1
 
 pub drop-waits : (p : Protocol) (s : CacheState) (e : CacheEvent) (n : CacheState) → Cell p s e Drop n → waiting_request n ≡ waiting_request s
@@ -129,10 +114,11 @@ pub IsProper-hit : (p : Protocol) (old : Line) (e : CacheEvent) (n : CacheState)
 IsProper-hit p old e n after proper row = grind (arith, proper, action_rule p old.state e Hit n row)
 
 pub IsProper-drop : (p : Protocol) (old : Line) (e : CacheEvent) (n : CacheState) → IsProper old → Cell p old.state e Drop n → IsProper (moves_to n old)
-IsProper-drop p old e n proper row = let (kept, (missed, _)) = action_rule p old.state e Drop n row in IsProper-move old n proper kept missed
+IsProper-drop p old e n proper row = grind (arith, proper, is_some-kept_on n old.kept (keeps old.state) proper.kept, action_rule p old.state e Drop n row)
 
 pub IsProper-order : (p : Protocol) (old : Line) (k core : ℕ) (q : Request) (a : CacheAction) (n : CacheState) → IsProper old → Cell p old.state (seen_by k core q) a n → IsProper (moves_to n old)
-IsProper-order p old k core q a n proper row = let (kept, (missed, _)) = order_rule p old.state k core q a n row in IsProper-move old n proper kept missed
+IsProper-order p old k core q a n proper row =
+    grind (arith, proper, is_some-kept_on n old.kept (keeps old.state) proper.kept, order_rule p old.state k core q a n row)
 
 -- an Evict in I has no row
 pub no_row : (p : Protocol) (s : CacheState) (asking : Op) (a : CacheAction) (n : CacheState) → asking ≡ Evict → s ≡ I → Cell p s (asked asking) a n → ⊥
@@ -145,15 +131,6 @@ some_of (Some a) h = (a, refl)
 -- no row makes a reader, or a clean owner, of a core that was none
 abbrev pub carries : CacheState → CacheState → Tested
 carries s next = provided (keeps next) (λ _. holds (keeps s)) also provided (is_clean next) (λ _. holds (is_clean s))
-
--- a clean owner reads
-pub clean_reads : (s : CacheState) → is_clean s ≡ true → keeps s ≡ true
-unfolding is_clean
-clean_reads s h = grind arith
-
--- a state that may read keeps the value
-pub kept_reader : (s : CacheState) (kept : Option (List ℕ)) → keeps s ≡ true → kept_on s kept ≡ kept
-kept_reader s kept h = grind arith
 
 -- the talk brings data
 abbrev pub brings_data : Option Talk → Bool

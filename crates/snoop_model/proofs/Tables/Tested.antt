@@ -1,5 +1,5 @@
 -- Claims with a test each: where the test passes the claim holds, so a claim of all values of the tables is proved by computing its test.
-use Rattle.snoop_model.proofs.Common.{all_memories, all_memories-at, all_payloads, all_payloads-at, all_protocols, all_protocols-at, all_requests, all_requests-at, all_states, all_states-at, and_parts, arith, Bare, Bool, CacheState, cases_Bool, eqb, false, fits, inl, inr, MemState, None, not, not-true, Open, Option, option_map_or, own_open, Payload, Protocol, refl, Request, same, same_true, sameb, Some, Talk, talk_of, true, ℕ, ◌&&◌, ◌≡◌}
+use Rattle.snoop_model.proofs.Common.{all_memories, all_memories-at, all_protocols, all_protocols-at, all_states, all_states-at, and_parts, arith, Bare, Bool, CacheState, cases_Bool, eqb, false, fits, inl, inr, MemState, None, not, not-true, Open, Option, option_map_or, own_open, Protocol, refl, Request, same, same_true, sameb, Some, Talk, talk_of, true, ℕ, ◌&&◌, ◌≡◌}
 use denote.Enum.Declared.{Declared}
 
 infixr 20 ◌also◌
@@ -67,35 +67,24 @@ found {A} o c = record {
 abbrev pub each_of : {A : Type 0} (all : (A → Bool) → Bool) → ((f : A → Bool) → all f ≡ true → (a : A) → f a ≡ true) → (A → Tested) → Tested
 each_of {A} all at c = record { claim = (a : A) → (c a).claim; test = all (λ a. (c a).test); sound = λ h a. (c a).sound (at (λ x. (c x).test) h a) }
 
-abbrev pub either : (Bool → Bool) → Bool
-either f = f true && f false
-
-pub either-at : (f : Bool → Bool) → either f ≡ true → (x : Bool) → f x ≡ true
+pub either-at : (f : Bool → Bool) → (f true && f false) ≡ true → (x : Bool) → f x ≡ true
 either-at f h x = grind arith
 
 abbrev pub each_bool : (Bool → Tested) → Tested
-each_bool = each_of either either-at
+each_bool = each_of (λ f. f true && f false) either-at
 
-abbrev pub all_options : {A : Type 0} → ((A → Bool) → Bool) → (Option A → Bool) → Bool
-all_options all test = test None && all (λ a. test (Some a))
-
-pub all_options-at : {A : Type 0} (all : (A → Bool) → Bool) → ((f : A → Bool) → all f ≡ true → (a : A) → f a ≡ true) → (test : Option A → Bool) → all_options all test ≡ true → (o : Option A) → test o ≡ true
+pub all_options-at : {A : Type 0} (all : (A → Bool) → Bool) → ((f : A → Bool) → all f ≡ true → (a : A) → f a ≡ true)
+    → (test : Option A → Bool) → (test None && all (λ a. test (Some a))) ≡ true → (o : Option A) → test o ≡ true
 all_options-at all at test h o = grind (arith, at (λ a. test (Some a)))
 
 abbrev pub each_option : {A : Type 0} (all : (A → Bool) → Bool) → ((f : A → Bool) → all f ≡ true → (a : A) → f a ≡ true) → (Option A → Tested) → Tested
-each_option all at = each_of (all_options all) (all_options-at all at)
+each_option all at = each_of (λ test. test None && all (λ a. test (Some a))) (all_options-at all at)
 
 abbrev pub each_protocol : (Protocol → Tested) → Tested
 each_protocol = each_of all_protocols all_protocols-at
 
 abbrev pub each_memory : (MemState → Tested) → Tested
 each_memory = each_of all_memories all_memories-at
-
-abbrev pub each_request : (Request → Tested) → Tested
-each_request = each_of all_requests all_requests-at
-
-abbrev pub each_payload : (Payload → Tested) → Tested
-each_payload = each_of all_payloads all_payloads-at
 
 -- a claim of each state that fits, of a core that owns the block or not
 abbrev pub each_fitting : Protocol → Bool → Option Request → (CacheState → Bool → Tested) → Tested

@@ -1,5 +1,4 @@
-use Rattle.snoop_model.proofs.Runs.GoOn.{taken_goes_on}
-use Rattle.snoop_model.proofs.laws.taken_goes_on.Goals as goal
+use Rattle.snoop_model.proofs.{Runs.GoOn.taken_goes_on, laws.taken_goes_on.Goals.returns-clause-goes_on as goal}
 
-pub returns-clause-goes_on : goal.returns-clause-goes_on
+pub returns-clause-goes_on : goal
 returns-clause-goes_on c = taken_goes_on

@@ -1,5 +1,4 @@
-use Rattle.snoop_model.proofs.Runs.GoOn.{taken_once}
-use Rattle.snoop_model.proofs.laws.taken_once.Goals as goal
+use Rattle.snoop_model.proofs.{Runs.GoOn.taken_once, laws.taken_once.Goals.returns as goal}
 
-pub returns : goal.returns
+pub returns : goal
 returns c = taken_once
