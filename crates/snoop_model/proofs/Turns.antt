@@ -1,5 +1,5 @@
 -- All laws of turns that follow the turn rule: what they keep, that they are never refused, what they cost, and when a work is over.
-use Rattle.snoop_model.proofs.Common.{[], Access, after_order, All, All-contains, All-filter, All-push, All-weaker, ap, arith, Ask, asked, awaited_request, CacheAction, CacheState, Contains-get_or, FirstMove, has_transaction, held_by, inl, inr, is_some, IsServing, Issue, Issued, IsWellKept, Item, Line, missed_request, NeverRefused, None, none-some, none_from_not_some, not, nothing_there, Op, Open, Option, or_cases, Order, Pays, Picture, picture_of, queue_of, queues_after, refl, Reply, Request, Respond, same_Some, ServesOn, Situation, slice_index_or, Some, Stall, state_of, sym, Takes, true, TurnLaws, waiting_request, Waits, with_line, ℕ, ◌==◌, ◌∙◌, ◌≡◌, ◌⊎◌, List}
+use Rattle.snoop_model.proofs.Common.{[], Access, after_order, All, All-contains, All-filter, All-push, All-weaker, ap, arith, Ask, asked, awaited_request, CacheAction, CacheState, Contains-get_or, FirstMove, has_transaction, held_by, inl, inr, IsServing, Issue, Issued, IsWellKept, Item, Line, NeverRefused, None, none-some, none_from_not_some, not, nothing_there, Op, Open, Option, or_cases, Order, Pays, Picture, picture_of, queue_of, queues_after, refl, Reply, Request, Respond, same_Some, ServesOn, Situation, slice_index_or, Some, Stall, state_of, sym, Takes, true, TurnLaws, waiting_request, Waits, with_line, ℕ, ◌==◌, ◌∙◌, ◌≡◌, ◌⊎◌, List}
 use Rattle.snoop_model.specs.Turns.Turn.{turn_of}
 use Rattle.snoop_model.proofs.{OneBlock.AfterMoves.changed, Lists.{all_first, count_set, each_still, sum_asked, sum_ordered}, Once.owed_after}
 use Rattle.snoop_model.proofs.{Queues.{keeps_well, queued_waits, starts_well, waits_queued}, Tables.Rows.{action_rule, is_busy, some_of}}
@@ -12,10 +12,6 @@ pub busy_under_way : (s : Situation) (under_way : ℕ → Option ℕ) → IsServ
 busy_under_way s under_way serving kept core block busy =
     let queued = All-contains (λ b. under_way core ≡ Some b) (queue_of s.queues core) block (serving.waits core) in
     grind (arith, busy_cases (state_of s core block) busy, waits_queued s kept.queued core block, queued, kept.awaits core block, serving.opened block)
-
--- a core that has missed waits
-pub missed_busy : (s : CacheState) → is_some (missed_request s) ≡ true → is_busy s ≡ true
-missed_busy s h = grind arith
 
 never_refused : NeverRefused
 never_refused s under_way core block word asking begun step serving kept has_core has_block has_word its is cause refused =
@@ -86,8 +82,7 @@ pays s t (Respond on) answer move =
 -- a work whose operation waits has a step left
 pub has_step : (s : Situation) (core block word : ℕ) (asking : Op) (wanted : Access) → IsWellKept s → (held_by (picture_of s block) core).waiting ≡ Some wanted → turn_of s core block word asking true ≡ None → ⊥
 has_step s core block word asking wanted kept waits none =
-    let busy = busy_cases (state_of s core block) (missed_busy (state_of s core block) (kept.operations core block wanted waits)) in
-    grind (arith, none, busy, kept.awaits core block)
+    grind (arith, none, kept.operations core block wanted waits, busy_cases (state_of s core block), kept.awaits core block)
 
 pub turn_rule : TurnLaws
 turn_rule = record {
@@ -106,7 +101,7 @@ turn_rule = record {
         (serving.waits core) (waits_queued s kept.queued core block request waits));
     closed = λ block. none_from_not_some (picture_of s block).transaction (λ o is. none-some block (serving.opened block o is));
     performed = λ core block. none_from_not_some (held_by (picture_of s block) core).waiting
-        (λ o is. none-some block (busy_under_way s (λ _. None) serving kept core block (missed_busy _ (kept.operations core block o is))));
+        (λ o is. none-some block (busy_under_way s (λ _. None) serving kept core block (grind (arith, kept.operations core block o is))));
   };
   pays = pays;
   owes = owed_after;

@@ -1,5 +1,5 @@
 -- What every machine keeps makes it safe, and its steps keep it.
-use Rattle.snoop_model.proofs.Common.{Absent, ap, arith, arrival_at_memory, Ask, asked, both_ways, CacheAction, CacheEvent, CacheState, Cell, E, EiA, Evict, Extent, flat, flat_words, Goes, Gone, held_by, Hit, I, IfSome, inl, inr, Invariant, is_clean, is_some, IsOpenByTable, IsProper, IsSenderLine, IsSome, IsWellKept, Item, keeps, Line, List, MemCell, MoveOn, None, nothing_held, Option, option_map, Order, Orders, Picture, picture_of, Protocol, PutM, refl, Refused, Reply, Request, reset, Respond, Result, RunBy, same_Some, Situation, Stall, state_of, Step, Store, sym, Takes, takes_payload, true, with_line, with_picture, word_at, ℕ, ◌<◌, ◌∙◌, ◌≡◌, ◌≤◌, ◌⊎◌, IsWithin}
+use Rattle.snoop_model.proofs.Common.{ap, arith, arrival_at_memory, Ask, asked, both_ways, CacheEvent, CacheState, Cell, E, EiA, Evict, Extent, flat, flat_words, Goes, held_by, Hit, I, IfSome, inl, inr, Invariant, is_clean, is_some, IsOpenByTable, IsProper, IsSenderLine, IsSome, IsWellKept, keeps, List, MemCell, MoveOn, None, Option, option_map, Order, Orders, Picture, picture_of, Protocol, PutM, refl, Refused, Reply, Request, reset, Respond, Result, RunBy, same_Some, Situation, Stall, state_of, Step, Store, sym, takes_payload, true, with_line, with_picture, word_at, ℕ, ◌<◌, ◌∙◌, ◌≡◌, ◌≤◌, ◌⊎◌, IsWithin}
 use Rattle.snoop_model.specs.{Coherent.{IsCoherent, IsCoherentRun}, Invariant.MachineKeeps.{AreOnSenderLines, MachineKeeps}, Runs.{Run.EveryRun, Safe.{IsSafe, RowsAreFound}}}
 use Rattle.snoop_model.proofs.Invariant.{Coherence.{data_awaited, each_line, finds_rows, held_within, hit_within, nobody_owns, opened_within, orders_follow_sender_table, requestor_fits, sender_within}, Runs.{goes_kept, idle_line, move_keeps, nothing_proper, reset_invariant, reset_open, word_flat}}
 use Rattle.snoop_model.proofs.{Lists.if_some, Once.run_asked_once, Turns.busy_cases}
@@ -32,14 +32,6 @@ module _ (s : Situation) (g : Invariant s) where
       let is : is_clean (state_of s core block) ≡ true = elim clean [ inl e ↦ rw e refl | inr e ↦ rw e refl ] in
       let within = held_within s g core block (λ x. is_clean x.state ≡ true) (λ h. cc) is in
       (g.blocks block within.1).clean core within.0 is
-
-  -- an eviction that is answered Gone or Absent leaves nothing
-  gone_leaves : (core block word : ℕ) (answer : Reply) → (answer ≡ Gone) ⊎ (answer ≡ Absent)
-      → (act : CacheAction) (next : CacheState) → Cell s.protocol (state_of s core block) (asked Evict) act next → (held : Line) (entry : Option Item)
-      → Takes act next s.log core block word Evict (held_by (picture_of s block) core) held answer entry → held ≡ nothing_held
-  gone_leaves core block word answer leaves act next row held entry t =
-      let proper = IsProper-drop s.protocol (held_by (picture_of s block) core) (asked Evict) next (all_proper core block) in
-      grind (arith, leaves, t, row, proper, idle_line, action_rule s.protocol (state_of s core block) (asked Evict) act next row)
 
   -- an Order is a line of the table
   pub order_is_line : (core block : ℕ) (q : Request) (new : Situation) (made : Orders s core block q new) → IsSenderLine s.protocol (picture_of s block) core q made.from made.payload made.next.memory.state
@@ -107,8 +99,10 @@ is_coherent s g on_lines well_kept = record {
   ];
   gone = λ core block word answer new leaves m. elim m.moves [
     | inl absent ↦ rw absent.3 (idle_line (held_by (picture_of s block) core) (all_proper s g core block) absent.1)
-    | inr a ↦ ask_line s core block word Evict answer new g m.within a
-        ∙ gone_leaves s g core block word answer leaves a.row.action a.row.next a.is_row a.held a.entry a.taken
+    | inr a ↦
+        let proper = IsProper-drop s.protocol (held_by (picture_of s block) core) (asked Evict) a.row.next (all_proper s g core block) in
+        let rule = action_rule s.protocol (state_of s core block) (asked Evict) a.row.action a.row.next a.is_row in
+        ask_line s core block word Evict answer new g m.within a ∙ grind (arith, leaves, a.taken, a.is_row, proper, idle_line, rule)
   ];
   given_up = λ core block opened. grind (arith, (all_proper s g core block).kept, (requestor_fits s g core block PutM opened).1.1);
   moves = moves_on s g well_kept.queued;

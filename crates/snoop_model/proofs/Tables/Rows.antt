@@ -72,13 +72,11 @@ order_rule p s k core q a n row = every_order_rule p s (k == core) q (record { a
 
 module _ (p : Protocol) (s : CacheState) (e : CacheEvent) (a : CacheAction) (n : CacheState) where
   -- a fill ends all waiting and keeps a value
-  abbrev IsFill : Op → Type 0
-  IsFill asking = a ≡ (if is_load asking then FillLoad else FillStore)
-
-  pub fill-waits : (asking : Op) → IsFill asking → Cell p s e a n → waiting_request n ≡ waiting_request s
+  pub fill-waits : (asking : Op) → a ≡ (if is_load asking then FillLoad else FillStore) → Cell p s e a n → waiting_request n ≡ waiting_request s
   fill-waits asking fill row = grind (arith, fill, action_rule p s e a n row)
 
-  pub IsProper-fill : (asking : Op) (after : List ℕ) → IsFill asking → Cell p s e a n → IsProper (record { state = n; kept = Some after; waiting = None })
+  pub IsProper-fill : (asking : Op) (after : List ℕ) → a ≡ (if is_load asking then FillLoad else FillStore) → Cell p s e a n
+      → IsProper (record { state = n; kept = Some after; waiting = None })
   IsProper-fill asking after fill row = grind (arith, fill, action_rule p s e a n row)
 
 pub serving-asked : (asking : Op) → serving (asked asking) ≡ Some (request_for asking)
