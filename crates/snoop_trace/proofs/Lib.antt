@@ -9,5 +9,4 @@ pub mod TextLemmas
 pub mod OutputLemmas
 pub mod GathersLemmas
 pub mod BackLemmas
-pub mod WithinLemmas
 pub mod AskedLemmas
