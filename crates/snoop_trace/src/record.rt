@@ -1,5 +1,5 @@
 //! From a record to a heading, a step or a row.
-ghost use Rattle.std.specs.Prelude.{◌≡◌, ◌<◌, ◌≤◌, ◌/◌, ◌==◌, ◌&&◌, ℕ, List, Result, IfErr, IfOk, length, option_map};
+ghost use Rattle.std.specs.Prelude.{◌≡◌, ◌<◌, ◌≤◌, ◌==◌, ◌&&◌, ℕ, List, Result, IfErr, IfOk, length, option_map};
 ghost use Rattle.csv.specs.Records.{fields_of};
 ghost use Rattle.snoop_trace.specs.Asked.{IsAskedByRow, asked_in};
 ghost use Rattle.snoop_trace.specs.Extent.{Extent};
@@ -35,7 +35,7 @@ impl Entry for Step {
 
     ghost within = { spec.IsStepWithin };
 
-    #[tactic(auto, using(crate::proofs::WordPlaces::asked_within), unfolding(crate::specs::Grammar::step_in, crate::specs::Grammar::ask))]
+    #[tactic(auto, using(std::proofs::lemmas::Bool::Decides::nat_tests, crate::proofs::WordPlaces::asked_within), unfolding(crate::specs::Grammar::step_in, crate::specs::Grammar::ask))]
     #[inline(always)]
     fn from_record(shape: Shape, n: u64, fields: &ByteRecord) -> Result<Self, TextFault> {
         match letter_of(fields).ok_or(TextFault::BadKind(n))? {
@@ -43,7 +43,7 @@ impl Entry for Step {
             b'R' => respond(shape, n, fields),
             letter => {
                 let row = row_by_letter(shape, n, letter, fields)?;
-                let block = block_in(shape, n, row.address)?;
+                let block = shape.block_of(row.address).ok_or(TextFault::NoBlock(n))?;
                 // Its word is one of the shape's.
                 shape.within_limits();
                 Ok(Step::Ask {
@@ -62,12 +62,12 @@ impl Entry for Row {
 
     ghost within = { spec.IsRowWithin };
 
-    #[tactic(auto, unfolding(crate::specs::Grammar::row_in))]
+    #[tactic(auto, using(std::proofs::lemmas::Bool::Decides::nat_tests), unfolding(crate::specs::Grammar::row_in))]
     #[inline(always)]
     fn from_record(shape: Shape, n: u64, fields: &ByteRecord) -> Result<Self, TextFault> {
         let letter = letter_of(fields).ok_or(TextFault::BadKind(n))?;
         let row = row_by_letter(shape, n, letter, fields)?;
-        block_in(shape, n, row.address)?;
+        shape.block_of(row.address).ok_or(TextFault::NoBlock(n))?;
         Ok(row)
     }
 }
@@ -77,12 +77,12 @@ impl Entry for Asked {
 
     ghost within = { IsAskedByRow };
 
-    #[tactic(auto, using(crate::proofs::AskedLemmas::asked_by), unfolding(crate::specs::Asked::asked_in, crate::specs::Grammar::row_in))]
+    #[tactic(auto, using(std::proofs::lemmas::Bool::Decides::nat_tests, crate::proofs::AskedLemmas::asked_by), unfolding(crate::specs::Asked::asked_in, crate::specs::Grammar::row_in))]
     #[inline(always)]
     fn from_record(shape: Shape, n: u64, fields: &ByteRecord) -> Result<Self, TextFault> {
         let letter = letter_of(fields).ok_or(TextFault::BadKind(n))?;
         let row = row_by_letter(shape, n, letter, fields)?;
-        let block = block_in(shape, n, row.address)?;
+        let block = shape.block_of(row.address).ok_or(TextFault::NoBlock(n))?;
         let work = Work {
             block,
             word: shape.word_asked(row.address, row.op),
@@ -181,13 +181,6 @@ fn core_in(shape: Shape, n: u64, core: u64) -> Result<u32, TextFault>
     }
 }
 
-fn block_in(shape: Shape, n: u64, address: u64) -> Result<u32, TextFault>
-    ensures block { result ≡ spec.block_in shape n address }
-    ensures within { IfOk result (λ block. (block ≡ address / shape.block_bytes) × (block < shape.blocks)) }
-{
-    shape.block_of(address).ok_or(TextFault::NoBlock(n))
-}
-
 #[tactic(auto, using(crate::proofs::FieldLemmas::version_at), unfolding(crate::specs::Heading::version_in))]
 fn version_in(n: u64, fields: &ByteRecord) -> Result<u64, TextFault>
     ensures version { result ≡ heading.version_in n (fields_of fields.now) }
@@ -277,7 +270,7 @@ fn order(shape: Shape, n: u64, fields: &ByteRecord) -> Result<Step, TextFault>
     Ok(Step::Order { core })
 }
 
-#[tactic(auto, unfolding(crate::specs::Grammar::respond))]
+#[tactic(auto, using(std::proofs::lemmas::Bool::Decides::nat_tests), unfolding(crate::specs::Grammar::respond))]
 #[inline(always)]
 fn respond(shape: Shape, n: u64, fields: &ByteRecord) -> Result<Step, TextFault>
     ensures step { result ≡ spec.respond shape n (fields_of fields.now) }
@@ -286,7 +279,7 @@ fn respond(shape: Shape, n: u64, fields: &ByteRecord) -> Result<Step, TextFault>
 {
     let address = one_of(fields).ok_or(TextFault::BadFields(n))?;
     let address = number_in(n, address)?;
-    let block = block_in(shape, n, address)?;
+    let block = shape.block_of(address).ok_or(TextFault::NoBlock(n))?;
     Ok(Step::Respond { block })
 }
 
