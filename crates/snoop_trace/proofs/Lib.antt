@@ -1,7 +1,6 @@
 pub mod Common
 pub mod PowerLemmas
 pub mod WordPlaces
-pub mod Padded
 pub mod NumeralLemmas
 pub mod FieldLemmas
 pub mod CsvLemmas

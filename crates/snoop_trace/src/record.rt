@@ -380,7 +380,7 @@ fn decimal(digits: &[u8]) -> Option<u64>
 
 /// The value of a field that is a number.
 #[inline(always)]
-#[tactic(auto, unfolding(crate::specs::Grammar::number))]
+#[tactic(auto, using(crate::proofs::NumeralLemmas::after_mark), unfolding(crate::specs::Grammar::number))]
 pub(crate) fn number(field: &[u8]) -> Option<u64>
     ensures { result ≡ spec.number field.now }
 {
