@@ -38,7 +38,8 @@ rows_within shape (row ∷ rows) all =
     (rows_within shape rows (All-tail (IsAskedByRow shape) (asked_of shape row) _ all))
 
 -- the rows of a text whose bytes are known
-known : (shape : Extent) (bytes : List ℕ) (asked : List Asked) → All (IsAskedByRow shape) asked → entries_in (asked_in shape) None (records_of bytes) ≡ Ok asked → AreAsked shape (Some bytes) asked
+known : (shape : Extent) (bytes : List ℕ) (asked : List Asked) → All (IsAskedByRow shape) asked
+    → entries_in (asked_in shape) None (records_of bytes) ≡ Ok asked → AreAsked shape (Some bytes) asked
 unfolding entries_in
 known shape bytes asked all says =
     let (rows, given, asks) = bind_ok (entries_from (row_in shape) 1 (records_of bytes)) (λ rows. Ok (map (asked_of shape) rows)) asked (sym (all_asked shape 1 (records_of bytes)) ∙ says) in

@@ -2,7 +2,8 @@
 use Rattle.std.proofs.lemmas.Option.{IfSome_then}
 use Rattle.std.proofs.Common.{◌≡◌, ℕ, ◌+◌, List, [], ◌∷◌, ◌++◌, Option, Some, None, true, false, refl, ◌∙◌, add-one, ap, append_assoc, arith}
 use Rattle.std.specs.Prelude.{◌==◌, ◌&&◌, Bool, Result, Ok, Err, IfSome, if◌then◌else◌, zero, suc}
-use Rattle.snoop_trace.{proofs.Common.{Extent, Heading, State, TextFault, append-nil, nat_tests, records_left}, specs.{Progress.heading_asked, declared.protocol.Protocol.Protocol}}
+use Rattle.snoop_trace.proofs.Common.{Extent, Heading, State, TextFault, append-nil, nat_tests, records_left}
+use Rattle.snoop_trace.specs.{Progress.heading_asked, declared.protocol.Protocol.Protocol}
 use Rattle.csv.specs.{Machine.next_record, Reading.{Reached, ReadRecord, default_config, reader_config, reader_state, records, source_of}}
 use Rattle.csv.{specs.declared.reader.Reader.Reader, proofs.ReadFacts.{rows-end, rows-more}}
 use Rattle.snoop_trace.specs.{Grammar.◌>>=◌, Heading.{heading_as, is_heading}, Text.{Gives, entries_from, entries_in}}

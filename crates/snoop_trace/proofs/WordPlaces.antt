@@ -1,6 +1,7 @@
 -- Where the words of a block stand, and the zeros behind those that it has.
-use Rattle.std.proofs.Common.{◌≡◌, ◌≤◌, ◌<◌, ℕ, ◌+◌, ◌-◌, ◌*◌, ◌/◌, ◌%◌, ◌^◌, List, length, replicate, slice_index_or, slice_set, sym, ap, ◌∙◌, subst, arith, inl, inr, suc, refl}
-use Rattle.std.{specs.Int.IsPowerOfTwo, proofs.lemmas.List.{get_or_append_left, set-append_left, replicate-append-replicate}}
+use Rattle.std.proofs.Common.{◌≡◌, ◌≤◌, ◌<◌, ℕ, ◌+◌, ◌-◌, ◌*◌, ◌/◌, ◌%◌, ◌^◌, List, length, replicate, slice_index_or, slice_set, sym, ap, ◌∙◌}
+use Rattle.std.{proofs.Common.{subst, arith, inl, inr, suc, refl}, specs.Int.IsPowerOfTwo}
+use Rattle.std.proofs.lemmas.List.{get_or_append_left, set-append_left, replicate-append-replicate}
 use Rattle.snoop_trace.proofs.{Common.{Evict, Extent, HasWord, IsWithinLimits, cases_lt, div-mul-add, pow-add, pow_pos, word_address}, PowerLemmas.power_some}
 use Rattle.std.proofs.Math.Nat.{pow-suc, mul-div_cancel, mul-div_cancel_left, div-lt_iff_lt-mul, mod-lt, mod-eq_of_lt, mul-lt-mul_of_pos_right, mul-add-mod_self_right}
 use Rattle.std.proofs.Math.Pow.{pow_mono}

@@ -61,7 +61,8 @@ loop-i-preserved g c =
           let longer = length-append (g.C.Entries.listed c.loop-i.entries) (entry ∷ []) in rw w.entries-is (
             plain,
             rw items (on (entry ∷ []) (rw (says, said) refl)),
-            rw items (All-push (g.E.Entry.within c.args.shape) (g.C.Entries.listed c.loop-i.entries) entry c.loop-i.invariant.2 w.in_ok-from_record-in_default.ensures.within),
+            rw items (All-push (g.E.Entry.within c.args.shape) (g.C.Entries.listed c.loop-i.entries) entry c.loop-i.invariant.2
+                w.in_ok-from_record-in_default.ensures.within),
             inr w.in_ok-append-in_default.ensures.bounded,
             rw items (omega (arith, longer, c.loop-i.invariant.4)),
           )
