@@ -1,10 +1,9 @@
 -- The faulty records of a text, and the fault by which it is refused.
-use Rattle.std.proofs.Common.{◌≡◌, ℕ, ◌+◌, ◌≤◌, ◌++◌, List, [], ◌∷◌, length, Option, Some, false, refl, sym, arith, append_assoc, append-nil}
+use Rattle.std.proofs.Common.{◌≡◌, ℕ, ◌+◌, ◌≤◌, ◌++◌, List, [], ◌∷◌, length, Option, Some, refl, sym, arith, append_assoc, append-nil}
 use Rattle.std.specs.{Prelude.{Result, not, option_map}, Result.result_err}
 use Rattle.snoop_trace.specs.{Grammar.{row_in, step_in}, Heading.heading_for, Text.{entries_from, entries_in}}
 use Rattle.snoop_lint.proofs.Common.{Bool, Extent, Finding, Form, Protocol, Rows, Steps, TextFault, fault_at, finding, findings, findings_from}
-use Rattle.snoop_lint.proofs.Common.{first_fault, heads, is_limit, is_none, is_other, list_any, nat_tests, option_to_list, records_of, refusal, ◌&&◌}
-use Rattle.snoop_lint.proofs.Common.{◌||◌}
+use Rattle.snoop_lint.proofs.Common.{first_fault, is_limit, is_none, is_other, list_any, nat_tests, option_to_list, records_of, refusal, ◌&&◌, ◌||◌}
 
 abbrev pub Fields : Type 0
 Fields = List (List ℕ)

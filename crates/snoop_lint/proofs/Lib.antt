@@ -3,5 +3,4 @@ pub mod FindingLemmas
 pub mod LookedLemmas
 pub mod LineLemmas
 pub mod FewestLemmas
-pub mod EachLine
 pub mod HintLemmas
