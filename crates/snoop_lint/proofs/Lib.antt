@@ -2,6 +2,4 @@ pub mod Common
 pub mod FindingLemmas
 pub mod LookedLemmas
 pub mod LineLemmas
-pub mod FewestLemmas
-pub mod EachLine
 pub mod HintLemmas

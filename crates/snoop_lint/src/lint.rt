@@ -32,7 +32,7 @@ use std::alloc::Global;
 ///
 /// The answer is Ok where the text was read and all of this written, with faults in the text or without. After `Read` and `NoMemory` nothing was
 /// written, after `Write` a beginning.
-#[tactic(auto, using(crate::proofs::FindingLemmas::first_is_refusal, crate::proofs::FewestLemmas::fewest, crate::proofs::EachLine::as_many_lines))]
+#[tactic(auto, using(crate::proofs::FindingLemmas::first_is_refusal, crate::proofs::FindingLemmas::fewest, crate::proofs::LineLemmas::as_many_lines))]
 pub fn lint_text<R: Source, W: Sink>(
     alloc: Global,
     reader: &mut R,

@@ -41,6 +41,7 @@ pub fn write_matrix<W: Sink>(
 }
 
 // Appends the cache table's matrix.
+#[tactic(auto, unfolding(crate::specs::Matrix::cache_matrix))]
 fn push_cache_matrix(out: &mut Vec<u8>, protocol: Protocol) -> Result<(), NoMemory>
     ensures ok { OnOk result (out.new.items ≡ out.old.items ++ cache_matrix protocol) }
 {
@@ -121,6 +122,7 @@ fn has_cache_row(protocol: Protocol, state: CacheState, event: CacheEvent) -> bo
 }
 
 // Appends the memory table's matrix.
+#[tactic(auto, unfolding(crate::specs::Matrix::memory_matrix))]
 fn push_memory_matrix(out: &mut Vec<u8>, protocol: Protocol) -> Result<(), NoMemory>
     ensures ok { OnOk result (out.new.items ≡ out.old.items ++ memory_matrix protocol) }
 {

@@ -1,7 +1,6 @@
 pub mod Common
 pub mod PowerLemmas
 pub mod WordPlaces
-pub mod Padded
 pub mod NumeralLemmas
 pub mod FieldLemmas
 pub mod CsvLemmas
@@ -9,5 +8,4 @@ pub mod TextLemmas
 pub mod OutputLemmas
 pub mod GathersLemmas
 pub mod BackLemmas
-pub mod WithinLemmas
 pub mod AskedLemmas

@@ -2,7 +2,8 @@
 use Rattle.std.proofs.lemmas.Option.{IfSome_then}
 use Rattle.std.proofs.Common.{◌≡◌, ℕ, ◌+◌, List, [], ◌∷◌, ◌++◌, Option, Some, None, true, false, refl, ◌∙◌, add-one, ap, append_assoc, arith}
 use Rattle.std.specs.Prelude.{◌==◌, ◌&&◌, Bool, Result, Ok, Err, IfSome, if◌then◌else◌, zero, suc}
-use Rattle.snoop_trace.proofs.Common.{Heading, State, TextFault, append-nil, nat_tests, records_left}
+use Rattle.snoop_trace.proofs.Common.{Extent, Heading, State, TextFault, append-nil, nat_tests, records_left}
+use Rattle.snoop_trace.specs.{Progress.heading_asked, declared.protocol.Protocol.Protocol}
 use Rattle.csv.specs.{Machine.next_record, Reading.{Reached, ReadRecord, default_config, reader_config, reader_state, records, source_of}}
 use Rattle.csv.{specs.declared.reader.Reader.Reader, proofs.ReadFacts.{rows-end, rows-more}}
 use Rattle.snoop_trace.specs.{Grammar.◌>>=◌, Heading.{heading_as, is_heading}, Text.{Gives, entries_from, entries_in}}
@@ -49,11 +50,11 @@ says_next says (Some asked) n f =
 says_next says None n f = says (n + 1) f >>= λ entry. Ok (entry ∷ [])
 
 -- a record that is no heading
-pub no_heading : {A : Type 0} (says : Says A) (heading : Option Heading) (n : ℕ) (f : List (List ℕ))
-    → ((asked : Heading) → heading ≡ Some asked → ((n + 1 == 1) && is_heading f) ≡ false)
-    → says_next says heading n f ≡ (says (n + 1) f >>= λ entry. Ok (entry ∷ []))
-no_heading says None n f other = refl
-no_heading says (Some asked) n f other = rw (other asked refl) refl
+pub no_heading : {A : Type 0} (says : Says A) (shape : Extent) (protocol : Option Protocol) (n : ℕ) (f : List (List ℕ))
+    → ((asked : Protocol) → protocol ≡ Some asked → ((n + 1 == 1) && is_heading f) ≡ false)
+    → says_next says (heading_asked protocol shape) n f ≡ (says (n + 1) f >>= λ entry. Ok (entry ∷ []))
+no_heading says shape None n f other = refl
+no_heading says shape (Some asked) n f other = rw (other asked refl) refl
 
 -- one record, and then those that follow it
 next_first : {A : Type 0} (says : Says A) (heading : Option Heading) (n : ℕ) (f : List (List ℕ)) (rows : List (List (List ℕ)))

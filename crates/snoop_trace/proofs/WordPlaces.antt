@@ -1,9 +1,11 @@
--- Where the words of a block stand.
-use Rattle.std.{proofs.Common.{◌≡◌, ◌≤◌, ◌<◌, ℕ, ◌+◌, ◌-◌, ◌*◌, ◌/◌, ◌%◌, ◌^◌, sym, ap, ◌∙◌, subst, arith, inl, inr, suc, refl}, specs.Int.IsPowerOfTwo}
+-- Where the words of a block stand, and the zeros behind those that it has.
+use Rattle.std.proofs.Common.{◌≡◌, ◌≤◌, ◌<◌, ℕ, ◌+◌, ◌-◌, ◌*◌, ◌/◌, ◌%◌, ◌^◌, List, length, replicate, slice_index_or, slice_set, sym, ap, ◌∙◌}
+use Rattle.std.{proofs.Common.{subst, arith, inl, inr, suc, refl}, specs.Int.IsPowerOfTwo}
+use Rattle.std.proofs.lemmas.List.{get_or_append_left, set-append_left, replicate-append-replicate}
 use Rattle.snoop_trace.proofs.{Common.{Evict, Extent, HasWord, IsWithinLimits, cases_lt, div-mul-add, pow-add, pow_pos, word_address}, PowerLemmas.power_some}
 use Rattle.std.proofs.Math.Nat.{pow-suc, mul-div_cancel, mul-div_cancel_left, div-lt_iff_lt-mul, mod-lt, mod-eq_of_lt, mul-lt-mul_of_pos_right, mul-add-mod_self_right}
 use Rattle.std.proofs.Math.Pow.{pow_mono}
-use Rattle.snoop_trace.specs.{declared.step.Op.Op, Grammar.{word_asked, word_in_block}}
+use Rattle.snoop_trace.specs.{declared.step.Op.Op, Grammar.{word_asked, word_in_block}, Words.{padded, word_at, zero_words}}
 
 -- a power of two goes into a greater one
 goes_into : (w b : ℕ) → IsPowerOfTwo w → IsPowerOfTwo b → w ≤ b → (k : ℕ) × ((0 < k) × (b ≡ w * k))
@@ -53,3 +55,15 @@ asked_within shape address op limits = word_within shape limits address
 pub word_there : (shape : Extent) (address : ℕ) (op : Op) → IsWithinLimits shape → HasWord shape (word_asked shape address op) op
 word_there shape address Evict limits = tt
 word_there shape address op limits = let few = asked_within shape address op limits in (few, omega (arith, few, limits.words.1))
+
+-- words that are held, and those that are not, which are 0
+pub padded_at : (n : ℕ) (values : List ℕ) (word : ℕ) → length values ≡ n → word < n → word_at (padded n values) word ≡ slice_index_or values word 0
+padded_at n values word long within = get_or_append_left values (replicate (64 - n) 0) 0 word (omega arith)
+
+pub padded_set : (n : ℕ) (values : List ℕ) (word value : ℕ) → length values ≡ n → word < n → slice_set (padded n values) word value ≡ padded n (slice_set values word value)
+padded_set n values word value long within = set-append_left values (replicate (64 - n) 0) word value (omega arith)
+
+pub padded_zero : (n : ℕ) → n ≤ 64 → padded n (replicate n 0) ≡ zero_words
+padded_zero n few =
+    let whole : n + (64 - n) ≡ 64 = omega arith in
+    replicate-append-replicate n (64 - n) 0 ∙ ap (λ (k : ℕ). replicate k 0) whole

@@ -17,6 +17,12 @@ step_of asked = Ask asked.core asked.work.block asked.work.word asked.work.op
 unfoldable pub asked_in : Extent → ℕ → List (List ℕ) → Result Asked TextFault
 asked_in shape n fields = row_in shape n fields >>= λ row. Ok (asked_of shape row)
 
+-- some row of the shape asks for it
+pub record IsAskedByRow (shape : Extent) (asked : Asked) : Type 0 where
+  pub row : Row
+  pub within : IsRowWithin shape row
+  pub asks : asked ≡ asked_of shape row
+
 -- this is what the rows of a text ask for, where its bytes are known: the rows are of the shape
 pub record AreAsked (shape : Extent) (text : Option (List ℕ)) (asked : List Asked) : Type 0 where
   pub rows : List Row

@@ -21,8 +21,8 @@ pub fn step_fault(
 ) -> Option<TextFault>
     ensures { result ≡ spec.step_fault protocol shape n (fields_of fields.now) }
 {
-    if Heading::is_begun(n, fields) {
-        Heading::new(protocol, shape).read(n, fields).err()
+    if Heading::is_heading(n, fields) {
+        Heading::check(protocol, shape, n, fields).err()
     } else {
         Step::from_record(shape, n, fields).err()
     }

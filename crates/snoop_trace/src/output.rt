@@ -30,7 +30,7 @@ const BATCH: usize = 1024;
 /// protocol and shape; for any other it answers `OtherShape`. After
 /// `Write` and `NoMemory` the writer holds a beginning of the text after what it held, the failed
 /// write's own bytes aside.
-#[tactic(auto, using(crate::proofs::BackLemmas::all_read_again, crate::proofs::BackLemmas::other_refused))]
+#[tactic(auto, using(crate::proofs::BackLemmas::all_read_again, crate::proofs::BackLemmas::other_refused, crate::proofs::OutputLemmas::on_err, crate::proofs::OutputLemmas::appends_none_of))]
 pub fn write_steps<W: Sink>(
     alloc: Global,
     writer: &mut W,
@@ -96,6 +96,7 @@ fn writer_of_records(alloc: Global) -> Writer<Vec<u8>>
 }
 
 // Writes the records of steps, each ended by a line feed.
+#[tactic(auto, using(crate::proofs::OutputLemmas::on_err, crate::proofs::OutputLemmas::batch_stop))]
 fn write_records<W: Sink>(
     alloc: Global,
     writer: &mut W,

@@ -1,7 +1,7 @@
 //! From a record to a heading, a step or a row.
-ghost use Rattle.std.specs.Prelude.{◌≡◌, ◌≤◌, ◌==◌, ◌&&◌, ℕ, List, Result, IfErr, length, option_map};
+ghost use Rattle.std.specs.Prelude.{◌≡◌, ◌<◌, ◌≤◌, ◌==◌, ◌&&◌, ℕ, List, Result, IfErr, IfOk, length, option_map};
 ghost use Rattle.csv.specs.Records.{fields_of};
-ghost use Rattle.snoop_trace.specs.Asked.{asked_in};
+ghost use Rattle.snoop_trace.specs.Asked.{IsAskedByRow, asked_in};
 ghost use Rattle.snoop_trace.specs.Extent.{Extent};
 ghost use Rattle.snoop_trace.specs.Grammar as spec;
 ghost use Rattle.snoop_trace.specs.Grammar.{NamesRecord};
@@ -20,16 +20,22 @@ pub(crate) trait Entry: Copy {
     // By the shape, the record's number and its fields.
     ghost says: { Extent → ℕ → List (List ℕ) → Result Self TextFault };
 
+    // An entry of the shape.
+    ghost within: { Extent → Self → Type 0 };
+
     /// The entry of record n.
     fn from_record(shape: Shape, n: u64, fields: &ByteRecord) -> Result<Self, TextFault>
         ensures entry { result ≡ says shape n (fields_of fields.now) }
+        ensures within { IfOk result (within shape) }
         ensures fault { IfErr result NamesRecord };
 }
 
 impl Entry for Step {
     ghost says = { spec.step_in };
 
-    #[tactic(auto, unfolding(crate::specs::Grammar::step_in, crate::specs::Grammar::ask))]
+    ghost within = { spec.IsStepWithin };
+
+    #[tactic(auto, using(std::proofs::lemmas::Bool::Decides::nat_tests, crate::proofs::WordPlaces::asked_within), unfolding(crate::specs::Grammar::step_in, crate::specs::Grammar::ask))]
     #[inline(always)]
     fn from_record(shape: Shape, n: u64, fields: &ByteRecord) -> Result<Self, TextFault> {
         match letter_of(fields).ok_or(TextFault::BadKind(n))? {
@@ -37,7 +43,9 @@ impl Entry for Step {
             b'R' => respond(shape, n, fields),
             letter => {
                 let row = row_by_letter(shape, n, letter, fields)?;
-                let block = block_in(shape, n, row.address)?;
+                let block = shape.block_of(row.address).ok_or(TextFault::NoBlock(n))?;
+                // Its word is one of the shape's.
+                shape.within_limits();
                 Ok(Step::Ask {
                     core: row.core,
                     block,
@@ -52,12 +60,14 @@ impl Entry for Step {
 impl Entry for Row {
     ghost says = { spec.row_in };
 
-    #[tactic(auto, unfolding(crate::specs::Grammar::row_in))]
+    ghost within = { spec.IsRowWithin };
+
+    #[tactic(auto, using(std::proofs::lemmas::Bool::Decides::nat_tests), unfolding(crate::specs::Grammar::row_in))]
     #[inline(always)]
     fn from_record(shape: Shape, n: u64, fields: &ByteRecord) -> Result<Self, TextFault> {
         let letter = letter_of(fields).ok_or(TextFault::BadKind(n))?;
         let row = row_by_letter(shape, n, letter, fields)?;
-        block_in(shape, n, row.address)?;
+        shape.block_of(row.address).ok_or(TextFault::NoBlock(n))?;
         Ok(row)
     }
 }
@@ -65,12 +75,14 @@ impl Entry for Row {
 impl Entry for Asked {
     ghost says = { asked_in };
 
-    #[tactic(auto, using(crate::proofs::WithinLemmas::block_is), unfolding(crate::specs::Asked::asked_in, crate::specs::Grammar::row_in))]
+    ghost within = { IsAskedByRow };
+
+    #[tactic(auto, using(std::proofs::lemmas::Bool::Decides::nat_tests, crate::proofs::AskedLemmas::asked_by), unfolding(crate::specs::Asked::asked_in, crate::specs::Grammar::row_in))]
     #[inline(always)]
     fn from_record(shape: Shape, n: u64, fields: &ByteRecord) -> Result<Self, TextFault> {
         let letter = letter_of(fields).ok_or(TextFault::BadKind(n))?;
         let row = row_by_letter(shape, n, letter, fields)?;
-        let block = block_in(shape, n, row.address)?;
+        let block = shape.block_of(row.address).ok_or(TextFault::NoBlock(n))?;
         let work = Work {
             block,
             word: shape.word_asked(row.address, row.op),
@@ -94,21 +106,8 @@ pub(crate) struct Heading {
 }
 
 impl Heading {
-    /// The heading of the texts for a protocol and a shape.
-    pub(crate) fn new(protocol: Protocol, shape: Shape) -> Heading
-        ensures { result ≡ heading.heading_for protocol shape }
-    {
-        Heading {
-            protocol,
-            cores: shape.cores() as u64,
-            blocks: shape.blocks() as u64,
-            block_bytes: shape.block_bytes() as u64,
-            words: shape.words() as u64,
-        }
-    }
-
     /// Whether record n is a heading: the first record alone may be one.
-    pub(crate) fn is_begun(n: u64, fields: &ByteRecord) -> bool
+    pub(crate) fn is_heading(n: u64, fields: &ByteRecord) -> bool
         ensures { result ≡ ((n == 1) && heading.is_heading (fields_of fields.now)) }
     {
         n == 1 && letter_of(fields) == Some(b'V')
@@ -138,14 +137,26 @@ impl Heading {
         })
     }
 
-    /// The same heading, where record n says it.
+    /// The heading of the texts for a protocol and a shape, where record n says it.
     #[tactic(auto, unfolding(crate::specs::Heading::heading_as))]
-    pub(crate) fn read(self, n: u64, fields: &ByteRecord) -> Result<Heading, TextFault>
-        ensures heading { result ≡ heading.heading_as self n (fields_of fields.now) }
+    pub(crate) fn check(
+        protocol: Protocol,
+        shape: Shape,
+        n: u64,
+        fields: &ByteRecord,
+    ) -> Result<Heading, TextFault>
+        ensures heading { result ≡ heading.heading_as (heading.heading_for protocol shape) n (fields_of fields.now) }
         ensures fault { IfErr result NamesRecord }
     {
         let heading = Heading::from_record(n, fields)?;
-        if heading == self {
+        let asked = Heading {
+            protocol,
+            cores: shape.cores() as u64,
+            blocks: shape.blocks() as u64,
+            block_bytes: shape.block_bytes() as u64,
+            words: shape.words() as u64,
+        };
+        if heading == asked {
             Ok(heading)
         } else {
             Err(TextFault::OtherShape(n))
@@ -160,19 +171,14 @@ fn number_in(n: u64, field: &[u8]) -> Result<u64, TextFault>
 }
 
 fn core_in(shape: Shape, n: u64, core: u64) -> Result<u32, TextFault>
-    ensures { result ≡ spec.core_in shape n core }
+    ensures core { result ≡ spec.core_in shape n core }
+    ensures within { IfOk result (λ core. core < shape.cores) }
 {
     if core < shape.cores() as u64 {
         Ok(core as u32)
     } else {
         Err(TextFault::NoCore(n))
     }
-}
-
-fn block_in(shape: Shape, n: u64, address: u64) -> Result<u32, TextFault>
-    ensures { result ≡ spec.block_in shape n address }
-{
-    shape.block_of(address).ok_or(TextFault::NoBlock(n))
 }
 
 #[tactic(auto, using(crate::proofs::FieldLemmas::version_at), unfolding(crate::specs::Heading::version_in))]
@@ -206,6 +212,7 @@ fn protocol_named(name: &[u8]) -> Option<Protocol>
 #[inline(always)]
 fn without_value(shape: Shape, n: u64, op: Op, fields: &ByteRecord) -> Result<Row, TextFault>
     ensures row { result ≡ spec.without_value shape n op (fields_of fields.now) }
+    ensures within { IfOk result (λ row. row.core < shape.cores) }
     ensures fault { IfErr result NamesRecord }
 {
     let (core, address) = two_of(fields).ok_or(TextFault::BadFields(n))?;
@@ -219,6 +226,7 @@ fn without_value(shape: Shape, n: u64, op: Op, fields: &ByteRecord) -> Result<Ro
 #[inline(always)]
 fn store(shape: Shape, n: u64, fields: &ByteRecord) -> Result<Row, TextFault>
     ensures row { result ≡ spec.store shape n (fields_of fields.now) }
+    ensures within { IfOk result (λ row. row.core < shape.cores) }
     ensures fault { IfErr result NamesRecord }
 {
     let (core, address, value) = three_of(fields).ok_or(TextFault::BadFields(n))?;
@@ -238,6 +246,7 @@ fn store(shape: Shape, n: u64, fields: &ByteRecord) -> Result<Row, TextFault>
 #[inline(always)]
 fn row_by_letter(shape: Shape, n: u64, letter: u8, fields: &ByteRecord) -> Result<Row, TextFault>
     ensures row { result ≡ spec.row_by_letter shape n letter (fields_of fields.now) }
+    ensures within { IfOk result (λ row. row.core < shape.cores) }
     ensures fault { IfErr result NamesRecord }
 {
     match letter {
@@ -252,6 +261,7 @@ fn row_by_letter(shape: Shape, n: u64, letter: u8, fields: &ByteRecord) -> Resul
 #[inline(always)]
 fn order(shape: Shape, n: u64, fields: &ByteRecord) -> Result<Step, TextFault>
     ensures step { result ≡ spec.order shape n (fields_of fields.now) }
+    ensures within { IfOk result (spec.IsStepWithin shape) }
     ensures fault { IfErr result NamesRecord }
 {
     let core = one_of(fields).ok_or(TextFault::BadFields(n))?;
@@ -260,15 +270,16 @@ fn order(shape: Shape, n: u64, fields: &ByteRecord) -> Result<Step, TextFault>
     Ok(Step::Order { core })
 }
 
-#[tactic(auto, unfolding(crate::specs::Grammar::respond))]
+#[tactic(auto, using(std::proofs::lemmas::Bool::Decides::nat_tests), unfolding(crate::specs::Grammar::respond))]
 #[inline(always)]
 fn respond(shape: Shape, n: u64, fields: &ByteRecord) -> Result<Step, TextFault>
     ensures step { result ≡ spec.respond shape n (fields_of fields.now) }
+    ensures within { IfOk result (spec.IsStepWithin shape) }
     ensures fault { IfErr result NamesRecord }
 {
     let address = one_of(fields).ok_or(TextFault::BadFields(n))?;
     let address = number_in(n, address)?;
-    let block = block_in(shape, n, address)?;
+    let block = shape.block_of(address).ok_or(TextFault::NoBlock(n))?;
     Ok(Step::Respond { block })
 }
 
@@ -369,7 +380,7 @@ fn decimal(digits: &[u8]) -> Option<u64>
 
 /// The value of a field that is a number.
 #[inline(always)]
-#[tactic(auto, unfolding(crate::specs::Grammar::number))]
+#[tactic(auto, using(crate::proofs::NumeralLemmas::after_mark), unfolding(crate::specs::Grammar::number))]
 pub(crate) fn number(field: &[u8]) -> Option<u64>
     ensures { result ≡ spec.number field.now }
 {

@@ -119,6 +119,7 @@ impl Shape {
     }
 
     /// Every shape is within the limits. This does nothing: a proof calls it for what it ensures.
+    #[inline(always)]
     pub fn within_limits(&self)
         ensures { IsWithinLimits self.now }
     {

@@ -4,7 +4,7 @@ ghost use Rattle.csv.specs.Reading.{default_config, reader_state, records, sourc
 ghost use Rattle.csv.specs.declared.parser.State.TheVariants as st;
 ghost use Rattle.snoop_trace.specs.Asked.{AreAsked, step_of};
 ghost use Rattle.snoop_trace.specs.Grammar.{IsRowWithin, IsStepWithin};
-ghost use Rattle.snoop_trace.specs.Progress.{IsPlain, IsSaid};
+ghost use Rattle.snoop_trace.specs.Progress.{IsPlain, heading_asked};
 ghost use Rattle.snoop_trace.specs.Text.{BlamesReader, Gives, entries_in, records_of, rows_of, steps_of};
 ghost use Rattle.snoop_trace.specs.declared.step.Row.{Row as Given};
 
@@ -22,21 +22,21 @@ use std::io;
 use std::io::{ErrorKind, Read};
 use std::marker::{Brand, PhantomData};
 
-// All entries of a text, after none. Where a heading is asked for, the first record may be one.
+// All entries of a text, after none. Where a protocol is asked for, the first record may be a heading.
 fn take_text<E: Entry, C: Entries<E>, R: Read>(
     text: &mut Reader<R>,
     fields: &mut ByteRecord,
-    heading: Option<Heading>,
+    protocol: Option<Protocol>,
     shape: Shape,
     entries: &mut C,
 ) -> Result<(), TextFault>
     requires plain { IsPlain text.old }
     requires begins { reader_state text.old ≡ st.StartRecord }
     requires empty { C.listed entries.old ≡ [] }
-    requires fits { (entry : E) → IsSaid (E.says shape) entry → C.fits entry }
+    requires fits { (entry : E) → E.within shape entry → C.fits entry }
     ensures read { IfSome (source_of R.remaining text.old)
-        (λ xs. Gives (λ _. C.listed entries.new) result (entries_in (E.says shape) heading (records default_config xs))) }
-    ensures said { IfOk result (λ _. All (IsSaid (E.says shape)) (C.listed entries.new)) }
+        (λ xs. Gives (λ _. C.listed entries.new) result (entries_in (E.says shape) (heading_asked protocol shape) (records default_config xs))) }
+    ensures within { IfOk result (λ _. All (E.within shape) (C.listed entries.new)) }
     ensures not_read { result ≢ Err TextFault.Read }
 {
     for i in 0..u64::MAX {
@@ -47,9 +47,9 @@ fn take_text<E: Entry, C: Entries<E>, R: Read>(
             Err(_) => return Err(TextFault::NoMemory),
         }
         let n = i + 1;
-        match &heading {
-            Some(asked) if Heading::is_begun(n, fields) => {
-                asked.read(n, fields)?;
+        match &protocol {
+            Some(asked) if Heading::is_heading(n, fields) => {
+                Heading::check(*asked, shape, n, fields)?;
             }
             _ => entries.append(E::from_record(shape, n, fields)?)?,
         }
@@ -95,16 +95,16 @@ impl<R: Source, K: Begun> Read for Watched<R, K> {
 fn read_known<E: Entry, C: Entries<E> + Drop, R: Source, K: Begun>(
     reader: R,
     alloc: Global,
-    heading: Option<Heading>,
+    protocol: Option<Protocol>,
     shape: Shape,
     mut entries: C,
 ) -> (R, Result<C, TextFault>)
     requires before { R.failed reader ≡ K.before }
     requires empty { C.listed entries ≡ [] }
-    requires fits { (entry : E) → IsSaid (E.says shape) entry → C.fits entry }
+    requires fits { (entry : E) → E.within shape entry → C.fits entry }
     ensures read { IfSome (R.remaining reader)
-        (λ bytes. Gives C.listed result.1 (entries_in (E.says shape) heading (records_of bytes))) }
-    ensures said { IfOk result.1 (λ entries. All (IsSaid (E.says shape)) (C.listed entries)) }
+        (λ bytes. Gives C.listed result.1 (entries_in (E.says shape) (heading_asked protocol shape) (records_of bytes))) }
+    ensures within { IfOk result.1 (λ entries. All (E.within shape) (C.listed entries)) }
     ensures never_blamed { R.never_fails ≡ true → result.1 ≢ Err TextFault.Read }
     ensures blamed { BlamesReader (R.failed reader) (R.failed result.0) (result.1 ≡ Err TextFault.Read) }
 {
@@ -118,7 +118,7 @@ fn read_known<E: Entry, C: Entries<E> + Drop, R: Source, K: Begun>(
         .flexible(true)
         .from_reader(alloc, watched);
     let mut fields = ByteRecord::new(alloc);
-    let taken = take_text(&mut text, &mut fields, heading, shape, &mut entries);
+    let taken = take_text(&mut text, &mut fields, protocol, shape, &mut entries);
     let Watched {
         inner,
         failed,
@@ -136,23 +136,23 @@ fn read_known<E: Entry, C: Entries<E> + Drop, R: Source, K: Begun>(
 fn read_entries<E: Entry, C: Entries<E> + Drop, R: Source, K: Begun>(
     alloc: Global,
     reader: &mut R,
-    heading: Option<Heading>,
+    protocol: Option<Protocol>,
     shape: Shape,
     entries: C,
 ) -> Result<C, TextFault>
     requires before { R.failed reader.old ≡ K.before }
     requires empty { C.listed entries ≡ [] }
-    requires fits { (entry : E) → IsSaid (E.says shape) entry → C.fits entry }
+    requires fits { (entry : E) → E.within shape entry → C.fits entry }
     ensures read { IfSome (R.remaining reader.old)
-        (λ bytes. Gives C.listed result (entries_in (E.says shape) heading (records_of bytes))) }
-    ensures said { IfOk result (λ entries. All (IsSaid (E.says shape)) (C.listed entries)) }
+        (λ bytes. Gives C.listed result (entries_in (E.says shape) (heading_asked protocol shape) (records_of bytes))) }
+    ensures within { IfOk result (λ entries. All (E.within shape) (C.listed entries)) }
     ensures never_blamed { R.never_fails ≡ true → result ≢ Err TextFault.Read }
     ensures blamed { BlamesReader (R.failed reader.old) (R.failed reader.new) (result ≡ Err TextFault.Read) }
 {
     replace_with(
         reader,
         entries,
-        |reader, entries| read_known::<E, C, R, K>(reader, alloc, heading, shape, entries),
+        |reader, entries| read_known::<E, C, R, K>(reader, alloc, protocol, shape, entries),
     )
 }
 
@@ -194,7 +194,6 @@ pub fn read_steps<R: Source>(
 }
 
 /// The same steps, or the same fault, gathered in another list, which is empty at first and fits every step of the shape.
-#[tactic(auto, using(crate::proofs::WithinLemmas::step_within))]
 pub fn gather_steps<C: Entries<Step> + Drop, R: Source>(
     alloc: Global,
     reader: &mut R,
@@ -209,9 +208,7 @@ pub fn gather_steps<C: Entries<Step> + Drop, R: Source>(
     ensures never_blamed { R.never_fails ≡ true → result ≢ Err TextFault.Read }
     ensures blamed { BlamesReader (R.failed reader.old) (R.failed reader.new) (result ≡ Err TextFault.Read) }
 {
-    shape.within_limits();
-    let heading = Heading::new(protocol, shape);
-    read_entries::<Step, C, R, Brand>(alloc, reader, Some(heading), shape, steps)
+    read_entries::<Step, C, R, Brand>(alloc, reader, Some(protocol), shape, steps)
 }
 
 /// The rows that a text gives, or its first fault.
@@ -234,6 +231,7 @@ pub fn read_rows<R: Source>(
 
 /// What the rows of a text ask for, in its order, or the fault of `read_rows`: gathered in another list, which is empty at first
 /// and fits all that rows of the shape ask for.
+#[tactic(auto, using(crate::proofs::AskedLemmas::are_asked))]
 pub fn gather_asked<C: Entries<Asked> + Drop, R: Source>(
     alloc: Global,
     reader: &mut R,

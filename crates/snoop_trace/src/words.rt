@@ -102,17 +102,17 @@ impl<const N: usize> Block for Few<N> {
 
     ghost undoes = { λ values. refl };
 
-    #[tactic(auto, using(crate::proofs::Padded::padded_zero))]
+    #[tactic(auto, using(crate::proofs::WordPlaces::padded_zero))]
     fn zero() -> Self {
         Few { values: [0; N] }
     }
 
-    #[tactic(auto, using(crate::proofs::Padded::padded_at))]
+    #[tactic(auto, using(crate::proofs::WordPlaces::padded_at))]
     fn at(self, word: u32) -> u64 {
         self.values[word as usize]
     }
 
-    #[tactic(auto, using(crate::proofs::Padded::padded_set))]
+    #[tactic(auto, using(crate::proofs::WordPlaces::padded_set))]
     fn with(self, word: u32, value: u64) -> Self {
         let mut values = self.values;
         values[word as usize] = value;

@@ -93,18 +93,30 @@ impl Back {
         self.bytes[self.start] = byte;
     }
 
-    // Puts a number before the text, in decimal digits.
-    #[tactic(auto, using(std::proofs::lemmas::Fmt::decimal_digit))]
+    // Puts a comma and a number before the text.
+    #[tactic(auto, using(std::proofs::lemmas::Fmt::decimal_digit, crate::proofs::NumeralLemmas::few_to_put))]
     #[inline(always)]
-    fn put_decimal(&mut self, number: u64)
-        requires { length self.old + length (decimal number) ≤ 64 }
-        ensures { self.new ≡ decimal number ++ self.old }
+    fn put_field(&mut self, number: u64)
+        requires { length self.old + 21 ≤ 64 }
+        ensures text { self.new ≡ codes "," ++ decimal number ++ self.old }
+        ensures short { length self.new ≤ length self.old + 21 }
     {
         if number < 10 {
             self.put(b'0' + number as u8);
         } else {
             self.start = write_digits(number, &mut self.bytes, self.start);
         }
+        self.put(b',');
+    }
+
+    // Puts a letter and its first field before the text.
+    #[inline(always)]
+    fn put_first(&mut self, letter: u8, number: u64)
+        requires { length self.old + 22 ≤ 64 }
+        ensures { self.new ≡ letter ∷ [] ++ codes "," ++ decimal number ++ self.old }
+    {
+        self.put_field(number);
+        self.put(letter);
     }
 
     // The text.
@@ -114,27 +126,6 @@ impl Back {
     {
         &self.bytes[self.start..]
     }
-}
-
-// Puts a comma and a number before a text.
-#[inline(always)]
-fn put_field(back: &mut Back, number: u64)
-    requires { length back.old + 21 ≤ 64 }
-    ensures text { back.new ≡ codes "," ++ decimal number ++ back.old }
-    ensures short { length back.new ≤ length back.old + 21 }
-{
-    back.put_decimal(number);
-    back.put(b',');
-}
-
-// Puts a letter and its first field before a text.
-#[inline(always)]
-fn put_first(back: &mut Back, letter: u8, number: u64)
-    requires { length back.old + 22 ≤ 64 }
-    ensures { back.new ≡ letter ∷ [] ++ codes "," ++ decimal number ++ back.old }
-{
-    put_field(back, number);
-    back.put(letter);
 }
 
 /// Appends the text of a step, without a line end.
@@ -153,8 +144,8 @@ pub fn push_step(out: &mut Vec<u8>, shape: Shape, step: Step) -> Result<(), NoMe
             word,
             op: Op::Load,
         } => {
-            put_field(&mut back, shape.word_address(block, word));
-            put_first(&mut back, b'L', core as u64);
+            back.put_field(shape.word_address(block, word));
+            back.put_first(b'L', core as u64);
         }
         Step::Ask {
             core,
@@ -162,9 +153,9 @@ pub fn push_step(out: &mut Vec<u8>, shape: Shape, step: Step) -> Result<(), NoMe
             word,
             op: Op::Store(value),
         } => {
-            put_field(&mut back, value);
-            put_field(&mut back, shape.word_address(block, word));
-            put_first(&mut back, b'S', core as u64);
+            back.put_field(value);
+            back.put_field(shape.word_address(block, word));
+            back.put_first(b'S', core as u64);
         }
         Step::Ask {
             core,
@@ -172,11 +163,11 @@ pub fn push_step(out: &mut Vec<u8>, shape: Shape, step: Step) -> Result<(), NoMe
             word: _,
             op: Op::Evict,
         } => {
-            put_field(&mut back, shape.address_of(block));
-            put_first(&mut back, b'E', core as u64);
+            back.put_field(shape.address_of(block));
+            back.put_first(b'E', core as u64);
         }
-        Step::Order { core } => put_first(&mut back, b'O', core as u64),
-        Step::Respond { block } => put_first(&mut back, b'R', shape.address_of(block)),
+        Step::Order { core } => back.put_first(b'O', core as u64),
+        Step::Respond { block } => back.put_first(b'R', shape.address_of(block)),
     }
     match out.extend_from_slice(back.text()) {
         Ok(()) => Ok(()),

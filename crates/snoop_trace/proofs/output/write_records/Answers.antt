@@ -1,9 +1,6 @@
 use Rattle.std.proofs.Common.{arith}
-use Rattle.snoop_trace.proofs.OutputLemmas.{batch_cut, batch_more, batch_stop, on_err}
+use Rattle.snoop_trace.proofs.OutputLemmas.{batch_cut, batch_more, on_err}
 use Rattle.snoop_trace.proofs.output.write_records.Goals as goal
-
-pub returns-in_err-text-clause-front : goal.returns-in_err-text-clause-front
-returns-in_err-text-clause-front g c = on_err c.from_residual.result _ (batch_stop _ _ c.args.shape c.args.steps.now c.loop-at.at c.loop-at.invariant.1)
 
 pub returns-in_err-write_whole-clause-front : goal.returns-in_err-write_whole-clause-front
 returns-in_err-write_whole-clause-front g c =

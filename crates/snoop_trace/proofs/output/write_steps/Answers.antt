@@ -1,10 +1,6 @@
-use Rattle.snoop_trace.proofs.Common.{on_err_weaker, on_ok_weaker, steps_text, text_of}
-use Rattle.snoop_trace.proofs.OutputLemmas.{appends_more, appends_none_of, front_after, front_cut, on_err}
+use Rattle.snoop_trace.proofs.Common.{on_err_weaker, on_ok_weaker, steps_text}
+use Rattle.snoop_trace.proofs.OutputLemmas.{appends_more, front_after, front_cut, on_err}
 use Rattle.snoop_trace.proofs.output.write_steps.Goals as goal
-
-pub returns-in_err-heading-clause-front : goal.returns-in_err-heading-clause-front
-returns-in_err-heading-clause-front g c =
-    on_err c.from_residual.result _ (appends_none_of (g.W.Write.contents c.args.writer.now) (text_of c.args.protocol c.args.shape c.args.steps.now))
 
 pub returns-in_err-write_whole-clause-front : goal.returns-in_err-write_whole-clause-front
 returns-in_err-write_whole-clause-front g c =

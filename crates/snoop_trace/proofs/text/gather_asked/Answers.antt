@@ -1,12 +1,8 @@
-use Rattle.snoop_trace.proofs.AskedLemmas.{asked_refused, asked_within, are_asked}
+use Rattle.snoop_trace.proofs.AskedLemmas.{asked_refused, asked_within}
 use Rattle.snoop_trace.proofs.text.gather_asked.Goals as goal
 
 pub read_entries-requires-clause-fits : goal.read_entries-requires-clause-fits
-read_entries-requires-clause-fits g c asked said = c.requires.fits asked (asked_within c.args.shape asked c.within_limits.ensures said)
-
-pub returns-clause-read : goal.returns-clause-read
-returns-clause-read g c =
-    are_asked c.args.shape (g.R.Read.remaining c.args.reader.now) (g.C.Entries.listed) c.read_entries.result c.read_entries.ensures.said c.read_entries.ensures.read
+read_entries-requires-clause-fits g c asked by = c.requires.fits asked (asked_within c.args.shape asked c.within_limits.ensures by)
 
 pub returns-clause-fault : goal.returns-clause-fault
 returns-clause-fault g c =
