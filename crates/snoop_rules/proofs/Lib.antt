@@ -1,4 +1,3 @@
 pub mod Common
 pub mod Every
-pub mod Rows
 pub mod TextLemmas
