@@ -186,7 +186,8 @@ impl<B: Block> Parts<B> {
     /// none.
     #[inline(always)]
     fn make_room_to_issue(&mut self, core: u32, block: u32) -> Result<(), NoMemory>
-        requires { core < self.old.situation.shape.cores }
+        requires core { core < self.old.situation.shape.cores }
+        requires block { block < self.old.situation.shape.blocks }
         ensures ok { OnOk result ((has_line self.new core block ≡ true) × (0 < slice_index self.new.request_rooms core)) }
         ensures full { OnErr result (room_to_issue self.old core block ≡ 0) }
         ensures refused { OnErr result (self.new ≡ self.old) }
@@ -194,7 +195,7 @@ impl<B: Block> Parts<B> {
         ensures lines { (k : ℕ) → AddsLine core block self.old self.new k }
         ensures unchanged { self.new.situation ≡ self.old.situation }
     {
-        if self.lines.has(core, block) {
+        if self.lines.get(core, block).is_some() {
             return self.bus.reserve(core);
         }
         self.lines.reserve(core)?;
