@@ -20,11 +20,10 @@ ghost use Rattle.snoop_model.specs.Moves.SenderTable.{FollowsSenderTable};
 ghost use Rattle.snoop_machine.specs.Lines.{LinesGo, KeepsMapsRoom};
 ghost use Rattle.snoop_machine.specs.Memory.{memory_line};
 
-use super::Parts;
 use super::step::Plan;
+use super::{Memory, Parts};
 use crate::cache::words_of;
 use crate::lines::Lines;
-use crate::memory::Memory;
 use snoop_history::{Item, Sent};
 use snoop_model::Refused;
 use snoop_rules::{
