@@ -1,5 +1,5 @@
 -- One map was given another line of one block, and the holders have followed.
-use Rattle.snoop_machine.proofs.Common.{◌≡◌, ℕ, ◌<◌, false, List, length, sym, ◌∙◌, ap, inl, inr, arith, slice_index_or, slice_set, nat_eq, cases_eq, ne_eqb, length-set, set-get_or, CacheState, Line, IsProper, Contents, WritesEntry, no_cache, line_in, lines_held, AreHolders, HaveFollowed, StandsAs, no_holders, Held, AreLines, Holders, [], map, map-set, get_or-set_same, get_or-set_other, is_some-lookup, line_or_nothing, blocks_of, KeepsMapRoom, KeepsMapsRoom, WritesLine, held, held_by_block, line_at, each_place, get_or-map, length-map}
+use Rattle.snoop_machine.proofs.Common.{◌≡◌, ℕ, ◌<◌, false, List, length, sym, ◌∙◌, ap, inl, inr, arith, slice_index_or, slice_set, nat_eq, cases_eq, ne_eqb, length-set, set-get_or, CacheState, Line, IsProper, Contents, WritesEntry, no_cache, line_in, lines_held, AreHolders, HaveFollowed, StandsAs, no_holders, Held, AreLines, Holders, [], map, map-set, get_or-set_same, get_or-set_other, is_some-lookup, line_or_nothing, blocks_of, KeepsMapRoom, KeepsMapsRoom, WritesLine, held, held_by_block, line_at, each_set, get_or-map, length-map}
 use Rattle.snoop_machine.proofs.LineMaps.{IsMap, HasLine, row-same, rows-same, row-set, AreHolders-moved, rows-set, blocks_seen, spare_seen, maps-long}
 use Rattle.std.proofs.lemmas.Map.Entries.{length-keys_of}
 
@@ -17,7 +17,7 @@ module _ {caches : List Contents} {holders : List Holders} {now : Held} {core : 
   pub spares_kept : (after : List Holders) → KeepsMapRoom old new → KeepsMapsRoom now (held (slice_set caches core new) after)
   spares_kept after kept k =
       let maps = slice_set caches core new in
-      let each = each_place (λ k cache. KeepsMapRoom (slice_index_or caches k no_cache) cache) caches core new no_cache its.in_cores (rw its.read at kept)
+      let each = each_set caches core new no_cache (λ k cache. KeepsMapRoom (slice_index_or caches k no_cache) cache) its.in_cores (rw its.read at kept)
       (λ k ne. omega arith) k in
       let rooms = get_or-map (λ (cache : Contents). cache.spare) maps k no_cache in
       let lines = get_or-map blocks_of maps k no_cache in
@@ -33,7 +33,7 @@ module _ {caches : List Contents} {holders : List Holders} {now : Held} {core : 
     pub lines_kept : AreLines (slice_set caches core new) holders
     lines_kept = record {
       few = rw (length-set caches core new) its.lines.few;
-      proper = each_place (λ k cache. (b : ℕ) → IsProper (line_in cache b)) caches core new no_cache its.in_cores (λ b. rw (kept b) (its.lines.proper core b))
+      proper = each_set caches core new no_cache (λ k cache. (b : ℕ) → IsProper (line_in cache b)) its.in_cores (λ b. rw (kept b) (its.lines.proper core b))
           (λ k ne. its.lines.proper k);
       indexed = λ b lt. rw (row-same caches core b new (kept b)) (its.lines.indexed b lt);
     }
@@ -68,12 +68,12 @@ module _ {caches : List Contents} {holders : List Holders} {now : Held} {core bl
       let others : (b : ℕ) → (b ≡ block → ⊥) → line_in new b ≡ line_in (slice_index_or caches core no_cache) b = λ b ne. elsewhere b (ne_eqb block b (λ e. ne (sym e))) in
       rw wrote.followed.set (record {
         few = rw (length-set caches core new) lines.few;
-        proper = each_place (λ k cache. (b : ℕ) → IsProper (line_in cache b)) caches core new no_cache wrote.has.its.in_cores (λ b. elim (cases_eq b block) [
+        proper = each_set caches core new no_cache (λ k cache. (b : ℕ) → IsProper (line_in cache b)) wrote.has.its.in_cores (λ b. elim (cases_eq b block) [
           | inl e ↦ rw (e, wrote.entry.here) wrote.proper
           | inr ne ↦ rw (others b ne) (lines.proper core b)
         ]) (λ k ne. lines.proper k);
-        indexed = each_place (λ b its. b < length (slice_set holders block moved) → AreHolders its (lines_held (slice_set caches core new) b))
-            holders block moved no_holders wrote.has.in_blocks
+        indexed = each_set holders block moved no_holders (λ b its. b < length (slice_set holders block moved) → AreHolders its (lines_held (slice_set caches core new) b))
+            wrote.has.in_blocks
             (λ lt. rw (row-set caches core block new line wrote.entry.here)
             (AreHolders-moved (lines_held caches block) core line (slice_index_or holders block no_holders) moved
             (rw (length-map caches (λ (cache : Contents). line_in cache block)) wrote.has.its.in_cores) (lines.indexed block wrote.has.in_blocks) wrote.followed.follows))

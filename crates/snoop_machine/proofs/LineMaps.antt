@@ -1,5 +1,5 @@
 -- Proper lines, the lines of maps as rows, what one write does to them, and the lines that callers see.
-use Rattle.snoop_machine.proofs.Common.{◌≡◌, false, sym, ◌∙◌, ap, is_some, moves_to, Line, nothing_held, IsProper, keeps, arith, ℕ, ◌<◌, List, [], length, slice_index_or, slice_set, map, nat_eq, lookup, range_with_len, get_or-map, map-set_same, ne_eqb, map-set, length-map, length-set, get_or_past, has, held_at, Contents, no_cache, line_in, blocks_of, lines_held, AreHolders, HaveMoved, held_by_block, line_at, with_line_at, Holders, is_owner, ◌≢◌, true, get_or, true_from_ne_false, get_or_read, is_some-lookup, I, Held, AreLines, held, is_among, row_of, each_place}
+use Rattle.snoop_machine.proofs.Common.{◌≡◌, false, sym, ◌∙◌, ap, is_some, moves_to, Line, nothing_held, IsProper, keeps, arith, ℕ, ◌<◌, List, [], length, slice_index_or, slice_set, map, nat_eq, lookup, range_with_len, get_or-map, map-set_same, ne_eqb, map-set, length-map, length-set, get_or_past, has, held_at, Contents, no_cache, line_in, blocks_of, lines_held, AreHolders, HaveMoved, held_by_block, line_at, with_line_at, Holders, is_owner, ◌≢◌, true, get_or, true_from_ne_false, get_or_read, is_some-lookup, I, Held, AreLines, held, is_among, row_of, each_set}
 use Rattle.snoop_rules.specs.declared.names.CacheState.TheVariants as state
 use Rattle.std.proofs.lemmas.List.FromFn.{length-map-range_with_len, get_or-map-range_with_len, fill_by_all}
 
@@ -36,16 +36,16 @@ rows-set blocks caches core block new line inside here others =
     let after = slice_set caches core new in
     let long : length rows ≡ blocks = length-map-range_with_len (lines_held caches) 0 blocks in
     sym (fill_by_all (lines_held after) (slice_set rows block row) blocks [] (length-set rows block row ∙ long)
-    (each_place (λ b its. b < blocks → its ≡ lines_held after b) rows block row [] (omega arith)
+    (each_set rows block row [] (λ b its. b < blocks → its ≡ lines_held after b) (omega arith)
     (λ lt. rw (row-rows blocks caches block lt) (sym (row-set caches core block new line here)))
     (λ b ne lt. row-rows blocks caches b lt ∙ sym (row-same caches core b new (others b (ne_eqb block b (λ e. ne (sym e))))))))
 
 -- the holders of a block are those of its row, once one of its lines has moved
 pub AreHolders-moved : (row : List Line) (core : ℕ) (line : Line) (old new : Holders) → core < length row → AreHolders old row → HaveMoved core line.state old new → AreHolders new (slice_set row core line)
 AreHolders-moved row core line old new within fits moved = record {
-  owners = each_place (λ k its. has new.owners k ≡ is_owner its.state) row core line nothing_held within moved.owner
+  owners = each_set row core line nothing_held (λ k its. has new.owners k ≡ is_owner its.state) within moved.owner
       (λ k ne. moved.other_owners k ne ∙ fits.owners k);
-  readers = each_place (λ k its. has new.readers k ≡ keeps its.state) row core line nothing_held within moved.reader
+  readers = each_set row core line nothing_held (λ k its. has new.readers k ≡ keeps its.state) within moved.reader
       (λ k ne. moved.other_readers k ne ∙ fits.readers k);
 }
 
