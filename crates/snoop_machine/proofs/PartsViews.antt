@@ -1,5 +1,5 @@
 -- Queues, pictures and room as callers see them, that lines, queues and open transactions fit together after each change, and how many lines each map has then.
-use Rattle.snoop_machine.proofs.Common.{◌≡◌, ◌≢◌, ℕ, ◌<◌, true, not, filter, drop, List, [], ◌∷◌, ◌++◌, length, map, Option, Some, None, refl, sym, ◌∙◌, ap, arith, inl, inr, ◌+◌, ◌==◌, is_some, option_map, option_to_list, position, slice_get, slice_index_or, slice_set, if◌then◌else◌, prefix_len, get_or-map, map-set_same, cases_eq, cases_lt, eq-eqb, ne_eqb, false≢true, same_Some, slice_get-map, append-nil, get_or_past, length-map, map-append, map-set, filter-append, Extent, waiting_request, Request, queue_of, after_issue, after_order, place_in, Traffic, Waiting, no_queue, waiting_of, head_of, Line, line_at, queues_of, requests_for, IsSound, length-set, get_or-set_same, get_or-set_other, Data, Protocol, Payload, Open, Starts, transaction_on, TakesRows, held_at, nothing_held, IsProper, row_of, with_line_at, WaitsAs, IsProper-order, each_set, set-get_or, common_steps, zero, suc, replicate, zero_words, Picture, held_by, with_line, picture_of, state_of, nothing_there, memory_line, Fields, standing, pictures_of, IsSized, IsWhole, Standing, ◌≤◌, slice_index, Held, KeepsMapsRoom, shown_line_room, shown_line_rooms, KeepsRoom, MemTables, Journal, LinesGo, WritesLine, LosesLines}
+use Rattle.snoop_machine.proofs.Common.{◌≡◌, ◌≢◌, ℕ, ◌<◌, true, not, filter, drop, List, [], ◌∷◌, ◌++◌, length, map, Option, Some, None, refl, sym, ◌∙◌, ap, arith, inl, inr, ◌+◌, ◌==◌, is_some, option_map, option_to_list, position, slice_get, slice_index_or, slice_set, if◌then◌else◌, prefix_len, get_or-map, map-set_same, cases_eq, cases_lt, eq-eqb, ne_eqb, false≢true, same_Some, slice_get-map, append-nil, get_or_past, length-map, map-append, map-set, filter-append, Extent, waiting_request, Request, queue_of, after_issue, after_order, place_in, Traffic, Waiting, no_queue, waiting_of, head_of, Line, line_at, queues_of, requests_for, IsSound, length-set, get_or-set_same, get_or-set_other, Data, Protocol, Payload, Open, Starts, transaction_on, TakesRows, held_at, nothing_held, IsProper, row_of, with_line_at, WaitsAs, IsProper-order, each_set, set-get_or, common_steps, zero, suc, replicate, zero_words, Picture, held_by, with_line, picture_of, state_of, nothing_there, memory_line, Fields, standing, pictures_of, IsSized, IsWhole, Standing, ◌≤◌, slice_index, Held, KeepsMapsRoom, shown_line_room, shown_line_rooms, KeepsRoom, MemTables, Journal, WritesLine, WritesRow, LosesLines, set-set}
 use Rattle.snoop_model.proofs.Queues.{others_wait, own_waits}
 use Rattle.snoop_rules.specs.declared.names.MemState.{MemState, TheVariants.IorS}
 
@@ -317,25 +317,30 @@ module _ {core block : ℕ} {line : Line} {old new : Held} (wrote : WritesLine c
   row_after = rw wrote.rows (get_or-set_same old.rows block (slice_set (row_of old.rows block) core line) [] in_blocks)
 
   -- where the core had not moved yet since the first of these
-  module _ (first : Held) (so_far : LinesGo block first old) where
-    pub LinesGo-more : core < length (row_of old.rows block) → line_at old.rows core block ≡ line_at first.rows core block → LinesGo block first new
-    LinesGo-more in_row unmoved k =
-        let own = get_or-set_same (row_of old.rows block) core line nothing_held in_row in
-        let others = get_or-set_other (row_of old.rows block) core k line nothing_held in
-        grind (arith, row_after, own, others, so_far k, unmoved, wrote.lines, wrote.others k, cases_eq k core)
+  pub WritesRow-more : (first : Held) → WritesRow block first old → core < length (row_of old.rows block) → line_at old.rows core block ≡ line_at first.rows core block
+      → WritesRow block first new
+  WritesRow-more first so_far in_row unmoved =
+      let own = get_or-set_same (row_of old.rows block) core line nothing_held in_row in
+      let others = λ (k : ℕ). get_or-set_other (row_of old.rows block) core k line nothing_held in
+      record {
+        rows = cc (wrote.rows, so_far.rows, set-set first.rows block (row_of old.rows block) (row_of new.rows block), row_after);
+        many = wrote.many ∙ so_far.many;
+        lines = λ k. grind (arith, row_after, own, others k, so_far.lines k, unmoved, wrote.lines, wrote.others k, cases_eq k core);
+        room = λ k. grind (arith, so_far.lines k, so_far.room k, wrote.room k, wrote.lines, wrote.others k, cases_eq k core);
+      }
 
-    -- the room for lines is kept
-    pub KeepsMapsRoom-more : KeepsMapsRoom first old → KeepsMapsRoom first new
-    KeepsMapsRoom-more kept k = grind (arith, so_far k, kept k, wrote.room k, wrote.lines, wrote.others k, cases_eq k core)
+-- no line is written
+pub WritesRow-none : (block : ℕ) (held : Held) → WritesRow block held held
+WritesRow-none block held = record { rows = sym (set-get_or held.rows block []); many = refl; lines = λ k. grind arith; room = λ k. omega arith }
 
 module _ {count : ℕ} {m : Fields} (whole : IsWhole count m) {old : Standing} (view : standing m ≡ old) (new : Standing) (block : ℕ) (next : Picture)
     (held : Held) (within : block < old.situation.shape.blocks) (wrote : new.situation.pictures ≡ slice_set (standing m).situation.pictures block next) (lines : new.lines ≡ held.lines) where
   -- the lines of one block have moved
-  pub follows-rows : next.caches ≡ row_of held.rows block → LinesGo block m.lines held → (k : ℕ) → LosesLines old new k
-  follows-rows row go k =
+  pub follows-rows : next.caches ≡ row_of held.rows block → WritesRow block m.lines held → (k : ℕ) → LosesLines old new k
+  follows-rows row writes k =
       let here = get_or-set_same (standing m).situation.pictures block next nothing_there (has_picture whole view block within) in
       let others = get_or-set_other (standing m).situation.pictures block in
-      rw (← view) (grind (arith, go k, lines, wrote, here, others, state_seen whole refl k block, row))
+      rw (← view) (grind (arith, writes.lines k, lines, wrote, here, others, state_seen whole refl k block, row))
 
   -- one line has moved
   pub follows-set : {core : ℕ} {line : Line} → WritesLine core block line m.lines held → core < old.situation.shape.cores
@@ -344,4 +349,4 @@ module _ {count : ℕ} {m : Fields} (whole : IsWhole count m) {old : Standing} (
   follows-set {core} moved in_cores row =
       let in_rows = rows_in whole view block within in
       follows-rows (row ∙ sym (row_after moved in_rows))
-      (LinesGo-more moved in_rows m.lines (λ k. grind arith) (row_in whole view core block in_cores within) refl)
+      (WritesRow-more moved in_rows m.lines (WritesRow-none block m.lines) (row_in whole view core block in_cores within) refl)

@@ -37,16 +37,11 @@ pub(crate) enum Plan {
         payload: Payload,
         memory: MemState,
     },
-    /// Memory takes the message of a PutM.
-    Writeback {
+    /// Memory takes the message, where it waits for one, and so does the requestor of a GetS or GetM.
+    Respond {
         came: Came,
         memory: MemCell,
-    },
-    /// The requestor takes the data that it waits for, and so does memory where it waits too.
-    Fill {
-        came: Came,
-        memory: MemCell,
-        filled: Filled,
+        filled: Option<Filled>,
     },
 }
 
@@ -171,8 +166,7 @@ impl<B: Block> Parts<B> {
                 ..
             }
             | Plan::Order { .. }
-            | Plan::Writeback { .. }
-            | Plan::Fill { .. } => {
+            | Plan::Respond { .. } => {
                 // The usual case, at no cost.
                 if self.log.has_room() {
                     return Ok(());
@@ -232,24 +226,16 @@ impl<B: Block> Parts<B> {
                 self.start(core, request, block, from, payload, memory);
                 Reply::Ordered(request)
             }
-            Plan::Writeback { came, memory } => {
-                self.finish_put(came, memory);
-                Reply::Came {
-                    payload: came.payload,
-                    from: came.from,
-                    did: None,
-                }
-            }
-            Plan::Fill {
+            Plan::Respond {
                 came,
                 memory,
                 filled,
             } => {
-                let did = self.finish_get(came, filled, memory);
+                let did = self.finish(came, memory, filled);
                 Reply::Came {
                     payload: came.payload,
                     from: came.from,
-                    did: Some(did),
+                    did,
                 }
             }
         }
@@ -279,11 +265,10 @@ impl<B: Block> Parts<B> {
                 request,
                 block,
             })),
-            Plan::Writeback { came, .. } => Some(Item::Came(came, None)),
-            Plan::Fill { came, filled, .. } => {
-                let did = self.next_did(came.core, came.block, filled.access, filled.value, false);
-                Some(Item::Came(came, Some(did)))
-            }
+            Plan::Respond { came, filled, .. } => Some(Item::Came(
+                came,
+                self.filled_did(came, filled),
+            )),
         }
     }
 }
