@@ -1,9 +1,9 @@
 -- A transaction closes: memory takes its message, and the lines are those that took it.
-use Rattle.snoop_machine.proofs.Common.{◌≡◌, ◌<◌, ◌≢◌, ◌-◌, ◌++◌, ◌∷◌, ℕ, List, [], length, Option, Some, None, refl, sym, ◌∙◌, ap, arith, option_map, slice_set, same_Some, length-set, length-append, get_or-set_same, Came, Did, Open, Protocol, Item, Request, PutM, transaction_on, ArrivesFor, FillsRequestor, RespondMove, came_of, written, Line, MemLine, Picture, picture_of, LosesLines, Held, WritesRow, row_of, memory_line, Fields, standing, IsSound, IsWhole, IsClosing, Standing, KeepsRoom}
+use Rattle.snoop_machine.proofs.Common.{◌≡◌, ◌<◌, ◌≢◌, ◌-◌, ◌++◌, ◌∷◌, ℕ, List, [], Option, Some, None, refl, sym, ◌∙◌, ap, arith, option_map, slice_set, same_Some, length-set, length-append, Came, Did, Open, Protocol, Item, Request, PutM, transaction_on, ArrivesFor, FillsRequestor, RespondMove, came_of, written, Line, MemLine, Picture, picture_of, LosesLines, Held, WritesRow, row_of, memory_line, Fields, standing, IsSound, IsWhole, IsClosing, Standing, KeepsRoom}
 use Rattle.snoop_rules.specs.declared.names.MemCell.{MemCell}
 use Rattle.snoop_history.specs.declared.items.Item.TheVariants as item
 use Rattle.snoop_model.specs.declared.replies.Reply.TheVariants as reply
-use Rattle.snoop_machine.proofs.PartsViews.{follows-rows, IsSound-close, keeps_room, seen, picture-written, rows_in, sized_on}
+use Rattle.snoop_machine.proofs.PartsViews.{follows-rows, IsSound-close, keeps_room, seen, picture-written, sized_on}
 
 -- of the block of this response the transaction is open, and what memory does was found
 pub record Closes (m : Fields) (now : Standing) (came : Came) (memory : MemCell) (closing : Open) : Type 0 where

@@ -174,13 +174,13 @@ module _ {shape : Extent} {caches : List (List Line)} {bus : Traffic} (sound : I
 abbrev AreAlike : List (List Line) → List MemState → List Data → List (Option Open) → Type 0
 AreAlike rows states values transactions = (length states ≡ length rows) × (length values ≡ length rows) × (length transactions ≡ length rows)
 
-pictures-get : (rows : List (List Line)) (states : List MemState) (values : List Data) (transactions : List (Option Open)) (block : ℕ)
+pub pictures_get : (rows : List (List Line)) (states : List MemState) (values : List Data) (transactions : List (Option Open)) (block : ℕ)
     → AreAlike rows states values transactions → slice_index_or (pictures_of rows states values transactions) block nothing_there
     ≡ record { caches = row_of rows block; memory = record { state = slice_index_or states block IorS; value = slice_index_or values block zero_words }; transaction = slice_index_or transactions block None }
-pictures-get [] [] [] [] block alike = refl
-pictures-get (r ∷ rs) (s ∷ ss) (v ∷ vs) (t ∷ ts) zero alike = refl
-pictures-get (r ∷ rs) (s ∷ ss) (v ∷ vs) (t ∷ ts) (suc block) alike = pictures-get rs ss vs ts block (omega arith, omega arith, omega arith)
-pictures-get _ _ _ _ block alike = absurd (omega arith)
+pictures_get [] [] [] [] block alike = refl
+pictures_get (r ∷ rs) (s ∷ ss) (v ∷ vs) (t ∷ ts) zero alike = refl
+pictures_get (r ∷ rs) (s ∷ ss) (v ∷ vs) (t ∷ ts) (suc block) alike = pictures_get rs ss vs ts block (omega arith, omega arith, omega arith)
+pictures_get _ _ _ _ block alike = absurd (omega arith)
 
 pictures-length : (rows : List (List Line)) (states : List MemState) (values : List Data) (transactions : List (Option Open))
     → AreAlike rows states values transactions → length (pictures_of rows states values transactions) ≡ length rows
@@ -214,7 +214,7 @@ module _ {count : ℕ} {m : Fields} (whole : IsWhole count m) {now : Standing} (
   alike = rw whole.sound.rows (whole.sized.states, whole.sized.values, whole.sound.transactions)
 
   pub seen : (block : ℕ) → picture_of now.situation block ≡ picture_in m block
-  seen block = rw (← view) (pictures-get m.lines.rows m.memory.states m.memory.words m.bus.transactions block alike)
+  seen block = rw (← view) (pictures_get m.lines.rows m.memory.states m.memory.words m.bus.transactions block alike)
 
   pub line_seen : (core block : ℕ) → held_by (picture_of now.situation block) core ≡ line_at m.lines.rows core block
   line_seen core block = ap (λ (x : Picture). held_by x core) (seen block)

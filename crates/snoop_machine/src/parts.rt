@@ -157,6 +157,7 @@ impl<B: Block> Parts<B> {
     }
 
     /// The block's open transaction, if there is one.
+    #[tactic(auto, using(crate::proofs::PartsViews::pictures_get))]
     pub(crate) fn open(&self, block: u32) -> Option<Open>
         ensures value { result ≡ (picture_of self.now.situation block).transaction }
         ensures padded { IfSome result (λ opened. AreZeroFrom self.now.situation.shape.words opened.value) }
@@ -235,6 +236,7 @@ impl<B: Block> Parts<B> {
 
     /// What the core holds of the block, if its map has a line for it.
     #[inline(always)]
+    #[tactic(auto, using(crate::proofs::PartsViews::pictures_get))]
     fn line(&self, core: u32, block: u32) -> Option<&Entry<B>>
         requires core { core < self.now.situation.shape.cores }
         requires block { block < self.now.situation.shape.blocks }
@@ -246,6 +248,7 @@ impl<B: Block> Parts<B> {
 
     /// The state in which the core holds the block.
     #[inline(always)]
+    #[tactic(auto, using(crate::proofs::PartsViews::pictures_get))]
     fn line_state(&self, core: u32, block: u32) -> CacheState
         requires core { core < self.now.situation.shape.cores }
         requires block { block < self.now.situation.shape.blocks }
@@ -256,6 +259,7 @@ impl<B: Block> Parts<B> {
 
     /// Memory's state of the block.
     #[inline(always)]
+    #[tactic(auto, using(crate::proofs::PartsViews::pictures_get))]
     fn memory_state(&self, block: u32) -> MemState
         ensures { result ≡ (picture_of self.now.situation block).memory.state }
     {
@@ -264,6 +268,7 @@ impl<B: Block> Parts<B> {
 
     /// Memory's words of the block.
     #[inline(always)]
+    #[tactic(auto, using(crate::proofs::PartsViews::pictures_get))]
     fn memory_words(&self, block: u32) -> Kept<B>
         ensures { result ≡ (picture_of self.now.situation block).memory.value }
     {
@@ -272,6 +277,7 @@ impl<B: Block> Parts<B> {
 
     /// The block's open transaction.
     #[inline(always)]
+    #[tactic(auto, using(crate::proofs::PartsViews::pictures_get))]
     fn transaction(&self, block: u32) -> Option<&Open<Kept<B>>>
         ensures value { option_copied result ≡ (picture_of self.now.situation block).transaction }
         ensures within { IfSome (option_copied result) (λ opened. (opened.block ≡ block) × (opened.core < self.now.situation.shape.cores)) }

@@ -1,4 +1,4 @@
-use Rattle.snoop_machine.proofs.Common.{◌≡◌, ◌<◌, length, arith, ◌∙◌, set-set, length-set, row_of, line_at, IsProper-order, Taking, Taking-more, Taking-past}
+use Rattle.snoop_machine.proofs.Common.{◌≡◌, ◌<◌, length, arith, length-set, row_of, line_at, IsProper-order, Taking, Taking-more, Taking-past}
 use Rattle.snoop_machine.proofs.{PartsViews.{WritesRow-more, row_after}, lines.Lines.take_rows.Goals.In-Some}
 use Rattle.snoop_machine.proofs.ConcernedCores.{concerned_within, TakesRow-passed, Cell-leaves}
 use Rattle.snoop_machine.proofs.lines.Lines.take_rows.Goals as goal

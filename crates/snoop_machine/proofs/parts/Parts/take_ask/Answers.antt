@@ -1,4 +1,4 @@
-use Rattle.snoop_machine.proofs.Common.{◌≡◌, ◌∙◌, slice_set, set-get_or, nothing_held, nothing_there, ◌++◌, if◌then◌else◌, true, Reply, Situation, next_did, ◌-◌, ◌∷◌, [], None, append-nil, arith, asked, Cell, changed, drop-waits, fields, held_by, inr, IsProper-drop, IsProper-hit, IsProper-issue, issue-waits, length-append, line_at, picture_of, refl, Wait, waiting_of, with_line}
+use Rattle.snoop_machine.proofs.Common.{◌≡◌, ◌∙◌, slice_set, set-get_or, nothing_held, nothing_there, ◌++◌, if◌then◌else◌, true, Reply, Situation, next_did, ◌-◌, ◌∷◌, [], None, append-nil, arith, asked, Cell, changed, fields, held_by, inr, IsProper-issue, issue-waits, length-append, line_at, picture_of, refl, Wait, waiting_of, with_line}
 use Rattle.snoop_machine.proofs.PartsViews.{follows-set, held_in-set, IsSound-issue, keeps_room, line-written, line_seen, picture_in, queues_of-issue, seen, sized_on}
 use Rattle.snoop_rules.specs.declared.names.CacheAction.TheVariants as action
 use Rattle.snoop_history.specs.declared.items.Item.TheVariants as item
