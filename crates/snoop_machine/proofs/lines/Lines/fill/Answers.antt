@@ -10,9 +10,6 @@ fill-before-requires-clause-place g c =
     let has = has_line c.self.invariant c.self.view_is c.args.core c.args.block c.requires.block c.requires.core _ c.index_mut-cache.ensures.value in
     rw has.its.read (held_placed c.self.invariant c.self.view_is c.args.core c.args.block c.requires.held)
 
-pub fill-before-requires-clause-stays : goal.fill-before-requires-clause-stays
-fill-before-requires-clause-stays g c = grind (arith, c.requires.proper.kept)
-
 pub follow-requires : goal.follow-requires
 follow-requires g c =
     let has = has_line c.self.invariant c.self.view_is c.args.core c.args.block c.requires.block c.requires.core _ c.index_mut-cache.ensures.value in
