@@ -1,6 +1,5 @@
 pub mod Common
 pub mod PartsViews
-pub mod Closing
 pub mod ConcernedCores
 pub mod Plans
 pub mod Runs
