@@ -4,4 +4,3 @@ pub mod ConcernedCores
 pub mod Plans
 pub mod Runs
 pub mod LineMaps
-pub mod LineChanges
