@@ -218,6 +218,7 @@ impl<B: Block> Parts<B> {
     }
 
     /// How many lines the core's map has, or `None` outside the shape.
+    #[tactic(auto, using(crate::proofs::PartsViews::pictures_get))]
     pub(crate) fn lines(&self, core: u32) -> Option<usize>
         ensures inside { core < self.now.situation.shape.cores → result ≡ Some (line_count self.now core) }
         ensures held { HasHeldLines self.now core }
