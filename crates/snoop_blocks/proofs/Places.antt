@@ -1,15 +1,11 @@
 -- The places of a table: at first, and after one write.
-use Rattle.std.proofs.Common.{◌≡◌, ◌≢◌, ◌<◌, ◌≤◌, ◌+◌, ◌-◌, ◌^◌, ℕ, zero, suc, List, [], ◌∷◌, ◌++◌, length, replicate, slice_get, slice_index_or, slice_set, Some, refl, sym, ◌∙◌, ap, arith}
+use Rattle.std.proofs.Common.{◌≡◌, ◌≢◌, ◌<◌, ◌≤◌, ◌+◌, ◌-◌, ◌^◌, ℕ, zero, suc, List, [], ◌∷◌, ◌++◌, length, replicate, slice_get, slice_index_or, slice_set, Some, refl, sym, ◌∙◌, ap, arith, cond}
+use Rattle.std.specs.Prelude.{◌==◌}
 use Rattle.std.proofs.{lemmas.{Bool.{cases_eq, cases_lt}, Grind.{common_steps, elements}, Option.{slice_get-get_or, slice_get-map}}, Math.ListN.get_or-map}
-use Rattle.std.proofs.lemmas.List.{ext_get_or, get_or_read, get_or_past, get_or_push, get_or_append_left, get_or-replicate, get_or-set_same, get_or-set_other, length-set, length-map, map-set, set-get_or, length-replicate, length_push}
+use Rattle.std.proofs.lemmas.List.{ext_get_or, get_or_read, get_or_past, get_or_push, get_or_append_left, get_or-replicate, get_or-set_same, get_or-set_other, length-set, length-map, map-set, set-get_or, length-replicate, length_push, Sums.sum_by-set, Folds.sum_by-replicate}
 use Rattle.snoop_blocks.specs.Places.{value_at, seen, changed_at, unwritten, ArePlaces}
 
--- at first no block is written
-unwritten-new : (n : ℕ) → unwritten (replicate n 0) ≡ n
-unwritten-new zero = refl
-unwritten-new (suc n) = omega (arith, unwritten-new n)
-
--- each place is 0 then
+-- at first each place is 0
 pub zero_at : (n block : ℕ) → let none : ℕ = 0 in slice_index_or (replicate n none) block 0 ≡ 0
 zero_at n block = grind (arith, common_steps, get_or-replicate, get_or_past, length-replicate, cases_lt block n)
 
@@ -27,18 +23,15 @@ ArePlaces-new n written capacity few none room =
       few = omega arith;
       within = λ block. omega (arith, zero_at n block);
       apart = λ one other ne same. zero_at n one;
-      whole = omega (arith, unwritten-new n);
+      whole = omega (arith, sum_by-replicate (λ (place : ℕ). cond (place == 0) 1 0) n 0);
       room = omega arith;
     }
 
 -- a block that was never written is one of them, and after its first write is none
 fewer-unwritten : (places : List ℕ) (block place : ℕ) → block < length places → slice_index_or places block 0 ≡ 0
     → unwritten (slice_set places block (suc place)) + 1 ≡ unwritten places
-fewer-unwritten [] block place within none = elim within [ ]
-fewer-unwritten (zero ∷ places) zero place within none = refl
-fewer-unwritten (suc last ∷ places) zero place within none = absurd (omega arith)
-fewer-unwritten (zero ∷ places) (suc block) place within none = omega (arith, fewer-unwritten places block place (omega arith) none)
-fewer-unwritten (suc last ∷ places) (suc block) place within none = fewer-unwritten places block place (omega arith) none
+fewer-unwritten places block place within none =
+    grind (arith, none, sum_by-set (λ (last : ℕ). cond (last == 0) 1 0) places block (suc place) 0 within)
 
 module _ {X : Type 0} (first : X) {written now : List X} {places : List ℕ} {capacity : ℕ}
     (all : ArePlaces places written capacity) (view : seen first written places ≡ now) (block : ℕ) where

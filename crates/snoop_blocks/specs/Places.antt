@@ -1,6 +1,6 @@
 -- Where the values of a table stand that were written.
 -- Source: this project's profile.
-use Rattle.std.specs.Prelude.{◌≡◌, ◌≢◌, ◌<◌, ◌≤◌, ◌+◌, ◌^◌, ℕ, zero, suc, List, [], ◌∷◌, length, map, slice_get, slice_index_or, slice_set}
+use Rattle.std.specs.Prelude.{◌≡◌, ◌≢◌, ◌<◌, ◌≤◌, ◌+◌, ◌^◌, ◌==◌, ℕ, zero, suc, List, length, map, count_by, slice_get, slice_index_or, slice_set}
 use Rattle.std.specs.Option.{option_map_or}
 
 -- the value at a place: the first value where nothing was written
@@ -18,9 +18,7 @@ changed_at values block change = option_map_or (λ value. slice_set values block
 
 -- how many blocks were never written
 abbrev pub unwritten : List ℕ → ℕ
-unwritten [] = 0
-unwritten (zero ∷ places) = unwritten places + 1
-unwritten (suc place ∷ places) = unwritten places
+unwritten places = count_by (λ place. place == 0) places
 
 -- each place is that of a value, two blocks never have the same, each value has one, and there is room for those to come
 pub record ArePlaces {X : Type 0} (places : List ℕ) (written : List X) (capacity : ℕ) : Type 0 where

@@ -1,4 +1,4 @@
--- The names that lemmas of the machine use most, passed on from one place, and two lemmas of lists.
+-- The names that lemmas of the machine use most, passed on from one place, and a lemma of lists.
 pub use Rattle.std.proofs.Common.{◌≡◌, ℕ, List, [], ◌∷◌, length, replicate, Option, None, refl, ◌∙◌, ap, arith, inl, inr, ◌<◌, ◌-◌, ◌++◌, Some, sym, ◌≢◌, true, false, ◌+◌, ◌⊎◌, is_some, get_or, ◌≤◌, zero, suc, append-nil, not, filter, drop, map, take, cond, rules, vec_capacity, subst}
 pub use Rattle.std.specs.Prelude.{slice_index_or, All, option_map, slice_set, slice_index, nat_eq, unwrap_or, option_to_list, ◌==◌, nat_lt, position, slice_get, if◌then◌else◌, Result, Ok, Err, is_ok, count_by, IfOk, IfErr, IfSome, IsOk, OnOk, IfNone, option_copied}
 pub use Rattle.std.proofs.{Math.{ListN.get_or-map, Seq.map-set_same}, lemmas.Bool.{cases_lt, ne_eqb, cases_eq, true_from_ne_false, eq-eqb, false≢true}}
@@ -19,12 +19,12 @@ pub use Rattle.snoop_model.specs.Moves.Move.{ArrivesFor, Asks, Fills, FillsReque
 pub use Rattle.snoop_model.specs.Pictures.{Lines.{Line, MemLine}, Proper.{IsProper, keeps, missed_request, request_for}, Sends.{IsOnlySender, Sends}}
 pub use Rattle.snoop_model.specs.Pictures.Picture.{Picture, first_memory, free_picture, held_at, held_by, kept_on, nothing_held, with_line}
 pub use Rattle.snoop_model.specs.{Pictures.Situation.{IsHead, Situation, nothing_there, picture_of, state_of}, Runs.Run.{Goes, RunBy}}
-pub use Rattle.snoop_model.{proofs.Lists.{if_some, replicated}, specs.declared.{access.Access.Access, replies.{Refused.Refused, Reply.Reply}}}
+pub use Rattle.snoop_model.{proofs.Lists.{each_set, if_some, replicated}, specs.declared.{access.Access.Access, replies.{Refused.Refused, Reply.Reply}}}
 pub use Rattle.snoop_model.specs.declared.replies.Refused.TheVariants.{BusTaken, NoBlock, NoCore, NoMemory, NoTransaction, NothingWaiting, Stalled}
 pub use Rattle.snoop_machine.specs.{AnyParts.stand, Following.{AddsLines, LosesLines}, Holding.{HoldsOn, MovesToI, NeedsLine}, Memory.{MemTables, memory_line}}
 pub use Rattle.snoop_machine.specs.Cache.{Contents, KeepsMapRoom, WritesEntry, blocks_of, changed, filled_line, gone, line_in, line_or_nothing, lines_held, no_cache, words_after}
 pub use Rattle.snoop_machine.specs.{Holders.{AreHolders, HaveFollowed, HaveMoved, StandsAs, concerns, no_holders}, Runs.{Answers, AnswersSafely, HasRun}}
-pub use Rattle.snoop_machine.specs.Lines.{AreLines, Held, KeepsMapsRoom, LinesGo, MayMoveTo, WritesLine, held, held_by_block, is_among, line_at, row_of, with_line_at}
+pub use Rattle.snoop_machine.specs.Lines.{AreLines, Held, KeepsMapsRoom, LinesGo, MayMoveTo, WritesLine, WritesRow, held, held_by_block, is_among, line_at, row_of, with_line_at}
 pub use Rattle.snoop_machine.specs.PartsView.{Fields, IsSized, IsSound, IsWhole, WaitsAs, fields, pictures_of, queues_of, requests_for, shown_line_room, shown_line_rooms, standing}
 pub use Rattle.snoop_machine.specs.Plan.{HasRoom, HasRoomToAsk, IsClosing, IsPlan, IsPlanFor, entry_of, entry_of_ask, planned_step, room_for, room_for_ask}
 pub use Rattle.snoop_machine.specs.{Prepared.{IsFull, IsPrepared, places, room_to}, Standing.{KeepsRoom, Standing, line_count}, declared.parts.step.Plan.Plan}
@@ -34,14 +34,6 @@ pub use Rattle.snoop_model.proofs.{Invariant.Safety.{is_safe, kept_is_flat, move
 pub use Rattle.snoop_model.proofs.Lines.{Silent-all, Silent-more, Silent-none, Silent-past, SilentBelow}
 pub use Rattle.snoop_model.proofs.Tables.Rows.{fill-waits, IsProper-fill, IsProper-order, issue-waits, drop-waits, IsProper-issue, IsProper-hit, IsProper-drop}
 unfoldable pub use Rattle.snoop_model.specs.Invariant.Fits.{is_owner}
-
--- what holds at each place after one is written
-pub each_place : {X : Type 0} (P : ℕ → X → Type 0) (xs : List X) (i : ℕ) (x d : X) → i < length xs → P i x → ((k : ℕ) → k ≢ i → P k (slice_index_or xs k d))
-    → (k : ℕ) → P k (slice_index_or (slice_set xs i x) k d)
-each_place P xs i x d within here others k = elim (cases_eq k i) [
-  | inl e ↦ rw (e, get_or-set_same xs i x d within) here
-  | inr ne ↦ rw (get_or-set_other xs i k x d ne) (others k ne)
-]
 
 -- a function that gives the same at each place
 pub constant : {X Y : Type 0} (f : X → Y) (xs : List X) (d : X) (y : Y) → ((k : ℕ) → f (slice_index_or xs k d) ≡ y) → map f xs ≡ replicate (length xs) y

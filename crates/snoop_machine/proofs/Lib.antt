@@ -1,8 +1,6 @@
 pub mod Common
 pub mod PartsViews
-pub mod Closing
 pub mod ConcernedCores
 pub mod Plans
 pub mod Runs
 pub mod LineMaps
-pub mod LineChanges

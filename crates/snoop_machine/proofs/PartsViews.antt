@@ -1,5 +1,5 @@
 -- Queues, pictures and room as callers see them, that lines, queues and open transactions fit together after each change, and how many lines each map has then.
-use Rattle.snoop_machine.proofs.Common.{◌≡◌, ◌≢◌, ℕ, ◌<◌, true, not, filter, drop, List, [], ◌∷◌, ◌++◌, length, map, Option, Some, None, refl, sym, ◌∙◌, ap, arith, inl, inr, ◌+◌, ◌==◌, is_some, option_map, option_to_list, position, slice_get, slice_index_or, slice_set, if◌then◌else◌, prefix_len, get_or-map, map-set_same, cases_eq, cases_lt, eq-eqb, ne_eqb, false≢true, same_Some, slice_get-map, append-nil, get_or_past, length-map, map-append, map-set, filter-append, Extent, waiting_request, Request, queue_of, after_issue, after_order, place_in, Traffic, Waiting, no_queue, waiting_of, head_of, Line, line_at, queues_of, requests_for, IsSound, length-set, get_or-set_same, get_or-set_other, Data, Protocol, Payload, Open, Starts, transaction_on, TakesRows, held_at, nothing_held, IsProper, row_of, with_line_at, WaitsAs, IsProper-order, each_place, set-get_or, common_steps, zero, suc, replicate, zero_words, Picture, held_by, with_line, picture_of, state_of, nothing_there, memory_line, Fields, standing, pictures_of, IsSized, IsWhole, Standing, ◌≤◌, slice_index, Held, KeepsMapsRoom, shown_line_room, shown_line_rooms, KeepsRoom, MemTables, Journal, LinesGo, WritesLine, LosesLines}
+use Rattle.snoop_machine.proofs.Common.{◌≡◌, ◌≢◌, ℕ, ◌<◌, true, not, filter, drop, List, [], ◌∷◌, ◌++◌, length, map, Option, Some, None, refl, sym, ◌∙◌, ap, arith, inl, inr, ◌+◌, ◌==◌, is_some, option_map, option_to_list, position, slice_get, slice_index_or, slice_set, if◌then◌else◌, prefix_len, get_or-map, map-set_same, cases_eq, cases_lt, eq-eqb, ne_eqb, false≢true, same_Some, slice_get-map, append-nil, get_or_past, length-map, map-append, map-set, filter-append, Extent, waiting_request, Request, queue_of, after_issue, after_order, place_in, Traffic, Waiting, no_queue, waiting_of, head_of, Line, line_at, queues_of, requests_for, IsSound, length-set, get_or-set_same, get_or-set_other, Data, Protocol, Payload, Open, Starts, transaction_on, TakesRows, held_at, nothing_held, IsProper, row_of, with_line_at, WaitsAs, IsProper-order, each_set, set-get_or, common_steps, zero, suc, replicate, zero_words, Picture, held_by, with_line, picture_of, state_of, nothing_there, memory_line, Fields, standing, pictures_of, IsSized, IsWhole, Standing, ◌≤◌, slice_index, Held, KeepsMapsRoom, shown_line_room, shown_line_rooms, KeepsRoom, MemTables, Journal, WritesLine, WritesRow, LosesLines, set-set}
 use Rattle.snoop_model.proofs.Queues.{others_wait, own_waits}
 use Rattle.snoop_rules.specs.declared.names.MemState.{MemState, TheVariants.IorS}
 
@@ -83,7 +83,7 @@ module _ {shape : Extent} {caches : List (List Line)} {bus : Traffic} (sound : I
   -- a transaction closes
   pub IsSound-close : (block : ℕ) → block < shape.blocks → IsSound shape caches (record bus { transactions = slice_set bus.transactions block None })
   IsSound-close block in_blocks =
-      let each = each_place (λ b found. IsOpened shape b found) bus.transactions block None None (rw sound.transactions in_blocks) (λ t e. cc) (λ b ne. sound.opened b) in
+      let each = each_set bus.transactions block None None (λ b found. IsOpened shape b found) (rw sound.transactions in_blocks) (λ t e. cc) (λ b ne. sound.opened b) in
       grind (arith, length-set bus.transactions block None, each)
 
   -- one core has another queue
@@ -92,7 +92,7 @@ module _ {shape : Extent} {caches : List (List Line)} {bus : Traffic} (sound : I
     as_many = rw (wrote, length-set bus.queues core queue) sound.queues
 
     each_queue : (P : ℕ → Waiting → Type 0) → P core queue → ((k : ℕ) → k ≢ core → P k (waiting_of bus k)) → (k : ℕ) → P k (waiting_of now k)
-    each_queue P own others k = rw wrote (each_place P bus.queues core queue no_queue (rw sound.queues in_cores) own others k)
+    each_queue P own others k = rw wrote (each_set bus.queues core queue no_queue P (rw sound.queues in_cores) own others k)
 
     -- with other room
     pub IsSound-room : queue.requests ≡ (waiting_of bus core).requests → now.transactions ≡ bus.transactions → IsSound shape caches now
@@ -108,7 +108,7 @@ module _ {shape : Extent} {caches : List (List Line)} {bus : Traffic} (sound : I
           → WaitsAs block queue (held_at row core) → ((k : ℕ) → k ≢ core → WaitsAs block (waiting_of bus k) (held_at row k))
           → IsSound shape (slice_set caches block row) now
       IsSound-row row wide proper transactions opened own others =
-          let each_row = λ (P : ℕ → List Line → Type 0). each_place P caches block row [] (rw sound.rows in_blocks) in
+          let each_row = λ (P : ℕ → List Line → Type 0). each_set caches block row [] P (rw sound.rows in_blocks) in
           record {
             rows = length-set caches block row ∙ sound.rows;
             row = each_row (λ b its. b < shape.blocks → length its ≡ shape.cores) (λ h. wide) (λ b ne. sound.row b);
@@ -128,7 +128,7 @@ module _ {shape : Extent} {caches : List (List Line)} {bus : Traffic} (sound : I
           let old = row_of caches block in
           let wide = sound.row block in_blocks in
           IsSound-row (slice_set old core line) (length-set old core line ∙ wide)
-          (each_place (λ k its. IsProper its) old core line nothing_held (rw wide in_cores) proper (λ k ne. sound.proper k block))
+          (each_set old core line nothing_held (λ k its. IsProper its) (rw wide in_cores) proper (λ k ne. sound.proper k block))
           (rw transactions sound.transactions) (rw transactions sound.opened)
           (rw (get_or-set_same old core line nothing_held (rw wide in_cores)) waits)
           (λ k ne. rw (get_or-set_other old core k line nothing_held ne) (sound.waits k block))
@@ -165,7 +165,7 @@ module _ {shape : Extent} {caches : List (List Line)} {bus : Traffic} (sound : I
       ] in
       IsSound-row now core _ in_cores starts.queues block in_blocks (λ b ne. grind (arith, common_steps, head, ne_eqb block b)) row
       (takes.same_length ∙ wide) proper (rw (starts.transactions, length-set bus.transactions block (Some opened)) sound.transactions)
-      (rw starts.transactions (each_place (λ b found. IsOpened shape b found) bus.transactions block (Some opened) None (rw sound.transactions in_blocks)
+      (rw starts.transactions (each_set bus.transactions block (Some opened) None (λ b found. IsOpened shape b found) (rw sound.transactions in_blocks)
       (λ t e. rw (← (same_Some _ _ e)) (refl, in_cores)) (λ b ne. sound.opened b)))
       ((head_alone sound core request block head).1 ∙ ap option_to_list (sym (own_waits p core request old row takes (omega arith))))
       (λ k ne. sound.waits k block ∙ ap option_to_list (sym (others_wait p core request old row takes k ne)))
@@ -174,13 +174,13 @@ module _ {shape : Extent} {caches : List (List Line)} {bus : Traffic} (sound : I
 abbrev AreAlike : List (List Line) → List MemState → List Data → List (Option Open) → Type 0
 AreAlike rows states values transactions = (length states ≡ length rows) × (length values ≡ length rows) × (length transactions ≡ length rows)
 
-pictures-get : (rows : List (List Line)) (states : List MemState) (values : List Data) (transactions : List (Option Open)) (block : ℕ)
+pub pictures_get : (rows : List (List Line)) (states : List MemState) (values : List Data) (transactions : List (Option Open)) (block : ℕ)
     → AreAlike rows states values transactions → slice_index_or (pictures_of rows states values transactions) block nothing_there
     ≡ record { caches = row_of rows block; memory = record { state = slice_index_or states block IorS; value = slice_index_or values block zero_words }; transaction = slice_index_or transactions block None }
-pictures-get [] [] [] [] block alike = refl
-pictures-get (r ∷ rs) (s ∷ ss) (v ∷ vs) (t ∷ ts) zero alike = refl
-pictures-get (r ∷ rs) (s ∷ ss) (v ∷ vs) (t ∷ ts) (suc block) alike = pictures-get rs ss vs ts block (omega arith, omega arith, omega arith)
-pictures-get _ _ _ _ block alike = absurd (omega arith)
+pictures_get [] [] [] [] block alike = refl
+pictures_get (r ∷ rs) (s ∷ ss) (v ∷ vs) (t ∷ ts) zero alike = refl
+pictures_get (r ∷ rs) (s ∷ ss) (v ∷ vs) (t ∷ ts) (suc block) alike = pictures_get rs ss vs ts block (omega arith, omega arith, omega arith)
+pictures_get _ _ _ _ block alike = absurd (omega arith)
 
 pictures-length : (rows : List (List Line)) (states : List MemState) (values : List Data) (transactions : List (Option Open))
     → AreAlike rows states values transactions → length (pictures_of rows states values transactions) ≡ length rows
@@ -214,7 +214,7 @@ module _ {count : ℕ} {m : Fields} (whole : IsWhole count m) {now : Standing} (
   alike = rw whole.sound.rows (whole.sized.states, whole.sized.values, whole.sound.transactions)
 
   pub seen : (block : ℕ) → picture_of now.situation block ≡ picture_in m block
-  seen block = rw (← view) (pictures-get m.lines.rows m.memory.states m.memory.words m.bus.transactions block alike)
+  seen block = rw (← view) (pictures_get m.lines.rows m.memory.states m.memory.words m.bus.transactions block alike)
 
   pub line_seen : (core block : ℕ) → held_by (picture_of now.situation block) core ≡ line_at m.lines.rows core block
   line_seen core block = ap (λ (x : Picture). held_by x core) (seen block)
@@ -296,7 +296,7 @@ module _ {count : ℕ} {m : Fields} (whole : IsWhole count m) {now : Standing} (
   pub held_in-set : (bus : Traffic) (core : ℕ) (queue : Waiting) → bus.queues ≡ slice_set m.bus.queues core queue → core < now.situation.shape.cores
       → held_in m.bus.queues core ≤ length queue.requests + queue.room → (k : ℕ) → held_in m.bus.queues k ≤ held_in bus.queues k
   held_in-set bus core queue wrote within more =
-      rw wrote (each_place (λ k its. held_in m.bus.queues k ≤ length its.requests + its.room) m.bus.queues core queue no_queue
+      rw wrote (each_set m.bus.queues core queue no_queue (λ k its. held_in m.bus.queues k ≤ length its.requests + its.room)
       (rw whole.sound.queues (rw (← view) at within)) more (λ k ne. omega arith))
 
   -- as long as neither the log's capacity nor a queue's falls, and the maps keep their room for lines, no room is lost
@@ -317,25 +317,30 @@ module _ {core block : ℕ} {line : Line} {old new : Held} (wrote : WritesLine c
   row_after = rw wrote.rows (get_or-set_same old.rows block (slice_set (row_of old.rows block) core line) [] in_blocks)
 
   -- where the core had not moved yet since the first of these
-  module _ (first : Held) (so_far : LinesGo block first old) where
-    pub LinesGo-more : core < length (row_of old.rows block) → line_at old.rows core block ≡ line_at first.rows core block → LinesGo block first new
-    LinesGo-more in_row unmoved k =
-        let own = get_or-set_same (row_of old.rows block) core line nothing_held in_row in
-        let others = get_or-set_other (row_of old.rows block) core k line nothing_held in
-        grind (arith, row_after, own, others, so_far k, unmoved, wrote.lines, wrote.others k, cases_eq k core)
+  pub WritesRow-more : (first : Held) → WritesRow block first old → core < length (row_of old.rows block) → line_at old.rows core block ≡ line_at first.rows core block
+      → WritesRow block first new
+  WritesRow-more first so_far in_row unmoved =
+      let own = get_or-set_same (row_of old.rows block) core line nothing_held in_row in
+      let others = λ (k : ℕ). get_or-set_other (row_of old.rows block) core k line nothing_held in
+      record {
+        rows = cc (wrote.rows, so_far.rows, set-set first.rows block (row_of old.rows block) (row_of new.rows block), row_after);
+        many = wrote.many ∙ so_far.many;
+        lines = λ k. grind (arith, row_after, own, others k, so_far.lines k, unmoved, wrote.lines, wrote.others k, cases_eq k core);
+        room = λ k. grind (arith, so_far.lines k, so_far.room k, wrote.room k, wrote.lines, wrote.others k, cases_eq k core);
+      }
 
-    -- the room for lines is kept
-    pub KeepsMapsRoom-more : KeepsMapsRoom first old → KeepsMapsRoom first new
-    KeepsMapsRoom-more kept k = grind (arith, so_far k, kept k, wrote.room k, wrote.lines, wrote.others k, cases_eq k core)
+-- no line is written
+pub WritesRow-none : (block : ℕ) (held : Held) → WritesRow block held held
+WritesRow-none block held = record { rows = sym (set-get_or held.rows block []); many = refl; lines = λ k. grind arith; room = λ k. omega arith }
 
 module _ {count : ℕ} {m : Fields} (whole : IsWhole count m) {old : Standing} (view : standing m ≡ old) (new : Standing) (block : ℕ) (next : Picture)
     (held : Held) (within : block < old.situation.shape.blocks) (wrote : new.situation.pictures ≡ slice_set (standing m).situation.pictures block next) (lines : new.lines ≡ held.lines) where
   -- the lines of one block have moved
-  pub follows-rows : next.caches ≡ row_of held.rows block → LinesGo block m.lines held → (k : ℕ) → LosesLines old new k
-  follows-rows row go k =
+  pub follows-rows : next.caches ≡ row_of held.rows block → WritesRow block m.lines held → (k : ℕ) → LosesLines old new k
+  follows-rows row writes k =
       let here = get_or-set_same (standing m).situation.pictures block next nothing_there (has_picture whole view block within) in
       let others = get_or-set_other (standing m).situation.pictures block in
-      rw (← view) (grind (arith, go k, lines, wrote, here, others, state_seen whole refl k block, row))
+      rw (← view) (grind (arith, writes.lines k, lines, wrote, here, others, state_seen whole refl k block, row))
 
   -- one line has moved
   pub follows-set : {core : ℕ} {line : Line} → WritesLine core block line m.lines held → core < old.situation.shape.cores
@@ -344,4 +349,4 @@ module _ {count : ℕ} {m : Fields} (whole : IsWhole count m) {old : Standing} (
   follows-set {core} moved in_cores row =
       let in_rows = rows_in whole view block within in
       follows-rows (row ∙ sym (row_after moved in_rows))
-      (LinesGo-more moved in_rows m.lines (λ k. grind arith) (row_in whole view core block in_cores within) refl)
+      (WritesRow-more moved in_rows m.lines (WritesRow-none block m.lines) (row_in whole view core block in_cores within) refl)

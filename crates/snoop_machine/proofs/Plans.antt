@@ -1,5 +1,5 @@
 -- What a planned step adds and needs, and how many lines each core's map has after it, or after the room for it was made.
-use Rattle.snoop_machine.proofs.Common.{◌≡◌, ℕ, ◌++◌, Option, append-nil, arith, ◌⊎◌, option_to_list, Step, Item, FirstMove, Refuses, Situation, Refused, Reply, IsPlan, IsPlanFor, HasRoom, planned_step, room_for, entry_of, IsFull, IsPrepared, Standing, Plan, ◌+◌, cases_eq, get_or-set_other, LosesLines, AddsLines, NeedsLine, MovesToI, HoldsOn, KeepsRoom, line_count, get_or-set_same}
+use Rattle.snoop_machine.proofs.Common.{◌≡◌, ℕ, ◌++◌, Option, None, Some, append-nil, arith, ◌⊎◌, option_to_list, Step, Item, FirstMove, Refuses, Situation, Refused, Reply, IsPlan, IsPlanFor, HasRoom, planned_step, room_for, entry_of, IsFull, IsPrepared, Standing, Plan, ◌+◌, cases_eq, get_or-set_other, LosesLines, AddsLines, NeedsLine, MovesToI, HoldsOn, KeepsRoom, line_count, get_or-set_same}
 use Rattle.snoop_trace.specs.declared.step.Step.TheVariants as step
 use Rattle.snoop_machine.specs.declared.parts.step.Plan.TheVariants as plan
 use Rattle.snoop_model.proofs.Tables.Rows.{no_row}
@@ -14,12 +14,12 @@ plan-adds s (plan.Ask core block word asking asked) h answer new m =
     grind (arith, h.1, rw (← m.1.1.on_block) at m.1.1.moves, append-nil s.log)
 plan-adds s (plan.Order core request block from payload memory) h answer new m =
     grind (arith, m.1.0, h.1.head.first, h.1.head.waits, m.1.1.orders.ready, m.1.1.orders.after)
-plan-adds s (plan.Writeback came memory) h answer new m =
+plan-adds s (plan.Respond came memory None) h answer new m =
     grind (arith, h.1.opened, m.1.1.on_block, m.1.1.responds.opened, h.2, m.1.1.responds.after, m.1.1.responds.requestor)
-plan-adds s (plan.Fill came memory filled) h answer new m =
+plan-adds s (plan.Respond came memory (Some filled)) h answer new m =
     let responds = m.1.1.responds in
-    let fills = rw (m.1.1.on_block, responds.opened) at h.3 in
-    grind (arith, h.1.opened, m.1.1.on_block, m.1.1.responds.opened, h.2, responds.after, responds.requestor, fills)
+    let fills = rw (m.1.1.on_block, responds.opened) at h.2.1 in
+    grind (arith, h.1.opened, m.1.1.on_block, m.1.1.responds.opened, h.2.0, responds.after, responds.requestor, fills)
 
 -- where the plan has no room the step has none
 pub IsFull-plan : (before : Standing) (taking : Step) (x : Plan) → IsPlanFor before.situation taking x → room_for before x ≡ 0 → IsFull before taking

@@ -5,9 +5,9 @@ use Rattle.snoop_trace.specs.{Words.{HasWord, IsWord}, declared.step.{Op.Op, Ste
 use Rattle.snoop_trace.specs.declared.step.Step.TheVariants as step
 use Rattle.snoop_rules.specs.declared.names.{MemState.MemState, MemCell.MemCell, Payload.Payload, Request.{Request, TheVariants.PutM}}
 use Rattle.snoop_rules.specs.Takers.{at_memory, seen_by}
-use Rattle.snoop_history.specs.declared.items.{Came.Came, Item.Item}
+use Rattle.snoop_history.specs.declared.items.{Came.Came, Did.Did, Item.Item}
 use Rattle.snoop_history.specs.declared.items.Item.TheVariants as item
-use Rattle.snoop_machine.specs.declared.parts.step.{Asked.{Asked, TheVariants.{Absent, Hit, Issue, Drop}}, Plan.{Plan, TheVariants.{Ask, Order, Writeback, Fill}}}
+use Rattle.snoop_machine.specs.declared.parts.step.{Asked.{Asked, TheVariants.{Absent, Hit, Issue, Drop}}, Plan.{Plan, TheVariants.{Ask, Order, Respond}}, Filled.Filled}
 use Rattle.snoop_machine.specs.{Standing.{Standing, has_line}, Prepared.room_to_issue, Cache.filled_line, Asked.TakesAsk}
 use Rattle.snoop_model.specs.Pictures.{Situation.{Situation, picture_of, state_of, IsHead}, Picture.held_by, Sends.IsOnlySender, Proper.IsProper}
 use Rattle.snoop_model.specs.Moves.{LookUps.HasRow, Move.{Fills, Settles, IsWithin, TakesMemRow, came_of, next_did}}
@@ -16,8 +16,7 @@ use Rattle.snoop_model.specs.Moves.{LookUps.HasRow, Move.{Fills, Settles, IsWith
 abbrev pub planned_step : Plan → Step
 planned_step (Ask core block word asking asked) = step.Ask core block word asking
 planned_step (Order core request block from payload memory) = step.Order core
-planned_step (Writeback came memory) = step.Respond came.block
-planned_step (Fill came memory filled) = step.Respond came.block
+planned_step (Respond came memory filled) = step.Respond came.block
 
 -- the core's oldest request can be ordered: each core has a row for it, it has this sender and payload, and leads memory to this state
 pub record CanBeOrdered (s : Situation) (core : ℕ) (request : Request) (block : ℕ) (from : Option ℕ) (payload : Payload) (memory : MemState) : Type 0 where
@@ -34,15 +33,19 @@ pub record IsClosing (s : Situation) (came : Came) (memory : MemCell) : Type 0 w
   pub sender : ForSome came.from (λ sender. sender < s.shape.cores)
   pub settles : Settles s.protocol came.request came.payload (picture_of s came.block).memory.state memory.action memory.next
 
+-- at a PutM the response fills no line, and at a GetS or GetM its requestor's, as its row says
+abbrev pub BringsFill : Situation → Came → Option Filled → Type 0
+BringsFill s came None = came.request ≡ PutM
+BringsFill s came (Some filled) =
+    (came.request ≢ PutM)
+    × IfSome (picture_of s came.block).transaction (λ closing. Fills closing s.protocol (held_by (picture_of s came.block) closing.core) (filled_line filled.next filled.access closing.value) filled.access filled.value)
+    × IsWord s.shape filled.access.word
+
 -- the rows were found for what the plan says
 abbrev pub IsPlan : Situation → Plan → Type 0
 IsPlan s (Ask core block word asking asked) = IsWithin s core block × TakesAsk s.protocol (held_by (picture_of s block) core) word asking asked × IsProper (held_by (picture_of s block) core) × HasWord s.shape word asking
 IsPlan s (Order core request block from payload memory) = (core < s.shape.cores) × CanBeOrdered s core request block from payload memory
-IsPlan s (Writeback came memory) = (came.block < s.shape.blocks) × IsClosing s came memory × (came.request ≡ PutM)
-IsPlan s (Fill came memory filled) =
-    (came.block < s.shape.blocks) × IsClosing s came memory × (came.request ≢ PutM)
-    × IfSome (picture_of s came.block).transaction (λ closing. Fills closing s.protocol (held_by (picture_of s came.block) closing.core) (filled_line filled.next filled.access closing.value) filled.access filled.value)
-    × IsWord s.shape filled.access.word
+IsPlan s (Respond came memory filled) = (came.block < s.shape.blocks) × IsClosing s came memory × BringsFill s came filled
 
 -- a plan for this step
 abbrev pub IsPlanFor : Situation → Step → Plan → Type 0
@@ -79,10 +82,13 @@ entry_of_ask log core block word asking (Hit next value) = Some (item.Did (next_
 entry_of_ask log core block word asking (Issue request next) = None
 entry_of_ask log core block word asking (Drop next) = None
 
+-- what the requestor performs with the data that came, if any did
+abbrev pub did_of : List Item → Came → Option Filled → Option Did
+did_of log came None = None
+did_of log came (Some filled) = Some (next_did log came.core came.block filled.access.word filled.access.op filled.value false)
+
 -- the item that a planned step adds, if any
 abbrev pub entry_of : List Item → Plan → Option Item
 entry_of log (Ask core block word asking asked) = entry_of_ask log core block word asking asked
 entry_of log (Order core request block from payload memory) = Some (item.Sent (record { core = core; request = request; block = block }))
-entry_of log (Writeback came memory) = Some (item.Came came None)
-entry_of log (Fill came memory filled) =
-    Some (item.Came came (Some (next_did log came.core came.block filled.access.word filled.access.op filled.value false)))
+entry_of log (Respond came memory filled) = Some (item.Came came (did_of log came filled))

@@ -55,7 +55,7 @@ impl<B: Block> Model for Entry<B> {
 }
 
 impl<B: Block> Entry<B> {
-    pub(crate) fn state(&self) -> CacheState
+    fn state(&self) -> CacheState
         ensures { result ≡ self.now.state }
     {
         self.state
@@ -68,32 +68,6 @@ impl<B: Block> Entry<B> {
     {
         if self.is_kept {
             Some(self.words.at(word))
-        } else {
-            None
-        }
-    }
-
-    /// The words, or 0 in each where none are kept.
-    pub(crate) fn words(&self) -> Kept<B>
-        requires { B.count ≤ 64 }
-        ensures { result ≡ unwrap_or self.now.kept zero_words }
-    {
-        if self.is_kept {
-            self.words
-        } else {
-            Kept::zero()
-        }
-    }
-
-    /// The load or store that waits.
-    pub(crate) fn waiting(&self) -> Option<Access>
-        ensures { result ≡ self.now.waiting }
-    {
-        if self.is_waiting {
-            Some(Access {
-                word: self.word,
-                op: self.op,
-            })
         } else {
             None
         }
@@ -155,8 +129,11 @@ pub(crate) fn waiting_of<B: Block>(found: Option<&Entry<B>>) -> Option<Access>
     ensures { result ≡ (line_or_nothing (option_copied found.entry)).waiting }
 {
     match found {
-        Some(entry) => entry.waiting(),
-        None => None,
+        Some(entry) if entry.is_waiting => Some(Access {
+            word: entry.word,
+            op: entry.op,
+        }),
+        _ => None,
     }
 }
 
@@ -166,8 +143,8 @@ pub(crate) fn words_of<B: Block>(found: Option<&Entry<B>>) -> Kept<B>
     ensures { result ≡ unwrap_or (line_or_nothing (option_copied found.entry)).kept zero_words }
 {
     match found {
-        Some(entry) => entry.words(),
-        None => Kept::zero(),
+        Some(entry) if entry.is_kept => entry.words,
+        _ => Kept::zero(),
     }
 }
 
@@ -200,13 +177,6 @@ impl<B: Block> Cache<B> {
         ensures { result ≡ length self.now.entries }
     {
         self.lines.len()
-    }
-
-    /// Whether there is a line for the block.
-    pub(crate) fn has(&self, block: u32) -> bool
-        ensures { result ≡ is_some (lookup (nat_eq block) self.now.entries) }
-    {
-        self.lines.contains_key(&block)
     }
 
     /// The block's line, if there is one.

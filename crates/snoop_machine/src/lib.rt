@@ -4,7 +4,6 @@
 mod cache;
 mod lines;
 mod machine;
-mod memory;
 mod parts;
 mod turn;
 

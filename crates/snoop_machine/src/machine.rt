@@ -89,7 +89,16 @@ impl Machine {
         ensures safe { IfOk result (λ machine. IsSafe machine.situation) }
         ensures empty { IfOk result (λ machine. (core : ℕ) → line_count machine core ≡ 0) }
     {
-        let parts = AnyParts::reset(alloc, protocol, shape)?;
+        let parts = match shape.words() {
+            1 => AnyParts::One(Parts::reset(alloc, protocol, shape)?),
+            2 => AnyParts::Two(Parts::reset(alloc, protocol, shape)?),
+            4 => AnyParts::Four(Parts::reset(alloc, protocol, shape)?),
+            8 => AnyParts::Eight(Parts::reset(alloc, protocol, shape)?),
+            16 => AnyParts::Sixteen(Parts::reset(alloc, protocol, shape)?),
+            32 => AnyParts::ThirtyTwo(Parts::reset(alloc, protocol, shape)?),
+            64 => AnyParts::SixtyFour(Parts::reset(alloc, protocol, shape)?),
+            _ => unreachable!(),
+        };
         Ok(Machine { parts })
     }
 
@@ -295,24 +304,6 @@ enum AnyParts {
 }
 
 impl AnyParts {
-    /// The parts of a machine at reset.
-    fn reset(alloc: Global, protocol: Protocol, shape: Shape) -> Result<Self, NoMemory>
-        ensures situation { IfOk result (λ parts. (stand parts).situation ≡ reset protocol shape) }
-        ensures empty { IfOk result (λ parts. (core : ℕ) → line_count (stand parts) core ≡ 0) }
-    {
-        let parts = match shape.words() {
-            1 => AnyParts::One(Parts::reset(alloc, protocol, shape)?),
-            2 => AnyParts::Two(Parts::reset(alloc, protocol, shape)?),
-            4 => AnyParts::Four(Parts::reset(alloc, protocol, shape)?),
-            8 => AnyParts::Eight(Parts::reset(alloc, protocol, shape)?),
-            16 => AnyParts::Sixteen(Parts::reset(alloc, protocol, shape)?),
-            32 => AnyParts::ThirtyTwo(Parts::reset(alloc, protocol, shape)?),
-            64 => AnyParts::SixtyFour(Parts::reset(alloc, protocol, shape)?),
-            _ => unreachable!(),
-        };
-        Ok(parts)
-    }
-
     /// The value of a word that the core keeps, or `None` outside the shape and in a state that may not read.
     fn kept(&self, core: u32, block: u32, word: u32) -> Option<u64>
         ensures inside { core < (stand self.now).situation.shape.cores → block < (stand self.now).situation.shape.blocks → word < (stand self.now).situation.shape.words → result ≡ option_map (λ ws. word_at ws word) (held_by (picture_of (stand self.now).situation block) core).kept }

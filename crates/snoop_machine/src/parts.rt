@@ -1,15 +1,16 @@
 //! The parts of a machine, which its steps change one after another.
-ghost use Rattle.std.specs.Prelude.{◌≡◌, ◌<◌, ◌≤◌, ◌↔◌, ℕ, length, option_map, is_some, IsTrue, IfOk, IfSome, Some, option_copied};
+ghost use Rattle.std.specs.Prelude.{◌≡◌, ◌<◌, ◌≤◌, ◌↔◌, ℕ, length, option_map, is_some, IsTrue, IfOk, IfSome, Some, option_copied, slice_set};
 ghost use Rattle.snoop_trace.specs.Words.{AreZeroFrom, word_at};
 ghost use Rattle.snoop_bus.specs.Queues.{place_in, queue_of};
 ghost use Rattle.snoop_rules.specs.Waits.{waiting_request};
 ghost use Rattle.snoop_model.specs.Pictures.Picture.{held_by};
 ghost use Rattle.snoop_model.specs.Pictures.Situation.{picture_of, reset, state_of};
 ghost use Rattle.snoop_model.specs.Pictures.Proper.{IsProper, keeps};
-ghost use Rattle.snoop_model.specs.Moves.Move.{next_did};
+ghost use Rattle.snoop_model.specs.Moves.Move.{next_did, written};
 ghost use Rattle.snoop_machine.specs.Standing.{line_count};
 ghost use Rattle.snoop_machine.specs.Holding.{HasHeldLines};
 ghost use Rattle.snoop_machine.specs.Cache.{line_or_nothing};
+ghost use Rattle.snoop_machine.specs.Memory.{memory_line};
 
 mod ask;
 mod order;
@@ -18,11 +19,11 @@ mod step;
 
 use crate::cache::Entry;
 use crate::lines::Lines;
-use crate::memory::Memory;
+use snoop_blocks::BlockTable;
 use snoop_bus::{Bus, Open};
 use snoop_history::{Did, Log};
 use snoop_model::Access;
-use snoop_rules::{CacheState, MemState, Payload, Protocol, Request, waits};
+use snoop_rules::{CacheState, MemAction, MemCell, MemState, Payload, Protocol, Request, waits};
 use snoop_trace::{Block, Kept, NoMemory, Op, Shape};
 use std::alloc::Global;
 use std::marker::Model;
@@ -76,7 +77,9 @@ impl<B: Block> Parts<B> {
             Protocol::Msi => MemState::IorS,
             Protocol::Mesi => MemState::I,
         };
-        let memory = Memory::new(alloc, shape.blocks(), first)?;
+        let states = BlockTable::new(alloc, shape.blocks(), first)?;
+        let words = BlockTable::new(alloc, shape.blocks(), Kept::zero())?;
+        let memory = Memory { states, words };
         let lines = Lines::new(alloc, shape)?;
         let bus = Bus::new(alloc, shape)?;
         let log = Log::new(alloc, shape)?;
@@ -154,6 +157,7 @@ impl<B: Block> Parts<B> {
     }
 
     /// The block's open transaction, if there is one.
+    #[tactic(auto, using(crate::proofs::PartsViews::pictures_get))]
     pub(crate) fn open(&self, block: u32) -> Option<Open>
         ensures value { result ≡ (picture_of self.now.situation block).transaction }
         ensures padded { IfSome result (λ opened. AreZeroFrom self.now.situation.shape.words opened.value) }
@@ -214,6 +218,7 @@ impl<B: Block> Parts<B> {
     }
 
     /// How many lines the core's map has, or `None` outside the shape.
+    #[tactic(auto, using(crate::proofs::PartsViews::pictures_get))]
     pub(crate) fn lines(&self, core: u32) -> Option<usize>
         ensures inside { core < self.now.situation.shape.cores → result ≡ Some (line_count self.now core) }
         ensures held { HasHeldLines self.now core }
@@ -232,6 +237,7 @@ impl<B: Block> Parts<B> {
 
     /// What the core holds of the block, if its map has a line for it.
     #[inline(always)]
+    #[tactic(auto, using(crate::proofs::PartsViews::pictures_get))]
     fn line(&self, core: u32, block: u32) -> Option<&Entry<B>>
         requires core { core < self.now.situation.shape.cores }
         requires block { block < self.now.situation.shape.blocks }
@@ -243,6 +249,7 @@ impl<B: Block> Parts<B> {
 
     /// The state in which the core holds the block.
     #[inline(always)]
+    #[tactic(auto, using(crate::proofs::PartsViews::pictures_get))]
     fn line_state(&self, core: u32, block: u32) -> CacheState
         requires core { core < self.now.situation.shape.cores }
         requires block { block < self.now.situation.shape.blocks }
@@ -253,6 +260,7 @@ impl<B: Block> Parts<B> {
 
     /// Memory's state of the block.
     #[inline(always)]
+    #[tactic(auto, using(crate::proofs::PartsViews::pictures_get))]
     fn memory_state(&self, block: u32) -> MemState
         ensures { result ≡ (picture_of self.now.situation block).memory.state }
     {
@@ -261,6 +269,7 @@ impl<B: Block> Parts<B> {
 
     /// Memory's words of the block.
     #[inline(always)]
+    #[tactic(auto, using(crate::proofs::PartsViews::pictures_get))]
     fn memory_words(&self, block: u32) -> Kept<B>
         ensures { result ≡ (picture_of self.now.situation block).memory.value }
     {
@@ -269,6 +278,7 @@ impl<B: Block> Parts<B> {
 
     /// The block's open transaction.
     #[inline(always)]
+    #[tactic(auto, using(crate::proofs::PartsViews::pictures_get))]
     fn transaction(&self, block: u32) -> Option<&Open<Kept<B>>>
         ensures value { option_copied result ≡ (picture_of self.now.situation block).transaction }
         ensures within { IfSome (option_copied result) (λ opened. (opened.block ≡ block) × (opened.core < self.now.situation.shape.cores)) }
@@ -302,5 +312,73 @@ fn word_kept<B: Block>(found: Option<&Entry<B>>, word: u32) -> Option<u64>
     match found {
         Some(entry) => entry.at(word),
         None => None,
+    }
+}
+
+/// What memory holds of each block. States and words stand apart, so that a state is written alone.
+#[derive(Drop)]
+struct Memory<B: Block> {
+    states: BlockTable<MemState>,
+    words: BlockTable<Kept<B>>,
+}
+
+impl<B: Block> Model for Memory<B> {
+    ghost use Rattle.std.specs.Prelude.{◌≡◌, length};
+    ghost use Rattle.snoop_machine.specs.Memory.{MemTables};
+
+    ghost Value = { MemTables };
+
+    ghost view = { λ m. record { states = m.states; words = m.words } };
+
+    ghost invariant = { λ m. length m.states ≡ length m.words };
+}
+
+impl<B: Block> Memory<B> {
+    /// Memory's state of the block. `IorS` stands for a block outside the shape alone.
+    #[inline(always)]
+    fn state(&self, block: u32) -> MemState
+        ensures { result ≡ (memory_line self.now block).state }
+    {
+        self.states.get_or(block, MemState::IorS)
+    }
+
+    /// Memory's words of the block.
+    #[inline(always)]
+    fn words(&self, block: u32) -> Kept<B>
+        requires { B.count ≤ 64 }
+        ensures { result ≡ (memory_line self.now block).value }
+    {
+        self.words.get_or(block, Kept::zero())
+    }
+
+    /// Memory moves to its next state of the block, and its words stay.
+    #[inline(always)]
+    fn move_to(&mut self, block: u32, next: MemState)
+        requires { block < length self.old.states }
+        ensures { self.new ≡ record self.old { states = slice_set self.old.states block next } }
+    {
+        self.states.set(block, next);
+    }
+
+    /// Memory moves to its next state of the block, with these words.
+    #[inline(always)]
+    fn write(&mut self, block: u32, next: MemState, words: &Kept<B>)
+        requires { block < length self.old.states }
+        ensures { self.new ≡ record { states = slice_set self.old.states block next; words = slice_set self.old.words block words.now } }
+    {
+        self.words.set(block, *words);
+        self.states.set(block, next);
+    }
+
+    /// Memory's state of the block becomes the cell's next one, and the words that came are kept where the cell's action is to write.
+    #[inline(always)]
+    fn settle(&mut self, block: u32, cell: MemCell, came: &Kept<B>)
+        requires { block < length self.old.states }
+        ensures { self.new ≡ record { states = slice_set self.old.states block cell.next; words = slice_set self.old.words block (written cell.action came.now (memory_line self.old block).value) } }
+    {
+        match cell.action {
+            MemAction::Write => self.write(block, cell.next, came),
+            MemAction::None | MemAction::Send(_) => self.move_to(block, cell.next),
+        }
     }
 }

@@ -1,25 +1,21 @@
 //! An Ask: found, and made.
-ghost use Rattle.std.specs.Prelude.{◌≡◌, ◌≢◌, ◌<◌, ℕ, [], ◌∷◌, ◌++◌, IfOk, IfErr, None, Some, true, Err, if◌then◌else◌};
+ghost use Rattle.std.specs.Prelude.{◌≡◌, ◌≢◌, ◌<◌, ℕ, IfOk, IfErr, Err};
 ghost use Rattle.snoop_trace.specs.declared.step.Step.TheVariants.{Ask};
-ghost use Rattle.snoop_trace.specs.declared.step.Op.TheVariants.{Load};
-ghost use Rattle.snoop_trace.specs.Words.{HasWord, IsWord};
+ghost use Rattle.snoop_trace.specs.Words.{HasWord};
 ghost use Rattle.snoop_rules.specs.Waits.{waiting_request};
-ghost use Rattle.snoop_history.specs.declared.items.Item.TheVariants.{Did as ItemDid};
 ghost use Rattle.snoop_rules.specs.declared.names.CacheState.TheVariants.{I};
 ghost use Rattle.snoop_machine.specs.Standing.{KeepsRoom};
 ghost use Rattle.snoop_machine.specs.Following.{LosesLines};
 ghost use Rattle.snoop_model.specs.Pictures.Picture.{held_by, with_line};
 ghost use Rattle.snoop_model.specs.Pictures.Situation.{picture_of, state_of, with_picture};
 ghost use Rattle.snoop_model.specs.Pictures.Proper.{IsProper};
-ghost use Rattle.snoop_model.specs.Moves.Move.{AskMove, is_load, next_did};
-ghost use Rattle.snoop_machine.specs.declared.cache.LineChange.TheVariants.{Hit};
+ghost use Rattle.snoop_model.specs.Moves.Move.{AskMove};
 ghost use Rattle.snoop_machine.specs.Cache.{changed, IsOfWords};
 ghost use Rattle.snoop_machine.specs.Asked.{TakesAsk};
 ghost use Rattle.snoop_model.specs.Moves.Refuses.{Refuses};
 ghost use Rattle.snoop_machine.specs.Plan.{IsPlanFor, HasRoomToAsk};
 ghost use Rattle.snoop_model.specs.Invariant.Invariant.{Invariant};
 ghost use Rattle.snoop_model.specs.declared.replies.Refused.{Refused};
-ghost use Rattle.snoop_model.specs.declared.replies.Reply.TheVariants as reply;
 
 use super::Parts;
 use super::step::{Asked, Plan};
@@ -93,8 +89,15 @@ impl<B: Block> Parts<B> {
         match asked {
             Asked::Absent => Reply::Absent,
             Asked::Hit(next, value) => {
-                self.hit_line(core, block, next, Access { word, op }, value);
-                hit_reply(op, value)
+                let access = Access { word, op };
+                let did = self.next_did(core, block, access, value, true);
+                self.log.push(Item::Did(did));
+                // A load's hit leaves the line as it is.
+                if let Op::Load = op {
+                    return Reply::Hit(value);
+                }
+                self.move_line(core, block, next, LineChange::Hit(access));
+                Reply::StoreHit
             }
             Asked::Issue(request, next) => {
                 let waiting = LineChange::Wait(Access { word, op });
@@ -123,38 +126,5 @@ impl<B: Block> Parts<B> {
         ensures lines { (k : ℕ) → LosesLines self.old self.new k }
     {
         self.lines.change(core, block, next, change);
-    }
-
-    /// A hit is logged. A store's is performed on the line's words, and the line moves to its next state; a load's leaves the line as it is.
-    #[inline(always)]
-    fn hit_line(&mut self, core: u32, block: u32, next: CacheState, access: Access, value: u64)
-        requires core { core < self.old.situation.shape.cores }
-        requires block { block < self.old.situation.shape.blocks }
-        requires word { IsWord self.old.situation.shape access.word }
-        requires room { 0 < self.old.room }
-        requires same { waiting_request next ≡ waiting_request (state_of self.old.situation core block) }
-        requires held { state_of self.old.situation core block ≢ I }
-        requires still { access.op ≡ Load → next ≡ state_of self.old.situation core block }
-        requires proper { IsProper (changed next (Hit access) (held_by (picture_of self.old.situation block) core)) }
-        ensures written { self.new.situation ≡ record (with_picture self.old.situation block (with_line (picture_of self.old.situation block) core (changed next (Hit access) (held_by (picture_of self.old.situation block) core)))) { log = self.old.situation.log ++ ItemDid (next_did self.old.situation.log core block access.word access.op value true) ∷ [] } }
-        ensures room { KeepsRoom self.old self.new }
-        ensures lines { (k : ℕ) → LosesLines self.old self.new k }
-    {
-        let did = self.next_did(core, block, access, value, true);
-        self.log.push(Item::Did(did));
-        if let Op::Load = access.op {
-            return;
-        }
-        self.move_line(core, block, next, LineChange::Hit(access));
-    }
-}
-
-/// The reply to a hit of a load or a store; an Evict never hits.
-fn hit_reply(op: Op, value: u64) -> Reply
-    ensures { result ≡ (if is_load op then reply.Hit value else reply.StoreHit) }
-{
-    match op {
-        Op::Load => Reply::Hit(value),
-        Op::Store(_) | Op::Evict => Reply::StoreHit,
     }
 }

@@ -17,14 +17,13 @@ ghost use Rattle.snoop_model.specs.Invariant.Invariant.{Invariant};
 ghost use Rattle.snoop_rules.specs.Waits.{waiting_request};
 ghost use Rattle.snoop_model.specs.Pictures.Picture.{free_picture, held_at};
 ghost use Rattle.snoop_model.specs.Moves.SenderTable.{FollowsSenderTable};
-ghost use Rattle.snoop_machine.specs.Lines.{LinesGo, KeepsMapsRoom};
+ghost use Rattle.snoop_machine.specs.Lines.{WritesRow};
 ghost use Rattle.snoop_machine.specs.Memory.{memory_line};
 
-use super::Parts;
 use super::step::Plan;
+use super::{Memory, Parts};
 use crate::cache::words_of;
 use crate::lines::Lines;
-use crate::memory::Memory;
 use snoop_history::{Item, Sent};
 use snoop_model::Refused;
 use snoop_rules::{
@@ -133,10 +132,7 @@ impl<B: Block> Lines<B> {
         requires requestor { requestor < length (slice_index_or self.old.rows block []) }
         requires rows { (k : ℕ) → k < length (slice_index_or self.old.rows block []) → HasRow protocol (held_at (slice_index_or self.old.rows block []) k).state (seen_by k requestor request) }
         ensures taken { TakesRows protocol requestor request (slice_index_or self.old.rows block []) (slice_index_or self.new.rows block []) }
-        ensures others { self.new.rows ≡ slice_set self.old.rows block (slice_index_or self.new.rows block []) }
-        ensures many { length self.new.lines ≡ length self.old.lines }
-        ensures lines { LinesGo block self.old self.new }
-        ensures room { KeepsMapsRoom self.old self.new }
+        ensures wrote { WritesRow block self.old self.new }
     {
         let concerned = self.concerned(block, requestor, request);
         let mut from = 0;

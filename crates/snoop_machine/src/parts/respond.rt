@@ -1,16 +1,13 @@
 //! A Respond: found, and made.
-ghost use Rattle.std.specs.Prelude.{◌≡◌, ◌≢◌, ◌<◌, ℕ, IfOk, IfErr, IfSome, Some, None, Err, IsSomeAnd, IsTrue, option_copied};
+ghost use Rattle.std.specs.Prelude.{◌≡◌, ◌<◌, ℕ, IfOk, IfErr, IfSome, Err, IsSomeAnd, IsTrue, option_copied};
 ghost use Rattle.snoop_trace.specs.declared.step.Step.TheVariants.{Respond};
-ghost use Rattle.snoop_trace.specs.Words.{IsWord};
-ghost use Rattle.snoop_rules.specs.declared.names.Request.TheVariants.{PutM};
 ghost use Rattle.snoop_machine.specs.Standing.{KeepsRoom};
 ghost use Rattle.snoop_machine.specs.Following.{LosesLines};
 ghost use Rattle.snoop_model.specs.Pictures.Situation.{picture_of};
-ghost use Rattle.snoop_model.specs.Pictures.Picture.{held_by};
 ghost use Rattle.snoop_model.specs.Moves.Move.{Fills, RespondMove, came_of, Settles};
 ghost use Rattle.snoop_model.specs.Moves.Refuses.{Refuses};
 ghost use Rattle.snoop_machine.specs.Cache.{filled_line, line_or_nothing};
-ghost use Rattle.snoop_machine.specs.Plan.{IsClosing, IsPlanFor};
+ghost use Rattle.snoop_machine.specs.Plan.{BringsFill, IsClosing, IsPlanFor, did_of};
 ghost use Rattle.snoop_model.specs.Invariant.Invariant.{Invariant};
 ghost use Rattle.snoop_model.specs.declared.replies.Refused.{Refused};
 ghost use Rattle.snoop_model.specs.declared.replies.Reply.TheVariants as reply;
@@ -51,62 +48,62 @@ impl<B: Block> Parts<B> {
         );
         let came = came(closing);
         if let Request::PutM = closing.request {
-            return Ok(Plan::Writeback { came, memory });
+            return Ok(Plan::Respond {
+                came,
+                memory,
+                filled: None,
+            });
         }
         let found = self.line(closing.core, block);
         let filled = fill(self.protocol, found, closing);
-        Ok(Plan::Fill {
+        Ok(Plan::Respond {
             came,
             memory,
-            filled,
+            filled: Some(filled),
         })
     }
 
-    /// Memory takes the message of a PutM, and its transaction closes.
+    /// Memory takes the message where it waits for one, and so does the requestor of a GetS or GetM, and the transaction closes.
     #[inline(always)]
-    pub(super) fn finish_put(&mut self, came: Came, memory: MemCell)
+    pub(super) fn finish(
+        &mut self,
+        came: Came,
+        memory: MemCell,
+        filled: Option<Filled>,
+    ) -> Option<Did>
         requires block { came.block < self.old.situation.shape.blocks }
         requires room { 0 < self.old.room }
         requires closing { IsClosing self.old.situation came memory }
-        requires put { came.request ≡ PutM }
-        ensures responded { RespondMove came.block self.old.situation came.block (reply.Came came.payload came.from None) self.new.situation }
+        requires filled { BringsFill self.old.situation came filled }
+        ensures responded { RespondMove came.block self.old.situation came.block (reply.Came came.payload came.from result) self.new.situation }
         ensures room { KeepsRoom self.old self.new }
         ensures lines { (k : ℕ) → LosesLines self.old self.new k }
     {
+        let did = self.filled_did(came, filled);
         let Some(closing) = self.bus.finish(came.block) else {
             unreachable!();
         };
+        if let Some(filled) = filled {
+            self.lines.fill(
+                came.core,
+                came.block,
+                filled.next,
+                filled.access,
+                &closing.value,
+            );
+        }
         self.memory.settle(came.block, memory, &closing.value);
-        self.log.push(Item::Came(came, None));
+        self.log.push(Item::Came(came, did));
+        did
     }
 
-    /// The requestor and memory take the message of a GetS or GetM, and its transaction closes.
-    #[inline(always)]
-    pub(super) fn finish_get(&mut self, came: Came, filled: Filled, memory: MemCell) -> Did
-        requires block { came.block < self.old.situation.shape.blocks }
-        requires room { 0 < self.old.room }
-        requires closing { IsClosing self.old.situation came memory }
-        requires get { came.request ≢ PutM }
-        requires filled { IfSome (picture_of self.old.situation came.block).transaction (λ closing. Fills closing self.old.situation.protocol (held_by (picture_of self.old.situation came.block) closing.core) (filled_line filled.next filled.access closing.value) filled.access filled.value) }
-        requires word { IsWord self.old.situation.shape filled.access.word }
-        ensures responded { RespondMove came.block self.old.situation came.block (reply.Came came.payload came.from (Some result)) self.new.situation }
-        ensures room { KeepsRoom self.old self.new }
-        ensures lines { (k : ℕ) → LosesLines self.old self.new k }
+    /// What the requestor performs with the data that came, as the history will have it.
+    pub(super) fn filled_did(&self, came: Came, filled: Option<Filled>) -> Option<Did>
+        requires { came.core < self.now.situation.shape.cores }
+        ensures { result ≡ did_of self.now.situation.log came filled }
     {
-        let did = self.next_did(came.core, came.block, filled.access, filled.value, false);
-        let Some(closing) = self.bus.finish(came.block) else {
-            unreachable!();
-        };
-        self.lines.fill(
-            closing.core,
-            came.block,
-            filled.next,
-            filled.access,
-            &closing.value,
-        );
-        self.memory.settle(came.block, memory, &closing.value);
-        self.log.push(Item::Came(came, Some(did)));
-        did
+        let Filled { access, value, .. } = filled?;
+        Some(self.next_did(came.core, came.block, access, value, false))
     }
 }
 

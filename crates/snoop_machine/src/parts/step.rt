@@ -37,16 +37,11 @@ pub(crate) enum Plan {
         payload: Payload,
         memory: MemState,
     },
-    /// Memory takes the message of a PutM.
-    Writeback {
+    /// Memory takes the message, where it waits for one, and so does the requestor of a GetS or GetM.
+    Respond {
         came: Came,
         memory: MemCell,
-    },
-    /// The requestor takes the data that it waits for, and so does memory where it waits too.
-    Fill {
-        came: Came,
-        memory: MemCell,
-        filled: Filled,
+        filled: Option<Filled>,
     },
 }
 
@@ -171,8 +166,7 @@ impl<B: Block> Parts<B> {
                 ..
             }
             | Plan::Order { .. }
-            | Plan::Writeback { .. }
-            | Plan::Fill { .. } => {
+            | Plan::Respond { .. } => {
                 // The usual case, at no cost.
                 if self.log.has_room() {
                     return Ok(());
@@ -186,7 +180,8 @@ impl<B: Block> Parts<B> {
     /// none.
     #[inline(always)]
     fn make_room_to_issue(&mut self, core: u32, block: u32) -> Result<(), NoMemory>
-        requires { core < self.old.situation.shape.cores }
+        requires core { core < self.old.situation.shape.cores }
+        requires block { block < self.old.situation.shape.blocks }
         ensures ok { OnOk result ((has_line self.new core block ≡ true) × (0 < slice_index self.new.request_rooms core)) }
         ensures full { OnErr result (room_to_issue self.old core block ≡ 0) }
         ensures refused { OnErr result (self.new ≡ self.old) }
@@ -194,7 +189,7 @@ impl<B: Block> Parts<B> {
         ensures lines { (k : ℕ) → AddsLine core block self.old self.new k }
         ensures unchanged { self.new.situation ≡ self.old.situation }
     {
-        if self.lines.has(core, block) {
+        if self.lines.get(core, block).is_some() {
             return self.bus.reserve(core);
         }
         self.lines.reserve(core)?;
@@ -231,24 +226,16 @@ impl<B: Block> Parts<B> {
                 self.start(core, request, block, from, payload, memory);
                 Reply::Ordered(request)
             }
-            Plan::Writeback { came, memory } => {
-                self.finish_put(came, memory);
-                Reply::Came {
-                    payload: came.payload,
-                    from: came.from,
-                    did: None,
-                }
-            }
-            Plan::Fill {
+            Plan::Respond {
                 came,
                 memory,
                 filled,
             } => {
-                let did = self.finish_get(came, filled, memory);
+                let did = self.finish(came, memory, filled);
                 Reply::Came {
                     payload: came.payload,
                     from: came.from,
-                    did: Some(did),
+                    did,
                 }
             }
         }
@@ -278,11 +265,10 @@ impl<B: Block> Parts<B> {
                 request,
                 block,
             })),
-            Plan::Writeback { came, .. } => Some(Item::Came(came, None)),
-            Plan::Fill { came, filled, .. } => {
-                let did = self.next_did(came.core, came.block, filled.access, filled.value, false);
-                Some(Item::Came(came, Some(did)))
-            }
+            Plan::Respond { came, filled, .. } => Some(Item::Came(
+                came,
+                self.filled_did(came, filled),
+            )),
         }
     }
 }

@@ -3,9 +3,6 @@ use Rattle.snoop_machine.proofs.Common.{◌≡◌, ◌≤◌, ◌+◌, List, tak
 use Rattle.snoop_machine.proofs.{Runs.{answers, steps_stay, Going, has_run, goes_on}, machine.run_steps.Goals.{then-is_ok, else-is_ok}}
 use Rattle.snoop_machine.proofs.machine.run_steps.Goals as goal
 
-pub step-requires : goal.step-requires
-step-requires c = c.loop-step.invariant.0.keeps.inductive
-
 pub loop-step-preserved : goal.loop-step-preserved
 loop-step-preserved c =
     let old : Standing = (stand c.machine.inside.parts) in
@@ -18,9 +15,6 @@ loop-step-preserved c =
       | then-is_ok w ↦ rw w.taken-is (more (c.loop-step.taken + 1) (grind (arith, c.is_ok.ensures.value, w.if-is_ok.true)), omega arith)
       | else-is_ok w ↦ rw w.taken-is (more c.loop-step.taken (grind (arith, c.is_ok.ensures.value, w.if-is_ok.false)), omega arith)
     ]
-
-pub invariant_of-machine : goal.invariant_of-machine
-invariant_of-machine c = c.loop-step.invariant.0.keeps
 
 pub returns-clause-safe : goal.returns-clause-safe
 returns-clause-safe c = is_safe (stand c.loop-step.machine-inside.parts).situation c.loop-step.invariant.0.keeps

@@ -1,5 +1,4 @@
-use Rattle.snoop_machine.proofs.{Common.{arith, changed, line_at}, LineChanges.{HasWritten, lines_after, writes, stands}}
-use Rattle.snoop_machine.proofs.{LineMaps.{has_line, in_rows, held_placed, among_seen, settled}, lines.Lines.change.Goals.After-follow}
+use Rattle.snoop_machine.proofs.{Common.{arith, changed, line_at}, LineMaps.{HasWritten, lines_after, writes, stands, has_line, in_rows, held_placed, among_seen, settled}, lines.Lines.change.Goals.After-follow}
 use Rattle.snoop_machine.proofs.lines.Lines.change.Goals as goal
 
 pub index_mut-cache-requires : goal.index_mut-cache-requires

@@ -1,6 +1,5 @@
-use Rattle.snoop_machine.proofs.{Common.{arith, filled_line}, LineChanges.{HasWritten, lines_after, writes, stands}, LineMaps.{has_line, in_rows, held_placed}}
+use Rattle.snoop_machine.proofs.{Common.{arith, filled_line}, LineMaps.{HasWritten, lines_after, writes, stands, has_line, in_rows, held_placed}, lines.Lines.fill.Goals.After-follow}
 use Rattle.snoop_machine.proofs.lines.Lines.fill.Goals as goal
-use Rattle.snoop_machine.proofs.lines.Lines.fill.Goals.{After-follow}
 
 pub index_mut-cache-requires : goal.index_mut-cache-requires
 index_mut-cache-requires g c = let within = in_rows c.self.invariant c.self.view_is c.args.core c.args.block c.requires.block c.requires.core in omega arith
@@ -9,9 +8,6 @@ pub fill-before-requires-clause-place : goal.fill-before-requires-clause-place
 fill-before-requires-clause-place g c =
     let has = has_line c.self.invariant c.self.view_is c.args.core c.args.block c.requires.block c.requires.core _ c.index_mut-cache.ensures.value in
     rw has.its.read (held_placed c.self.invariant c.self.view_is c.args.core c.args.block c.requires.held)
-
-pub fill-before-requires-clause-stays : goal.fill-before-requires-clause-stays
-fill-before-requires-clause-stays g c = grind (arith, c.requires.proper.kept)
 
 pub follow-requires : goal.follow-requires
 follow-requires g c =

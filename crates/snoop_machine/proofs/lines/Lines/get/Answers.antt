@@ -1,4 +1,4 @@
-use Rattle.snoop_machine.proofs.{Common.{◌∙◌, ap, arith, line_or_nothing}, LineMaps.{has_line, in_rows}}
+use Rattle.snoop_machine.proofs.{Common.{◌∙◌, ap, arith, line_or_nothing}, LineMaps.{has_line, in_rows, among_seen}}
 use Rattle.snoop_machine.proofs.lines.Lines.get.Goals as goal
 
 pub index-cache-requires : goal.index-cache-requires
@@ -10,4 +10,5 @@ returns g c =
     record {
       line = ap line_or_nothing c.get.ensures ∙ has.was;
       proper = rw (c.get.ensures, has.its.read) (c.self.invariant.proper c.args.core c.args.block);
+      among = grind (arith, c.get.ensures, has.its.read, among_seen c.self.invariant c.self.view_is c.args.core c.args.block);
     }

@@ -1,5 +1,5 @@
-use Rattle.snoop_machine.proofs.{Common.{◌∙◌, refl}, LineMaps.{IsMap, is_map, among_seen, spare_seen, blocks_seen}}
-use Rattle.snoop_machine.proofs.{LineChanges.{blocks_set, lines_kept, rows_kept, spares_kept}, lines.Lines.put_ahead.Goals.After-index_mut-cache}
+use Rattle.snoop_machine.proofs.{Common.{◌∙◌, refl}, lines.Lines.put_ahead.Goals.After-index_mut-cache}
+use Rattle.snoop_machine.proofs.LineMaps.{IsMap, is_map, among_seen, spare_seen, blocks_seen, blocks_set, lines_kept, rows_kept, spares_kept}
 use Rattle.snoop_machine.proofs.lines.Lines.put_ahead.Goals as goal
 
 its : (g : _) (c : After-index_mut-cache g) → IsMap c.self.inside.caches.items c.self.inside.holders c.args.self.now c.args.core c.index_mut-cache.result.now

@@ -1,5 +1,5 @@
-use Rattle.snoop_machine.proofs.{Common.{[], ◌∙◌, map-set, Contents, set-get_or}, LineMaps.{IsMap, is_map, blocks_seen}}
-use Rattle.snoop_machine.proofs.{LineChanges.{blocks_set, lines_kept, rows_kept, spare_now, spares_kept}, lines.Lines.reserve.Goals.After-reserve}
+use Rattle.snoop_machine.proofs.{Common.{[], ◌∙◌, map-set, Contents, set-get_or}, lines.Lines.reserve.Goals.After-reserve}
+use Rattle.snoop_machine.proofs.LineMaps.{IsMap, is_map, blocks_seen, blocks_set, lines_kept, rows_kept, spare_now, spares_kept}
 use Rattle.snoop_machine.proofs.lines.Lines.reserve.Goals as goal
 
 its : (g : _) (c : After-reserve g) → IsMap c.self.inside.caches.items c.self.inside.holders c.args.self.now c.args.core c.index_mut-cache.result.now

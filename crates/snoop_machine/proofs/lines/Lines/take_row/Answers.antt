@@ -1,5 +1,4 @@
-use Rattle.snoop_machine.proofs.Common.{arith, moves_to, line_at}
-use Rattle.snoop_machine.proofs.{LineMaps.{has_line, in_rows}, LineChanges.{stands, HasWritten, lines_after, writes}, lines.Lines.take_row.Goals.After-follow}
+use Rattle.snoop_machine.proofs.{Common.{arith, moves_to, line_at}, LineMaps.{HasWritten, lines_after, writes, stands, has_line, in_rows}, lines.Lines.take_row.Goals.After-follow}
 use Rattle.snoop_machine.proofs.lines.Lines.take_row.Goals as goal
 
 pub index_mut-cache-requires : goal.index_mut-cache-requires

@@ -1,5 +1,5 @@
-use Rattle.snoop_machine.proofs.Common.{◌≡◌, ◌<◌, length, arith, ◌∙◌, set-set, length-set, row_of, line_at, IsProper-order, Taking, Taking-more, Taking-past}
-use Rattle.snoop_machine.proofs.{PartsViews.{LinesGo-more, KeepsMapsRoom-more, row_after}, lines.Lines.take_rows.Goals.In-Some}
+use Rattle.snoop_machine.proofs.Common.{◌≡◌, ◌<◌, length, arith, length-set, row_of, line_at, IsProper-order, Taking, Taking-more, Taking-past}
+use Rattle.snoop_machine.proofs.{PartsViews.{WritesRow-more, row_after}, lines.Lines.take_rows.Goals.In-Some}
 use Rattle.snoop_machine.proofs.ConcernedCores.{concerned_within, TakesRow-passed, Cell-leaves}
 use Rattle.snoop_machine.proofs.lines.Lines.take_rows.Goals as goal
 
@@ -16,7 +16,7 @@ so_far g c =
     c.in-Some.ensures.some.0 c.loop-core.invariant.0
 
 in_blocks : (g : _) (c : In-Some g) → c.args.block < length c.loop-core.self.rows
-in_blocks g c = rw (c.loop-core.invariant.2, length-set c.args.self.now.rows c.args.block (row_of c.loop-core.self.rows c.args.block)) c.requires.block
+in_blocks g c = rw (c.loop-core.invariant.2.rows, length-set c.args.self.now.rows c.args.block (row_of c.loop-core.self.rows c.args.block)) c.requires.block
 
 -- the line that is looked at is the one that stood there at first
 first_line : (g : _) (c : In-Some g) → line_at c.loop-core.self.rows c.in-Some.core c.args.block ≡ line_at c.args.self.now.rows c.in-Some.core c.args.block
@@ -51,10 +51,7 @@ loop-core-preserved g c =
       Taking-more c.args.protocol c.args.requestor c.args.request old (row_of now.rows block)
           (row_of c.take_row.new.self.rows block) c.in-Some.core took.action took.next within (so_far g d) found after,
       omega arith,
-      cc (wrote.rows, before.2, set-set first.rows block (row_of now.rows block) (row_of c.take_row.new.self.rows block), after),
-      wrote.many ∙ before.3,
-      LinesGo-more wrote in_rows first before.4 (rw before.0.same_length within) (first_line g d),
-      KeepsMapsRoom-more wrote in_rows first before.4 before.5,
+      WritesRow-more wrote in_rows first before.2 (rw before.0.same_length within) (first_line g d),
     )
 
 pub returns-clause-taken : goal.returns-clause-taken

@@ -1,16 +1,16 @@
-use Rattle.snoop_machine.proofs.Common.{◌<◌, ◌∙◌, ◌++◌, ◌∷◌, [], ap, arith, inl, inr, length, length-append, refl, sym, slice_index_or, err_from_is_err_and, cases_eq, get_or-set_same, get_or-set_other, waiting_of, KeepsMapsRoom}
+use Rattle.snoop_machine.proofs.Common.{◌≡◌, ◌<◌, ◌∙◌, ◌++◌, ◌∷◌, [], ap, arith, inl, inr, length, length-append, refl, sym, slice_index_or, err_from_is_err_and, cases_eq, get_or-set_same, get_or-set_other, waiting_of, KeepsMapsRoom, line_at, I}
 use Rattle.snoop_machine.proofs.PartsViews.{held_in-set, keeps_room, state_seen, shown-same, shown_at, queues_of-room}
 use Rattle.snoop_machine.proofs.parts.Parts.make_room_to_issue.Goals as goal
 
 -- where the map has the line
-pub returns-then-has-clause-room : goal.returns-then-has-clause-room
-returns-then-has-clause-room g c =
+pub returns-then-is_some-clause-room : goal.returns-then-is_some-clause-room
+returns-then-is_some-clause-room g c =
     let more = c.reserve.ensures.room in
     keeps_room c.self.invariant c.self.view_is c.self.inside.lines c.self.inside.memory c.reserve.new.self c.self.inside.log (omega arith)
-    (held_in-set c.self.invariant c.self.view_is c.reserve.new.self c.args.core _ c.reserve.ensures.queue c.requires (omega arith)) (λ core. omega arith)
+    (held_in-set c.self.invariant c.self.view_is c.reserve.new.self c.args.core _ c.reserve.ensures.queue c.requires.core (omega arith)) (λ core. omega arith)
 
-pub returns-then-has-clause-unchanged : goal.returns-then-has-clause-unchanged
-returns-then-has-clause-unchanged g c =
+pub returns-then-is_some-clause-unchanged : goal.returns-then-is_some-clause-unchanged
+returns-then-is_some-clause-unchanged g c =
     let shown = queues_of-room c.self.inside.bus.queues c.args.core (waiting_of c.reserve.new.self c.args.core).room in
     rw (c.reserve.ensures.queue, shown, c.reserve.ensures.transactions) (ap (λ s. s.situation) c.self.view_is)
 
@@ -19,7 +19,7 @@ pub returns-in_err-reserve-clause-full : goal.returns-in_err-reserve-clause-full
 returns-in_err-reserve-clause-full g c =
     let p = err_from_is_err_and c.from_residual.result c.from_residual.ensures.1 in
     let shown = shown_at c.self.inside.bus.queues c.self.inside.lines.line_rooms c.args.core in
-    rw (p.1, ← c.self.view_is) (grind (arith, shown, c.in_err-reserve.ensures.full, c.has.ensures.line, c.if-has.false))
+    rw (p.1, ← c.self.view_is) (grind (arith, shown, c.in_err-reserve.ensures.full, c.get.ensures.among, c.is_some.ensures, c.if-is_some.false))
 
 pub returns-in_err-reserve-2-clause-refused : goal.returns-in_err-reserve-2-clause-refused
 returns-in_err-reserve-2-clause-refused g c =
@@ -41,7 +41,7 @@ returns-clause-room g c =
     let line_rooms : KeepsMapsRoom c.self.inside.lines c.put_ahead.new.self = λ k.
     grind (arith, c.reserve-2.ensures.room k, c.put_ahead.ensures.room k, c.reserve-2.ensures.lines) in
     keeps_room c.self.invariant c.self.view_is c.put_ahead.new.self c.self.inside.memory c.reserve-3.new.self c.self.inside.log (omega arith)
-    (held_in-set c.self.invariant c.self.view_is c.reserve-3.new.self core _ c.reserve-3.ensures.queue c.requires (omega arith)) line_rooms
+    (held_in-set c.self.invariant c.self.view_is c.reserve-3.new.self core _ c.reserve-3.ensures.queue c.requires.core (omega arith)) line_rooms
 
 pub returns-clause-lines : goal.returns-clause-lines
 returns-clause-lines g c k =
@@ -49,12 +49,13 @@ returns-clause-lines g c k =
     let core = c.args.core in
     let own = slice_index_or lines core [] in
     let now = rw c.reserve-2.ensures.lines at c.put_ahead.ensures.lines in
-    let within : core < length lines = rw c.self.invariant.sized.lines (rw (← c.self.view_is) at c.requires) in
-    let idle = state_seen c.self.invariant refl core c.args.block ∙ c.has.ensures.held c.if-has.false in
-    let absent = sym c.has.ensures.line ∙ c.if-has.false in
+    let within : core < length lines = rw c.self.invariant.sized.lines (rw (← c.self.view_is) at c.requires.core) in
+    let none = sym c.is_some.ensures ∙ c.if-is_some.false in
+    let idle : (line_at c.self.inside.lines.rows core c.args.block).state ≡ I = grind (arith, none, c.get.ensures.line) in
+    let absent = sym c.get.ensures.among ∙ none in
     let more = get_or-set_same lines core (own ++ c.args.block ∷ []) [] within in
     rw (← c.self.view_is, now) (elim (cases_eq k core) [
-      | inl e ↦ inr (sym e, idle, absent, rw (e, more) (length-append own (c.args.block ∷ [])))
+      | inl e ↦ inr (sym e, state_seen c.self.invariant refl core c.args.block ∙ idle, absent, rw (e, more) (length-append own (c.args.block ∷ [])))
       | inr ne ↦ inl (ap length (get_or-set_other lines core k (own ++ c.args.block ∷ []) [] ne))
     ])
 

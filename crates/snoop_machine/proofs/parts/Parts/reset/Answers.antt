@@ -31,7 +31,7 @@ invariant_of-result g c =
     let states = length-replicate c.blocks-2.result c.match-protocol.first in
     let words = length-replicate c.blocks-2.result zero_words in
     record {
-      sized = grind (arith, c.in_ok-lines.ensures.lines, c.in_ok-memory.ensures, c.blocks-2.ensures.value, c.in_ok-log.ensures, c.requires.words, lines, states, words);
+      sized = grind (arith, c.in_ok-lines.ensures.lines, c.in_ok-states.ensures, c.in_ok-words.ensures, c.blocks-2.ensures.value, c.blocks-3.ensures.value, c.in_ok-log.ensures, c.requires.words, lines, states, words);
       sound = rw (← c.in_ok-lines.ensures.rows) at (IsSound-reset c.args.shape c.in_ok-bus.bus c.in_ok-bus.ensures.queues.0 c.in_ok-bus.ensures.queues.1 c.in_ok-bus.ensures.transactions);
     }
 
@@ -43,6 +43,6 @@ returns g c =
     let first : c.match-protocol.first ≡ first_memory c.args.protocol = grind (arith, c.match-protocol.branch) in
     let pictures = pictures_of-replicate shape.blocks (replicate shape.cores nothing_held) (first_memory c.args.protocol) zero_words None in
     record {
-      situation = rw (c.in_ok-lines.ensures.rows, c.in_ok-memory.ensures, bus.transactions, c.blocks-2.ensures.value, first, pictures, queues, bus.queues.0, c.in_ok-log.ensures) refl;
+      situation = rw (c.in_ok-lines.ensures.rows, c.in_ok-states.ensures, c.in_ok-words.ensures, c.zero.ensures, bus.transactions, c.blocks-2.ensures.value, c.blocks-3.ensures.value, first, pictures, queues, bus.queues.0, c.in_ok-log.ensures) refl;
       empty = λ core. rw (c.in_ok-lines.ensures.lines, replicated {X = List ℕ} shape.cores core []) refl;
     }

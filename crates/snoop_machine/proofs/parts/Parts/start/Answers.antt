@@ -48,10 +48,10 @@ pub invariant_of-self : goal.invariant_of-self
 invariant_of-self g c =
     let d = (goal.at.invariant_of-self g c).After-start in
     record {
-      sound = rw c.take_rows.ensures.others (IsSound-order c.self.invariant.sound (rw (← c.self.view_is) at c.requires.core)
+      sound = rw c.take_rows.ensures.wrote.rows (IsSound-order c.self.invariant.sound (rw (← c.self.view_is) at c.requires.core)
           (rw (← c.self.view_is) at c.requires.head.within)
           (head g (goal.at.invariant_of-self g c).After-words_sent-words) (starts g d) c.take_rows.ensures.taken);
-      sized = rw c.push.ensures (sized_on _ _ c.self.invariant.sized refl c.take_rows.ensures.many
+      sized = rw c.push.ensures (sized_on _ _ c.self.invariant.sized refl c.take_rows.ensures.wrote.many
           (rw c.move_to.ensures (length-set c.self.inside.memory.states c.args.block c.args.memory, refl)) (refl, refl, refl));
     }
 
@@ -64,7 +64,7 @@ returns g c =
     let here = seen c.self.invariant refl block in
     let its = head g (goal.at.returns g c).After-words_sent-words in
     let words = ap (λ (m : MemTables). m.words) c.move_to.ensures ∙ sym (set-get_or m.memory.words block zero_words) in
-    let wrote = picture-written c.self.invariant refl block (next g d) _ _ _ _ c.take_rows.ensures.others (ap (λ (m : MemTables). m.states) c.move_to.ensures) words
+    let wrote = picture-written c.self.invariant refl block (next g d) _ _ _ _ c.take_rows.ensures.wrote.rows (ap (λ (m : MemTables). m.states) c.move_to.ensures) words
     (starts g d).transactions in
     let left = queues_of-order m.bus.queues core block (starts g d).room c.args.request its
     (head_alone c.self.invariant.sound core c.args.request block its).1 in
@@ -88,6 +88,6 @@ returns g c =
       });
       room = rw c.push.ensures (keeps_room c.self.invariant c.self.view_is c.take_rows.new.self c.move_to.new.self c.start.new.self
           (record m.log { items = m.log.items ++ sent; room = m.log.room - 1 }) (omega arith)
-          (held_in-set c.self.invariant c.self.view_is c.start.new.self core _ (starts g d).queues c.requires.core (omega arith)) c.take_rows.ensures.room);
-      lines = follows-rows c.self.invariant c.self.view_is _ block (next g d) c.take_rows.new.self c.requires.head.within wrote refl refl c.take_rows.ensures.lines;
+          (held_in-set c.self.invariant c.self.view_is c.start.new.self core _ (starts g d).queues c.requires.core (omega arith)) c.take_rows.ensures.wrote.room);
+      lines = follows-rows c.self.invariant c.self.view_is _ block (next g d) c.take_rows.new.self c.requires.head.within wrote refl refl c.take_rows.ensures.wrote;
     }

@@ -1,18 +1,12 @@
-use Rattle.snoop_machine.proofs.Common.{◌-◌, ◌∷◌, [], None, append-nil, arith, asked, Cell, changed, drop-waits, fields, held_by, inr, IsProper-drop, IsProper-hit, IsProper-issue, issue-waits, length-append, line_at, picture_of, refl, Wait, waiting_of, with_line}
+use Rattle.snoop_machine.proofs.Common.{◌≡◌, ◌∙◌, slice_set, set-get_or, nothing_held, nothing_there, ◌++◌, if◌then◌else◌, true, Reply, Situation, next_did, ◌-◌, ◌∷◌, [], None, append-nil, arith, asked, Cell, changed, fields, held_by, inr, IsProper-issue, issue-waits, length-append, line_at, picture_of, refl, Wait, waiting_of, with_line}
 use Rattle.snoop_machine.proofs.PartsViews.{follows-set, held_in-set, IsSound-issue, keeps_room, line-written, line_seen, picture_in, queues_of-issue, seen, sized_on}
 use Rattle.snoop_rules.specs.declared.names.CacheAction.TheVariants as action
+use Rattle.snoop_history.specs.declared.items.Item.TheVariants as item
+use Rattle.snoop_model.specs.declared.replies.Reply.TheVariants as reply
+use Rattle.snoop_model.specs.{Moves.Move.{AskMove, is_load}, Pictures.Situation.with_picture}
+use Rattle.snoop_machine.specs.Asked.{after_hit}
 use Rattle.snoop_machine.proofs.parts.Parts.take_ask.Goals as goal
-use Rattle.snoop_machine.proofs.parts.Parts.take_ask.Goals.{In-Issue}
-
-pub hit_line-requires-clause-proper : goal.hit_line-requires-clause-proper
-hit_line-requires-clause-proper g c =
-    let t = rw c.in-Hit.is at c.requires.found in
-    rw (← t.1.held) at (IsProper-hit _ _ _ _ t.1.after c.requires.proper t.0)
-
-pub hit_line-requires-clause-still : goal.hit_line-requires-clause-still
-hit_line-requires-clause-still g c =
-    let t = rw c.in-Hit.is at c.requires.found in
-    λ is. (let row = rw is at t.0 in grind arith)
+use Rattle.snoop_machine.proofs.parts.Parts.take_ask.Goals.{In-Issue, In-Hit}
 
 -- the row by which the request is issued
 issued : (g : _) (c : In-Issue g)
@@ -23,33 +17,33 @@ issued g c = rw c.in-Issue.is at c.requires.found
 pub change-requires-clause-proper : goal.change-requires-clause-proper
 change-requires-clause-proper g c =
     let row = issued g (goal.at.change-requires-clause-proper g c).In-Issue in
-    rw (line_seen c.self.invariant c.self.view_is c.args.core c.args.block) at
+    rw (line_seen c.self-in-Issue.invariant c.self-in-Issue.view_is c.args.core c.args.block) at
     (IsProper-issue _ _ c.args.word c.args.op _ _ c.requires.proper row)
 
-pub invariant_of-self : goal.invariant_of-self
-invariant_of-self g c =
-    let row = issued g (goal.at.invariant_of-self g c).In-Issue in
-    let here = line_seen c.self.invariant c.self.view_is c.args.core c.args.block in
+pub invariant_of-self-in-Issue : goal.invariant_of-self-in-Issue
+invariant_of-self-in-Issue g c =
+    let row = issued g (goal.at.invariant_of-self-in-Issue g c).In-Issue in
+    let here = line_seen c.self-in-Issue.invariant c.self-in-Issue.view_is c.args.core c.args.block in
     let waits = issue-waits _ _ _ _ _ row in
     record {
-      sound = rw c.change.ensures.rows (IsSound-issue c.self.invariant.sound c.args.core c.args.block _
-          (rw (← c.self.view_is) at c.requires.core) (rw (← c.self.view_is) at c.requires.block)
+      sound = rw c.change.ensures.rows (IsSound-issue c.self-in-Issue.invariant.sound c.args.core c.args.block _
+          (rw (← c.self-in-Issue.view_is) at c.requires.core) (rw (← c.self-in-Issue.view_is) at c.requires.block)
           (rw here at (IsProper-issue _ _ c.args.word c.args.op _ _ c.requires.proper row))
           c.issue.new.self c.in-Issue.request _ c.issue.ensures.queue c.issue.ensures.transactions (rw here at waits.0) waits.1);
-      sized = sized_on _ _ c.self.invariant.sized refl c.change.ensures.many (refl, refl) (refl, refl, refl);
+      sized = sized_on _ _ c.self-in-Issue.invariant.sized refl c.change.ensures.many (refl, refl) (refl, refl, refl);
     }
 
 pub returns-in-Issue : goal.returns-in-Issue
 returns-in-Issue g c =
-    let m = fields c.self.inside.protocol c.self.inside.shape c.self.inside.lines c.self.inside.memory c.self.inside.bus c.self.inside.log in
+    let m = fields c.self-in-Issue.inside.protocol c.self-in-Issue.inside.shape c.self-in-Issue.inside.lines c.self-in-Issue.inside.memory c.self-in-Issue.inside.bus c.self-in-Issue.inside.log in
     let core = c.args.core in
     let block = c.args.block in
     let line = changed c.in-Issue.next (Wait (record { word = c.args.word; op = c.args.op })) (line_at m.lines.rows core block) in
     let before = waiting_of m.bus core in
     let long = length-append before.requests ((c.in-Issue.request, block) ∷ []) in
     let shown = queues_of-issue m.bus.queues core block (before.room - 1) c.in-Issue.request in
-    let here = seen c.self.invariant refl block in
-    let wrote = line-written c.self.invariant refl block c.change.new.self.rows core line c.change.ensures.rows in
+    let here = seen c.self-in-Issue.invariant refl block in
+    let wrote = line-written c.self-in-Issue.invariant refl block c.change.new.self.rows core line c.change.ensures.rows in
     record {
       moved = record {
         on_block = refl;
@@ -60,24 +54,24 @@ returns-in-Issue g c =
           held = changed c.in-Issue.next (Wait (record { word = c.args.word; op = c.args.op })) (held_by (picture_of c.args.self.now.situation block) core);
           entry = None;
           taken = (refl, refl, refl);
-          after = rw (← c.self.view_is, here, c.issue.ensures.transactions, wrote, c.issue.ensures.queue, shown, append-nil m.log.items) refl;
+          after = rw (← c.self-in-Issue.view_is, here, c.issue.ensures.transactions, wrote, c.issue.ensures.queue, shown, append-nil m.log.items) refl;
         });
         has_word = c.requires.word;
       };
-      room = keeps_room c.self.invariant c.self.view_is c.change.new.self m.memory c.issue.new.self m.log (omega arith)
-          (held_in-set c.self.invariant c.self.view_is c.issue.new.self core _ c.issue.ensures.queue c.requires.core (omega arith)) c.change.ensures.room;
-      lines = follows-set c.self.invariant c.self.view_is _ block (with_line (picture_in m block) core line) c.change.new.self c.requires.block
+      room = keeps_room c.self-in-Issue.invariant c.self-in-Issue.view_is c.change.new.self m.memory c.issue.new.self m.log (omega arith)
+          (held_in-set c.self-in-Issue.invariant c.self-in-Issue.view_is c.issue.new.self core _ c.issue.ensures.queue c.requires.core (omega arith)) c.change.ensures.room;
+      lines = follows-set c.self-in-Issue.invariant c.self-in-Issue.view_is _ block (with_line (picture_in m block) core line) c.change.new.self c.requires.block
           (rw c.issue.ensures.transactions wrote) refl c.change.ensures c.requires.core refl;
     }
 
-pub move_line-requires-clause-proper : goal.move_line-requires-clause-proper
-move_line-requires-clause-proper g c = IsProper-drop _ _ _ _ c.requires.proper (rw c.in-Drop.is at c.requires.found)
-
-pub move_line-requires-clause-same : goal.move_line-requires-clause-same
-move_line-requires-clause-same g c = drop-waits _ _ _ _ (rw c.in-Drop.is at c.requires.found)
-
-pub returns-in-Hit-clause-moved : goal.returns-in-Hit-clause-moved
-returns-in-Hit-clause-moved g c =
+-- a hit is the move of an Ask
+hit : (g : _) (c : In-Hit g) (answer : Reply) (new : Situation) → answer ≡ (if is_load c.args.op then reply.Hit c.in-Hit.value else reply.StoreHit)
+    → new ≡ record (with_picture c.args.self.now.situation c.args.block (with_line (picture_of c.args.self.now.situation c.args.block) c.args.core
+    (after_hit c.in-Hit.next c.args.word c.args.op (held_by (picture_of c.args.self.now.situation c.args.block) c.args.core)))) {
+      log = c.args.self.now.situation.log ++ item.Did (next_did c.args.self.now.situation.log c.args.core c.args.block c.args.word c.args.op c.in-Hit.value true) ∷ [];
+    }
+    → AskMove c.args.block c.args.self.now.situation c.args.core c.args.block c.args.word c.args.op answer new
+hit g c answer new replied after =
     let t = rw c.in-Hit.is at c.requires.found in
     record {
       on_block = refl;
@@ -87,8 +81,30 @@ returns-in-Hit-clause-moved g c =
         is_row = t.0;
         held = _;
         entry = _;
-        taken = (c.in-Hit.value, (t.1, c.hit_reply.ensures, refl));
-        after = c.hit_line.ensures.written;
+        taken = (c.in-Hit.value, (t.1, replied, refl));
+        after = after;
       });
       has_word = c.requires.word;
     }
+
+-- a load leaves the line as it is
+pub returns-in-Load-clause-moved : goal.returns-in-Load-clause-moved
+returns-in-Load-clause-moved g c =
+    let s = c.args.self.now.situation in
+    let line = held_by (picture_of s c.args.block) c.args.core in
+    let load = c.in-Load.is in
+    let t = rw c.in-Hit.is at c.requires.found in
+    let row = rw load at t.0 in
+    let still : c.in-Hit.next ≡ line.state = grind arith in
+    let same : after_hit c.in-Hit.next c.args.word c.args.op line ≡ line = grind arith in
+    let kept : slice_set s.pictures c.args.block (with_line (picture_of s c.args.block) c.args.core line) ≡ s.pictures =
+    rw (set-get_or (picture_of s c.args.block).caches c.args.core nothing_held) (set-get_or s.pictures c.args.block nothing_there) in
+    hit g (goal.at.returns-in-Load-clause-moved g c).In-Hit _ _ (rw load refl) (rw (same, kept, c.push.ensures, c.next_did-did.ensures, ← c.self.view_is) refl)
+
+pub returns-in_default-clause-moved : goal.returns-in_default-clause-moved
+returns-in_default-clause-moved g c =
+    hit g (goal.at.returns-in_default-clause-moved g c).In-Hit _ _ (grind (arith, c.in_default.not-Load))
+    (c.move_line.ensures.written ∙ rw (c.push.ensures, c.next_did-did.ensures, ← c.self.view_is) refl)
+
+pub returns-in_default-clause-lines : goal.returns-in_default-clause-lines
+returns-in_default-clause-lines g c k = rw (← c.self.view_is) (grind (arith, c.move_line.ensures.lines k))
