@@ -1,7 +1,7 @@
 -- From wherever a driver of rows has come, its rows can be served.
 use Rattle.snoop_engine.proofs.Common.{eq-eqb, option_map_or, IsIdle, get_or, get_or_default, ◌≡◌, ℕ, zero, suc, ◌+◌, ◌/◌, ◌<◌, true, Option, Some, None, List, [], ◌∷◌, length, refl, sym, ◌∙◌, ap, arith, inl, inr, Result, Ok, IsOk, slice_set, All-head, All-nil, All-tail, Extent, word_asked, Row, Step, Ask, Work, Protocol, Reply, Refused, FirstMove, Situation, reset, TheRun, IsUnderWay, turn_of, CanEnd, Leading, LeadsOn, EndsInOrder, FollowsInOrder, InOrder, IsInOrder, TakesUpNext, remaining_in_order, row_under_way, IsAtTheEnd, ServesOnly, nothing, Advances, IsEnabled, IsFit, IsOver, Progress, TakesUp, remaining, ask_for, Todo, block_of_work, left_in, nothing_to_do, todo_of, lanes_under_way}
 use Rattle.snoop_model.proofs.{Queues.keeps_well, Runs.GoOn.{IsSteady, moves_on, reset_steady, run_steady, steady_on}}
-use Rattle.snoop_engine.proofs.{CourseLemmas.{driver_leads, fewer_in_order, in_order_ends, in_order_leads}, Fewer.{leaves_fewer, left_same}}
+use Rattle.snoop_engine.proofs.CourseLemmas.{driver_leads, fewer_in_order, in_order_ends, in_order_leads, leaves_fewer, left_same}
 use Rattle.snoop_engine.proofs.Driving.{all_done, fit_begins, fit_idles, fit_moves, goes_begun, goes_on, lane_apart, lane_put, over_idle, over_now, takes_first}
 use Rattle.snoop_engine.proofs.InOrderLemmas.{at_rest, begun_enabled, begun_fit, begun_takes_up, goes_on_enabled, in_order_moves, under_way_asks_nothing}
 use Rattle.snoop_engine.proofs.InOrderLemmas as order

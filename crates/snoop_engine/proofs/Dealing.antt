@@ -1,6 +1,6 @@
 -- What dealing the rows to their cores gives.
 use Rattle.snoop_engine.proofs.Common.{common_steps, nat_tests, ◌≡◌, ◌≢◌, ℕ, ◌+◌, ◌<◌, Bool, None, List, [], ◌∷◌, ◌++◌, length, map, filter, append_assoc, refl, sym, ◌∙◌, ap, arith, inl, inr, get_or, ◌==◌, All, Contains, slice_set, cases_eq, cases_lt, length_push, get_or_default, get_or_past, length-map, All-head, All-tail, All-push, Contains-push, Contains-append_left, Extent, Asked, Op, Row, IsRowWithin, Work, Protocol, reset, turn_rule, length-set, get_or-set_same, get_or-set_other, All-map, All-filter, All-weaker, sum_by-set, HasWord, IsWithinLimits, asked_of, asked_within, IsFit, IsWorkWithin, largest, IsAskedWithin, Todo, todo_of, nothing_to_do, lanes_under_way, left_in, works_by, works_of}
-use Rattle.snoop_engine.proofs.Fewer.{left_same}
+use Rattle.snoop_engine.proofs.CourseLemmas.{left_same}
 
 -- all asks but those that are left have been dealt
 pub record Dealt (shape : Extent) (all rest : List Asked) (lanes : List Todo) : Type 0 where
