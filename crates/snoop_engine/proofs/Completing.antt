@@ -1,5 +1,5 @@
 -- From wherever a driver of rows has come, its rows can be served.
-use Rattle.snoop_engine.proofs.Common.{eq-eqb, option_map_or, IsIdle, get_or, get_or_default, ◌≡◌, ℕ, zero, suc, ◌+◌, ◌/◌, ◌<◌, true, Option, Some, None, List, [], ◌∷◌, length, refl, sym, ◌∙◌, ap, arith, inl, inr, Result, Ok, IsOk, slice_set, All-head, All-nil, All-tail, Extent, word_asked, Row, Step, Ask, Work, Protocol, Reply, Refused, FirstMove, Situation, reset, TheRun, IsUnderWay, turn_of, CanEnd, Leading, LeadsOn, EndsInOrder, FollowsInOrder, InOrder, IsInOrder, TakesUpNext, remaining_in_order, row_under_way, IsAtTheEnd, ServesOnly, nothing, Advances, IsEnabled, IsFit, IsOver, Progress, TakesUp, remaining, ask_for, Todo, block_of_work, left_in, nothing_to_do, todo_of, lanes_under_way}
+use Rattle.snoop_engine.proofs.Common.{eq-eqb, option_map_or, IsIdle, get_or, get_or_default, ◌≡◌, ℕ, zero, suc, ◌+◌, ◌/◌, ◌<◌, true, Option, Some, None, List, [], ◌∷◌, length, refl, sym, ◌∙◌, ap, arith, inl, inr, Result, Ok, IsOk, slice_set, All-head, All-nil, All-tail, Extent, word_asked, Row, Step, Ask, Work, Protocol, Reply, Refused, FirstMove, Situation, reset, TheRun, IsUnderWay, turn_of, CanEnd, Leading, LeadsOn, EndsInOrder, InOrder, IsInOrder, TakesUpNext, remaining_in_order, row_under_way, IsAtTheEnd, ServesOnly, nothing, IsEnabled, IsFit, IsOver, Progress, TakesUp, remaining, ask_for, Todo, block_of_work, left_in, nothing_to_do, todo_of, lanes_under_way}
 use Rattle.snoop_model.proofs.{Queues.keeps_well, Runs.GoOn.{IsSteady, moves_on, reset_steady, run_steady, steady_on}}
 use Rattle.snoop_engine.proofs.CourseLemmas.{driver_leads, fewer_in_order, in_order_ends, in_order_leads, leaves_fewer, left_same}
 use Rattle.snoop_engine.proofs.Driving.{all_done, fit_begins, fit_idles, fit_moves, goes_begun, goes_on, lane_apart, lane_put, over_idle, over_now, takes_first}
@@ -58,8 +58,7 @@ module _ {s : Situation} {lanes : List Todo} {core : ℕ} {turns : List ℕ} (fi
   by : (next : List Todo) (step : Step) → IsFit s next (core ∷ turns) → IsUnderWay (lanes_under_way next) step → IsEnabled s step → TakesUp lanes step next → CanEnd (IsAtTheEnd here)
   by next step fit_next its enabled takes = by_step (IsAtTheEnd here) s steady step enabled (λ answer t move steady_then.
       let new : Progress = record { situation = t; lanes = next; turns = core ∷ turns } in
-      let follows : Advances here step answer new = record { move = move; takes_up = takes; fewer = leaves_fewer here new step answer move takes } in
-      (IsAtTheEnd new, (driver_leads here new step answer follows, on new (omega (arith, follows.fewer)) (fit_moves fit_next t step answer its move) steady_then)))
+      (IsAtTheEnd new, (driver_leads here new step answer move takes, on new (omega (arith, leaves_fewer here new step answer move takes)) (fit_moves fit_next t step answer its move) steady_then)))
 
   -- the core's work is over, and no row is left: it needs no turn
   idle : IsOver lanes s core → (todo_of lanes core).left ≡ [] → CanEnd (IsAtTheEnd here)
@@ -109,8 +108,7 @@ module _ (s : Situation) (left : List Row) (row : Option Row)
   then : (rest : List Row) (next : Option Row) (step : Step) → IsInOrder s rest next → IsUnderWay (row_under_way s.shape next) step → IsEnabled s step → TakesUpNext there step rest → CanEnd (EndsInOrder there)
   then rest next step fit_next its enabled takes = by_step (EndsInOrder there) s steady step enabled (λ answer t move steady_then.
       let new : InOrder = record { situation = t; left = rest; row = next } in
-      let follows : FollowsInOrder there step answer new = record { move = move; takes_up = takes } in
-      (EndsInOrder new, (in_order_leads there new step answer follows, on new (fewer_in_order there new step answer follows) (in_order_moves fit_next t step answer its move) steady_then)))
+      (EndsInOrder new, (in_order_leads there new step answer move takes, on new (fewer_in_order there new step answer move takes) (in_order_moves fit_next t step answer its move) steady_then)))
 
   then_left : ServesOnly nothing s → (rows : List Row) → left ≡ rows → CanEnd (EndsInOrder there)
   then_left serves [] none = record { steps = []; outcomes = []; final = s; way = in_order_ends there none (at_rest s serves) }

@@ -1,10 +1,5 @@
-use Rattle.snoop_engine.proofs.Dealing.{asks_within, left_of_rows}
+use Rattle.snoop_engine.proofs.Dealing.{left_of_rows}
 use Rattle.snoop_engine.proofs.gather.read_driver.Goals as goal
-
-pub new-requires-2 : goal.new-requires-2
-new-requires-2 g c =
-    let asked = c.in_ok-asks.ensures.read in
-    asks_within c.args.shape asked.rows c.in_ok-asks.asks c.within_limits.ensures asked.within asked.asks
 
 pub returns-clause-rows : goal.returns-clause-rows
 returns-clause-rows g c =
