@@ -3,8 +3,7 @@ use Rattle.snoop_engine.proofs.Common.{eq-eqb, option_map_or, IsIdle, get_or, ge
 use Rattle.snoop_model.proofs.{Queues.keeps_well, Runs.GoOn.{IsSteady, moves_on, reset_steady, run_steady, steady_on}}
 use Rattle.snoop_engine.proofs.CourseLemmas.{driver_leads, fewer_in_order, in_order_ends, in_order_leads, leaves_fewer, left_same}
 use Rattle.snoop_engine.proofs.Driving.{all_done, fit_begins, fit_idles, fit_moves, goes_begun, goes_on, lane_apart, lane_put, over_idle, over_now, takes_first}
-use Rattle.snoop_engine.proofs.InOrderLemmas.{at_rest, begun_enabled, begun_fit, begun_takes_up, goes_on_enabled, in_order_moves, under_way_asks_nothing}
-use Rattle.snoop_engine.proofs.InOrderLemmas as order
+use Rattle.snoop_engine.proofs.InOrderLemmas.{asks_nothing_more, at_rest, begun_enabled, begun_fit, begun_takes_up, goes_on_enabled, in_order_moves, row_over, under_way_asks_nothing}
 
 -- a step that no cause refuses is taken, and then those that lead to the end from there
 by_step : (leads : Leading) (s : Situation) → IsSteady s → (step : Step) → IsEnabled s step
@@ -118,10 +117,10 @@ module _ (s : Situation) (left : List Row) (row : Option Row)
   then_row : (own : Option Row) (r : Option Step) → row ≡ own
       → r ≡ option_map_or (λ (own : Row). turn_of s own.core (own.address / s.shape.block_bytes) (word_asked s.shape own.address own.op) own.op true) own None → CanEnd (EndsInOrder there)
   then_row None r none is = then_left (rw none at fit.serves) left refl
-  then_row (Some own) None its is = then_left (order.over_now (rw its at fit) None is) left refl
+  then_row (Some own) None its is = then_left (row_over (rw its at fit) None is) left refl
   then_row (Some own) (Some step) its is =
       let none = under_way_asks_nothing s own.core (own.address / s.shape.block_bytes) (word_asked s.shape own.address own.op) own.op (Some step) is in
-      then left row step fit (none.1 (row_under_way s.shape row)) (goes_on_enabled (rw its at fit) (Some step) is) (order.asks_nothing_more there step none.0)
+      then left row step fit (none.1 (row_under_way s.shape row)) (goes_on_enabled (rw its at fit) (Some step) is) (asks_nothing_more there step none.0)
 
 -- wherever a run has led, such drivers can go on to their ends
 pub driver_can_end : (d : Progress) → IsFit d.situation d.lanes d.turns → (protocol : Protocol) (shape : Extent) (steps : List Step) (outcomes : List (Result Reply Refused)) → TheRun protocol shape steps outcomes d.situation → CanEnd (IsAtTheEnd d)

@@ -1,10 +1,9 @@
 -- Each line of the frames of a run fits its step, and no row of a step that is taken is left out.
 use Rattle.snoop_engine.proofs.Common.{common_steps, ◌≡◌, ◌⊎◌, ℕ, ◌<◌, ◌+◌, Bool, true, false, zero, suc, List, [], ◌∷◌, length, Option, Some, None, refl, sym, ap, ◌∙◌, inl, inr, arith, ◌≢◌, All, IsSomeAnd, MatchBool, Result, Ok, Err, if◌then◌else◌, flat_map, range_with_len, option_map_or, All-append, All-cons, All-nil, Extent, Protocol, Op, Step, Ask, Order, Respond, CacheEvent, CacheState, I, MemEvent, Request, PutM, arrival, arrival_at_memory, asked, at_memory, seen_by, takes_payload, Did, Open, Reply, Refused, BusTaken, Line, Picture, held_by, nothing_held, Situation, picture_of, reset, state_of, ConsultsCache, ConsultsMemory, ArrivesFor, IsAbsent, Asks, IsWithin, Responds, TakesFirst, GoesFirst, Invariant, get_or-set_same, Cell, Stalled, NoTransaction, Settles, Frame, FramesFrom, event_asked, lines_of_step, of_arrival_at_memory, of_ask, of_holder, of_memory, of_requestor, of_waiting_memory, refused_by, unless_i, FitsStep, HasAllLines, ShowsRows, HasTakenRows, Taken, Core, Memory, Evict, ◌≤◌, subst, lt-ltb, Contains, cases_eq, cases_lt, get_or_past, Contains-append_left, Contains-append_right, Contains-push, same_Some, of_core, DoesNothing}
-use Rattle.snoop_rules.specs.{declared.names.CacheAction.{CacheAction, TheVariants.{Stall}}}
-use Rattle.snoop_rules.{specs.{declared.names.MemAction.MemAction, MemoryCell.MemoryCell}}
+use Rattle.snoop_rules.specs.{MemoryCell.MemoryCell, declared.names.{CacheAction.{CacheAction, TheVariants.Stall}, MemAction.MemAction}}
 use Rattle.snoop_rules.specs.declared.names.MemAction.TheVariants as mem_action
-use Rattle.snoop_model.{proofs.{OneBlock.AfterMoves.{ask_line, order_here, respond_here}, Queues.keeps_well}, specs.Moves.Refuses.Refuses}
-use Rattle.snoop_model.proofs.Runs.GoOn.{reset_steady, IsSteady, steady_on}
+use Rattle.snoop_model.proofs.{OneBlock.AfterMoves.{ask_line, order_here, respond_here}, Queues.keeps_well, Runs.GoOn.{IsSteady, reset_steady, steady_on}}
+use Rattle.snoop_model.specs.Moves.Refuses.{Refuses}
 use Rattle.snoop_engine.proofs.TakenLemmas.{goes_alike}
 
 -- a stall leaves the state
