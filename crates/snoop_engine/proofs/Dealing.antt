@@ -1,5 +1,5 @@
 -- What dealing the rows to their cores gives.
-use Rattle.snoop_engine.proofs.Common.{common_steps, nat_tests, ◌≡◌, ◌≢◌, ℕ, ◌+◌, ◌<◌, Bool, None, List, [], ◌∷◌, ◌++◌, length, map, filter, append_assoc, refl, sym, ◌∙◌, ap, arith, inl, inr, get_or, ◌==◌, All, slice_set, cases_lt, length_push, get_or_default, get_or_past, length-map, All-head, All-tail, Extent, Asked, Op, Row, IsRowWithin, Work, Protocol, reset, turn_rule, length-set, get_or-set_same, get_or-set_other, All-map, All-filter, All-weaker, sum_by-set, HasWord, IsWithinLimits, asked_of, asked_within, IsFit, IsWorkWithin, largest, IsAskedWithin, Todo, todo_of, nothing_to_do, lanes_under_way, left_in, works_by, works_of, range_with_len, slice_index_or}
+use Rattle.snoop_engine.proofs.Common.{common_steps, nat_tests, ◌≡◌, ◌≢◌, ℕ, ◌+◌, ◌<◌, Bool, None, List, [], ◌∷◌, ◌++◌, length, map, filter, append_assoc, refl, sym, ◌∙◌, ap, arith, inl, inr, get_or, ◌==◌, All, slice_set, cases_lt, length_push, get_or_default, get_or_past, length-map, All-head, All-tail, Extent, Asked, Op, Row, IsRowWithin, Work, Protocol, reset, turn_rule, length-set, get_or-set_same, get_or-set_other, All-map, All-filter, All-weaker, sum_by-set, HasWord, IsWithinLimits, asked_of, asked_within, IsFit, IsWorkWithin, largest, IsAskedWithin, Todo, todo_of, nothing_to_do, lanes_under_way, left_in, works_by, works_of, range_with_len, slice_index_or, Progress, IsAtTheStart}
 use Rattle.snoop_engine.proofs.CourseLemmas.{left_same}
 use Rattle.std.proofs.lemmas.List.FromFn.{get_or-range_with_len, length-range_with_len}
 
@@ -70,10 +70,10 @@ asks_within shape rows asks limits within is =
     (All-weaker (IsRowWithin shape) (λ r. IsAskedWithin shape (asked_of shape r)) (λ r h. (h.0, h.1, asked_within shape r.address r.op limits)) rows within))
 
 -- what a driver of the asks has left is what it has of the rows
-pub left_of_rows : (shape : Extent) (rows : List Row) (asks : List Asked) (lanes : List Todo) → asks ≡ map (asked_of shape) rows → ((core : ℕ) → (todo_of lanes core).left ≡ works_by asks core)
-    → left_in lanes ≡ length asks → ((core : ℕ) → (todo_of lanes core).left ≡ works_of shape rows core) × (left_in lanes ≡ length rows)
-left_of_rows shape rows asks lanes is left counted =
-    (λ core. left core ∙ rw is (works_of_rows shape rows core), counted ∙ rw is (length-map rows (asked_of shape)))
+pub at_the_start : (protocol : Protocol) (shape : Extent) (rows : List Row) (asks : List Asked) (start : Progress) → start.situation ≡ reset protocol shape → asks ≡ map (asked_of shape) rows
+    → ((core : ℕ) → (todo_of start.lanes core).left ≡ works_by asks core) → left_in start.lanes ≡ length asks → IsAtTheStart protocol shape rows start
+at_the_start protocol shape rows asks start at is left counted =
+    record { situation = at; left = λ core. left core ∙ rw is (works_of_rows shape rows core); all = counted ∙ rw is (length-map rows (asked_of shape)) }
 
 -- a word below the shape's is there
 word_there : (shape : Extent) (word : ℕ) (asking : Op) → IsWithinLimits shape → word < shape.words → HasWord shape word asking
