@@ -35,4 +35,4 @@ pub use Rattle.snoop_engine.specs.Taken.{of_holder, unless_i, lines_of_step, sta
 pub use Rattle.snoop_engine.specs.Todo.{Todo, todo_of, left_in, asked_by, lanes_under_way, block_of_work, IsAskedWithin, nothing_to_do, works_by, works_of}
 pub use Rattle.snoop_engine.specs.{TrueLines.{DoesNothing, FitsStep, HasAllLines, ShowsRows, HasTakenRows}, UnderWay.{ServesOnly, nothing, only}}
 pub use Rattle.snoop_engine.specs.{Views.{shown, view_text, IsNextSeen, block_of_step, frame_seen}, declared.{fault.SimFault.SimFault, seen.Seen.Seen}}
-pub use Rattle.snoop_engine.specs.declared.{input.Input.TheVariants.{Rows, SerialRows}, taken.Taken.{Taken, TheVariants.{Core, Memory}}}
+pub use Rattle.snoop_engine.specs.declared.{input.Input.TheVariants.SerialRows, taken.Taken.{Taken, TheVariants.{Core, Memory}}}
