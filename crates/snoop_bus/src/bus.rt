@@ -5,7 +5,7 @@ ghost use Rattle.snoop_bus.specs.Traffic.{Waiting, waiting_of, head_of, transact
 use snoop_blocks::BlockTable;
 use snoop_rules::{Payload, Request};
 use snoop_trace::{NoMemory, Shape, Words};
-use std::alloc::{AllocError, Global};
+use std::alloc::Global;
 use std::collections::VecDeque;
 use std::marker::Model;
 
@@ -34,35 +34,10 @@ impl Queue {
         }
     }
 
-    fn reserve(&mut self) -> Result<(), AllocError>
-        ensures ok { OnOk result (0 < self.new.room) }
-        ensures full { OnErr result (self.old.room ≡ 0) }
-        ensures refused { OnErr result (self.new ≡ self.old) }
-        ensures idle { 0 < self.old.room → self.new ≡ self.old }
-        ensures requests { self.new.requests ≡ self.old.requests }
-        ensures room { self.old.room ≤ self.new.room }
-    {
-        // The usual case, at no cost.
-        if self.has_room() {
-            return Ok(());
-        }
-        // The room alone decides: a refused growth may have left some.
-        let grown = self.requests.reserve(1);
-        if self.has_room() { Ok(()) } else { grown }
-    }
-
     fn has_room(&self) -> bool
         ensures { IsTrue result ↔ (0 < self.now.room) }
     {
         self.requests.len() < self.requests.capacity()
-    }
-
-    fn push(&mut self, request: Request, block: u32)
-        requires { 0 < self.old.room }
-        ensures requests { self.new.requests ≡ self.old.requests ++ (request, block) ∷ [] }
-        ensures room { self.new.room + 1 ≡ self.old.room }
-    {
-        self.requests.push_back_reserved((request, block));
     }
 
     fn head(&self) -> Option<(Request, u32)>
@@ -165,7 +140,15 @@ impl<K: Copy> Bus<K> {
         ensures transactions { self.new.transactions ≡ self.old.transactions }
     {
         let queue = &mut self.queues[core as usize];
-        queue.reserve()?;
+        // The usual case, at no cost.
+        if queue.has_room() {
+            return Ok(());
+        }
+        // The room alone decides: a refused growth may have left some.
+        let grown = queue.requests.reserve(1);
+        if !queue.has_room() {
+            grown?;
+        }
         Ok(())
     }
 
@@ -187,7 +170,7 @@ impl<K: Copy> Bus<K> {
         ensures transactions { self.new.transactions ≡ self.old.transactions }
     {
         let queue = &mut self.queues[core as usize];
-        queue.push(request, block);
+        queue.requests.push_back_reserved((request, block));
     }
 
     /// The core's oldest request and its block.

@@ -1,10 +1,9 @@
 -- From wherever a driver of rows has come, its rows can be served.
-use Rattle.snoop_engine.proofs.Common.{eq-eqb, option_map_or, IsIdle, get_or, get_or_default, ◌≡◌, ℕ, zero, suc, ◌+◌, ◌/◌, ◌<◌, true, Option, Some, None, List, [], ◌∷◌, length, refl, sym, ◌∙◌, ap, arith, inl, inr, Result, Ok, IsOk, slice_set, All-head, All-nil, All-tail, Extent, word_asked, Row, Step, Ask, Work, Protocol, Reply, Refused, FirstMove, Situation, reset, TheRun, IsUnderWay, turn_of, CanEnd, Leading, LeadsOn, EndsInOrder, FollowsInOrder, InOrder, IsInOrder, TakesUpNext, remaining_in_order, row_under_way, IsAtTheEnd, ServesOnly, nothing, Advances, IsEnabled, IsFit, IsOver, Progress, TakesUp, remaining, ask_for, Todo, block_of_work, left_in, nothing_to_do, todo_of, lanes_under_way}
+use Rattle.snoop_engine.proofs.Common.{eq-eqb, option_map_or, IsIdle, get_or, get_or_default, ◌≡◌, ℕ, zero, suc, ◌+◌, ◌/◌, ◌<◌, true, Option, Some, None, List, [], ◌∷◌, length, refl, sym, ◌∙◌, ap, arith, inl, inr, Result, Ok, IsOk, slice_set, All-head, All-nil, All-tail, Extent, word_asked, Row, Step, Ask, Work, Protocol, Reply, Refused, FirstMove, Situation, reset, TheRun, IsUnderWay, turn_of, CanEnd, Leading, LeadsOn, EndsInOrder, InOrder, IsInOrder, TakesUpNext, remaining_in_order, row_under_way, IsAtTheEnd, ServesOnly, nothing, IsEnabled, IsFit, IsOver, Progress, TakesUp, remaining, ask_for, Todo, block_of_work, left_in, nothing_to_do, todo_of, lanes_under_way}
 use Rattle.snoop_model.proofs.{Queues.keeps_well, Runs.GoOn.{IsSteady, moves_on, reset_steady, run_steady, steady_on}}
-use Rattle.snoop_engine.proofs.{CourseLemmas.{driver_leads, fewer_in_order, in_order_ends, in_order_leads}, Fewer.{leaves_fewer, left_same}}
+use Rattle.snoop_engine.proofs.CourseLemmas.{driver_leads, fewer_in_order, in_order_ends, in_order_leads, leaves_fewer, left_same}
 use Rattle.snoop_engine.proofs.Driving.{all_done, fit_begins, fit_idles, fit_moves, goes_begun, goes_on, lane_apart, lane_put, over_idle, over_now, takes_first}
-use Rattle.snoop_engine.proofs.InOrderLemmas.{at_rest, begun_enabled, begun_fit, begun_takes_up, goes_on_enabled, in_order_moves, under_way_asks_nothing}
-use Rattle.snoop_engine.proofs.InOrderLemmas as order
+use Rattle.snoop_engine.proofs.InOrderLemmas.{asks_nothing_more, at_rest, begun_enabled, begun_fit, begun_takes_up, goes_on_enabled, in_order_moves, row_over, under_way_asks_nothing}
 
 -- a step that no cause refuses is taken, and then those that lead to the end from there
 by_step : (leads : Leading) (s : Situation) → IsSteady s → (step : Step) → IsEnabled s step
@@ -58,8 +57,7 @@ module _ {s : Situation} {lanes : List Todo} {core : ℕ} {turns : List ℕ} (fi
   by : (next : List Todo) (step : Step) → IsFit s next (core ∷ turns) → IsUnderWay (lanes_under_way next) step → IsEnabled s step → TakesUp lanes step next → CanEnd (IsAtTheEnd here)
   by next step fit_next its enabled takes = by_step (IsAtTheEnd here) s steady step enabled (λ answer t move steady_then.
       let new : Progress = record { situation = t; lanes = next; turns = core ∷ turns } in
-      let follows : Advances here step answer new = record { move = move; takes_up = takes; fewer = leaves_fewer here new step answer move takes } in
-      (IsAtTheEnd new, (driver_leads here new step answer follows, on new (omega (arith, follows.fewer)) (fit_moves fit_next t step answer its move) steady_then)))
+      (IsAtTheEnd new, (driver_leads here new step answer move takes, on new (omega (arith, leaves_fewer here new step answer move takes)) (fit_moves fit_next t step answer its move) steady_then)))
 
   -- the core's work is over, and no row is left: it needs no turn
   idle : IsOver lanes s core → (todo_of lanes core).left ≡ [] → CanEnd (IsAtTheEnd here)
@@ -109,8 +107,7 @@ module _ (s : Situation) (left : List Row) (row : Option Row)
   then : (rest : List Row) (next : Option Row) (step : Step) → IsInOrder s rest next → IsUnderWay (row_under_way s.shape next) step → IsEnabled s step → TakesUpNext there step rest → CanEnd (EndsInOrder there)
   then rest next step fit_next its enabled takes = by_step (EndsInOrder there) s steady step enabled (λ answer t move steady_then.
       let new : InOrder = record { situation = t; left = rest; row = next } in
-      let follows : FollowsInOrder there step answer new = record { move = move; takes_up = takes } in
-      (EndsInOrder new, (in_order_leads there new step answer follows, on new (fewer_in_order there new step answer follows) (in_order_moves fit_next t step answer its move) steady_then)))
+      (EndsInOrder new, (in_order_leads there new step answer move takes, on new (fewer_in_order there new step answer move takes) (in_order_moves fit_next t step answer its move) steady_then)))
 
   then_left : ServesOnly nothing s → (rows : List Row) → left ≡ rows → CanEnd (EndsInOrder there)
   then_left serves [] none = record { steps = []; outcomes = []; final = s; way = in_order_ends there none (at_rest s serves) }
@@ -120,10 +117,10 @@ module _ (s : Situation) (left : List Row) (row : Option Row)
   then_row : (own : Option Row) (r : Option Step) → row ≡ own
       → r ≡ option_map_or (λ (own : Row). turn_of s own.core (own.address / s.shape.block_bytes) (word_asked s.shape own.address own.op) own.op true) own None → CanEnd (EndsInOrder there)
   then_row None r none is = then_left (rw none at fit.serves) left refl
-  then_row (Some own) None its is = then_left (order.over_now (rw its at fit) None is) left refl
+  then_row (Some own) None its is = then_left (row_over (rw its at fit) None is) left refl
   then_row (Some own) (Some step) its is =
       let none = under_way_asks_nothing s own.core (own.address / s.shape.block_bytes) (word_asked s.shape own.address own.op) own.op (Some step) is in
-      then left row step fit (none.1 (row_under_way s.shape row)) (goes_on_enabled (rw its at fit) (Some step) is) (order.asks_nothing_more there step none.0)
+      then left row step fit (none.1 (row_under_way s.shape row)) (goes_on_enabled (rw its at fit) (Some step) is) (asks_nothing_more there step none.0)
 
 -- wherever a run has led, such drivers can go on to their ends
 pub driver_can_end : (d : Progress) → IsFit d.situation d.lanes d.turns → (protocol : Protocol) (shape : Extent) (steps : List Step) (outcomes : List (Result Reply Refused)) → TheRun protocol shape steps outcomes d.situation → CanEnd (IsAtTheEnd d)

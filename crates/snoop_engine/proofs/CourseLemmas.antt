@@ -1,16 +1,52 @@
 -- Courses, step by step, and the rows that they serve.
-use Rattle.snoop_engine.proofs.Common.{common_steps, ◌≡◌, ℕ, ◌+◌, ◌*◌, ◌<◌, true, cond, Option, Some, None, List, [], ◌∷◌, ◌++◌, length, length-append, map, refl, sym, ◌∙◌, ap, arith, Result, Ok, IsOk, IfNone, filter-append, length-map, map-append, All-cons, All-nil, Extent, Row, Step, Protocol, Reply, Refused, Picture, Situation, reset, FirstMove, TheRun, IsQuiet, steps_paid, turn_rule, untouched, has_transaction, steps_owed, LeadsOn, EndsInOrder, FindsInOrder, FollowsInOrder, InOrder, LeadsToRest, remaining_in_order, StepsServe, StepsServeSerially, IsAtTheEnd, IsAtTheStart, Finds, Advances, Progress, ServesSerially, all_asks, ask_for, is_ask, Serves, asks_of, works_of}
+use Rattle.snoop_engine.proofs.Common.{common_steps, ◌≡◌, ℕ, ◌+◌, ◌*◌, ◌<◌, true, cond, Option, Some, None, List, [], ◌∷◌, ◌++◌, length, length-append, map, refl, sym, ◌∙◌, ap, arith, Result, Ok, IsOk, IfNone, filter-append, length-map, map-append, All-cons, All-nil, Extent, Row, Step, Protocol, Reply, Refused, Picture, Situation, reset, FirstMove, TheRun, IsQuiet, steps_paid, turn_rule, untouched, has_transaction, steps_owed, LeadsOn, EndsInOrder, InOrder, LeadsToRest, remaining_in_order, StepsServe, StepsServeSerially, IsAtTheEnd, IsAtTheStart, Progress, ServesSerially, all_asks, ask_for, is_ask, Serves, asks_of, works_of, cases_lt, get_or_past, get_or-set_same, get_or-set_other, inl, inr, nothing_to_do, slice_set, sum_by-set, ◌≢◌, suc, sum_by-cons, Ask, eq-eqb, ne_eqb, Todo, todo_of, left_in, TakesUp, remaining, TakesUpNext}
 use Rattle.std.proofs.lemmas.List.Folds.{sum_by-replicate}
-use Rattle.snoop_engine.proofs.{Fewer.leaves_fewer, TakenLemmas.{same_shape}}
+use Rattle.snoop_engine.proofs.TakenLemmas.{same_shape}
+
+left_cons : (lane : Todo) (lanes : List Todo) → left_in (lane ∷ lanes) ≡ length lane.left + left_in lanes
+left_cons lane lanes = omega (arith, sum_by-cons (λ (t : Todo). length t.left) lane lanes)
+
+-- lanes that are alike at each core have as many rows left
+pub left_same : (xs ys : List Todo) → ((k : ℕ) → length (todo_of xs k).left ≡ length (todo_of ys k).left) → left_in xs ≡ left_in ys
+left_same [] [] same = omega arith
+left_same [] (y ∷ ys) same = omega (arith, left_cons, same 0, left_same [] ys (λ k. same (suc k)))
+left_same (x ∷ xs) [] same = omega (arith, left_cons, same 0, left_same xs [] (λ k. same (suc k)))
+left_same (x ∷ xs) (y ∷ ys) same = omega (arith, left_cons, same 0, left_same xs ys (λ k. same (suc k)))
+
+-- one core has one row fewer left
+left_fewer : (xs ys : List Todo) (core : ℕ) → length (todo_of xs core).left ≡ 1 + length (todo_of ys core).left
+    → ((k : ℕ) → k ≢ core → length (todo_of xs k).left ≡ length (todo_of ys k).left) → left_in xs ≡ 1 + left_in ys
+left_fewer xs ys core one same = elim (cases_lt core (length xs)) [
+  | inl there ↦
+      let lane : Todo = todo_of ys core in
+      let alike : left_in (slice_set xs core lane) ≡ left_in ys = left_same (slice_set xs core lane) ys (λ k. grind (arith, get_or-set_same xs core lane nothing_to_do there, get_or-set_other xs core k lane nothing_to_do, same k)) in
+      omega (arith, sum_by-set (λ (t : Todo). length t.left) xs core lane nothing_to_do there)
+  | inr past ↦ let none = ap (λ (t : Todo). length t.left) (get_or_past xs core nothing_to_do (omega arith)) in absurd (omega (arith, one, none))
+]
+
+-- what a step takes up is what it pays for
+left_paid : (old new : List Todo) (step : Step) → TakesUp old step new → 3 * left_in old ≡ steps_paid step + 3 * left_in new
+left_paid old new (Ask core block word asking) takes =
+    let own : length (todo_of old core).left ≡ suc (length (todo_of new core).left) = rw (eq-eqb core core refl) at (ap length (takes core)) in
+    let others : (k : ℕ) → k ≢ core → length (todo_of old k).left ≡ length (todo_of new k).left = λ k ne. rw (ne_eqb core k (λ e. ne (sym e))) at (ap length (takes k)) in
+    omega (arith, left_fewer old new core (omega (arith, own)) others)
+left_paid old new _ takes = omega (arith, left_same old new (λ k. ap length (takes k)))
+
+-- each step leaves fewer to come
+pub leaves_fewer : (old new : Progress) (step : Step) (answer : Reply) → FirstMove old.situation step answer new.situation
+    → TakesUp old.lanes step new.lanes → remaining new < remaining old
+leaves_fewer old new step answer move takes =
+    omega (arith, left_paid old.lanes new.lanes step takes, turn_rule.pays old.situation new.situation step answer move)
 
 -- a driver of rows leads on by its step
-pub driver_leads : (old new : Progress) (step : Step) (answer : Reply) → Advances old step answer new → LeadsOn (IsAtTheEnd old) step (Ok answer) (IsAtTheEnd new)
-driver_leads old new step answer follows steps outcomes final h = record {
-  run = (new.situation, (follows.move, h.run));
+pub driver_leads : (old new : Progress) (step : Step) (answer : Reply) → FirstMove old.situation step answer new.situation → TakesUp old.lanes step new.lanes
+    → LeadsOn (IsAtTheEnd old) step (Ok answer) (IsAtTheEnd new)
+driver_leads old new step answer move takes steps outcomes final h = record {
+  run = (new.situation, (move, h.run));
   taken = All-cons IsOk (Ok answer) outcomes refl h.taken;
-  asked = λ core. rw (follows.takes_up core, h.asked core) (grind (arith, common_steps));
+  asked = λ core. rw (takes core, h.asked core) (grind (arith, common_steps));
   quiet = h.quiet;
-  few = omega (arith, follows.fewer, h.few);
+  few = omega (arith, leaves_fewer old new step answer move takes, h.few);
 }
 
 -- a machine at reset owes no steps
@@ -40,13 +76,13 @@ pub driver_serves : {protocol : Protocol} {shape : Extent} {rows : List Row} {st
     → IsAtTheStart protocol shape rows start → IsAtTheEnd start steps outcomes final → StepsServe protocol shape rows steps
 driver_serves {outcomes = outcomes} {final = final} begins end = let served = driver_served begins end in record { outcomes = outcomes; final = final; run = served.0; serves = served.1 }
 
-module _ (old new : InOrder) (step : Step) (answer : Reply) (follows : FollowsInOrder old step answer new) where
+module _ (old new : InOrder) (step : Step) (answer : Reply) (move : FirstMove old.situation step answer new.situation) (takes : TakesUpNext old step new.left) where
   -- fewer steps may still come
   pub fewer_in_order : remaining_in_order new < remaining_in_order old
   fewer_in_order =
-      let pays = turn_rule.pays old.situation new.situation step answer follows.move in
-      let asked : length (all_asks (step ∷ [])) ≡ length follows.takes_up.first = rw follows.takes_up.asked (length-map follows.takes_up.first (ask_for old.situation.shape)) in
-      let left : length old.left ≡ length follows.takes_up.first + length new.left = rw follows.takes_up.left (length-append follows.takes_up.first new.left) in
+      let pays = turn_rule.pays old.situation new.situation step answer move in
+      let asked : length (all_asks (step ∷ [])) ≡ length takes.first = rw takes.asked (length-map takes.first (ask_for old.situation.shape)) in
+      let left : length old.left ≡ length takes.first + length new.left = rw takes.left (length-append takes.first new.left) in
       let paid : steps_paid step ≡ 3 * length (all_asks (step ∷ [])) = grind (arith, common_steps) in
       omega (arith, pays, asked, left)
 
@@ -54,17 +90,17 @@ module _ (old new : InOrder) (step : Step) (answer : Reply) (follows : FollowsIn
     at_rest : (before after : List Step) (x : Step) → step ∷ steps ≡ before ++ x ∷ after → is_ask x ≡ true → LeadsToRest old.situation before
     at_rest [] after x split its =
         let same_step : step ≡ x = cc in
-        record { outcomes = []; reached = old.situation; run = refl; quiet = follows.takes_up.rest (rw same_step its) }
+        record { outcomes = []; reached = old.situation; run = refl; quiet = takes.rest (rw same_step its) }
     at_rest (b ∷ bs) after x split its =
         let same_step : step ≡ b = cc in
         let later = h.apart bs after x (cc) its in
-        rw (← same_step) (record { outcomes = Ok answer ∷ later.outcomes; reached = later.reached; run = (new.situation, (follows.move, later.run)); quiet = later.quiet })
+        rw (← same_step) (record { outcomes = Ok answer ∷ later.outcomes; reached = later.reached; run = (new.situation, (move, later.run)); quiet = later.quiet })
 
     pub in_order_leads : EndsInOrder old (step ∷ steps) (Ok answer ∷ outcomes) final
     in_order_leads = record {
-      run = (new.situation, (follows.move, h.run));
+      run = (new.situation, (move, h.run));
       taken = All-cons IsOk (Ok answer) outcomes refl h.taken;
-      asked = rw (filter-append is_ask (step ∷ []) steps, follows.takes_up.asked, h.asked, same_shape old.situation new.situation step answer follows.move, follows.takes_up.left) (sym (map-append (ask_for old.situation.shape) follows.takes_up.first new.left));
+      asked = rw (filter-append is_ask (step ∷ []) steps, takes.asked, h.asked, same_shape old.situation new.situation step answer move, takes.left) (sym (map-append (ask_for old.situation.shape) takes.first new.left));
       apart = at_rest;
       quiet = h.quiet;
       few = omega (arith, fewer_in_order, h.few);
@@ -113,18 +149,6 @@ module _ {protocol : Protocol} {shape : Extent} {rows : List Row} {start : InOrd
 
   pub in_order_serves : StepsServeSerially protocol shape rows steps
   in_order_serves = record { outcomes = outcomes; final = final; run = in_order_served.0; serves = in_order_served.1 }
-
--- a step that a driver found, taken
-pub driver_follows : {before old : Progress} {step : Step} → Finds before step old → (new : Progress) (answer : Reply) → FirstMove old.situation step answer new.situation → new.lanes ≡ old.lanes
-    → Advances before step answer new
-driver_follows {before} {old} {step} finds new answer move lanes =
-    let moved = rw finds.situation at move in
-    let takes_up = rw (← lanes) at finds.takes_up in
-    record { move = moved; takes_up = takes_up; fewer = leaves_fewer before new step answer moved takes_up }
-
-pub in_order_follows : {before old : InOrder} {step : Step} → FindsInOrder before step old → (new : InOrder) (answer : Reply) → FirstMove old.situation step answer new.situation → new.left ≡ old.left
-    → FollowsInOrder before step answer new
-in_order_follows finds new answer move left = record { move = rw finds.situation at move; takes_up = rw left finds.takes_up }
 
 -- at the end
 pub in_order_end : (old : InOrder) (r : Option Step) → IsQuiet old.situation → IfNone r (old.left ≡ []) → IfNone r (EndsInOrder old [] [] old.situation)

@@ -1,6 +1,7 @@
 -- What dealing the rows to their cores gives.
-use Rattle.snoop_engine.proofs.Common.{common_steps, nat_tests, ◌≡◌, ◌≢◌, ℕ, ◌+◌, ◌<◌, Bool, None, List, [], ◌∷◌, ◌++◌, length, map, filter, append_assoc, refl, sym, ◌∙◌, ap, arith, inl, inr, get_or, ◌==◌, All, Contains, slice_set, cases_eq, cases_lt, length_push, get_or_default, get_or_past, length-map, All-head, All-tail, All-push, Contains-push, Contains-append_left, Extent, Asked, Op, Row, IsRowWithin, Work, Protocol, reset, turn_rule, length-set, get_or-set_same, get_or-set_other, All-map, All-filter, All-weaker, sum_by-set, HasWord, IsWithinLimits, asked_of, asked_within, IsFit, IsWorkWithin, largest, IsAskedWithin, Todo, todo_of, nothing_to_do, lanes_under_way, left_in, works_by, works_of}
-use Rattle.snoop_engine.proofs.Fewer.{left_same}
+use Rattle.snoop_engine.proofs.Common.{common_steps, nat_tests, ◌≡◌, ◌≢◌, ℕ, ◌+◌, ◌<◌, Bool, None, List, [], ◌∷◌, ◌++◌, length, map, filter, append_assoc, refl, sym, ◌∙◌, ap, arith, inl, inr, get_or, ◌==◌, All, slice_set, cases_lt, length_push, get_or_default, get_or_past, length-map, All-head, All-tail, Extent, Asked, Op, Row, IsRowWithin, Work, Protocol, reset, turn_rule, length-set, get_or-set_same, get_or-set_other, All-map, All-filter, All-weaker, sum_by-set, HasWord, IsWithinLimits, asked_of, asked_within, IsFit, IsWorkWithin, largest, IsAskedWithin, Todo, todo_of, nothing_to_do, lanes_under_way, left_in, works_by, works_of, range_with_len, slice_index_or, Progress, IsAtTheStart}
+use Rattle.snoop_engine.proofs.CourseLemmas.{left_same}
+use Rattle.std.proofs.lemmas.List.FromFn.{get_or-range_with_len, length-range_with_len}
 
 -- all asks but those that are left have been dealt
 pub record Dealt (shape : Extent) (all rest : List Asked) (lanes : List Todo) : Type 0 where
@@ -69,10 +70,10 @@ asks_within shape rows asks limits within is =
     (All-weaker (IsRowWithin shape) (λ r. IsAskedWithin shape (asked_of shape r)) (λ r h. (h.0, h.1, asked_within shape r.address r.op limits)) rows within))
 
 -- what a driver of the asks has left is what it has of the rows
-pub left_of_rows : (shape : Extent) (rows : List Row) (asks : List Asked) (lanes : List Todo) → asks ≡ map (asked_of shape) rows → ((core : ℕ) → (todo_of lanes core).left ≡ works_by asks core)
-    → left_in lanes ≡ length asks → ((core : ℕ) → (todo_of lanes core).left ≡ works_of shape rows core) × (left_in lanes ≡ length rows)
-left_of_rows shape rows asks lanes is left counted =
-    (λ core. left core ∙ rw is (works_of_rows shape rows core), counted ∙ rw is (length-map rows (asked_of shape)))
+pub at_the_start : (protocol : Protocol) (shape : Extent) (rows : List Row) (asks : List Asked) (start : Progress) → start.situation ≡ reset protocol shape → asks ≡ map (asked_of shape) rows
+    → ((core : ℕ) → (todo_of start.lanes core).left ≡ works_by asks core) → left_in start.lanes ≡ length asks → IsAtTheStart protocol shape rows start
+at_the_start protocol shape rows asks start at is left counted =
+    record { situation = at; left = λ core. left core ∙ rw is (works_of_rows shape rows core); all = counted ∙ rw is (length-map rows (asked_of shape)) }
 
 -- a word below the shape's is there
 word_there : (shape : Extent) (word : ℕ) (asking : Op) → IsWithinLimits shape → word < shape.words → HasWord shape word asking
@@ -88,34 +89,22 @@ works_within protocol shape asks core limits within =
     (All-filter p (λ (a : Asked). W a.work) asks
     (All-weaker (IsAskedWithin shape) (λ (a : Asked). W a.work) (λ a h. (h.1, word_there shape a.work.word a.work.op limits h.2)) asks within))
 
--- the cores below n, each once
-pub record Counted (cores : List ℕ) (n : ℕ) : Type 0 where
-  pub within : All (λ core. core < n) cores
-  pub all : (core : ℕ) → core < n → Contains cores core
-
-pub counted_more : (cores : List ℕ) (n : ℕ) → Counted cores n → Counted (cores ++ n ∷ []) (n + 1)
-counted_more cores n counted = record {
-  within = All-push (λ core. core < n + 1) cores n (All-weaker (λ core. core < n) (λ core. core < n + 1) (λ core lt. omega arith) cores counted.within) (omega arith);
-  all = λ core lt. elim (cases_eq core n) [
-    | inl e ↦ rw e (Contains-push cores n)
-    | inr ne ↦ Contains-append_left cores (n ∷ []) core (counted.all core (omega (arith, ne)))
-  ];
-}
-
 -- a driver is fit at its start
 pub fit_new : (protocol : Protocol) (shape : Extent) (asks : List Asked) (lanes : List Todo) (turns : List ℕ) → IsWithinLimits shape → All (IsAskedWithin shape) asks
     → length lanes ≡ shape.cores → ((core : ℕ) → (todo_of lanes core).left ≡ works_by asks core) → ((core : ℕ) → (todo_of lanes core).work ≡ None)
-    → All (λ core. core < shape.cores) turns → ((core : ℕ) → core < shape.cores → Contains turns core) → IsFit (reset protocol shape) lanes turns
-fit_new protocol shape asks lanes turns limits within cores left idle few all =
+    → turns ≡ range_with_len 0 shape.cores → IsFit (reset protocol shape) lanes turns
+fit_new protocol shape asks lanes turns limits within cores left idle all =
     let start = turn_rule.starts_well protocol shape (lanes_under_way lanes) in
+    let long : length turns ≡ shape.cores = rw all (length-range_with_len 0 shape.cores) in
+    let each : (k d : ℕ) → k < shape.cores → slice_index_or turns k d ≡ k = λ k d low. rw all (omega (arith, get_or-range_with_len 0 shape.cores k d low)) in
     record {
       cores = cores;
       within = λ core. record { left = rw (left core) (works_within protocol shape asks core limits within); work = rw (idle core) tt };
       serving = start.1;
       kept = start.0;
-      few = few;
+      few = λ k d lt. (let low : k < shape.cores = omega arith in rw (each k d low) low);
       busy = λ core. elim (cases_lt core shape.cores) [
-        | inl lt ↦ inl (all core lt)
+        | inl lt ↦ inl (core, omega arith, each core core lt)
         | inr ge ↦
             (let past : todo_of lanes core ≡ nothing_to_do = get_or_past lanes core nothing_to_do (omega arith) in inr (rw past (refl, refl)))
       ];

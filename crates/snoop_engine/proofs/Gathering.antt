@@ -1,6 +1,6 @@
 -- How far a course has come: the frames of its steps, and the text of these, which was written or stands in the chunk.
 use Rattle.snoop_engine.proofs.Common.{◌≡◌, List, [], ◌∷◌, ◌++◌, Option, refl, sym, append_assoc, append-nil, map-append, Result, ℕ, Extent, Gathers, Spills, Protocol, Step, Reply, Refused, Situation, reset, GoesFirst, TheRun, appends_none, gathers_more, gathers_spilled, CanEnd, LeadsToEndWith, Leading, LeadsOn, Frame, FramesFrom, outcomes_of, steps_of}
-use Rattle.snoop_engine.proofs.FrameLemmas.{frames_on, frames_run}
+use Rattle.snoop_engine.proofs.TakenLemmas.{frames_on, frames_run}
 
 -- what leads on from here leads on from the first place too, after these steps
 abbrev pub LeadsFrom : Leading → Leading → List Step → List (Result Reply Refused) → Type 0

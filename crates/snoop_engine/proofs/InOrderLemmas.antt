@@ -39,9 +39,9 @@ module _ {s : Situation} {left : List Row} {row : Row} (fit : IsInOrder s left (
       turn_rule.never_refused s (only row.core block) row.core block word row.op true step fit.serves.serving fit.serves.kept
       fit.begun.0 fit.begun.1 (word_there s.shape row.address row.op fit.limits) (here row.core block) (sym is)
 
-  pub over_now : (r : Option Step) → r ≡ turn_of s row.core block word row.op true → IfNone r (ServesOnly nothing s)
-  over_now (Some step) is = tt
-  over_now None is = record {
+  pub row_over : (r : Option Step) → r ≡ turn_of s row.core block word row.op true → IfNone r (ServesOnly nothing s)
+  row_over (Some step) is = tt
+  row_over None is = record {
     kept = fit.serves.kept;
     serving = turn_rule.ends s (only row.core block) nothing row.core block word row.op fit.serves.serving fit.serves.kept (here row.core block) (sym is) (λ other ne. rw (ne_eqb other row.core ne));
   }

@@ -2,15 +2,12 @@ pub mod Common
 pub mod TakenLemmas
 pub mod AskerLemmas
 pub mod Driving
-pub mod Fewer
 pub mod Dealing
 pub mod WrittenLemmas
 pub mod Packing
-pub mod FrameLemmas
 pub mod Gathering
 pub mod RangeLemmas
 pub mod Inside
-pub mod AllLines
 pub mod TrueLines
 pub mod TallyLemmas
 pub mod ShownLemmas

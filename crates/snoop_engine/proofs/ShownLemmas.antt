@@ -2,8 +2,8 @@
 use Rattle.snoop_engine.proofs.Common.{map-append, ◌≡◌, ℕ, ◌+◌, List, [], ◌∷◌, ◌++◌, length, length-append, Option, refl, ◌∙◌, append_assoc, append-nil, arith, Result, Ok, Err, IsErrAnd, subst, Appends, Extent, AppendsFront, Step, Protocol, WriteFault, gathers_cut, gathers_done, gathers_more, gathers_stop, appends_none_of, Reply, Refused, Situation, reset, GoesFirst, RunsGoOn, TheRun, CanEnd, LeadsToEndWith, Leading, LeadsOn, fault_of_write, AreFrames, Frame, FramesFrom, Gathers, GivesSteps, lines_of_step, IsNextSeen, block_of_step, frame_seen, shown, view_text, SimFault, Seen, steps_of, outcomes_of}
 use Rattle.snoop_trace.specs.declared.fault.WriteFault.TheVariants as write
 use Rattle.snoop_engine.specs.{SimulatedView.{BeginsToShow, ShowsRun, SimulatesView}, declared.{input.Input.Input, fault.SimFault.TheVariants.Text}}
-use Rattle.snoop_engine.proofs.{Gathering.{Gathering, gathering_more, ends_here, ends_on}, TakenLemmas.goes_alike, TrueLines.lines_fit}
-use Rattle.snoop_engine.proofs.FrameLemmas.{are_the_run, framed, frames_keep, frames_on, frames_run}
+use Rattle.snoop_engine.proofs.{Gathering.{Gathering, gathering_more, ends_here, ends_on}, TrueLines.lines_fit}
+use Rattle.snoop_engine.proofs.TakenLemmas.{are_the_run, framed, frames_keep, frames_on, frames_run, goes_alike}
 
 -- what is shown of more frames comes after what is shown of the first
 shown_on : (shows : List Frame → Frame → List ℕ) (before first rest : List Frame) → shown shows before (first ++ rest) ≡ shown shows before first ++ shown shows (before ++ first) rest
@@ -17,6 +17,15 @@ module _ {protocol : Protocol} {shape : Extent} {text : List Frame → Situation
 
   begins_to_show : AppendsFront a b (text frames final) → BeginsToShow protocol shape text steps a b
   begins_to_show output = record { frames = frames; final = final; run = are; taken = are_the_run protocol shape steps frames final are; rows = lines_fit protocol shape frames final are.run; output = output }
+
+-- the same text in other words
+module _ {protocol : Protocol} {shape : Extent} {steps : List Step} {one other : List Frame → Situation → List ℕ} {a b : Option (List ℕ)}
+    (same : (frames : List Frame) (final : Situation) → AreFrames protocol shape steps frames final → one frames final ≡ other frames final) where
+  pub shown_so : ShowsRun protocol shape one steps a b → ShowsRun protocol shape other steps a b
+  shown_so h = shows_run h.run (rw (same h.frames h.final h.run) at h.output)
+
+  pub begun_so : BeginsToShow protocol shape one steps a b → BeginsToShow protocol shape other steps a b
+  begun_so h = begins_to_show h.run (rw (same h.frames h.final h.run) at h.output)
 
 module _ (protocol : Protocol) (shape : Extent) (heading : List ℕ) (shows : List Frame → Frame → List ℕ) (ending : List Frame → Situation → List ℕ) where
   -- some frames were shown, and the run goes on
@@ -120,10 +129,10 @@ view_faulted {steps = steps} input bytes (Err made) write.NoMemory is gives begi
 view_faulted input bytes (Ok u) fault is gives begins = absurd is
 
 -- another definition of the same text
-module _ (protocol : Protocol) (shape : Extent) (one other : List Frame → Situation → List ℕ)
-    (same : (steps : List Step) (frames : List Frame) (final : Situation) → AreFrames protocol shape steps frames final → one frames final ≡ other frames final) where
-  pub same_view : (input : Input) (bytes : Option (List ℕ)) (result : Result (Unit {0}) SimFault) (a b : Option (List ℕ))
-      → SimulatesView protocol shape input one bytes result a b → SimulatesView protocol shape input other bytes result a b
-  same_view input bytes (Ok u) a b h = let all = h.1.1 in (h.0, (h.1.0, shows_run all.run (rw (same h.0 all.frames all.final all.run) at all.output)))
-  same_view input bytes (Err (Text fault)) a b h = h
-  same_view input bytes (Err _) a b h = let some = h.1.1 in (h.0, (h.1.0, begins_to_show some.run (rw (same h.0 some.frames some.final some.run) at some.output)))
+pub same_view : (protocol : Protocol) (shape : Extent) (one other : List Frame → Situation → List ℕ)
+    → ((steps : List Step) (frames : List Frame) (final : Situation) → AreFrames protocol shape steps frames final → one frames final ≡ other frames final)
+    → (input : Input) (bytes : Option (List ℕ)) (result : Result (Unit {0}) SimFault) (a b : Option (List ℕ))
+    → SimulatesView protocol shape input one bytes result a b → SimulatesView protocol shape input other bytes result a b
+same_view protocol shape one other same input bytes (Ok u) a b h = (h.0, (h.1.0, shown_so (same h.0) h.1.1))
+same_view protocol shape one other same input bytes (Err (Text fault)) a b h = h
+same_view protocol shape one other same input bytes (Err _) a b h = (h.0, (h.1.0, begun_so (same h.0) h.1.1))

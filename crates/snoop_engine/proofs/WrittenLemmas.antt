@@ -1,8 +1,8 @@
 -- The lines of a course's steps, written or in the chunk, and then the report.
-use Rattle.snoop_engine.proofs.Common.{arith, common_steps, ◌≡◌, ℕ, List, [], ◌∷◌, ◌++◌, Option, sym, ◌∙◌, append_assoc, append-nil, inr, ◌⊎◌, Result, Err, IsErrAnd, Appends, Extent, AppendsFront, WriteFault, Protocol, Row, Step, gathers_cut, gathers_done, gathers_stop, appends_none_of, Item, Reply, Refused, Situation, reset, GoesFirst, RunsGoOn, TheRun, appends_more, front_after, CanEnd, LeadsToEndWith, Leading, LeadsOn, fault_of_write, EndsInOrder, InOrder, IsAtTheEnd, IsAtTheStart, Progress, SimFault, Frame, outcomes_of, steps_of, refl}
+use Rattle.snoop_engine.proofs.Common.{arith, common_steps, ◌≡◌, ℕ, List, [], ◌∷◌, ◌++◌, Option, sym, ◌∙◌, append_assoc, append-nil, map-append, inr, ◌⊎◌, Result, Err, IsErrAnd, Appends, Extent, AppendsFront, WriteFault, Protocol, Row, Step, gathers_cut, gathers_done, gathers_stop, appends_none_of, Item, Reply, Refused, Situation, reset, GoesFirst, RunsGoOn, TheRun, appends_more, front_after, CanEnd, LeadsToEndWith, Leading, LeadsOn, fault_of_write, EndsInOrder, InOrder, IsAtTheEnd, IsAtTheStart, Progress, SimFault, Frame, outcomes_of, steps_of, refl}
 use Rattle.snoop_history.specs.Report.{report_of}
 use Rattle.snoop_engine.specs.{Line.{line_text, line_texts}, Simulated.Begins, SimulatedRun.{BeginsRun, ReportsRun}, Written.run_text}
-use Rattle.snoop_engine.{specs.SimulatedSerial.{BeginsSerial, ReportsSerial}, proofs.{CourseLemmas.{driver_served, in_order_served}, FrameLemmas.frames_keep}}
+use Rattle.snoop_engine.{specs.SimulatedSerial.{BeginsSerial, ReportsSerial}, proofs.{CourseLemmas.{driver_served, in_order_served}, TakenLemmas.frames_keep}}
 use Rattle.snoop_engine.specs.declared.fault.SimFault.TheVariants as fault
 use Rattle.snoop_engine.proofs.Gathering.{Gathering, gathering_more, ends_here, ends_on}
 
@@ -16,8 +16,7 @@ lines_on shape [] steps outcomes = refl
 lines_on shape (f ∷ fs) steps outcomes = rw (lines_on shape fs steps outcomes) (simp append_assoc)
 
 lines_more : (shape : Extent) (frames : List Frame) (frame : Frame) → lines_of shape (frames ++ frame ∷ []) ≡ lines_of shape frames ++ line_text shape frame.step frame.outcome
-lines_more shape [] frame = simp append-nil
-lines_more shape (f ∷ fs) frame = rw (lines_more shape fs frame) (simp append_assoc)
+lines_more shape frames frame = rw (map-append (λ (f : Frame). f.step) frames _, map-append (λ (f : Frame). f.outcome) frames _) (lines_on shape frames _ _ ∙ simp append-nil)
 
 -- the whole output of a run was written, or a beginning of it
 abbrev WritesRun : Extent → Option (List ℕ) → Option (List ℕ) → Leading

@@ -2,7 +2,7 @@
 -- Source: this project's profile.
 use Rattle.std.specs.Prelude.{◌≡◌, ℕ, ◌+◌, ◌*◌, ◌/◌, ◌≤◌, true, List, [], ◌∷◌, ◌++◌, length, map, All, IsOk, IfSome, Option, Some, None, Result}
 use Rattle.snoop_trace.specs.{Extent.{Extent, IsWithinLimits}, Grammar.IsRowWithin, declared.step.{Row.Row, Step.Step}}
-use Rattle.snoop_model.specs.{declared.replies.{Reply.Reply, Refused.Refused}, Pictures.Situation.Situation, Moves.Move.FirstMove, Runs.Run.FirstRunFrom}
+use Rattle.snoop_model.specs.{declared.replies.{Reply.Reply, Refused.Refused}, Pictures.Situation.Situation, Runs.Run.FirstRunFrom}
 use Rattle.snoop_model.specs.Turns.{Quiet.IsQuiet, Serving.{IsUnderWay, steps_owed}}
 use Rattle.snoop_engine.specs.{UnderWay.{ServesOnly, nothing, only}, Round.IsEnabled, Serial.{all_asks, ask_for, is_ask}}
 
@@ -41,11 +41,6 @@ pub record FindsInOrder (old : InOrder) (step : Step) (new : InOrder) : Type 0 w
   pub takes_up : TakesUpNext old step new.left
   pub under_way : IsUnderWay (row_under_way new.situation.shape new.row) step
   pub enabled : IsEnabled new.situation step
-
--- the machine moves by the step
-pub record FollowsInOrder (old : InOrder) (step : Step) (answer : Reply) (new : InOrder) : Type 0 where
-  pub move : FirstMove old.situation step answer new.situation
-  pub takes_up : TakesUpNext old step new.left
 
 -- these steps lead from here to rest
 pub record LeadsToRest (here : Situation) (steps : List Step) : Type 0 where

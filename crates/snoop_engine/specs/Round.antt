@@ -2,7 +2,7 @@
 -- Source: this project's profile.
 use Rattle.std.specs.Prelude.{◌≡◌, ◌≢◌, ℕ, ◌+◌, ◌*◌, ◌<◌, List, [], ◌++◌, length, All, Contains, Option, None, IfSome, ◌⊎◌, option_to_list}
 use Rattle.snoop_trace.specs.{Words.HasWord, declared.step.{Step.Step, Work.Work}}
-use Rattle.snoop_model.specs.{declared.replies.{Reply.Reply, Refused.Refused}, Pictures.Situation.Situation, Moves.{Move.FirstMove, Refuses.Refuses}}
+use Rattle.snoop_model.specs.{declared.replies.Refused.Refused, Pictures.Situation.Situation, Moves.Refuses.Refuses}
 use Rattle.snoop_model.specs.{Turns.Serving.{IsServing, IsUnderWay, steps_owed}, Invariant.WellKept.IsWellKept}
 use Rattle.snoop_engine.specs.{Todo.{Todo, todo_of, left_in, lanes_under_way}, Served.ask_of}
 
@@ -56,12 +56,6 @@ pub record Finds (old : Progress) (step : Step) (new : Progress) : Type 0 where
   pub takes_up : TakesUp old.lanes step new.lanes
   pub under_way : IsUnderWay (lanes_under_way new.lanes) step
   pub enabled : IsEnabled new.situation step
-
--- the machine moves by the step, which its core has left first, and fewer steps may still come
-pub record Advances (old : Progress) (step : Step) (answer : Reply) (new : Progress) : Type 0 where
-  pub move : FirstMove old.situation step answer new.situation
-  pub takes_up : TakesUp old.lanes step new.lanes
-  pub fewer : remaining new < remaining old
 
 -- nothing has been asked
 pub record IsUnasked (old new : Progress) : Type 0 where

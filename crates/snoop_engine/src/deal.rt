@@ -1,5 +1,6 @@
 //! Rows, dealt to the cores that they are of.
-ghost use Rattle.std.specs.Prelude.{◌≡◌, ℕ, ◌<◌, All, Contains, None, IfOk, length};
+ghost use Rattle.std.specs.Prelude.{◌≡◌, ℕ, All, None, IfOk, length};
+ghost use Rattle.std.specs.List.{range_with_len};
 ghost use Rattle.snoop_engine.specs.Todo.{IsAskedWithin, todo_of, nothing_to_do, left_in, works_by};
 
 use crate::asks::AskQueue;
@@ -38,9 +39,9 @@ fn empty_lanes(alloc: Global, shape: Shape) -> Result<Vec<Lane>, NoMemory>
 }
 
 /// The cores by rising number.
+#[tactic(auto, using(crate::proofs::RangeLemmas::more_from_zero))]
 pub(crate) fn all_cores(alloc: Global, shape: Shape) -> Result<VecDeque<u32>, NoMemory>
-    ensures within { IfOk result (λ cores. All (λ core. core < shape.cores) cores.items) }
-    ensures all { IfOk result (λ cores. (core : ℕ) → core < shape.cores → Contains cores.items core) }
+    ensures { IfOk result (λ cores. cores.items ≡ range_with_len 0 shape.cores) }
 {
     let count = shape.cores();
     let mut cores = VecDeque::with_capacity(alloc, count as usize)?;

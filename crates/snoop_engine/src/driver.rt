@@ -105,6 +105,7 @@ impl Driver {
     }
 
     /// The first step of the core's next row.
+    #[tactic(auto, using(crate::proofs::Driving::fit_idles, crate::proofs::Driving::takes_first))]
     fn begun(&mut self, core: u32) -> Option<Step>
         requires core { core < self.old.situation.shape.cores }
         requires turn { Contains self.old.turns core }

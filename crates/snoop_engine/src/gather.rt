@@ -21,6 +21,7 @@ use std::alloc::Global;
 
 /// Reads a text to its end, and answers the steps that come of it: its own, or those that serve its rows, for the protocol
 /// and the shape. `NoMemory` may come in serving rows, too.
+#[tactic(auto, using(crate::proofs::CourseLemmas::driver_serves))]
 pub fn read_input<R: Source>(
     alloc: Global,
     reader: &mut R,
@@ -48,6 +49,7 @@ pub fn read_input<R: Source>(
 }
 
 /// Reads a text of rows to its end, and answers a driver that has them to do. `NoMemory` may come in dealing them or in making the machine, too.
+#[tactic(auto, using(crate::proofs::Dealing::asks_within))]
 pub(crate) fn read_driver<R: Source>(
     alloc: Global,
     reader: &mut R,

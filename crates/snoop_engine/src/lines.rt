@@ -6,7 +6,7 @@ ghost use Rattle.std.specs.Prelude.{◌≡◌, ◌≢◌, ◌++◌, codes, true,
 ghost use Rattle.std.specs.Fmt.{decimal};
 ghost use Rattle.std.specs.Io.KnownBytes.{Appends};
 ghost use Rattle.snoop_trace.specs.Output.{AppendsFront, BlamesWriter};
-ghost use Rattle.snoop_rules.specs.Names.{payload_name, request_name, state_name};
+ghost use Rattle.snoop_rules.specs.Names.{payload_name, state_name};
 ghost use Rattle.snoop_model.specs.declared.replies.Reply.TheVariants.{Came};
 ghost use Rattle.snoop_model.specs.Pictures.Situation.{reset};
 ghost use Rattle.snoop_model.specs.Texts.{reply_text};
@@ -74,26 +74,6 @@ fn push_came(
     }
 }
 
-fn issued(request: Request) -> &'static str
-    ensures { result.now ≡ codes "issued " ++ request_name request }
-{
-    match request {
-        Request::GetS => "issued GetS",
-        Request::GetM => "issued GetM",
-        Request::PutM => "issued PutM",
-    }
-}
-
-fn ordered(request: Request) -> &'static str
-    ensures { result.now ≡ codes "ordered " ++ request_name request }
-{
-    match request {
-        Request::GetS => "ordered GetS",
-        Request::GetM => "ordered GetM",
-        Request::PutM => "ordered PutM",
-    }
-}
-
 fn stalled(state: CacheState) -> &'static str
     ensures { result.now ≡ codes "refused Stalled " ++ state_name state }
 {
@@ -122,10 +102,14 @@ pub fn push_outcome(out: &mut Vec<u8>, outcome: Result<Reply, Refused>) -> Resul
     match outcome {
         Ok(Reply::Hit(value)) => push_numbered(out, "hit ", value),
         Ok(Reply::StoreHit) => push_text(out, "store hit"),
-        Ok(Reply::Issued(request)) => push_text(out, issued(request)),
+        Ok(Reply::Issued(Request::GetS)) => push_text(out, "issued GetS"),
+        Ok(Reply::Issued(Request::GetM)) => push_text(out, "issued GetM"),
+        Ok(Reply::Issued(Request::PutM)) => push_text(out, "issued PutM"),
         Ok(Reply::Gone) => push_text(out, "gone"),
         Ok(Reply::Absent) => push_text(out, "absent"),
-        Ok(Reply::Ordered(request)) => push_text(out, ordered(request)),
+        Ok(Reply::Ordered(Request::GetS)) => push_text(out, "ordered GetS"),
+        Ok(Reply::Ordered(Request::GetM)) => push_text(out, "ordered GetM"),
+        Ok(Reply::Ordered(Request::PutM)) => push_text(out, "ordered PutM"),
         Ok(Reply::Came { payload, from, did }) => push_came(out, payload, from, did),
         Err(Refused::NoCore) => push_text(out, "refused NoCore"),
         Err(Refused::NoBlock) => push_text(out, "refused NoBlock"),

@@ -3,7 +3,7 @@ ghost use Rattle.std.specs.Prelude.{◌≡◌, ◌<◌, ◌^◌, ◌++◌, ◌�
 ghost use Rattle.snoop_trace.specs.Grammar.{IsStepWithin};
 ghost use Rattle.snoop_trace.specs.declared.step.Step.TheVariants.{Ask};
 ghost use Rattle.snoop_engine.specs.declared.packed.Head.{Head};
-ghost use Rattle.snoop_engine.specs.Packed.{largest, step_by, step_of_head, stored_by, values_of, worded_by, words_of};
+ghost use Rattle.snoop_engine.specs.Packed.{largest, step_of_head, stored_by, values_of, worded_by, words_of};
 
 use crate::script::Script;
 use snoop_trace::streams::Entries;
@@ -72,30 +72,6 @@ impl Head {
             },
         }
     }
-
-    /// The step, with the word that it is of and the value that it stores, where its kind has them.
-    fn step(self, word: u32, value: u64) -> Step
-        ensures { result ≡ step_of_head self word value }
-    {
-        let core = self.core as u32;
-        let block = self.block as u32;
-        let ask = |word, op| Step::Ask {
-            core,
-            block,
-            word,
-            op,
-        };
-        match self.kind {
-            Kind::Load => ask(0, Op::Load),
-            Kind::Store => ask(0, Op::Store(value)),
-            Kind::Evict => ask(0, Op::Evict),
-            Kind::LoadOfWord => ask(word, Op::Load),
-            Kind::StoreOfWord => ask(word, Op::Store(value)),
-            Kind::EvictOfWord => ask(word, Op::Evict),
-            Kind::Order => Step::Order { core },
-            Kind::Respond => Step::Respond { block },
-        }
-    }
 }
 
 /// Steps in their order, of the largest shape or a smaller one, which are taken from the front.
@@ -138,17 +114,27 @@ impl Script for StepQueue {
 
     fn take_first(&mut self) -> Option<Step> {
         let head = self.heads.pop_front()?;
+        let core = head.core as u32;
+        let block = head.block as u32;
         let word = match head.kind {
             Kind::LoadOfWord | Kind::StoreOfWord | Kind::EvictOfWord => {
-                self.words.pop_front().unwrap()
+                self.words.pop_front().unwrap() as u32
             }
             _ => 0,
         };
-        let value = match head.kind {
-            Kind::Store | Kind::StoreOfWord => self.values.pop_front().unwrap(),
-            _ => 0,
+        let op = match head.kind {
+            Kind::Load | Kind::LoadOfWord => Op::Load,
+            Kind::Store | Kind::StoreOfWord => Op::Store(self.values.pop_front().unwrap()),
+            Kind::Evict | Kind::EvictOfWord => Op::Evict,
+            Kind::Order => return Some(Step::Order { core }),
+            Kind::Respond => return Some(Step::Respond { block }),
         };
-        Some(head.step(word as u32, value))
+        Some(Step::Ask {
+            core,
+            block,
+            word,
+            op,
+        })
     }
 }
 

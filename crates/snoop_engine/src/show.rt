@@ -21,6 +21,7 @@ use crate::serial_driver::SerialDriver;
 use crate::steps::Listed;
 use crate::taken::{block_of, head_for, take_step};
 use crate::view::View;
+use snoop_machine::Machine;
 use snoop_machine::laws::runs_go_on;
 use snoop_rules::Protocol;
 use snoop_trace::streams::{Sink, Source, gather_steps, spill, write_whole};
@@ -79,6 +80,7 @@ fn view_steps<R: Source, W: Sink, V: View>(
 }
 
 /// Shows the steps that serve the rows of a text, whose cores go side by side.
+#[tactic(auto, using(crate::proofs::CourseLemmas::driver_serves, crate::proofs::ShownLemmas::view_faulted))]
 fn view_rows<R: Source, W: Sink, V: View>(
     alloc: Global,
     reader: &mut R,
@@ -158,7 +160,8 @@ fn show_script<W: Sink, S: Script + Drop, V: View>(
     ensures blamed { BlamesWriter (W.failed writer.old) (W.failed writer.new) (result ≡ Err WriteFault.Write) }
 {
     runs_go_on();
-    let mut course = Listed::new(alloc, protocol, shape, script)?;
+    let machine = Machine::reset(alloc, protocol, shape)?;
+    let mut course = Listed { machine, script };
     show(alloc, writer, &mut course, view)
 }
 

@@ -1,10 +1,9 @@
 //! The command `steps`, and the course of steps that are all known before the first is taken.
-ghost use Rattle.std.specs.Prelude.{◌≡◌, ◌≢◌, length, true, Err, IfOk};
+ghost use Rattle.std.specs.Prelude.{◌≡◌, ◌≢◌, length, true, Err};
 ghost use Rattle.snoop_trace.specs.Output.{BlamesWriter};
 ghost use Rattle.snoop_trace.specs.Text.{BlamesReader};
 ghost use Rattle.snoop_trace.specs.declared.fault.TextFault.{TextFault};
 ghost use Rattle.snoop_trace.specs.declared.fault.TextFault.TheVariants as text_fault;
-ghost use Rattle.snoop_model.specs.Pictures.Situation.{reset};
 ghost use Rattle.snoop_engine.specs.Courses.{FindsListed, LeadsListed};
 ghost use Rattle.snoop_engine.specs.Simulated.{Simulates};
 
@@ -43,8 +42,12 @@ pub fn simulate_steps<R: Source, W: Sink>(
     let steps = gather_steps(alloc, reader, protocol, shape, StepQueue::new(alloc))?;
     // For the proof alone.
     runs_go_on();
-    let Ok(mut course) = Listed::new(alloc, protocol, shape, steps) else {
+    let Ok(machine) = Machine::reset(alloc, protocol, shape) else {
         return Err(SimFault::NoMemory);
+    };
+    let mut course = Listed {
+        machine,
+        script: steps,
     };
     write_lines(alloc, writer, &mut course)?;
     Ok(())
@@ -53,24 +56,8 @@ pub fn simulate_steps<R: Source, W: Sink>(
 /// Steps that are all known before the first is taken.
 #[derive(Drop)]
 pub(crate) struct Listed<S> {
-    machine: Machine,
-    script: S,
-}
-
-impl<S: Script + Drop> Listed<S> {
-    /// The steps of a script, with a machine at reset.
-    pub(crate) fn new(
-        alloc: Global,
-        protocol: Protocol,
-        shape: Shape,
-        script: S,
-    ) -> Result<Self, NoMemory>
-        ensures situation { IfOk result (λ listed. listed.machine.situation ≡ reset protocol shape) }
-        ensures script { IfOk result (λ listed. listed.script ≡ script) }
-    {
-        let machine = Machine::reset(alloc, protocol, shape)?;
-        Ok(Listed { machine, script })
-    }
+    pub(crate) machine: Machine,
+    pub(crate) script: S,
 }
 
 impl<S: Script + Drop> Course for Listed<S> {

@@ -1,5 +1,5 @@
 //! Counters of the rows of the tables.
-ghost use Rattle.std.specs.Prelude.{◌≡◌, ◌<◌, ◌+◌, ◌++◌, ◌∷◌, [], ℕ, List, get_or, set};
+ghost use Rattle.std.specs.Prelude.{◌≡◌, ◌<◌, ◌+◌, ◌++◌, ◌∷◌, [], List, get_or, set};
 ghost use Rattle.snoop_history.specs.Totals.{capped};
 ghost use Rattle.snoop_engine.specs.Tallies.{Tallies, core_place, counts_in, memory_counts_in, memory_place};
 ghost use Rattle.snoop_engine.specs.declared.taken.Taken.{Taken as Line};

@@ -1,14 +1,8 @@
-use Rattle.snoop_engine.proofs.Dealing.{asks_within, left_of_rows}
+use Rattle.snoop_engine.proofs.Dealing.{at_the_start}
 use Rattle.snoop_engine.proofs.gather.read_driver.Goals as goal
-
-pub new-requires-2 : goal.new-requires-2
-new-requires-2 g c =
-    let asked = c.in_ok-asks.ensures.read in
-    asks_within c.args.shape asked.rows c.in_ok-asks.asks c.within_limits.ensures asked.within asked.asks
 
 pub returns-clause-rows : goal.returns-clause-rows
 returns-clause-rows g c =
     let asked = c.in_ok-asks.ensures.read in
     let driver = c.in_ok-new.ensures in
-    let dealt = left_of_rows c.args.shape asked.rows c.in_ok-asks.asks c.in_ok-new.field-0.lanes asked.asks driver.left driver.all in
-    (asked.rows, (asked.given, record { situation = driver.situation; left = dealt.0; all = dealt.1 }))
+    (asked.rows, (asked.given, at_the_start _ _ _ _ _ driver.situation asked.asks driver.left driver.all))

@@ -1,10 +1,5 @@
-use Rattle.snoop_engine.proofs.{Common.◌∙◌, CourseLemmas.{driver_serves, in_order_serves}}
+use Rattle.snoop_engine.proofs.{Common.◌∙◌, CourseLemmas.in_order_serves}
 use Rattle.snoop_engine.proofs.gather.read_input.Goals as goal
-
-pub returns-in_ok-gather-in-Rows-clause-steps : goal.returns-in_ok-gather-in-Rows-clause-steps
-returns-in_ok-gather-in-Rows-clause-steps g c =
-    let read = c.in_ok-driver-in-Rows.ensures.rows in
-    rw c.in-Rows.is (read.0, (read.1.0, driver_serves read.1.1 c.in_ok-gather-in-Rows.ensures.1.1))
 
 pub returns-in_ok-gather-in-SerialRows-clause-steps : goal.returns-in_ok-gather-in-SerialRows-clause-steps
 returns-in_ok-gather-in-SerialRows-clause-steps g c =

@@ -5,4 +5,4 @@ pub invariant_of-result : goal.invariant_of-result
 invariant_of-result c =
     rw c.in_ok-machine.ensures.at_reset
     (fit_new c.args.protocol c.args.shape c.args.asks c.in_ok-lanes.lanes.items c.in_ok-turns.turns.items c.within_limits.ensures c.requires
-    c.in_ok-lanes.ensures.cores c.in_ok-lanes.ensures.left c.in_ok-lanes.ensures.idle c.in_ok-turns.ensures.within c.in_ok-turns.ensures.all)
+    c.in_ok-lanes.ensures.cores c.in_ok-lanes.ensures.left c.in_ok-lanes.ensures.idle c.in_ok-turns.ensures)

@@ -1,4 +1,4 @@
-use Rattle.snoop_engine.proofs.{Common.{refl, Progress}, CourseLemmas.{driver_follows, driver_leads}, Driving.fit_moves}
+use Rattle.snoop_engine.proofs.{Common.Progress, CourseLemmas.{driver_leads, leaves_fewer}, Driving.fit_moves}
 use Rattle.snoop_engine.proofs.driver.DriverCourse.take.Goals as goal
 
 pub invariant_of-self-2 : goal.invariant_of-self-2
@@ -8,9 +8,9 @@ pub returns-clause-fewer : goal.returns-clause-fewer
 returns-clause-fewer c before finds =
     let found = rw (← c.self.view_is) at finds in
     let new : Progress = record { situation = c.take_enabled.new.machine.situation; lanes = c.self.inside.lanes.items; turns = c.self.inside.turns.items } in
-    (driver_follows found new c.in_ok-reply.reply c.in_ok-reply.ensures.taken refl).fewer
+    leaves_fewer before new c.args.step c.in_ok-reply.reply (rw found.situation at c.in_ok-reply.ensures.taken) found.takes_up
 
 pub returns-clause-leads : goal.returns-clause-leads
 returns-clause-leads c before finds =
     let found = rw (← c.self.view_is) at finds in
-    driver_leads before _ c.args.step c.in_ok-reply.reply (driver_follows found _ c.in_ok-reply.reply c.in_ok-reply.ensures.taken refl)
+    driver_leads before _ c.args.step c.in_ok-reply.reply (rw found.situation at c.in_ok-reply.ensures.taken) found.takes_up

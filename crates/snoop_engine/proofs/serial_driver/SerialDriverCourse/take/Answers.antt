@@ -1,4 +1,4 @@
-use Rattle.snoop_engine.proofs.{Common.{refl, InOrder}, CourseLemmas.{fewer_in_order, in_order_follows, in_order_leads}, InOrderLemmas.in_order_moves}
+use Rattle.snoop_engine.proofs.{Common.InOrder, CourseLemmas.{fewer_in_order, in_order_leads}, InOrderLemmas.in_order_moves}
 use Rattle.snoop_engine.proofs.serial_driver.SerialDriverCourse.take.Goals as goal
 
 pub invariant_of-self-2 : goal.invariant_of-self-2
@@ -8,9 +8,9 @@ pub returns-clause-fewer : goal.returns-clause-fewer
 returns-clause-fewer c before finds =
     let found = rw (← c.self.view_is) at finds in
     let new : InOrder = record { situation = c.take_enabled.new.machine.situation; left = c.self.inside.rows.now; row = c.self.inside.row } in
-    fewer_in_order before new c.args.step c.in_ok-reply.reply (in_order_follows found new c.in_ok-reply.reply c.in_ok-reply.ensures.taken refl)
+    fewer_in_order before new c.args.step c.in_ok-reply.reply (rw found.situation at c.in_ok-reply.ensures.taken) found.takes_up
 
 pub returns-clause-leads : goal.returns-clause-leads
 returns-clause-leads c before finds =
     let found = rw (← c.self.view_is) at finds in
-    in_order_leads before _ c.args.step c.in_ok-reply.reply (in_order_follows found _ c.in_ok-reply.reply c.in_ok-reply.ensures.taken refl)
+    in_order_leads before _ c.args.step c.in_ok-reply.reply (rw found.situation at c.in_ok-reply.ensures.taken) found.takes_up
