@@ -6,7 +6,7 @@ use Rattle.snoop_history.specs.declared.items.Did.{Did}
 use Rattle.snoop_history.specs.declared.items.Item.TheVariants as item
 use Rattle.snoop_model.specs.declared.replies.Reply.TheVariants as reply
 use Rattle.snoop_model.specs.Moves.Replies.{Tells}
-use Rattle.snoop_bench.{specs.declared.work.Turn.Turn, proofs.{Cases.{IsCase, IsCase.{ordering, helping, ending}}, Turning.Facing}}
+use Rattle.snoop_bench.{specs.declared.work.Turn.Turn, proofs.Turning.{Facing, IsCase, IsCase.{ordering, helping, ending}}}
 use Rattle.snoop_bench.specs.declared.work.Turn.TheVariants as turn
 
 is_op : (did : Did) (load : Bool) → did.load ≡ load → IsOp (if load then op.Load else op.Store did.value) did

@@ -1,15 +1,111 @@
--- Turns keep works under way.
-use Rattle.std.proofs.Common.{◌≡◌, ◌≢◌, ◌⊎◌, ⊎_elim, ℕ, ◌<◌, inl, inr, Bool, true, List, length, replicate, Option, Some, None, refl, sym, ap, ◌∙◌, arith, false}
-use Rattle.snoop_bench.proofs.Common.{common_steps, gets, Access, access_of, AreUnderWay, Ask, asked_access, Case, cases_eq, eq-eqb, Extent, FirstMove, is_some, IsWellKept, as_access, Locked, none-some, Op, option_map, picture_of, Reply, Request, reset, Respond, same_Some, Situation, slice_set, state_of, Step, turn_of, TurnLaws, waited_or_asked, waiting_request, Work, work_at, works_asked, works_under_way}
+-- Works under way: the places that they have, the step of each turn, and that each turn keeps them.
+use Rattle.std.proofs.Common.{◌≡◌, ◌≢◌, ◌⊎◌, ⊎_elim, ℕ, zero, suc, ◌<◌, inl, inr, Bool, true, false, List, [], ◌∷◌, length, map, replicate, Option, Some, None, Ok, refl, sym, ap, ◌∙◌, append-nil, arith}
+use Rattle.snoop_bench.proofs.Common.{Access, access_of, answers_after, answers_of, AreUnderWay, as_access, Ask, asked_access, Case, case_of, case_under_way, cases_eq, common_steps, Contains, did_access, ends, eq-eqb, Extent, filter, FirstMove, gets, helps, if◌then◌else◌, is_some, IsOwed, IsReadableStep, IsWellKept, Locked, none-some, of_core, OnceMore, one_or_none, Op, Open, option_map, Order, orders, over, owed_after, performed_by, picture_of, Recording, Reply, Request, reset, Respond, same_Some, Situation, slice_set, state_of, Step, step_under_way, TakesAndPublishes, turn_of, TurnLaws, waited_or_asked, waiting_request, Work, work_at, works_asked, works_under_way, ◌==◌}
 use Rattle.std.proofs.lemmas.{Bool.Decides.nat_tests, List.{length-set, length-replicate}}
 use Rattle.snoop_trace.specs.{Words.HasWord, declared.protocol.Protocol.Protocol}
 use Rattle.snoop_trace.specs.declared.step.Op.TheVariants as op
 use Rattle.snoop_model.{specs.{declared.replies.Refused.Refused, Turns.Serving.IsUnderWay, Moves.Refuses.Refuses}, proofs.Invariant.Runs.reset_line}
 use Rattle.snoop_model.specs.declared.replies.Reply.TheVariants as reply
 use Rattle.snoop_model.{proofs.{OneBlock.AfterMoves.{in_pictures, picture_here}, Turns.has_step}, specs.Pictures.Picture.{held_by, Picture}}
-use Rattle.snoop_bench.{specs.Faults.IsInside, proofs.{Cases.{IsCase, IsCase.{ordering, ending}}, Waiting.{Stepped, AsksNothing, owed_still}}}
-use Rattle.snoop_bench.proofs.Places.{its_block, changed, unchanged, put_out, has_place, apart}
+use Rattle.snoop_bench.specs.Faults.{IsInside}
 use Rattle.snoop_model.proofs.Queues.{arrives_waits}
+
+-- the block of a work, if there is one
+pub its_block : (o p : Option Work) → o ≡ p → option_map (λ work. work.block) o ≡ option_map (λ work. work.block) p
+its_block o p same = ap (λ (x : Option Work). option_map (λ work. work.block) x) same
+
+-- the changed place holds the new work
+pub changed : (works : List (Option Work)) (core : ℕ) (work : Option Work) → core < length works → work_at (slice_set works core work) core ≡ work
+changed works core work inside = grind (arith, common_steps, gets)
+
+-- the other places are as before
+pub unchanged : (works : List (Option Work)) (core other : ℕ) (work : Option Work) → other ≢ core
+    → work_at (slice_set works core work) other ≡ work_at works other
+unchanged works core other work apart = grind (arith, common_steps, gets)
+
+-- the place of an idle core, once it held a work, is idle again without it
+pub put_out : (works : List (Option Work)) (core : ℕ) (work : Option Work) → work_at works core ≡ None → slice_set (slice_set works core work) core None ≡ works
+put_out [] core work idle = refl
+put_out (x ∷ works) zero work idle = ap (λ o. o ∷ works) (sym idle)
+put_out (x ∷ works) (suc core) work idle = ap (λ l. x ∷ l) (put_out works core work idle)
+
+-- a core with a work under way has a place
+pub has_place : (works : List (Option Work)) (core : ℕ) (work : Work) → work_at works core ≡ Some work → core < length works
+has_place works core work its = grind (arith, gets)
+
+-- a core with something under way is another than one with nothing
+pub apart : {A : Type 0} (at : ℕ → Option A) (idle busy : ℕ) (x : A) → at idle ≡ None → at busy ≡ Some x → busy ≢ idle
+apart at idle busy x none some same = cc
+
+-- the case, whether a request waits in it, and the step that is taken
+pub data IsCase (core block : ℕ) : Case → Bool → Option Step → Type 0 where
+  ordering : IsCase core block orders true (Some (Order core))
+  helping : IsCase core block helps true (Some (Respond block))
+  ending : IsCase core block ends false (Some (Respond block))
+  closed : IsCase core block over false None
+
+case_is : (w : Option Request) (o : Option Open) (core block : ℕ) → IsCase core block (case_under_way w o core) (is_some w) (step_under_way w o core block)
+case_is (Some request) None core block = ordering
+case_is (Some request) (Some transaction) core block = helping
+case_is None None core block = closed
+case_is None (Some transaction) core block = by_core (transaction.core == core)
+  where
+    by_core : (own : Bool) → IsCase core block (if own then ends else over) false (if own then Some (Respond block) else None)
+    by_core true = ending
+    by_core false = closed
+
+-- the case of a turn whose work is under way, by whether its request waits and by its step
+pub at_case : (s : Situation) (core block word : ℕ) (asking : Op) {waits : Bool} {step : Option Step}
+    → is_some (waiting_request (state_of s core block)) ≡ waits → turn_of s core block word asking true ≡ step
+    → IsCase core block (case_of s core block true) waits step
+at_case s core block word asking e f = rw (← e, ← f) (case_is (waiting_request (state_of s core block)) (picture_of s block).transaction core block)
+
+-- the step is one that is read again from its text
+pub turn_within : {core block : ℕ} {k : Case} {waits : Bool} {step : Step} (shape : Extent) → core < shape.cores → block < shape.blocks
+    → IsCase core block k waits (Some step) → IsReadableStep shape step
+turn_within shape c b ordering = c
+turn_within shape c b helping = b
+turn_within shape c b ending = b
+
+-- a step of the machine, as its clauses report it
+pub record Stepped (s t : Situation) (step : Step) (answer : Reply) : Type 0 where
+  pub move : FirstMove s step answer t
+  pub once : OnceMore s (step ∷ []) (Ok answer ∷ []) t
+  pub shape : t.shape ≡ s.shape
+  pub kept : IsWellKept t
+
+-- the same from a step that was recorded
+pub stepped : TurnLaws → {p q : Recording} {step : Step} {answer : Reply} → IsWellKept p.situation → TakesAndPublishes step answer p q
+    → OnceMore p.situation (step ∷ []) (Ok answer ∷ []) q.situation → q.situation.shape ≡ p.situation.shape → Stepped p.situation q.situation step answer
+stepped rule {p} {q} {step} {answer} well took once shape = record {
+  move = took.move;
+  once = once;
+  shape = shape;
+  kept = rule.keeps_well p.situation q.situation step answer well took.move;
+}
+
+-- the step asks no load or store of the core's cache
+abbrev pub AsksNothing : ℕ → Step → Type 0
+AsksNothing core step = (block : ℕ) → asked_access core block step ≡ None
+
+module _ {s t : Situation} {step : Step} {answer : Reply} (m : Stepped s t step answer) (core : ℕ) where
+  -- the operation of a work under way stays owed while its core asks nothing
+  pub owed_still : (works : List (Option Work)) (work : Work) → AreUnderWay works s → work_at works core ≡ Some work → AsksNothing core step
+      → IsOwed s core work.block (access_of work) → IsOwed t core work.block (access_of work)
+  owed_still works work u its nothing (inl waits) = owed_after s t step answer m.move m.once core work.block (access_of work) (inl waits)
+  owed_still works work u its nothing (inr last) = elim (one_or_none core (performed_by s t step answer m.move)) [
+    | inl none ↦ inr (last.0, rw (answers_after s t step answer m.move m.once core work.block (access_of work), none, append-nil (answers_of s.log core)) last.1, last.2, last.3)
+    | inr (d, is) ↦
+        let did : Contains (map did_access (filter (λ x. x.block == d.block) (of_core core (performed_by s t step answer m.move)))) (did_access d) =
+        rw (is, eq-eqb d.block d.block refl) (zero, omega arith, refl) in
+        elim (waited_or_asked s t step answer m.move m.once core d.block (did_access d) (inl did)) [
+          | inl waits ↦
+              let there = u.waiting core d.block (did_access d) waits in
+              let same : work ≡ record { block = d.block; word = d.word; op = (did_access d).op } = cc in
+              owed_after s t step answer m.move m.once core work.block (access_of work) (inl (rw same waits))
+          | inr asked ↦ absurd (none-some (did_access d) (sym (nothing d.block) ∙ asked))
+        ]
+  ]
 
 -- the core and the block are within the shape, and so is the word that is loaded or stored
 abbrev pub IsWithin : Situation → ℕ → Work → Type 0
