@@ -1,6 +1,6 @@
 -- Works under way: the places that they have, the step of each turn, and that each turn keeps them.
 use Rattle.std.proofs.Common.{◌≡◌, ◌≢◌, ◌⊎◌, ⊎_elim, ℕ, zero, suc, ◌<◌, inl, inr, Bool, true, false, List, [], ◌∷◌, length, map, replicate, Option, Some, None, Ok, refl, sym, ap, ◌∙◌, append-nil, arith}
-use Rattle.snoop_bench.proofs.Common.{Access, access_of, answers_after, answers_of, AreUnderWay, as_access, Ask, asked_access, Case, case_of, case_under_way, cases_eq, common_steps, Contains, did_access, ends, eq-eqb, Extent, filter, FirstMove, gets, helps, if◌then◌else◌, is_some, IsOwed, IsReadableStep, IsWellKept, Locked, none-some, of_core, OnceMore, one_or_none, Op, Open, option_map, Order, orders, over, owed_after, performed_by, picture_of, Recording, Reply, Request, reset, Respond, same_Some, Situation, slice_set, state_of, Step, step_under_way, TakesAndPublishes, turn_of, TurnLaws, waited_or_asked, waiting_request, Work, work_at, works_asked, works_under_way, ◌==◌}
+use Rattle.snoop_bench.proofs.Common.{Access, access_of, answers_after, answers_of, AreUnderWay, Ask, asked_access, Case, case_of, case_under_way, cases_eq, common_steps, Contains, did_access, ends, eq-eqb, Extent, filter, FirstMove, gets, helps, if◌then◌else◌, is_some, IsOwed, IsReadableStep, IsWellKept, Locked, none-some, of_core, OnceMore, one_or_none, Op, Open, option_map, Order, orders, over, owed_after, performed_by, picture_of, Recording, Reply, Request, reset, Respond, Situation, slice_set, state_of, Step, step_under_way, TakesAndPublishes, turn_of, TurnLaws, waited_or_asked, waiting_request, Work, work_at, works_asked, works_under_way, ◌==◌}
 use Rattle.std.proofs.lemmas.{Bool.Decides.nat_tests, List.{length-set, length-replicate}}
 use Rattle.snoop_trace.specs.{Words.HasWord, declared.protocol.Protocol.Protocol}
 use Rattle.snoop_trace.specs.declared.step.Op.TheVariants as op
@@ -32,10 +32,6 @@ put_out (x ∷ works) (suc core) work idle = ap (λ l. x ∷ l) (put_out works c
 -- a core with a work under way has a place
 pub has_place : (works : List (Option Work)) (core : ℕ) (work : Work) → work_at works core ≡ Some work → core < length works
 has_place works core work its = grind (arith, gets)
-
--- a core with something under way is another than one with nothing
-pub apart : {A : Type 0} (at : ℕ → Option A) (idle busy : ℕ) (x : A) → at idle ≡ None → at busy ≡ Some x → busy ≢ idle
-apart at idle busy x none some same = cc
 
 -- the case, whether a request waits in it, and the step that is taken
 pub data IsCase (core block : ℕ) : Case → Bool → Option Step → Type 0 where
@@ -124,8 +120,7 @@ record GoOn (works after : List (Option Work)) (step : Step) : Type 0 where
 -- the block of a work that stays
 block_stays : (before after : Option Work) (block : ℕ) → ((work : Work) → before ≡ Some work → after ≡ Some work)
     → option_map (λ work. work.block) before ≡ Some block → option_map (λ work. work.block) after ≡ Some block
-block_stays None after block stay e = cc
-block_stays (Some work) after block stay e = rw (stay work refl) e
+block_stays before after block stay e = grind arith
 
 goes_on : TurnLaws → {s t : Situation} {step : Step} {answer : Reply} (m : Stepped s t step answer) (works after : List (Option Work)) → AreUnderWay works s
     → GoOn works after step → AreUnderWay after t
@@ -195,7 +190,7 @@ module _ (rule : TurnLaws) {s : Situation} {works : List (Option Work)} {core : 
         unchanged works core c None other ∙ there;
     owed = λ c w theirs isnt.
         let empty = changed works core None (has_place works core work f.its) in
-        let other = apart (work_at (slice_set works core None)) core c w empty theirs in
+        let other : c ≢ core = λ same. cc in
         f.under.owed c w (sym (unchanged works core c None other) ∙ theirs) isnt;
   }
 
@@ -220,29 +215,16 @@ finished rule {s} {t} {works} {core} {work} {k} {step} {answer} ending f waits m
   well = m.kept;
   inside = rw m.shape f.inside;
   its = f.its;
-  step_is = closed_after s t core work.block work.word work.op answer f.well (no_request (waiting_request (state_of s core work.block)) waits) m.move;
+  step_is = closed_after s t core work.block work.word work.op answer f.well (grind (arith, waits)) m.move;
 }
-  where
-    no_request : (w : Option Request) → false ≡ is_some w → w ≡ None
-    no_request w e = grind arith
 
--- what waits of an operation that is asked is that of the work
-kept_is : (word : ℕ) (asking : Op) (wanted : Access) → as_access word asking ≡ Some wanted → record { word = word; op = asking } ≡ wanted
-kept_is word op.Load wanted e = same_Some _ _ e
-kept_is word (op.Store v) wanted e = same_Some _ _ e
-kept_is word op.Evict wanted e = cc
-
-kept : (word : ℕ) (asking : Op) → asking ≢ op.Evict → as_access word asking ≡ Some (record { word = word; op = asking })
-kept word op.Load isnt = refl
-kept word (op.Store v) isnt = refl
-kept word op.Evict isnt = absurd (isnt refl)
-
+-- what an Ask asks is the operation of the work
 asked_work : (core c block : ℕ) (wanted : Access) (work : Work) → asked_access c block (Ask core work.block work.word work.op) ≡ Some wanted
     → (core ≡ c) × (work.block ≡ block) × (record { word = work.word; op = work.op } ≡ wanted)
-asked_work core c block wanted work e = grind (arith, nat_tests, kept_is)
+asked_work core c block wanted work e = grind (arith, nat_tests)
 
 asks_its : (core : ℕ) (work : Work) → work.op ≢ op.Evict → asked_access core work.block (Ask core work.block work.word work.op) ≡ Some (access_of work)
-asks_its core work isnt = rw (eq-eqb core core refl, eq-eqb work.block work.block refl) (kept work.word work.op isnt)
+asks_its core work isnt = grind (arith, nat_tests)
 
 -- a core with nothing under way asks
 module _ (rule : TurnLaws) (works : List (Option Work)) (core : ℕ) (work : Work) {s t : Situation} {answer : Reply}
@@ -258,7 +240,7 @@ module _ (rule : TurnLaws) (works : List (Option Work)) (core : ℕ) (work : Wor
   issued_keeps : AreUnderWay begun t
   issued_keeps = goes_on rule m works begun u (record {
     places = length-set works core (Some work);
-    stay = λ c w busy. unchanged works core c (Some work) (apart (work_at works) core c w idle busy) ∙ busy;
+    stay = λ c w busy. unchanged works core c (Some work) (λ same. cc) ∙ busy;
     under = its_block _ _ its;
     asked = λ c block wanted e.
         let (own, at, same) = asked_work core c block wanted work e in
@@ -294,8 +276,5 @@ reset_under_way rule protocol shape = record {
   serving = (rule.starts_well protocol shape (works_under_way (replicate shape.cores None))).1;
   waiting = λ core block wanted waits.
       absurd (none-some wanted (rw (reset_line protocol shape core block) at waits));
-  owed = λ core work its isnt. absurd (none-some work (sym (nothing shape.cores core) ∙ its));
+  owed = λ core work its isnt. absurd (grind (arith, common_steps, gets));
 }
-  where
-    nothing : (cores core : ℕ) → work_at (replicate cores None) core ≡ None
-    nothing cores core = grind (arith, common_steps, gets)
