@@ -121,11 +121,8 @@ fn is_served(seats: &[Seat], row: &Row) -> bool
 fn core_count(seats: &[Seat]) -> usize
     ensures { All (λ seat. seat.core < result) seats.now }
 {
-    let mut count = 0;
-    for seat in seats {
-        count = count.max(seat.core() as usize + 1);
-    }
-    count
+    let counts = seats.iter().map(|seat| seat.core() as usize + 1);
+    counts.max().unwrap_or(0)
 }
 
 // Each seat runs the rows of its core, in a thread of its own where one can be made.
