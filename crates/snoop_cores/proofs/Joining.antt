@@ -65,9 +65,6 @@ first_less items core n (d ∷ answers) first few =
       differs = λ same. none-some (get_or all n d) (sym none ∙ (rw first.0 at same) ∙ slice_get-get_or all n d few);
     }
 
-apart : (a b : ℕ) → (a < b → ⊥) → (b < a → ⊥) → a ≡ b
-apart a b p q = omega (arith, p, q)
-
 -- a seat that stands where none does
 abbrev pub no_seat : Seating
 no_seat = record { core = 0; shape = record { cores = 0; blocks = 0; block_bytes = 0; words = 0 }; seen = []; answers = []; pending = None; strange = None; stop = None }
@@ -76,11 +73,11 @@ no_seat = record { core = 0; shape = record { cores = 0; blocks = 0; block_bytes
 strange_one : (cores : ℕ) (seats : List Seating) (a b : ℕ) → IsFirstOutside cores seats a → IsFirstOutside cores seats b → a ≡ b
 strange_one cores seats a b x y =
     let same : x.place ≡ y.place =
-    apart x.place y.place (λ lt. omega (arith, x.there no_seat, y.first x.place no_seat lt)) (λ lt. omega (arith, y.there no_seat, x.first y.place no_seat lt)) in
+    grind (arith, x.there no_seat, y.there no_seat, y.first x.place no_seat, x.first y.place no_seat) in
     sym (rw same at (x.there no_seat)) ∙ y.there no_seat
 
 pub odd_one : (cores : ℕ) (seats : List Seating) (a b : ℕ) → IsNotAllSeats cores seats a → IsNotAllSeats cores seats b → a ≡ b
-odd_one cores seats a b (inl x) (inl y) = apart a b (λ lt. x.1 (y.2 a lt)) (λ lt. y.1 (x.2 b lt))
+odd_one cores seats a b (inl x) (inl y) = grind (arith, x.2 b, y.2 a)
 odd_one cores seats a b (inl x) (inr y) = absurd (x.1 (y.1 a x.0))
 odd_one cores seats a b (inr x) (inl y) = absurd (y.1 (x.1 b y.0))
 odd_one cores seats a b (inr x) (inr y) = strange_one cores seats a b x.0 y.0

@@ -48,10 +48,7 @@ answers-append shape rows more dids also h k =
 -- one row more: the first of them all could begin, and the seat is as the last one left it
 more_leaves : (rows : List Row) (row : Row) (s t u : Seating) → Leaves rows s t → MayDoFirst rows s → MayDo row t → IsSettled u
     → MayDoFirst (rows ++ row ∷ []) s × Leaves (rows ++ row ∷ []) s u
-more_leaves [] row s t u h b k settled =
-    let same = rw h at k in
-    ((same.0, same.1, record { strange = same.2.strange; pending = same.2.pending }), settled)
-more_leaves (first ∷ rows) row s t u h b k settled = (b, settled)
+more_leaves rows row s t u h b k settled = grind arith
 
 grows_more : (rows : List Row) (row : Row) (s t u : Seating) → Grows rows s t → Grows (row ∷ []) t u → Grows (rows ++ row ∷ []) s u
 grows_more rows row s t u h k =

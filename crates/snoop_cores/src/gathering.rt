@@ -198,14 +198,13 @@ fn difference_of(log: &Log, seats: &[Seat], core: u32) -> Option<u64>
     ensures none { IfNone result (IsAnswered log.now.items seats.now core) }
     ensures some { IfSome result (λ place. DiffersAt log.now.items seats.now core place) }
 {
-    for seat in seats {
+    seats.iter().find_map(|seat| {
         if seat.core() == core {
-            if let Some(place) = first_difference(log, core, seat.answers()) {
-                return Some(place);
-            }
+            first_difference(log, core, seat.answers())
+        } else {
+            None
         }
-    }
-    None
+    })
 }
 
 // The first place where the core's operations among the items differ from the answers.

@@ -81,12 +81,10 @@ fn serves(seats: &[Seat], ordered: bool, row: &Row) -> bool
 pub(crate) fn in_order(seats: &[Seat]) -> bool
     ensures sound { IsTrue result → AreInOrder seats.now }
 {
-    for place in 0..seats.len() {
-        if seats[place].core() as usize != place {
-            return false;
-        }
-    }
-    true
+    seats
+        .iter()
+        .enumerate()
+        .all(|(place, seat)| seat.core() as usize == place)
 }
 
 // Whether the row is served, by the one seat that its core has where seats stand in order of core.
