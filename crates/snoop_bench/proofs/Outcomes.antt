@@ -1,17 +1,16 @@
 -- What a turn answers is the outcome of the work.
-use Rattle.std.proofs.Common.{◌≡◌, ◌≢◌, ℕ, ◌++◌, Bool, true, false, List, [], ◌∷◌, Option, Some, None, nat_lt, refl, ap, ◌∙◌}
-use Rattle.snoop_bench.proofs.Common.{Access, access_of, Ask, Asked, Case, EndsWith, eq-eqb, Finishes, IsClosed, IsLast, IsOp, Item, last_of, last_of-push, Locked, lt-ltb, ne_eqb, next_did, Ok, Op, Open, over, picture_of, record_of, Reply, Request, Situation, state_of, Step, step_under_way, TakesAndPublishes, turn_asked, turn_of, turn_over, TurnLaws, TurnsIn, waiting_request, Work, works_asked, if◌then◌else◌}
+use Rattle.std.proofs.Common.{◌≡◌, ◌≢◌, ℕ, ◌++◌, Bool, true, false, List, [], ◌∷◌, Option, Some, None, nat_lt, refl, ap, ◌∙◌, arith}
+use Rattle.snoop_bench.proofs.Common.{Access, access_of, Ask, Asked, Case, EndsWith, eq-eqb, Finishes, IsClosed, IsLast, IsOp, Item, last_of, last_of-push, Locked, lt-ltb, ne_eqb, next_did, Ok, Op, over, record_of, Reply, Situation, Step, TakesAndPublishes, turn_asked, turn_of, turn_over, TurnLaws, TurnsIn, Work, works_asked, if◌then◌else◌}
 use Rattle.snoop_trace.specs.declared.step.Op.TheVariants as op
 use Rattle.snoop_history.specs.declared.items.Did.{Did}
 use Rattle.snoop_history.specs.declared.items.Item.TheVariants as item
 use Rattle.snoop_model.specs.declared.replies.Reply.TheVariants as reply
 use Rattle.snoop_model.specs.Moves.Replies.{Tells}
-use Rattle.snoop_bench.{specs.declared.work.Turn.Turn, proofs.{Cases.{IsCase, IsCase.{ordering, helping, ending}}, Turning.Facing}}
+use Rattle.snoop_bench.{specs.declared.work.Turn.Turn, proofs.Turning.{Facing, IsCase, IsCase.{ordering, helping, ending}}}
 use Rattle.snoop_bench.specs.declared.work.Turn.TheVariants as turn
 
 is_op : (did : Did) (load : Bool) → did.load ≡ load → IsOp (if load then op.Load else op.Store did.value) did
-is_op did true e = e
-is_op did false e = (e, refl)
+is_op did load e = grind arith
 
 -- the operation that is the access of the work does it
 pub ends_with : (s : Situation) (core : ℕ) (work : Work) → IsLast s core work.block (access_of work) → (did : Did) × EndsWith s core work did
@@ -71,10 +70,4 @@ module _ (core : ℕ) (work : Work) {answer : Reply} where
 
 -- a core that neither waits nor has its transaction open has no step left
 pub closed_turn : (s : Situation) (core block word : ℕ) (asking : Op) → IsClosed s core block → turn_of s core block word asking true ≡ None
-closed_turn s core block word asking shut = by_case (waiting_request (state_of s core block)) (picture_of s block).transaction refl refl
-  where
-    by_case : (w : Option Request) (o : Option Open) → waiting_request (state_of s core block) ≡ w → (picture_of s block).transaction ≡ o
-        → step_under_way w o core block ≡ None
-    by_case (Some r) o waits opened = absurd (shut.waits r waits)
-    by_case None None waits opened = refl
-    by_case None (Some t) waits opened = rw (ne_eqb t.core core (shut.opened_by_other t opened)) refl
+closed_turn s core block word asking shut = grind (arith, ne_eqb, shut.waits, shut.opened_by_other)

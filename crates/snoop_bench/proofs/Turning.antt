@@ -1,15 +1,107 @@
--- Turns keep works under way.
-use Rattle.std.proofs.Common.{◌≡◌, ◌≢◌, ◌⊎◌, ⊎_elim, ℕ, ◌<◌, inl, inr, Bool, true, List, length, replicate, Option, Some, None, refl, sym, ap, ◌∙◌, arith, false}
-use Rattle.snoop_bench.proofs.Common.{common_steps, gets, Access, access_of, AreUnderWay, Ask, asked_access, Case, cases_eq, eq-eqb, Extent, FirstMove, is_some, IsWellKept, as_access, Locked, none-some, Op, option_map, picture_of, Reply, Request, reset, Respond, same_Some, Situation, slice_set, state_of, Step, turn_of, TurnLaws, waited_or_asked, waiting_request, Work, work_at, works_asked, works_under_way}
+-- Works under way: the places that they have, the step of each turn, and that each turn keeps them.
+use Rattle.std.proofs.Common.{◌≡◌, ◌≢◌, ◌⊎◌, ⊎_elim, ℕ, zero, suc, ◌<◌, inl, inr, Bool, true, false, List, [], ◌∷◌, length, map, replicate, Option, Some, None, Ok, refl, sym, ap, ◌∙◌, append-nil, arith}
+use Rattle.snoop_bench.proofs.Common.{Access, access_of, answers_after, answers_of, AreUnderWay, Ask, asked_access, Case, case_of, case_under_way, cases_eq, common_steps, Contains, did_access, ends, eq-eqb, Extent, filter, FirstMove, gets, helps, if◌then◌else◌, is_some, IsOwed, IsReadableStep, IsWellKept, Locked, none-some, of_core, OnceMore, one_or_none, Op, Open, option_map, Order, orders, over, owed_after, performed_by, picture_of, Recording, Reply, Request, reset, Respond, Situation, slice_set, state_of, Step, step_under_way, TakesAndPublishes, turn_of, TurnLaws, waited_or_asked, waiting_request, Work, work_at, works_asked, works_under_way, ◌==◌}
 use Rattle.std.proofs.lemmas.{Bool.Decides.nat_tests, List.{length-set, length-replicate}}
 use Rattle.snoop_trace.specs.{Words.HasWord, declared.protocol.Protocol.Protocol}
 use Rattle.snoop_trace.specs.declared.step.Op.TheVariants as op
 use Rattle.snoop_model.{specs.{declared.replies.Refused.Refused, Turns.Serving.IsUnderWay, Moves.Refuses.Refuses}, proofs.Invariant.Runs.reset_line}
 use Rattle.snoop_model.specs.declared.replies.Reply.TheVariants as reply
 use Rattle.snoop_model.{proofs.{OneBlock.AfterMoves.{in_pictures, picture_here}, Turns.has_step}, specs.Pictures.Picture.{held_by, Picture}}
-use Rattle.snoop_bench.{specs.Faults.IsInside, proofs.{Cases.{IsCase, IsCase.{ordering, ending}}, Waiting.{Stepped, AsksNothing, owed_still}}}
-use Rattle.snoop_bench.proofs.Places.{its_block, changed, unchanged, put_out, has_place, apart}
+use Rattle.snoop_bench.specs.Faults.{IsInside}
 use Rattle.snoop_model.proofs.Queues.{arrives_waits}
+
+-- the block of a work, if there is one
+pub its_block : (o p : Option Work) → o ≡ p → option_map (λ work. work.block) o ≡ option_map (λ work. work.block) p
+its_block o p same = ap (λ (x : Option Work). option_map (λ work. work.block) x) same
+
+-- the changed place holds the new work
+pub changed : (works : List (Option Work)) (core : ℕ) (work : Option Work) → core < length works → work_at (slice_set works core work) core ≡ work
+changed works core work inside = grind (arith, common_steps, gets)
+
+-- the other places are as before
+pub unchanged : (works : List (Option Work)) (core other : ℕ) (work : Option Work) → other ≢ core
+    → work_at (slice_set works core work) other ≡ work_at works other
+unchanged works core other work apart = grind (arith, common_steps, gets)
+
+-- the place of an idle core, once it held a work, is idle again without it
+pub put_out : (works : List (Option Work)) (core : ℕ) (work : Option Work) → work_at works core ≡ None → slice_set (slice_set works core work) core None ≡ works
+put_out [] core work idle = refl
+put_out (x ∷ works) zero work idle = ap (λ o. o ∷ works) (sym idle)
+put_out (x ∷ works) (suc core) work idle = ap (λ l. x ∷ l) (put_out works core work idle)
+
+-- a core with a work under way has a place
+pub has_place : (works : List (Option Work)) (core : ℕ) (work : Work) → work_at works core ≡ Some work → core < length works
+has_place works core work its = grind (arith, gets)
+
+-- the case, whether a request waits in it, and the step that is taken
+pub data IsCase (core block : ℕ) : Case → Bool → Option Step → Type 0 where
+  ordering : IsCase core block orders true (Some (Order core))
+  helping : IsCase core block helps true (Some (Respond block))
+  ending : IsCase core block ends false (Some (Respond block))
+  closed : IsCase core block over false None
+
+case_is : (w : Option Request) (o : Option Open) (core block : ℕ) → IsCase core block (case_under_way w o core) (is_some w) (step_under_way w o core block)
+case_is (Some request) None core block = ordering
+case_is (Some request) (Some transaction) core block = helping
+case_is None None core block = closed
+case_is None (Some transaction) core block = by_core (transaction.core == core)
+  where
+    by_core : (own : Bool) → IsCase core block (if own then ends else over) false (if own then Some (Respond block) else None)
+    by_core true = ending
+    by_core false = closed
+
+-- the case of a turn whose work is under way, by whether its request waits and by its step
+pub at_case : (s : Situation) (core block word : ℕ) (asking : Op) {waits : Bool} {step : Option Step}
+    → is_some (waiting_request (state_of s core block)) ≡ waits → turn_of s core block word asking true ≡ step
+    → IsCase core block (case_of s core block true) waits step
+at_case s core block word asking e f = rw (← e, ← f) (case_is (waiting_request (state_of s core block)) (picture_of s block).transaction core block)
+
+-- the step is one that is read again from its text
+pub turn_within : {core block : ℕ} {k : Case} {waits : Bool} {step : Step} (shape : Extent) → core < shape.cores → block < shape.blocks
+    → IsCase core block k waits (Some step) → IsReadableStep shape step
+turn_within shape c b ordering = c
+turn_within shape c b helping = b
+turn_within shape c b ending = b
+
+-- a step of the machine, as its clauses report it
+pub record Stepped (s t : Situation) (step : Step) (answer : Reply) : Type 0 where
+  pub move : FirstMove s step answer t
+  pub once : OnceMore s (step ∷ []) (Ok answer ∷ []) t
+  pub shape : t.shape ≡ s.shape
+  pub kept : IsWellKept t
+
+-- the same from a step that was recorded
+pub stepped : TurnLaws → {p q : Recording} {step : Step} {answer : Reply} → IsWellKept p.situation → TakesAndPublishes step answer p q
+    → OnceMore p.situation (step ∷ []) (Ok answer ∷ []) q.situation → q.situation.shape ≡ p.situation.shape → Stepped p.situation q.situation step answer
+stepped rule {p} {q} {step} {answer} well took once shape = record {
+  move = took.move;
+  once = once;
+  shape = shape;
+  kept = rule.keeps_well p.situation q.situation step answer well took.move;
+}
+
+-- the step asks no load or store of the core's cache
+abbrev pub AsksNothing : ℕ → Step → Type 0
+AsksNothing core step = (block : ℕ) → asked_access core block step ≡ None
+
+module _ {s t : Situation} {step : Step} {answer : Reply} (m : Stepped s t step answer) (core : ℕ) where
+  -- the operation of a work under way stays owed while its core asks nothing
+  pub owed_still : (works : List (Option Work)) (work : Work) → AreUnderWay works s → work_at works core ≡ Some work → AsksNothing core step
+      → IsOwed s core work.block (access_of work) → IsOwed t core work.block (access_of work)
+  owed_still works work u its nothing (inl waits) = owed_after s t step answer m.move m.once core work.block (access_of work) (inl waits)
+  owed_still works work u its nothing (inr last) = elim (one_or_none core (performed_by s t step answer m.move)) [
+    | inl none ↦ inr (last.0, rw (answers_after s t step answer m.move m.once core work.block (access_of work), none, append-nil (answers_of s.log core)) last.1, last.2, last.3)
+    | inr (d, is) ↦
+        let did : Contains (map did_access (filter (λ x. x.block == d.block) (of_core core (performed_by s t step answer m.move)))) (did_access d) =
+        rw (is, eq-eqb d.block d.block refl) (zero, omega arith, refl) in
+        elim (waited_or_asked s t step answer m.move m.once core d.block (did_access d) (inl did)) [
+          | inl waits ↦
+              let there = u.waiting core d.block (did_access d) waits in
+              let same : work ≡ record { block = d.block; word = d.word; op = (did_access d).op } = cc in
+              owed_after s t step answer m.move m.once core work.block (access_of work) (inl (rw same waits))
+          | inr asked ↦ absurd (none-some (did_access d) (sym (nothing d.block) ∙ asked))
+        ]
+  ]
 
 -- the core and the block are within the shape, and so is the word that is loaded or stored
 abbrev pub IsWithin : Situation → ℕ → Work → Type 0
@@ -28,8 +120,7 @@ record GoOn (works after : List (Option Work)) (step : Step) : Type 0 where
 -- the block of a work that stays
 block_stays : (before after : Option Work) (block : ℕ) → ((work : Work) → before ≡ Some work → after ≡ Some work)
     → option_map (λ work. work.block) before ≡ Some block → option_map (λ work. work.block) after ≡ Some block
-block_stays None after block stay e = cc
-block_stays (Some work) after block stay e = rw (stay work refl) e
+block_stays before after block stay e = grind arith
 
 goes_on : TurnLaws → {s t : Situation} {step : Step} {answer : Reply} (m : Stepped s t step answer) (works after : List (Option Work)) → AreUnderWay works s
     → GoOn works after step → AreUnderWay after t
@@ -99,7 +190,7 @@ module _ (rule : TurnLaws) {s : Situation} {works : List (Option Work)} {core : 
         unchanged works core c None other ∙ there;
     owed = λ c w theirs isnt.
         let empty = changed works core None (has_place works core work f.its) in
-        let other = apart (work_at (slice_set works core None)) core c w empty theirs in
+        let other : c ≢ core = λ same. cc in
         f.under.owed c w (sym (unchanged works core c None other) ∙ theirs) isnt;
   }
 
@@ -124,29 +215,16 @@ finished rule {s} {t} {works} {core} {work} {k} {step} {answer} ending f waits m
   well = m.kept;
   inside = rw m.shape f.inside;
   its = f.its;
-  step_is = closed_after s t core work.block work.word work.op answer f.well (no_request (waiting_request (state_of s core work.block)) waits) m.move;
+  step_is = closed_after s t core work.block work.word work.op answer f.well (grind (arith, waits)) m.move;
 }
-  where
-    no_request : (w : Option Request) → false ≡ is_some w → w ≡ None
-    no_request w e = grind arith
 
--- what waits of an operation that is asked is that of the work
-kept_is : (word : ℕ) (asking : Op) (wanted : Access) → as_access word asking ≡ Some wanted → record { word = word; op = asking } ≡ wanted
-kept_is word op.Load wanted e = same_Some _ _ e
-kept_is word (op.Store v) wanted e = same_Some _ _ e
-kept_is word op.Evict wanted e = cc
-
-kept : (word : ℕ) (asking : Op) → asking ≢ op.Evict → as_access word asking ≡ Some (record { word = word; op = asking })
-kept word op.Load isnt = refl
-kept word (op.Store v) isnt = refl
-kept word op.Evict isnt = absurd (isnt refl)
-
+-- what an Ask asks is the operation of the work
 asked_work : (core c block : ℕ) (wanted : Access) (work : Work) → asked_access c block (Ask core work.block work.word work.op) ≡ Some wanted
     → (core ≡ c) × (work.block ≡ block) × (record { word = work.word; op = work.op } ≡ wanted)
-asked_work core c block wanted work e = grind (arith, nat_tests, kept_is)
+asked_work core c block wanted work e = grind (arith, nat_tests)
 
 asks_its : (core : ℕ) (work : Work) → work.op ≢ op.Evict → asked_access core work.block (Ask core work.block work.word work.op) ≡ Some (access_of work)
-asks_its core work isnt = rw (eq-eqb core core refl, eq-eqb work.block work.block refl) (kept work.word work.op isnt)
+asks_its core work isnt = grind (arith, nat_tests)
 
 -- a core with nothing under way asks
 module _ (rule : TurnLaws) (works : List (Option Work)) (core : ℕ) (work : Work) {s t : Situation} {answer : Reply}
@@ -162,7 +240,7 @@ module _ (rule : TurnLaws) (works : List (Option Work)) (core : ℕ) (work : Wor
   issued_keeps : AreUnderWay begun t
   issued_keeps = goes_on rule m works begun u (record {
     places = length-set works core (Some work);
-    stay = λ c w busy. unchanged works core c (Some work) (apart (work_at works) core c w idle busy) ∙ busy;
+    stay = λ c w busy. unchanged works core c (Some work) (λ same. cc) ∙ busy;
     under = its_block _ _ its;
     asked = λ c block wanted e.
         let (own, at, same) = asked_work core c block wanted work e in
@@ -198,8 +276,5 @@ reset_under_way rule protocol shape = record {
   serving = (rule.starts_well protocol shape (works_under_way (replicate shape.cores None))).1;
   waiting = λ core block wanted waits.
       absurd (none-some wanted (rw (reset_line protocol shape core block) at waits));
-  owed = λ core work its isnt. absurd (none-some work (sym (nothing shape.cores core) ∙ its));
+  owed = λ core work its isnt. absurd (grind (arith, common_steps, gets));
 }
-  where
-    nothing : (cores core : ℕ) → work_at (replicate cores None) core ≡ None
-    nothing cores core = grind (arith, common_steps, gets)

@@ -1,7 +1,11 @@
--- A log beside the answers of seats, and seats beside cores.
+-- A log beside the answers of seats, seats beside cores, and a bench with nothing under way, which joins them.
 use Rattle.std.proofs.Common.{◌≡◌, ℕ, ◌+◌, ◌<◌, ◌≤◌, List, [], ◌∷◌, ◌++◌, length, take, drop, Option, Some, None, get_or, refl, sym, ap, ◌∙◌, arith, append_assoc, append-nil, inl, inr}
-use Rattle.snoop_cores.proofs.Common.{answers_of, AreInOrder, block_at, cases_eq, Did, eq-eqb, get_or_from_slice_get, IsFirst, IsFirstOutside, IsNotAllSeats, IsNumbered, IsServed, IsSome, Item, length-take-le, ne_eqb, next_number, none-some, OneForEach, operation_of, Row, Seating, slice_get, slice_get-get_or, slice_get_past, slice_get_within, slice_index_or, take-append-drop, take-take, take_at, take_more}
+use Rattle.snoop_cores.proofs.Common.{answers_of, AreInOrder, block_at, cases_eq, cases_lt, Did, eq-eqb, get_or_from_slice_get, IsAnswered, IsFirst, IsFirstOutside, IsFree, IsJoined, IsKept, IsNotAllSeats, IsNumbered, IsServed, IsSome, Item, length-take-le, Locked, ne_eqb, next_number, none-some, OneForEach, operation_of, Row, Seating, slice_get, slice_get-get_or, slice_get_past, slice_get_within, slice_index_or, take-append-drop, take-take, take_at, take_more, Work, work_at, works_under_way}
 use Rattle.snoop_cores.proofs.Beginnings.{answers_of-append}
+use Rattle.snoop_trace.specs.declared.step.Step.{Step}
+use Rattle.snoop_bus.specs.Queues.{queue_of}
+use Rattle.snoop_model.{proofs.Invariant.Safety.well_kept_in, specs.{Pictures.Situation.Situation, Runs.Safe.IsSafe, Turns.{Serving.IsServing, Quiet.IsQuiet}}}
+use Rattle.snoop_model.specs.{Turns.TurnLaws.ComesToRest, Runs.{Once.accesses_in, TakenOnce.TakenOnce}}
 
 at_seam : (xs ys : List Did) → slice_get (xs ++ ys) (length xs) ≡ slice_get ys 0
 at_seam [] ys = refl
@@ -61,9 +65,6 @@ first_less items core n (d ∷ answers) first few =
       differs = λ same. none-some (get_or all n d) (sym none ∙ (rw first.0 at same) ∙ slice_get-get_or all n d few);
     }
 
-apart : (a b : ℕ) → (a < b → ⊥) → (b < a → ⊥) → a ≡ b
-apart a b p q = omega (arith, p, q)
-
 -- a seat that stands where none does
 abbrev pub no_seat : Seating
 no_seat = record { core = 0; shape = record { cores = 0; blocks = 0; block_bytes = 0; words = 0 }; seen = []; answers = []; pending = None; strange = None; stop = None }
@@ -72,11 +73,11 @@ no_seat = record { core = 0; shape = record { cores = 0; blocks = 0; block_bytes
 strange_one : (cores : ℕ) (seats : List Seating) (a b : ℕ) → IsFirstOutside cores seats a → IsFirstOutside cores seats b → a ≡ b
 strange_one cores seats a b x y =
     let same : x.place ≡ y.place =
-    apart x.place y.place (λ lt. omega (arith, x.there no_seat, y.first x.place no_seat lt)) (λ lt. omega (arith, y.there no_seat, x.first y.place no_seat lt)) in
+    grind (arith, x.there no_seat, y.there no_seat, y.first x.place no_seat, x.first y.place no_seat) in
     sym (rw same at (x.there no_seat)) ∙ y.there no_seat
 
 pub odd_one : (cores : ℕ) (seats : List Seating) (a b : ℕ) → IsNotAllSeats cores seats a → IsNotAllSeats cores seats b → a ≡ b
-odd_one cores seats a b (inl x) (inl y) = apart a b (λ lt. x.1 (y.2 a lt)) (λ lt. y.1 (x.2 b lt))
+odd_one cores seats a b (inl x) (inl y) = grind (arith, x.2 b, y.2 a)
 odd_one cores seats a b (inl x) (inr y) = absurd (x.1 (y.1 a x.0))
 odd_one cores seats a b (inr x) (inl y) = absurd (y.1 (x.1 b y.0))
 odd_one cores seats a b (inr x) (inr y) = strange_one cores seats a b x.0 y.0
@@ -122,3 +123,42 @@ serves_one seats row seat order there inside =
           let found : slice_index_or seats k d ≡ seat = rw (sym (order k d lt) ∙ same) (get_or_from_slice_get seats row.core seat d there) in
           rw found inside;
     }
+
+-- where no core of the shape has work under way, nothing is served
+serves_nothing : (works : List (Option Work)) (s : Situation) → length works ≡ s.shape.cores → ((core : ℕ) → core < s.shape.cores → work_at works core ≡ None)
+    → IsServing (works_under_way works) s → IsServing (λ _. None) s
+serves_nothing works s size free serving = record {
+  waits = λ core k d lt. never core (slice_index_or (queue_of s.queues core) k d) (serving.waits core k d lt);
+  opened = λ block transaction is. never transaction.core block (serving.opened block transaction is);
+}
+  where
+    never : (core block : ℕ) → works_under_way works core ≡ Some block → None ≡ Some block
+    never core block is = elim (cases_lt core s.shape.cores) [
+      | inl lt ↦ rw (free core lt) at is
+      | inr le ↦ rw (slice_get_past works core (omega (arith, le, size))) at is
+    ]
+
+pub joins : (b : Locked) (seats : List Seating) (items : List Item) (steps : List Step) → IsKept b → IsSafe b.situation → ComesToRest
+    → TakenOnce
+    → OneForEach b.situation.shape.cores seats → ((core : ℕ) → core < b.situation.shape.cores → IsFree b seats core)
+    → ((core : ℕ) → core < b.situation.shape.cores → IsAnswered b.situation.log seats core)
+    → items ≡ b.situation.log → steps ≡ b.steps → IsJoined b.situation.protocol b.situation.shape seats items steps
+joins b seats items steps kept safe rests once one_each free answered items_are steps_are = rw (items_are, steps_are) (record {
+  at = b.situation;
+  taken = kept.run;
+  readable = kept.readable;
+  log_is = refl;
+  joins = record {
+    legal = safe.coherent.legal;
+    answered = λ k d lt. answered (slice_index_or seats k d).core (one_each.known k d lt) k d lt refl;
+  };
+  quiet = quiet;
+  one_each = one_each;
+  idle = λ k d lt. (free (slice_index_or seats k d).core (one_each.known k d lt)).1 k d lt refl;
+  -- no operation waits, so those asked are those performed
+  once = λ core block.
+      rw (quiet.performed core block, append-nil (accesses_in b.situation.log core block)) at (once b.situation.protocol b.situation.shape b.steps b.situation kept.run core block);
+})
+  where
+    quiet : IsQuiet b.situation
+    quiet = rests b.situation (serves_nothing b.works b.situation kept.places (λ core lt. (free core lt).0) kept.serving) (well_kept_in _ safe)

@@ -1,7 +1,4 @@
 mod Common
-mod Dealing
 mod Beginnings
-mod Shown
 mod Joining
 mod Performed
-mod Resting

@@ -1,10 +1,35 @@
--- What a seat has done of its rows.
-use Rattle.std.proofs.Common.{ℕ, ◌+◌, ◌<◌, List, [], ◌∷◌, ◌++◌, length, take, filter, Option, get_or, ap, ◌∙◌, append_assoc, Some, None, inl, inr}
-use Rattle.snoop_cores.proofs.Common.{AnswersRows, block_at, Did, DoesRow, Extent, Fails, FailsOn, filter-append, Grows, is_answered, IsSettled, Leaves, MayDo, MayDoFirst, Ran, Row, Seating, take_more, Work, work_on}
-use Rattle.std.specs.List.{AllZip}
+-- Rows: dealt to the lists of their cores, and what a seat has done of them.
+use Rattle.std.proofs.Common.{◌≡◌, ℕ, ◌+◌, ◌<◌, List, [], ◌∷◌, ◌++◌, length, take, Some, get_or, refl, sym, ap, ◌∙◌, arith, append-nil, inl, inr, filter, Option, append_assoc, None}
+use Rattle.snoop_cores.proofs.Common.{AnswersRows, AreDealt, block_at, cases_eq, common_steps, Did, DoesRow, eq-eqb, Extent, Fails, FailsOn, filter-append, filter_more, gets, Grows, is_answered, IsSettled, Leaves, map-append, MayDo, MayDoFirst, ne_eqb, Ran, RanDealt, RanTo, Row, rows_of_core, Seating, slice_get, slice_get-get_or, slice_get_cases, slice_set, take_more, Vec, Work}
+use Rattle.std.specs.{Borrow.Bor, declared.alloc.Global.Global, List.AllZip}
 use Rattle.snoop_trace.specs.declared.step.Op.TheVariants.{Load}
 use Rattle.snoop_cores.{specs.declared.{stop.Stop.{Stop, TheVariants.{Late, Fault}}, fault.SeatFault.SeatFault}, proofs.Beginnings.starts_on}
-use Rattle.snoop_cores.specs.declared.fault.SeatFault.TheVariants.{NoBlock, NoMemory, Busy, Stranger}
+
+abbrev pub Own : Type 0
+Own = Vec (Bor Row) Global
+
+-- the next row, once it is put last into its core's list
+pub dealt_more : (rows : List Row) (i : ℕ) (d : Row) (dealt : List Own) (row : Bor Row) (old new : Own) → i < length rows → row.now ≡ get_or rows i d
+    → (get_or rows i d).core < length dealt
+    → get_or dealt (get_or rows i d).core old ≡ old → new.items ≡ old.items ++ row ∷ [] → AreDealt (take i rows) dealt → AreDealt (take (i + 1) rows) (slice_set dealt (get_or rows i d).core new)
+dealt_more rows i d dealt row old new h is inside was put dealt_so core own there =
+    let at = (get_or rows i d).core in
+    elim (cases_eq core at) [
+      | inl same ↦
+          let own_is : own ≡ new = grind (arith, common_steps, gets) in
+          let before = dealt_so core old (ap (slice_get dealt) same ∙ slice_get-get_or dealt at old inside ∙ ap Some was) in
+          rw (own_is, put, map-append, before, is, filter_more _ rows i d h, eq-eqb at core (sym same)) refl
+      | inr other ↦
+          let here : slice_get dealt core ≡ Some own = grind (arith, common_steps, gets) in
+          rw (dealt_so core own here, filter_more _ rows i d h, ne_eqb at core (λ same. other (sym same))) (sym (append-nil (rows_of_core core (take i rows))))
+    ]
+
+-- a seat that ran the list at its core's place ran its core's rows
+pub ran_to : (rows : List Row) (dealt : List Own) (s t : Seating) → AreDealt rows dealt → s.core < length dealt → RanDealt dealt s t → RanTo t.stop rows s t
+ran_to rows dealt s t are lt ran = elim (slice_get_cases dealt s.core).1 [
+  | inl own ↦ rw (are s.core own.0 own.2) at (ran own.0 own.2)
+  | inr past ↦ absurd (omega (arith, lt, past.0))
+]
 
 -- a row that stands where none does
 abbrev pub no_row : Row
@@ -23,10 +48,7 @@ answers-append shape rows more dids also h k =
 -- one row more: the first of them all could begin, and the seat is as the last one left it
 more_leaves : (rows : List Row) (row : Row) (s t u : Seating) → Leaves rows s t → MayDoFirst rows s → MayDo row t → IsSettled u
     → MayDoFirst (rows ++ row ∷ []) s × Leaves (rows ++ row ∷ []) s u
-more_leaves [] row s t u h b k settled =
-    let same = rw h at k in
-    ((same.0, same.1, record { strange = same.2.strange; pending = same.2.pending }), settled)
-more_leaves (first ∷ rows) row s t u h b k settled = (b, settled)
+more_leaves rows row s t u h b k settled = grind arith
 
 grows_more : (rows : List Row) (row : Row) (s t u : Seating) → Grows rows s t → Grows (row ∷ []) t u → Grows (rows ++ row ∷ []) s u
 grows_more rows row s t u h k =
@@ -51,22 +73,16 @@ abbrev noted : Option Stop → Seating → Seating
 noted stop s = record s { stop = stop }
 
 leaves_noted : (stop : Option Stop) (rows : List Row) (s t : Seating) → Leaves rows s t → Leaves rows s (noted stop t)
-leaves_noted stop [] s t h = ap (noted stop) h
-leaves_noted stop (row ∷ rows) s t h = search
+leaves_noted stop rows s t h = grind arith
 
 grows_noted : (stop : Option Stop) (rows : List Row) (s t : Seating) → Grows rows s t → Grows rows s (noted stop t)
 grows_noted stop rows s t h = search leaves_noted
 
 fails_noted : (stop : Option Stop) (fault : SeatFault) (work : Work) (s t : Seating) → Fails fault work s t → Fails fault work (noted stop s) (noted stop t)
-fails_noted stop NoBlock work s t h = (h.0, ap (noted stop) h.1)
-fails_noted stop NoMemory work s t h = search
-fails_noted stop (Busy other) work s t h = (h.0, h.1, h.2, ap (noted stop) h.3)
-fails_noted stop (Stranger did) work s t (inl h) = inl (h.0, ap (noted stop) h.1)
-fails_noted stop (Stranger did) work s t (inr h) = inr (search)
+fails_noted stop fault work s t h = grind arith
 
 fails_on_noted : (stop : Option Stop) (block : Option ℕ) (fault : SeatFault) (row : Row) (s t : Seating) → FailsOn block fault row s t → FailsOn block fault row (noted stop s) (noted stop t)
-fails_on_noted stop None fault row s t h = (h.0, ap (noted stop) h.1)
-fails_on_noted stop (Some block) fault row s t h = fails_noted stop fault (work_on s.shape block row) s t h
+fails_on_noted stop block fault row s t h = grind (arith, fails_noted)
 
 pub ran_noted : (note stop : Option Stop) (rows : List Row) (s t : Seating) → Ran stop rows s t → Ran stop rows s (noted note t)
 ran_noted note None rows s t h = grows_noted note rows s t h

@@ -113,13 +113,7 @@ fn odd_core(seats: &[Seat], cores: u32) -> Option<u32>
 fn count_seats(seats: &[Seat], core: u32) -> usize
     ensures { result ≡ seats_of seats.now core }
 {
-    let mut count = 0;
-    for seat in seats {
-        if seat.core() == core {
-            count += 1;
-        }
-    }
-    count
+    seats.iter().filter(|seat| seat.core() == core).count()
 }
 
 // The least core with work under way or a pending operation.
@@ -140,12 +134,9 @@ fn is_idle(seats: &[Seat], core: u32) -> bool
     ensures sound { IsTrue result → HasNonePending seats.now core }
     ensures whole { HasNonePending seats.now core → IsTrue result }
 {
-    for seat in seats {
-        if seat.core() == core && seat.pending().is_some() {
-            return false;
-        }
-    }
-    true
+    seats
+        .iter()
+        .all(|seat| seat.core() != core || seat.pending().is_none())
 }
 
 // The least core whose operations among the items differ from the answers of its seat, and where.
@@ -189,12 +180,7 @@ fn counts_match(log: &Log, seats: &[Seat]) -> bool
     requires { AreInOrder seats.now }
     ensures sound { IsTrue result → (core : ℕ) (d : Seating) → core < length seats.now → length (slice_index_or seats.now core d).answers ≡ next_number log.now.items core }
 {
-    for seat in seats {
-        if log.count(seat.core()) != Some(seat.answers().len() as u64) {
-            return false;
-        }
-    }
-    true
+    seats.iter().all(|seat| log.count(seat.core()) == Some(seat.answers().len() as u64))
 }
 
 // Whether the operation stands at its number among the answers at its core's place.
@@ -212,14 +198,13 @@ fn difference_of(log: &Log, seats: &[Seat], core: u32) -> Option<u64>
     ensures none { IfNone result (IsAnswered log.now.items seats.now core) }
     ensures some { IfSome result (λ place. DiffersAt log.now.items seats.now core place) }
 {
-    for seat in seats {
+    seats.iter().find_map(|seat| {
         if seat.core() == core {
-            if let Some(place) = first_difference(log, core, seat.answers()) {
-                return Some(place);
-            }
+            first_difference(log, core, seat.answers())
+        } else {
+            None
         }
-    }
-    None
+    })
 }
 
 // The first place where the core's operations among the items differ from the answers.

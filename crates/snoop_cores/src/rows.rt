@@ -81,12 +81,10 @@ fn serves(seats: &[Seat], ordered: bool, row: &Row) -> bool
 pub(crate) fn in_order(seats: &[Seat]) -> bool
     ensures sound { IsTrue result → AreInOrder seats.now }
 {
-    for place in 0..seats.len() {
-        if seats[place].core() as usize != place {
-            return false;
-        }
-    }
-    true
+    seats
+        .iter()
+        .enumerate()
+        .all(|(place, seat)| seat.core() as usize == place)
 }
 
 // Whether the row is served, by the one seat that its core has where seats stand in order of core.
@@ -121,11 +119,8 @@ fn is_served(seats: &[Seat], row: &Row) -> bool
 fn core_count(seats: &[Seat]) -> usize
     ensures { All (λ seat. seat.core < result) seats.now }
 {
-    let mut count = 0;
-    for seat in seats {
-        count = count.max(seat.core() as usize + 1);
-    }
-    count
+    let counts = seats.iter().map(|seat| seat.core() as usize + 1);
+    counts.max().unwrap_or(0)
 }
 
 // Each seat runs the rows of its core, in a thread of its own where one can be made.

@@ -47,14 +47,11 @@ value-read f blocks words block word =
     let place = place_of words block word in
     grind (arith, nat_tests, get_or-map-range_with_len (λ p. f (p / words) (p % words)) 0 (blocks * words) place place 0, place-within blocks words block word, div-mul-add block words word, mod-mul-add block words word)
 
-operations-one_if : (here : Bool) (entry : Item) → operations (cond here (entry ∷ []) []) ≡ option_to_list (if here then operation_of entry else None)
-operations-one_if here entry = grind (arith, operations-one entry)
-
 -- the operations within a shape, of a list with one item more
 operations-inside-push : (cores blocks words : ℕ) (items : List Item) (entry : Item) →
     operations (inside cores blocks words (items ++ entry ∷ [])) ≡ operations (inside cores blocks words items) ++ option_to_list (operation_within cores blocks words entry)
 operations-inside-push cores blocks words items entry =
-    rw (filter-append (is_within cores blocks words) items (entry ∷ []), filter_map-append operation_of (inside cores blocks words items) (filter (is_within cores blocks words) (entry ∷ [])), operations-one_if (is_within cores blocks words entry) entry)
+    rw (filter-append (is_within cores blocks words) items (entry ∷ []), filter_map-append operation_of (inside cores blocks words items) (filter (is_within cores blocks words) (entry ∷ []))) (grind (arith, operations-one entry))
 
 -- the tables of a list of operations: values by place, counts and last operations by core
 abbrev pub value_at : ℕ → List Did → ℕ → ℕ
@@ -129,8 +126,8 @@ noted-board cores blocks words dids old new (Some did) within =
     rw (values-after dids did blocks words lies.1 lies.2 did.load refl, counts-after dids did cores lies.0, lasts-after dids did cores lies.0)
 
 -- an item that passes the test lies within the shape
-pub passes-within : (cores blocks words : ℕ) (entry : Item) → is_within cores blocks words entry ≡ true → IsItemWithin cores blocks words entry
-passes-within cores blocks words entry e = grind (arith, common_steps, nat_tests)
+pub passes_within : (cores blocks words : ℕ) (entry : Item) → is_within cores blocks words entry ≡ true → IsItemWithin cores blocks words entry
+passes_within cores blocks words entry e = grind (arith, common_steps, nat_tests)
 
 pub operation_within-lies : (cores blocks words : ℕ) (entry : Item) (did : Did) → operation_within cores blocks words entry ≡ Some did → (did.core < cores) × (did.block < blocks) × (did.word < words)
 operation_within-lies cores blocks words entry did is = grind (arith, common_steps, nat_tests)
@@ -169,14 +166,10 @@ pub board_after : {view board new : Tables} (is_view : view ≡ board) (entry : 
     (cores blocks words : ℕ) (items : List Item) → board ≡ board_of cores blocks words items → new ≡ board_of cores blocks words (items ++ entry ∷ [])
 board_after is_view entry after cores blocks words items is = (rw (is_view ∙ is) at after) ∙ absorbed_board cores blocks words items entry
 
--- a board after an operation that counts for it, table by table
+-- a board after an operation that counts for it
 pub absorbed_as : (view new : Tables) (entry : Item) (did : Did) → operation_within (length view.counts) view.blocks view.words entry ≡ Some did →
-    new.blocks ≡ view.blocks → new.words ≡ view.words →
-    new.values ≡ (if did.load then view.values else slice_set view.values (place_of view.words did.block did.word) did.value) →
-    new.counts ≡ slice_set view.counts did.core (counted (slice_index view.counts did.core) true) →
-    new.lasts ≡ slice_set view.lasts did.core (Some did) →
-    new.totals ≡ tallied view.totals entry → new ≡ absorbed view entry
-absorbed_as view new entry did is b w v c l t = rw is (same_tables new (with_totals view (Some did) (tallied view.totals entry)) b w v c l t)
+    new ≡ with_totals view (Some did) (tallied view.totals entry) → new ≡ absorbed view entry
+absorbed_as view new entry did is same = rw is same
 
 -- an item within a shape passes the test
 within-passes : (cores blocks words : ℕ) (entry : Item) → IsItemWithin cores blocks words entry → is_within cores blocks words entry ≡ true

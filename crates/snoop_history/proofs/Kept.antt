@@ -1,9 +1,9 @@
 -- What a log's board says of its items.
-use Rattle.std.proofs.Common.{◌≡◌, ℕ, ◌<◌, ◌≤◌, List, [], ◌∷◌, length, Option, arith, refl, sym, ap, ◌∙◌, map}
+use Rattle.std.proofs.Common.{◌≡◌, ℕ, ◌<◌, ◌≤◌, List, [], ◌∷◌, length, Option, refl, sym, ap, ◌∙◌, map, get_or}
 use Rattle.std.specs.Prelude.{All, slice_get, unwrap_or}
-use Rattle.snoop_history.{proofs.Common.{Item, common_steps, filter_map, same_lists}}
+use Rattle.snoop_history.{proofs.Common.{Item, filter_map, same_lists, slice_get-get_or}}
 use Rattle.snoop_history.{proofs.Common.{unwrap_or-slice_get}, specs.{Within.{IsItemWithin, inside}, Totals.touched}}
-use Rattle.snoop_history.{specs.{Board.{Tables, board_of}, Kept.{IsKeptList, IsTallied}}, proofs.{Boards.{inside_all, board-cores}, Touching.all_places}}
+use Rattle.snoop_history.{specs.{Board.{Tables, board_of}, Kept.{IsKeptList, IsTallied}}, proofs.{Boards.{inside_all, board-cores}}}
 
 -- lists that are as long and have the same at each place
 pub same-places : {A : Type 0} (xs ys : List A) → length xs ≡ length ys → ((k : ℕ) → k < length xs → slice_get xs k ≡ slice_get ys k) → xs ≡ ys
@@ -22,11 +22,7 @@ tallied_as {cores} {blocks} {words} {items} few_cores few_blocks few_words liste
 
 module _ {cores blocks words : ℕ} {items : List Item} {board : Tables} {order : List ℕ} (kept : IsTallied cores blocks words items board order) where
   pub within_all : All (IsItemWithin cores blocks words) items
-  within_all = all_places (IsItemWithin cores blocks words) items kept.listed.within
+  within_all k d within = kept.listed.within k (get_or items k d) (slice_get-get_or items k d within)
 
   pub all_inside : inside cores blocks words items ≡ items
   all_inside = inside_all cores blocks words items within_all
-
-  -- an item of the shape is one of the largest shape
-  pub fits : (entry : Item) → IsItemWithin cores blocks words entry → IsItemWithin 256 65536 64 entry
-  fits entry lies = grind (arith, common_steps)

@@ -1,7 +1,7 @@
 -- What a legal list and flat memory are after one more item.
-use Rattle.std.proofs.Common.{arith, ◌≡◌, ℕ, zero, suc, List, [], ◌∷◌, ◌++◌, take, Option, Some, ◌⊎◌, inl, inr, refl, map}
-use Rattle.std.{specs.Prelude.{slice_get, IfSome, filter, if◌then◌else◌, option_to_list}, proofs.lemmas.List.Elements.filter-append}
-use Rattle.snoop_history.proofs.Common.{Did, IsNext, IsNumbered, Item, Legal, flat, is_store_to, last_or, map-append, operation_of, option_map_or, stores}
+use Rattle.std.proofs.Common.{arith, ◌≡◌, ℕ, zero, suc, List, [], ◌∷◌, ◌++◌, take, Some, ◌⊎◌, inl, inr, refl}
+use Rattle.std.{specs.Prelude.{slice_get, IfSome}, proofs.lemmas.List.Elements.filter-append}
+use Rattle.snoop_history.proofs.Common.{IsNext, IsNumbered, Item, Legal, flat, map-append, operation_of, stores}
 use Rattle.snoop_history.{proofs.Pushed.{last_or-append, operations-push}, specs.{Within.IsItemWithin, Kept.IsKeptList}}
 
 -- an element of a list with one more at its end: an earlier one, or the new one
@@ -43,12 +43,7 @@ pub legal-begins : (items rest : List Item) → Legal (items ++ rest) → Legal 
 legal-begins items rest legal k x at =
     let p = slice_get-front items rest k x at in rw (← p.1) (legal k x p.0)
 
--- the last value stored by an operation, if there is one, after another
-flat-one : (before : ℕ) (block word : ℕ) (did : Option Did) →
-    last_or before (map (λ d. d.value) (filter (is_store_to block word) (option_to_list did))) ≡ option_map_or (λ d. if is_store_to block word d then d.value else before) did before
-flat-one before block word did = grind arith
-
 pub flat-grows : (items : List Item) (entry : Item) (block word : ℕ) → flat (items ++ entry ∷ []) block word ≡ stores entry block word (flat items block word)
-flat-grows items entry block word = rw (operations-push items entry) (simp (filter-append, map-append, last_or-append) (flat-one (flat items block word) block word (operation_of entry)))
+flat-grows items entry block word = rw (operations-push items entry) (simp (filter-append, map-append, last_or-append) (grind arith))
 
 pub ruleset growth = (legal-grows, flat-grows)

@@ -1,7 +1,7 @@
 -- One more block among those that were mentioned.
 use Rattle.std.proofs.Common.{◌≡◌, ℕ, zero, suc, ◌+◌, ◌<◌, Bool, true, false, List, [], ◌∷◌, ◌++◌, length, Some, refl, sym, ◌∙◌, ap, arith, get_or}
 use Rattle.std.proofs.lemmas.{Grind.elements, Bool.Decides.nat_tests}
-use Rattle.std.{specs.Prelude.{replicate, slice_get, slice_set, nat_eq}, proofs.{lemmas.List.Folds.list_any-append}}
+use Rattle.std.{specs.Prelude.{replicate, slice_get, slice_set, nat_eq}, proofs.{lemmas.List.{Elements.All-push, Folds.list_any-append}}}
 use Rattle.snoop_history.proofs.Common.{Mentions, get_or-replicate, get_or-set_other, get_or-set_same, slice_get_read}
 use Rattle.snoop_history.proofs.Common.{insert_key, length-append, length-replicate, length-set, list_any, slice_get-get_or}
 use Rattle.snoop_history.specs.{declared.board.TouchedBlocks.TheInside.Inside, Marked.{set_marks, AreMarksOf, IsMarked, mentions}}
@@ -29,7 +29,11 @@ module _ (marks : List Bool) (order : List ℕ) (kept : AreMarksOf marks order) 
 
   pub marks-after : (order' : List ℕ) → order' ≡ insert_key nat_eq order block → AreMarksOf (slice_set marks block true) order'
   marks-after order' after =
-      rw (after, inserted) (record { marked = mark-at; counted = length-append order (block ∷ []) ∙ (ap (λ n. n + 1) kept.counted ∙ sym (set-more marks block free)) })
+      rw (after, inserted) (record {
+        marked = mark-at;
+        counted = length-append order (block ∷ []) ∙ (ap (λ n. n + 1) kept.counted ∙ sym (set-more marks block free));
+        within = rw (length-set marks block true) (All-push (λ b. b < length marks) order block kept.within within);
+      })
 
 -- a block that is marked changes nothing
 pub marked-before : (marks : List Bool) (order : List ℕ) (block : ℕ) → AreMarksOf marks order → block < length marks → slice_get marks block ≡ Some true → insert_key nat_eq order block ≡ order
@@ -45,6 +49,7 @@ marks-at_first n marks order is none =
     rw (is, none) (record {
       marked = λ block within. slice_get-get_or (replicate n false) block false within ∙ ap Some (get_or-replicate n block false false (omega (arith, length-replicate n false)));
       counted = sym (none-set n);
+      within = λ k d lt. absurd (omega arith);
     })
 
 -- what callers see of a block is so inside

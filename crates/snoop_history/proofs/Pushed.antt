@@ -47,11 +47,8 @@ pub next_number_le : (items : List Item) (core : ℕ) → next_number items core
 next_number_le items core = omega (arith, length-filter-le (λ did. did.core == core) (operations items), length-operations items)
 
 -- a count below the largest u64 is not capped
-capped-few : (n : ℕ) → n < 2 ^ 64 → capped n ≡ n
+pub capped-few : (n : ℕ) → n < 2 ^ 64 → capped n ≡ n
 capped-few n few = omega arith
-
-pub next_number-few : (items : List Item) (core : ℕ) → length items < 2 ^ 64 → capped (next_number items core) ≡ next_number items core
-next_number-few items core few = capped-few (next_number items core) (omega (arith, next_number_le items core))
 
 pub totals-few : (items : List Item) → length items < 2 ^ 64 → capped_totals (totals_of items) ≡ totals_of items
 totals-few items few = λ i. counts_by (λ test. capped-few (how_many test items) (omega (arith, length-filter-le test items)) i)

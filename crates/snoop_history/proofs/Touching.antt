@@ -1,9 +1,8 @@
 -- The blocks that a list mentions, with one item more.
-use Rattle.std.proofs.Common.{sym, arith, get_or, ◌≡◌, ℕ, true, false, not, List, [], ◌∷◌, ◌++◌, refl, map, filter, ◌<◌, eqb, append-nil, append_assoc}
-use Rattle.std.{specs.Prelude.{Option, Some, None, option_to_list, slice_get, suc, ◌==◌, nat_eq, All}, proofs.lemmas.Map.Views.any-filter_same}
-use Rattle.snoop_history.proofs.Common.{Did, ForSome, Item, eqb-true, flat_map, flat_map-append, insert_key, list_any}
-use Rattle.snoop_history.{proofs.Common.{operation_of, slice_get-get_or}, specs.Within.{block_of, IsItemWithin}}
-use Rattle.std.proofs.lemmas.List.Elements.{All-weaker, filter-append, All-filter, All-nil, All-cons, All-head, All-tail, All-append}
+use Rattle.std.proofs.Common.{sym, arith, ◌≡◌, ℕ, true, false, not, List, [], ◌∷◌, ◌++◌, refl, map, filter, eqb, append-nil, append_assoc}
+use Rattle.std.{specs.Prelude.{Option, Some, None, option_to_list, ◌==◌, nat_eq}, proofs.lemmas.{List.Elements.filter-append, Map.Views.any-filter_same}}
+use Rattle.snoop_history.proofs.Common.{Did, Item, eqb-true, flat_map, flat_map-append, insert_key, list_any}
+use Rattle.snoop_history.{proofs.Common.operation_of, specs.Within.block_of}
 use Rattle.snoop_history.specs.Totals.{each_once, mentioned, touched}
 
 -- the numbers other than y
@@ -41,25 +40,3 @@ pub touched-add : (items : List Item) (entry : Item) {before after : List ℕ} {
 touched-add items entry was is performs added =
     rw (added, was, is, performs, flat_map-append mentioned items (entry ∷ []), append-nil (mentioned entry))
     (sym (each_once-blocks (flat_map mentioned items) (block_of entry) (operation_of entry)))
-
-each_once-all : (P : ℕ → Type 0) (xs : List ℕ) → All P xs → All P (each_once xs)
-each_once-all P [] all = All-nil P
-each_once-all P (x ∷ xs) all = All-cons P x (but x (each_once xs)) (All-head P x xs all) (All-filter (λ z. not (z == x)) P (each_once xs) (each_once-all P xs (All-tail P x xs all)))
-
--- the blocks that an item within a shape mentions are within it
-blocks_within : (cores blocks words block : ℕ) (op : Option Did) → block < blocks → ForSome op (λ did. (did.core < cores) × (did.block < blocks) × (did.word < words)) → All (λ b. b < blocks) (block ∷ map (λ did. did.block) (option_to_list op))
-blocks_within cores blocks words block op within lies = λ k d lt. grind arith
-
-all_flat_map : {A B : Type 0} (P : B → Type 0) (f : A → List B) (xs : List A) → All (λ x. All P (f x)) xs → All P (flat_map f xs)
-all_flat_map P f [] all = All-nil P
-all_flat_map P f (x ∷ xs) all = All-append P (f x) (flat_map f xs) (all 0 x (omega arith)) (all_flat_map P f xs (λ k d lt. all (suc k) d (omega arith)))
-
--- the touched blocks of a list within a shape are within it
-pub touched_within : (cores blocks words : ℕ) (items : List Item) → All (IsItemWithin cores blocks words) items → All (λ block. block < blocks) (touched items)
-touched_within cores blocks words items all =
-    each_once-all (λ block. block < blocks) (flat_map mentioned items) (all_flat_map (λ block. block < blocks) mentioned items
-    (All-weaker (IsItemWithin cores blocks words) _ (λ x lies. blocks_within cores blocks words (block_of x) (operation_of x) lies.block lies.operation) items all))
-
--- what holds of the element at each place holds of all
-pub all_places : (P : Item → Type 0) (items : List Item) → ((k : ℕ) (entry : Item) → slice_get items k ≡ Some entry → P entry) → All P items
-all_places P items each k d within = each k (get_or items k d) (slice_get-get_or items k d within)

@@ -1,5 +1,5 @@
 //! The running tables of a history: its board, and the blocks that it mentions.
-ghost use Rattle.std.specs.Prelude.{◌≡◌, ℕ, ◌&&◌, List, [], ◌∷◌, ◌++◌, length, Some, None, slice_get, slice_index, option_and_then, if◌then◌else◌, nat_eq, nat_lt, ◌<◌, slice_set, IsTrue, ◌↔◌, IfOk, false};
+ghost use Rattle.std.specs.Prelude.{◌≡◌, ℕ, All, ◌&&◌, List, [], ◌∷◌, ◌++◌, length, Some, None, slice_get, slice_index, option_and_then, if◌then◌else◌, nat_eq, nat_lt, ◌<◌, slice_set, IsTrue, ◌↔◌, IfOk, false};
 ghost use Rattle.std.specs.List.{list_any};
 ghost use Rattle.std.specs.Option.{ForSome};
 ghost use Rattle.indexmap.specs.IndexSet.{insert_key};
@@ -220,7 +220,8 @@ impl TouchedBlocks {
 
     /// The blocks, in order.
     pub(crate) fn as_slice(&self) -> &[u32]
-        ensures { result.now ≡ self.now.order }
+        ensures value { result.now ≡ self.now.order }
+        ensures within { All (λ block. block < self.now.blocks) result.now }
     {
         self.order.as_slice()
     }

@@ -58,7 +58,7 @@ impl Log {
         ensures full { OnErr result (self.old.room ≡ 0) }
         ensures room { self.old.room ≤ self.new.room }
     {
-        if self.len() >= MOST_ITEMS {
+        if self.items.len() >= MOST_ITEMS {
             return Err(NoMemory);
         }
         self.items.reserve(1)?;
@@ -204,6 +204,7 @@ impl Log {
     /// Whether `push` may take the item, room aside: its core and block lie within the shape, and so do the core that
     /// sent its response, if one did, and the core, block and word of its operation, if it has one, which carries its
     /// core's `count` as its number.
+    #[tactic(auto, using(crate::proofs::Boards::passes_within))]
     pub fn takes(&self, item: Item) -> bool
         ensures sound { IsTrue result → IsItemWithin self.now.cores self.now.blocks self.now.words item × IsNumbered self.now.items item }
         ensures whole { IsItemWithin self.now.cores self.now.blocks self.now.words item → IsNumbered self.now.items item → IsTrue result }

@@ -1,3 +1,2 @@
 mod Common
 pub mod Versions
-pub mod Published

@@ -1,6 +1,6 @@
--- Publishing and entering keep the rule of the versions.
-use Rattle.std.proofs.Common.{◌≡◌, ◌≢◌, ℕ, List, [], ◌∷◌, ◌++◌, map, Some, None, inl, inr, true, false, refl, sym, ap, ◌∙◌, ⊎_elim, append-nil, append_assoc}
-use Rattle.snoop_versions.proofs.Common.{absorbed_board, Adds, All, Enters, Fits, grown, IsWriting, Item, Kept, newcomer, newest_of, same_shape, Sees, Version, version_of, View, viewing}
+-- Publishing and entering keep the rule of the versions, and a writer has at most one item ready.
+use Rattle.std.proofs.Common.{◌≡◌, ◌≢◌, ℕ, ◌<◌, ◌≤◌, List, [], ◌∷◌, ◌++◌, length, fold, map, Some, None, inl, inr, true, false, true≢false, refl, sym, ap, ◌∙◌, ⊎_elim, append-nil, append_assoc, arith}
+use Rattle.snoop_versions.proofs.Common.{absorbed_board, Adds, All, Enters, Err, Fits, grown, IsOk, IsPublishing, IsWriting, Item, Kept, MatchResult, newcomer, newest_of, Ok, Result, same_shape, Sees, Version, version_of, View, viewing}
 use Rattle.std.proofs.lemmas.{Bool.cases_Bool, List.map-append}
 use mathlib.Core.Option.{some}
 use lib.ListN.{get_elem?, set}
@@ -104,4 +104,34 @@ adds handle v x next c b d entry shown is legal within grows views k at =
             });
       },
       (refl, rw (grows, same)),
+    )
+
+-- after an append to nothing at most one item is ready
+pub ready_grows : {A : Type 0} (r : Result A Item) (old new : List Item) (entry : Item) → MatchResult r (λ _. new ≡ old ++ entry ∷ []) (λ back. (back ≡ entry) × (new ≡ old)) → old ≡ [] → length new ≤ 1
+ready_grows (Ok a) old new entry after none = let n : length new ≡ 1 = ap length (rw none at after) in omega arith
+ready_grows (Err e) old new entry after none = let n : length new ≡ 0 = ap length (after.1 ∙ none) in omega arith
+
+-- what holds after a call that succeeds
+pub ok_side : {A E P : Type 0} (Q : Type 0) (r : Result A E) → IsOk r → MatchResult r (λ _. P) (λ _. Q) → P
+ok_side Q (Ok a) ok after = after
+ok_side Q (Err e) ok after = absurd (true≢false (sym ok))
+
+-- what the writer publishes is one item
+pub one_ready : (ready : List Item) → 0 < length ready → length ready ≤ 1 → (entry : Item) × (ready ≡ entry ∷ [])
+one_ready [] any few = absurd (omega arith)
+one_ready (entry ∷ []) any few = (entry, refl)
+one_ready (entry ∷ next ∷ rest) any few = absurd (omega arith)
+
+-- after what is ready is published, the version is that of the longer list
+pub publishes_on : {cores blocks words : ℕ} {v w : View} {x y : Version} {ready : List Item} → 0 < length ready → Adds v x y w → y ≡ fold grown x ready → IsPublishing cores blocks words v x ready
+    → (w.seen ≡ v.seen ++ ready) × IsPublishing cores blocks words w y []
+publishes_on {cores} {blocks} {words} {v} {w} {x} {y} {ready} any adds is p =
+    let (entry, one) = one_ready ready any p.few in
+    let seen : w.seen ≡ v.seen ++ entry ∷ [] = rw (is, one) at adds.1 in (
+      rw one seen,
+      record {
+        writing = λ e. absurd (true≢false (sym adds.0 ∙ e));
+        shown = rw (is, one, seen, p.shown) (sym (version_of-push cores blocks words v.seen entry));
+        few = omega arith;
+      },
     )

@@ -1,5 +1,5 @@
 use Rattle.snoop_cores.proofs.Common.{All-get_or, AreDealt, arith, get_or, get_or_default, length, length-set, refl, Row, subst, sym, take_all, ◌<◌, ◌∙◌}
-use Rattle.snoop_cores.proofs.{Performed.no_row, Dealing.dealt_more}
+use Rattle.snoop_cores.proofs.Performed.{no_row, dealt_more}
 use Rattle.snoop_cores.proofs.deal.deal.Goals as goal
 
 pub loop-row-preserved : goal.loop-row-preserved

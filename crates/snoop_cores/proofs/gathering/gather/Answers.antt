@@ -1,4 +1,4 @@
-use Rattle.std.proofs.Common.{◌∙◌, ℕ, List, ap, sym, subst, Result, Ok, Err, IfErr}
+use Rattle.std.proofs.Common.{◌∙◌, ℕ, List, ap, arith, sym, subst, Result, Err, IfErr}
 use Rattle.snoop_cores.proofs.{Common.{Extent, IsHeld, IsKept, Locked, OneForEach, RefusesGather, RefusesJoin, Seating}, Joining.{odd_one, not_odd}}
 use Rattle.snoop_trace.specs.declared.protocol.Protocol.{Protocol}
 use Rattle.snoop_cores.specs.declared.{gathering.Gathered.Gathered, fault.GatherFault.{GatherFault, TheVariants.NotAllSeats}}
@@ -15,9 +15,7 @@ returns-clause-not_all g c = λ core odd.
 
 -- what refuses to join a bench of the machine refuses to gather
 refuses : (protocol : Protocol) (shape : Extent) (seats : List Seating) (b : Locked) (answer : Result Gathered GatherFault) → OneForEach shape.cores seats → IsHeld protocol shape b → IfErr answer (RefusesJoin b seats) → IfErr answer (RefusesGather protocol shape seats)
-refuses protocol shape seats b (Ok gathered) one_each held joined = tt
-refuses protocol shape seats b (Err (NotAllSeats core)) one_each held joined = absurd joined
-refuses protocol shape seats b (Err fault) one_each held joined = (one_each, (b, held, joined))
+refuses protocol shape seats b answer one_each held joined = grind arith
 
 pub returns-clause-err : goal.returns-clause-err
 returns-clause-err g c =

@@ -1,4 +1,4 @@
-use Rattle.snoop_cores.proofs.Resting.{joins}
+use Rattle.snoop_cores.proofs.Joining.{joins}
 use Rattle.snoop_cores.proofs.gathering.join.Goals as goal
 
 pub returns-clause-ok : goal.returns-clause-ok

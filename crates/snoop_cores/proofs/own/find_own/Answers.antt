@@ -1,4 +1,4 @@
-use Rattle.snoop_cores.proofs.{Common.{answers_of, sym, true≢false}, Shown.stranger_more}
+use Rattle.snoop_cores.proofs.{Common.{answers_of, sym, true≢false}, Beginnings.stranger_more}
 use Rattle.snoop_cores.proofs.own.find_own.Goals as goal
 
 pub returns-in-More-2-clause-err : goal.returns-in-More-2-clause-err

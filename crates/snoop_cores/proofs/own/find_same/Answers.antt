@@ -1,4 +1,4 @@
-use Rattle.snoop_cores.proofs.{Common.{answers_of, IsOp, subst}, Shown.stranger_more}
+use Rattle.snoop_cores.proofs.{Common.{answers_of, IsOp, subst}, Beginnings.stranger_more}
 use Rattle.snoop_trace.specs.declared.step.Op.{Op}
 use Rattle.snoop_cores.proofs.own.find_same.Goals as goal
 

@@ -1,4 +1,4 @@
-use Rattle.snoop_cores.proofs.{Beginnings.begins_on, Shown.own_shown}
+use Rattle.snoop_cores.proofs.Beginnings.{begins_on, own_shown}
 use Rattle.snoop_cores.proofs.own.look.Goals as goal
 
 pub returns-in-Some-clause-begins : goal.returns-in-Some-clause-begins

@@ -1,4 +1,4 @@
-use Rattle.snoop_cores.proofs.{Common.{arith, get_or_default, length, None, slice_index_or, ◌<◌}, Dealing.ran_to, Joining.no_seat}
+use Rattle.snoop_cores.proofs.{Common.{arith, get_or_default, length, None, slice_index_or, ◌<◌}, Joining.no_seat, Performed.ran_to}
 use Rattle.snoop_cores.proofs.rows.run_seats.Goals as goal
 
 pub returns-clause-on_time : goal.returns-clause-on_time

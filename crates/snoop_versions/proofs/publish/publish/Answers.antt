@@ -1,4 +1,4 @@
-use Rattle.snoop_versions.proofs.{Common.{drop, knows}, Versions.adds, Published.{ok_side, one_ready, publishes_on}}
+use Rattle.snoop_versions.proofs.{Common.{drop, knows}, Versions.{adds, ok_side, one_ready, publishes_on}}
 use Rattle.snoop_versions.proofs.publish.publish.Goals as goal
 
 pub publish_as-requires : goal.publish_as-requires

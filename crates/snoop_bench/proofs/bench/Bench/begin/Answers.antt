@@ -1,5 +1,5 @@
-use Rattle.snoop_bench.proofs.{Common.{Ask, false, IsReadableStep, Locked, refl, subst, sym, well_kept_in, works_under_way}, Places.its_block, Waiting.stepped}
-use Rattle.snoop_bench.proofs.{Turning.asked_keeps, Outcomes.asked_so}
+use Rattle.snoop_bench.proofs.{Common.{Ask, false, IsReadableStep, Locked, refl, subst, sym, well_kept_in, works_under_way}}
+use Rattle.snoop_bench.proofs.{Turning.{asked_keeps, its_block, stepped}, Outcomes.asked_so}
 use Rattle.snoop_bench.proofs.bench.Bench.begin.Goals as goal
 
 pub take-requires-clause-allowed : goal.take-requires-clause-allowed

@@ -1,6 +1,6 @@
-use Rattle.snoop_bench.proofs.{Common.{ap, case_of, is_some, Locked, refl, Some, state_of, sym, true, waiting_request, well_kept_in, ◌∙◌, ◌≡◌}, Waiting.stepped}
-use Rattle.snoop_bench.proofs.{Cases.{IsCase, at_case, turn_within}, Turning.{Facing, facing, finished, never, serving_step}, bench.Bench.go_on.Given.Over}
-use Rattle.snoop_bench.proofs.{Outcomes.{finished_turn, served_turn}, bench.Bench.go_on.Goals.After-recorded}
+use Rattle.snoop_bench.proofs.{Common.{ap, case_of, is_some, Locked, refl, Some, state_of, sym, true, waiting_request, well_kept_in, ◌∙◌, ◌≡◌}, Outcomes.{finished_turn, served_turn}}
+use Rattle.snoop_bench.proofs.Turning.{at_case, Facing, facing, finished, IsCase, never, serving_step, stepped, turn_within}
+use Rattle.snoop_bench.proofs.bench.Bench.go_on.{Given.Over, Goals.After-recorded}
 use Rattle.snoop_bench.proofs.bench.Bench.go_on.Goals as goal
 
 module _ (g : Over) (c : After-recorded g) where

@@ -1,8 +1,4 @@
-use Rattle.std.proofs.Common.{◌∙◌}
-use Rattle.snoop_history.proofs.{Kept.within_all, Touching.touched_within}
 use Rattle.snoop_history.proofs.log.Log.touched.Goals as goal
 
 pub returns-clause-within : goal.returns-clause-within
-returns-clause-within c =
-    let kept = c.self.invariant.kept in
-    rw (← c.self.view_is, c.as_slice.ensures ∙ kept.mentioned) (touched_within _ _ _ _ (within_all kept))
+returns-clause-within c = rw (← c.self.view_is, ← c.self.invariant.as_many) c.as_slice.ensures.within

@@ -1,4 +1,4 @@
-use Rattle.snoop_versions.proofs.{Common.{ap, Publishing, ◌∙◌}, Published.ready_grows}
+use Rattle.snoop_versions.proofs.{Common.{ap, Publishing, ◌∙◌}, Versions.ready_grows}
 use Rattle.snoop_versions.proofs.writer.VersionWriter.prepare.Goals as goal
 
 pub invariant_of-self : goal.invariant_of-self
