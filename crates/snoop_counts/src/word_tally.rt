@@ -1,5 +1,5 @@
 //! What the table by word counts.
-ghost use Rattle.std.specs.Prelude.{◌≡◌, ◌<◌, ◌≤◌, ◌*◌, ◌++◌, ◌∷◌, [], ℕ, List, IfOk, IsSomeAnd, nat_lt};
+ghost use Rattle.std.specs.Prelude.{◌≡◌, ◌<◌, ◌≤◌, ◌*◌, [], List, IfOk, IsSomeAnd};
 ghost use Rattle.snoop_trace.specs.Extent.{Extent};
 ghost use Rattle.snoop_counts.specs.ByWord.{is_shared};
 ghost use Rattle.snoop_counts.specs.Counted.{counted_of, place_of_word};
@@ -10,6 +10,7 @@ ghost use Rattle.snoop_counts.specs.declared.count.Happening.{Happening as Seen}
 ghost use Rattle.snoop_counts.specs.declared.count.Subjects.TheVariants.{Words as OfWords};
 
 use crate::count::{Count, Happening, Subjects};
+use crate::counts::Counts;
 use crate::sharers::Sharers;
 use crate::tally::{Counters, Tally};
 use snoop_trace::{NoMemory, Shape};
@@ -43,26 +44,6 @@ impl WordTally {
         })
     }
 
-    // Counts what has happened.
-    fn add(&mut self, happening: &Happening)
-        ensures { (shape : Extent) (seen : List Seen) → CountsWords shape seen self.old → CountsWords shape (seen ++ happening.now ∷ []) self.new }
-    {
-        self.tally.add(happening);
-        self.shared.add(happening);
-        self.cores.add(happening);
-        self.readers.add(happening);
-        self.writers.add(happening);
-    }
-
-    /// Counts all of this.
-    pub(crate) fn add_all(&mut self, happenings: &[Happening])
-        ensures { (shape : Extent) (seen : List Seen) → CountsWords shape seen self.old → CountsWords shape (seen ++ happenings.now) self.new }
-    {
-        for happening in happenings {
-            self.add(happening);
-        }
-    }
-
     /// Whether at least two cores performed an operation on the block.
     pub(crate) fn is_shared(&self, block: u32, cores: u32) -> bool
         requires { cores ≤ 256 }
@@ -77,5 +58,24 @@ impl WordTally {
             → IsSomeAnd result (λ row. (counted : Counted) → counter_in row counted ≡ counted_of (OfWords shape.words) seen place counted) }
     {
         self.tally.row(place)
+    }
+}
+
+impl Counts for WordTally {
+    ghost use Rattle.snoop_trace.specs.Extent.{Extent};
+    ghost use Rattle.snoop_counts.specs.WordTally.{CountsWords};
+
+    ghost Of = { Extent };
+
+    ghost of_shape = { λ shape. shape };
+
+    ghost has_counted = { CountsWords };
+
+    fn add(&mut self, happening: &Happening) {
+        self.tally.add(happening);
+        self.shared.add(happening);
+        self.cores.add(happening);
+        self.readers.add(happening);
+        self.writers.add(happening);
     }
 }

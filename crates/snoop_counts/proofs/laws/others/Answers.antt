@@ -1,4 +1,4 @@
-use Rattle.snoop_counts.proofs.SumLemmas.{done_is_suffered}
+use Rattle.snoop_counts.proofs.LawLemmas.{done_is_suffered}
 use Rattle.snoop_counts.proofs.laws.others.Goals as goal
 
 pub returns : goal.returns

@@ -1,4 +1,4 @@
-use Rattle.snoop_counts.proofs.SumLemmas.{sums_are_totals}
+use Rattle.snoop_counts.proofs.LawLemmas.{sums_are_totals}
 use Rattle.snoop_counts.proofs.laws.sums.Goals as goal
 
 pub returns : goal.returns

@@ -1,4 +1,4 @@
-use Rattle.snoop_counts.proofs.SumLemmas.{words_add_up}
+use Rattle.snoop_counts.proofs.LawLemmas.{words_add_up}
 use Rattle.snoop_counts.proofs.laws.words.Goals as goal
 
 pub returns : goal.returns

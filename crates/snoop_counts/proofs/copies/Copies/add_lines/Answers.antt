@@ -1,5 +1,5 @@
 use Rattle.std.proofs.{Common.subst, lemmas.List.take_more}
-use Rattle.snoop_counts.proofs.{Common.{List, MarksLines, sym, take, Taken}, CauseLemmas.lines_more}
+use Rattle.snoop_counts.proofs.{Common.{List, MarksLines, sym, take, Taken}, LastLemmas.lines_more}
 use Rattle.snoop_counts.proofs.copies.Copies.add_lines.Goals as goal
 
 pub loop-line-preserved : goal.loop-line-preserved
