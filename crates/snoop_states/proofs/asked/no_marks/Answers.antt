@@ -1,4 +1,4 @@
-use Rattle.snoop_states.proofs.EachLemmas.{each_more}
+use Rattle.snoop_states.proofs.TableLemmas.{each_more}
 use Rattle.snoop_states.proofs.asked.no_marks.Goals as goal
 
 pub loop-preserved : goal.loop-preserved

@@ -1,4 +1,4 @@
-use Rattle.snoop_states.proofs.{Common.{◌<◌, ◌≡◌, arith, columns_for, mark_at}, EachLemmas.each_mapped, TableLemmas.{begun_at_reset, empty_at_reset}}
+use Rattle.snoop_states.proofs.{Common.{◌<◌, ◌≡◌, arith, columns_for, mark_at}, TableLemmas.{begun_at_reset, each_mapped, empty_at_reset}}
 use Rattle.snoop_states.proofs.tables.begin_tables.Goals as goal
 
 pub returns-in_ok-start_tables : goal.returns-in_ok-start_tables

@@ -1,4 +1,4 @@
-use Rattle.snoop_states.proofs.EachLemmas.{each_more}
+use Rattle.snoop_states.proofs.TableLemmas.{each_more}
 use Rattle.snoop_states.proofs.tables.empty_tables.Goals as goal
 
 pub loop-block-preserved : goal.loop-block-preserved
