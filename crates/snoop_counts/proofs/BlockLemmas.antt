@@ -3,8 +3,8 @@ use Rattle.std.proofs.lemmas.{Bool.{cases_lt, le-ltb, lt-ltb, ltb-false}, List.E
 use Rattle.std.proofs.lemmas.List.{FromFn.{get_or-range_with_len, length-range_with_len}, Sums.prefix_len-le-length}
 use Rattle.std.proofs.lemmas.List.Sorted.{All-permutation, IsPermutation-insert, IsStrictWeakOrder-by_number, IsStrictWeakOrder-flip}
 use Rattle.std.specs.{Cmp.IsStrictWeakOrder, List.{position_or_len, Sorted.{IsSortedBy, IsStableBy, ties}}, Prelude.nat_lt}
-use Rattle.snoop_engine.proofs.{Common.{All-cons, map-append}, RangeLemmas.more_from_zero}
-use Rattle.snoop_counts.proofs.Common.{[], ℕ, ◌++◌, ◌+◌, ◌<◌, ◌==◌, ◌∙◌, ◌∷◌, ◌≡◌, ◌≤◌, All, All-head, All-nil, All-tail, ap, append-nil, append_assoc, arith, Blocks, blocks_named, Bool, cond, Count, counter_in, eq-eqb, filter, filter-append, fold, Happening, if◌then◌else◌, inl, inr, length, List, map, nat_tests, None, not, Option, range_with_len, refl, Some, suc, sym, true, with_requests}
+use Rattle.snoop_engine.proofs.{Common.{All-cons, flat_map_more, map-append}, RangeLemmas.more_from_zero}
+use Rattle.snoop_counts.proofs.Common.{[], ℕ, ◌++◌, ◌+◌, ◌<◌, ◌==◌, ◌∙◌, ◌∷◌, ◌≡◌, ◌≤◌, All, All-head, All-nil, All-tail, ap, append-nil, append_assoc, arith, Blocks, blocks_named, Bool, cond, Count, counter_in, eq-eqb, filter, filter-append, flat_map, fold, Happening, if◌then◌else◌, inl, inr, length, List, map, nat_tests, None, not, Option, range_with_len, refl, Some, suc, sym, true, with_requests}
 use Rattle.snoop_counts.specs.{ByBlock.{blocks_shown, placed, ranked}, CoreTable.count_fields, Counted.is_named, declared.ranking.Ranked.Ranked}
 use Rattle.snoop_counts.specs.declared.tally.Counters.{Counters}
 
@@ -137,3 +137,7 @@ shown_are_named seen blocks top =
     let inside : k < blocks = omega (arith, length-range_with_len 0 blocks) in rw (get_or-range_with_len 0 blocks k d inside) (omega arith)) in
     all_shown P top (map (with_requests seen) (blocks_named blocks seen))
     (All-map P (with_requests seen) (blocks_named blocks seen) (λ k d there. (low k d there, filter_passes p (range_with_len 0 blocks) k d there)))
+
+-- the piece of the next number comes after the pieces so far
+pub pieces_more : (f : ℕ → List ℕ) (before : List ℕ) (n : ℕ) → before ++ flat_map f (range_with_len 0 (n + 1)) ≡ (before ++ flat_map f (range_with_len 0 n)) ++ f n
+pieces_more f before n = rw (more_from_zero n) (sym (flat_map_more f before (range_with_len 0 n) n))

@@ -1,7 +1,7 @@
 -- Sums of counts over causes, over parts of a run, over cores, over blocks, and over the words of a block.
 use Rattle.std.proofs.{Common.{◌^◌, zero}, Math.Bool.or-false, lemmas.Bool.{both_ways, false≢true, lt-ltb}}
 use Rattle.std.proofs.lemmas.List.Elements.{All-contains, All-contains_itself, All-map, Contains-append_left, Contains-append_right}
-use Rattle.std.proofs.lemmas.List.{Folds.fold_stays, Sums.{length-filter, sum_by_from}}
+use Rattle.std.proofs.lemmas.List.{Folds.{fold-map, fold_stays}, Sums.{length-filter, sum_by_from}}
 use Rattle.std.{proofs.lemmas.{Grind.common_steps, Nat.{mul-add-lt, mul-le, same_from_place}, Option.gets}, specs.{List.sum_by}}
 use Rattle.std.specs.Prelude.{Err, IsSomeAnd, nat_lt, option_to_list, slice_get}
 use Rattle.snoop_trace.specs.Extent.{IsWithinLimits}
@@ -157,28 +157,17 @@ are_run (f ∷ fs) old new steady run =
       of_one_block = All-append IsOfOneBlock added (items_in fs) adds.of_one_block rest.of_one_block;
     }
 
--- as many elements of a mapped list
-kept_mapped : {X Y : Type 0} (p : Y → Bool) (f : X → Y) (xs : List X) → length (filter p (map f xs)) ≡ length (filter (λ x. p (f x)) xs)
-kept_mapped p f [] = refl
-kept_mapped p f (x ∷ xs) = simp (kept_if, kept_mapped p f xs)
-
-none_kept : {X : Type 0} (p : X → Bool) → ((x : X) → p x ≡ false) → (xs : List X) → length (filter p xs) ≡ 0
-none_kept p fails xs = length-filter p xs ∙ fold_stays (λ n x. n + once (p x)) 0 (λ x. rw (fails x) refl) xs
-
 -- a test that no line passes is passed by items alone
 items_alone : (p : Happening → Bool)
     → ((step : Step) (outcome : Result Reply Refused) (line : Taken) (why : Option Cause) → p (happening.Line step outcome line why) ≡ false)
     → (earlier frames : List Frame) → length (filter p (seen_after earlier frames)) ≡ length (filter (λ entry. p (happening.Item entry)) (items_in frames))
 items_alone p fails earlier [] = refl
 items_alone p fails earlier (frame ∷ frames) =
-    let why : Taken → Option Cause = cause_of earlier (operation_in frame) in
-    let of_line : Taken → Happening = λ line. happening.Line frame.step frame.outcome line (why line) in
+    let of_line : Taken → Happening = λ line. happening.Line frame.step frame.outcome line (cause_of earlier (operation_in frame) line) in
     let lines = lines_of_step frame.before frame.step frame.outcome in
-    let items = option_to_list (item_of frame) in
-    let none = kept_mapped p of_line lines ∙ none_kept (λ line. p (of_line line)) (λ line. fails frame.step frame.outcome line (why line)) lines in
-    let here = kept_mapped p happening.Item items in
-    let rest = items_alone p fails (earlier ++ frame ∷ []) frames in
-    simp (filter-append, length-append) (omega arith)
+    let none = fold_stays (λ n line. n + once (p (of_line line))) 0 (λ line. rw (fails frame.step frame.outcome line _) refl) lines in
+    let rest = simp length-filter at (items_alone p fails (earlier ++ frame ∷ []) frames) in
+    simp (filter-append, length-append, length-filter, fold-map) (omega arith)
 
 sum_zero : (xs : List ℕ) → sum_by (λ (s : ℕ). 0) xs ≡ 0
 sum_zero xs = fold_stays (λ n s. n + 0) 0 (λ s. refl) xs

@@ -1,11 +1,11 @@
 -- What a count of items alone counts of a line: nothing; rows of counters, and how they go up.
 use Rattle.std.proofs.{Common.{get_or-set_other, subst}, lemmas.{Bool.{and_right, cases_Bool}, Grind.get_or-set_at}}
 use Rattle.std.proofs.lemmas.{List.{length-set, set-get_or, Folds.fold_stays, Sums.{length-filter, sum_by_push}}, Option.{gets, slice_get-map, slice_get_within}}
-use Rattle.std.specs.Prelude.{Err, slice_get}
+use Rattle.std.specs.Prelude.{slice_get}
 use Rattle.snoop_history.specs.{Journal.counted, Totals.capped}
 use Rattle.snoop_blocks.specs.Places.{changed_at}
 use Rattle.snoop_engine.proofs.Common.{CacheEvent, CacheState, take_more}
-use Rattle.snoop_counts.proofs.Common.{[], ℕ, ◌&&◌, ◌++◌, ◌+◌, ◌<◌, ◌==◌, ◌||◌, ◌∙◌, ◌∷◌, ◌≡◌, ap, append_assoc, arith, Bool, Cause, cond, Count, counter_in, counts, false, filter, fold, get_or, Happening, HasCounted, if◌then◌else◌, inl, inr, is_counted, length, List, map, nat_tests, None, Ok, Option, option_map_or, refl, Refused, Reply, Result, Some, Step, Subjects, sym, take, Taken, times_counted, true}
+use Rattle.snoop_counts.proofs.Common.{[], ℕ, ◌&&◌, ◌++◌, ◌+◌, ◌<◌, ◌==◌, ◌||◌, ◌∙◌, ◌∷◌, ◌≡◌, ap, append_assoc, arith, Bool, Cause, cond, Count, counter_in, counts, false, filter, fold, get_or, Happening, HasCounted, if◌then◌else◌, inl, inr, is_counted, length, List, map, nat_tests, Ok, Option, option_map_or, refl, Refused, Reply, Result, Some, Step, Subjects, sym, take, Taken, times_counted, true}
 use Rattle.snoop_counts.specs.{BySteps.machine_counts, Counted.{counts_cause, counts_lines, counts_refusal, counts_row, has_row, is_it, is_refused, subject_of}}
 use Rattle.snoop_counts.specs.{Tally.{number, own_raised, raised_all, raised_by, raised_if, raised_row, row_at, tried}, declared.tally.Counters.Counters}
 use Rattle.snoop_counts.specs.declared.tally.Tally.{Tally}
@@ -135,20 +135,12 @@ after_tried whose seen s n c =
 
 all_tried : (seen : Happening) (whose : Subjects) (s n : ℕ)
     → map (after_tried whose seen s n) all_counts ≡ map (λ c. counted n (is_counted whose s c seen)) all_counts
-all_tried (happening.Item (item.Did did)) subjects.Cores s n = refl
-all_tried (happening.Item (item.Did did)) whose s n = refl
-all_tried (happening.Item (item.Sent sent)) subjects.Cores s n = refl
-all_tried (happening.Item (item.Sent sent)) whose s n = refl
-all_tried (happening.Item (item.Came came None)) subjects.Cores s n = refl
-all_tried (happening.Item (item.Came came None)) whose s n = refl
 all_tried (happening.Item (item.Came came (Some did))) subjects.Cores s n = refl
-all_tried (happening.Item (item.Came came (Some did))) whose s n = refl
-all_tried (happening.Line step (Ok answer) line None) subjects.Cores s n = simp (no_row line)
-all_tried (happening.Line step (Ok answer) line None) whose s n = simp (no_row line)
+all_tried (happening.Item entry) subjects.Cores s n = refl
+all_tried (happening.Item entry) whose s n = refl
 all_tried (happening.Line step (Ok answer) line (Some cause)) subjects.Cores s n = simp (no_row line)
-all_tried (happening.Line step (Ok answer) line (Some cause)) whose s n = simp (no_row line)
-all_tried (happening.Line step (Err refused) line why) subjects.Cores s n = simp (no_row line, no_cause why)
-all_tried (happening.Line step (Err refused) line why) whose s n = simp (no_row line, no_cause why)
+all_tried (happening.Line step outcome line why) subjects.Cores s n = simp (no_row line, no_cause why)
+all_tried (happening.Line step outcome line why) whose s n = simp (no_row line, no_cause why)
 
 -- one more happening
 one_more : (p : Happening → Bool) (all : List Happening) (seen : Happening) → length (filter p (all ++ seen ∷ [])) ≡ length (filter p all) + cond (p seen) 1 0
