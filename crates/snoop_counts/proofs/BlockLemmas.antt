@@ -109,11 +109,9 @@ pub fields_are : (row : Counters) (value : Count → ℕ) → ((c : Count) → c
 fields_are row value same counts = λ i. count_fields counts (λ c. same c i)
 
 -- one block more, if it is named
-pub named_more : (seen : List Happening) (n : ℕ) (before now : List Ranked) → before ≡ map (with_requests seen) (blocks_named n seen)
-    → now ≡ before ++ (if is_named Blocks seen n then with_requests seen n ∷ [] else []) → now ≡ map (with_requests seen) (blocks_named (n + 1) seen)
-named_more seen n before now far e =
-    rw (e, far, more_from_zero n, filter-append (is_named Blocks seen), map-append)
-    (grind arith)
+pub named_more : (seen : List Happening) (n : ℕ) → map (with_requests seen) (blocks_named (n + 1) seen)
+    ≡ map (with_requests seen) (blocks_named n seen) ++ (if is_named Blocks seen n then with_requests seen n ∷ [] else [])
+named_more seen n = rw (more_from_zero n, filter-append (is_named Blocks seen), map-append) (grind arith)
 
 module _ (P : Ranked → Type 0) where
   all_placed : (blocks : List Ranked) (next : Ranked) → All P blocks → P next → All P (placed blocks next)

@@ -1,9 +1,9 @@
 -- Steps and one step more: what can be counted of them, the last in which something happened, and the last so many.
 use Rattle.std.proofs.{Common.{◌%◌, drop}, lemmas.{Bool.cases_lt, Grind.common_steps}, Math.Nat.{mod-eq_of_lt, mod-le, mod-lt, mod_self, suc-mod}}
-use Rattle.std.proofs.lemmas.List.{drop-append-le, drop_all, reverse-append, take-append-drop, take-append-le, Folds.list_any-append}
+use Rattle.std.proofs.lemmas.List.{drop-append-le, drop_all, reverse-append, take-append-drop, take-append-le, take_more, Folds.list_any-append}
 use Rattle.std.specs.List.{list_any}
 use Rattle.snoop_engine.specs.Frames.{FramesFrom}
-use Rattle.snoop_counts.proofs.Common.{[], ℕ, ◌++◌, ◌+◌, ◌-◌, ◌<◌, ◌∙◌, ◌∷◌, ◌≡◌, ◌≤◌, ap, append-nil, append_assoc, arith, Bool, cases_eq, Did, eq-eqb, Frame, if◌then◌else◌, length, length-append, lines_of_step, List, MarksLines, ne_eqb, operation_in, Option, refl, Situation, suc, sym, take, Taken}
+use Rattle.snoop_counts.proofs.Common.{[], ℕ, ◌++◌, ◌+◌, ◌-◌, ◌<◌, ◌∙◌, ◌∷◌, ◌≡◌, ◌≤◌, ap, append-nil, append_assoc, arith, Bool, cases_eq, Did, eq-eqb, Frame, get_or, if◌then◌else◌, length, length-append, lines_of_step, List, MarksLines, ne_eqb, operation_in, Option, refl, Situation, suc, sym, take, Taken}
 use Rattle.snoop_counts.specs.{BySteps.{seen_last, steps_fields, steps_left, steps_shown}, Causes.{gives_up, is_stored_to, last_step, loses, takes_such_row}}
 use Rattle.snoop_counts.specs.{Counted.{is_giving_up, is_loss}, Happenings.{seen_after, seen_in}, LastSteps.{HasLastSteps, KnowsLastSteps, Marks, MarksStore}}
 use Rattle.snoop_counts.specs.declared.{copies.Copies.Copies, last_steps.LastSteps.LastSteps}
@@ -36,12 +36,13 @@ marks_more test number lines line old middle new first next block at =
     rw (next block at, first block at, list_any-append (test block at) lines (line ∷ []))
     (grind arith)
 
-pub lines_more : (number : ℕ) (lines : List Taken) (line : Taken) (old middle new : Copies) → MarksLines number lines old middle → MarksLines number (line ∷ []) middle new → MarksLines number (lines ++ line ∷ []) old new
-lines_more number lines line old middle new first next = record {
+pub lines_more : (number : ℕ) (all : List Taken) (i : ℕ) (line : Taken) (old middle new : Copies) → i < length all → MarksLines number (take i all) old middle
+    → MarksLines number (get_or all i line ∷ []) middle new → MarksLines number (take (i + 1) all) old new
+lines_more number all i d old middle new low first next = let lines = take i all in let line = get_or all i d in rw (take_more all i d low) (record {
   given_up = marks_more (takes_such_row is_giving_up) number lines line old.given_up middle.given_up new.given_up first.given_up next.given_up;
   lost = marks_more (takes_such_row is_loss) number lines line old.lost middle.lost new.lost first.lost next.lost;
   stored = next.stored ∙ first.stored;
-}
+})
 
 -- a step's lines and its store are marked
 pub follows_more : (frames : List Frame) (frame : Frame) (number : ℕ) (lines : List Taken) (operation : Option Did) (old middle new : Copies) → KnowsLastSteps frames old → number ≡ 1 + length frames

@@ -22,6 +22,7 @@ pub(crate) trait Counts {
 }
 
 /// Counts all of this.
+#[tactic(auto, using(crate::proofs::TallyLemmas::one_happening_more, std::proofs::lemmas::List::take_all))]
 pub(crate) fn add_all<C: Counts>(counts: &mut C, happenings: &[Happening])
     ensures { (whose : C.Of) (seen : List Seen) → C.has_counted whose seen counts.old → C.has_counted whose (seen ++ happenings.now) counts.new }
 {
