@@ -129,6 +129,7 @@ fn start_tables(
 }
 
 // The tables at reset.
+#[tactic(auto, using(crate::proofs::TableLemmas::each_mapped, crate::proofs::TableLemmas::empty_at_reset))]
 fn begin_tables(
     alloc: Global,
     choice: Choice,
@@ -268,6 +269,7 @@ impl View for Tables {
         )
     }
 
+    #[tactic(auto, using(std::proofs::lemmas::List::append_assoc))]
     fn end(&mut self, out: &mut Vec<u8>, machine: &Machine) -> Result<(), NoMemory> {
         push_tables(
             self.alloc,
