@@ -140,7 +140,6 @@ impl View for BySteps {
         }
     }
 
-    #[tactic(auto, using(crate::proofs::LastLemmas::left_line))]
     fn end(&mut self, out: &mut Vec<u8>, _machine: &Machine) -> Result<(), NoMemory> {
         let left = self.steps % self.every.get();
         match &self.tally {

@@ -124,7 +124,6 @@ impl Copies {
     }
 
     /// Follows one more step, of this number.
-    #[tactic(auto, using(crate::proofs::LastLemmas::follows_more))]
     pub(crate) fn follow(
         &mut self,
         number: u64,

@@ -245,7 +245,6 @@ impl Tally {
             self.rows.change(subject, Own { happening });
         }
     }
-
 }
 
 impl Counts for Tally {
