@@ -1,5 +1,5 @@
 //! Counters, a row of them for each core, block or word, or one for the machine.
-ghost use Rattle.std.specs.Prelude.{◌≡◌, ◌<◌, ◌++◌, ◌∷◌, [], ℕ, List, IfOk, IsSomeAnd, None, Ok};
+ghost use Rattle.std.specs.Prelude.{◌≡◌, ◌<◌, [], ℕ, List, IfOk, IsSomeAnd, None, Ok};
 ghost use Rattle.snoop_model.specs.declared.replies.Reply.{Reply as Answer};
 ghost use Rattle.snoop_trace.specs.declared.step.Step.{Step as Given};
 ghost use Rattle.snoop_counts.specs.Counted.{counted_of};
