@@ -1,9 +1,5 @@
 pub mod Common
-pub mod CountedLemmas
 pub mod TallyLemmas
 pub mod BlockLemmas
-pub mod RankingLemmas
-pub mod CauseLemmas
-pub mod WindowLemmas
+pub mod LastLemmas
 pub mod LawLemmas
-pub mod SumLemmas

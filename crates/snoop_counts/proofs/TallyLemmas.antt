@@ -1,18 +1,42 @@
--- Rows of counters, and how they go up.
+-- What a count of items alone counts of a line: nothing; rows of counters, and how they go up.
 use Rattle.std.proofs.{Common.{get_or-set_other, subst}, lemmas.{Bool.{and_right, cases_Bool}, Grind.get_or-set_at}}
 use Rattle.std.proofs.lemmas.{List.{length-set, set-get_or, Folds.fold_stays, Sums.{length-filter, sum_by_push}}, Option.{gets, slice_get-map, slice_get_within}}
-use Rattle.std.specs.Prelude.{Err, slice_get}
+use Rattle.std.specs.Prelude.{slice_get}
 use Rattle.snoop_history.specs.{Journal.counted, Totals.capped}
 use Rattle.snoop_blocks.specs.Places.{changed_at}
-use Rattle.snoop_engine.proofs.Common.{take_more}
-use Rattle.snoop_counts.proofs.Common.{[], ℕ, ◌&&◌, ◌++◌, ◌+◌, ◌<◌, ◌==◌, ◌∙◌, ◌∷◌, ◌≡◌, ap, append_assoc, arith, Bool, cond, Count, counter_in, counts, false, filter, fold, get_or, Happening, HasCounted, if◌then◌else◌, inl, inr, is_counted, length, List, map, nat_tests, None, Ok, Option, option_map_or, refl, Some, Subjects, sym, take, times_counted, true}
-use Rattle.snoop_counts.{proofs.CountedLemmas.{no_cause, no_row}, specs.{BySteps.machine_counts, Counted.{is_it, subject_of}}}
+use Rattle.snoop_engine.proofs.Common.{CacheEvent, CacheState, take_more}
+use Rattle.snoop_counts.proofs.Common.{[], ℕ, ◌&&◌, ◌++◌, ◌+◌, ◌<◌, ◌==◌, ◌||◌, ◌∙◌, ◌∷◌, ◌≡◌, ap, append_assoc, arith, Bool, Cause, cond, Count, counter_in, counts, false, filter, fold, get_or, Happening, HasCounted, if◌then◌else◌, inl, inr, is_counted, length, List, map, nat_tests, Ok, Option, option_map_or, refl, Refused, Reply, Result, Some, Step, Subjects, sym, take, Taken, times_counted, true}
+use Rattle.snoop_counts.specs.{BySteps.machine_counts, Counted.{counts_cause, counts_lines, counts_refusal, counts_row, has_row, is_it, is_refused, subject_of}}
 use Rattle.snoop_counts.specs.{Tally.{number, own_raised, raised_all, raised_by, raised_if, raised_row, row_at, tried}, declared.tally.Counters.Counters}
 use Rattle.snoop_counts.specs.declared.tally.Tally.{Tally}
 use Rattle.snoop_counts.specs.declared.count.Count.TheVariants as count
 use Rattle.snoop_counts.specs.declared.count.Happening.TheVariants as happening
 use Rattle.snoop_counts.specs.declared.count.Subjects.TheVariants as subjects
 use Rattle.snoop_history.specs.declared.items.Item.TheVariants as item
+
+pub no_row : (line : Taken) → has_row (λ state event. false) line ≡ false
+no_row line = grind arith
+
+pub not_refused : (outcome : Result Reply Refused) → is_refused (λ cause. false) outcome ≡ false
+not_refused outcome = grind arith
+
+pub no_cause : (why : Option Cause) → option_map_or (λ (cause : Cause). false) why false ≡ false
+no_cause why = grind arith
+
+-- what a count counts of lines: all, by their rows, of refused steps, and by the causes of misses
+abbrev OfLines : Type 0
+OfLines = Bool × (CacheState → CacheEvent → Bool) × (Refused → Bool) × (Cause → Bool)
+
+-- the count is of items alone
+abbrev pub IsOfItems : Count → Type 0
+IsOfItems c =
+    ◌≡◌ {A = OfLines} (counts_lines c, counts_row c, counts_refusal c, counts_cause c) (false, (λ state event. false), (λ cause. false), (λ cause. false))
+
+pub no_line : (c : Count) → IsOfItems c → (step : Step) (outcome : Result Reply Refused) (line : Taken) (why : Option Cause)
+    → counts c (happening.Line step outcome line why) ≡ false
+no_line c items step outcome line why =
+    (λ i. (items i).0 || has_row (items i).1 line || is_refused (items i).2 outcome || option_map_or (items i).3 why false)
+    ∙ (λ i. no_row line i || not_refused outcome i || no_cause why i)
 
 -- all counts, by their places
 abbrev all_counts : List Count
@@ -111,20 +135,12 @@ after_tried whose seen s n c =
 
 all_tried : (seen : Happening) (whose : Subjects) (s n : ℕ)
     → map (after_tried whose seen s n) all_counts ≡ map (λ c. counted n (is_counted whose s c seen)) all_counts
-all_tried (happening.Item (item.Did did)) subjects.Cores s n = refl
-all_tried (happening.Item (item.Did did)) whose s n = refl
-all_tried (happening.Item (item.Sent sent)) subjects.Cores s n = refl
-all_tried (happening.Item (item.Sent sent)) whose s n = refl
-all_tried (happening.Item (item.Came came None)) subjects.Cores s n = refl
-all_tried (happening.Item (item.Came came None)) whose s n = refl
 all_tried (happening.Item (item.Came came (Some did))) subjects.Cores s n = refl
-all_tried (happening.Item (item.Came came (Some did))) whose s n = refl
-all_tried (happening.Line step (Ok answer) line None) subjects.Cores s n = simp (no_row line)
-all_tried (happening.Line step (Ok answer) line None) whose s n = simp (no_row line)
+all_tried (happening.Item entry) subjects.Cores s n = refl
+all_tried (happening.Item entry) whose s n = refl
 all_tried (happening.Line step (Ok answer) line (Some cause)) subjects.Cores s n = simp (no_row line)
-all_tried (happening.Line step (Ok answer) line (Some cause)) whose s n = simp (no_row line)
-all_tried (happening.Line step (Err refused) line why) subjects.Cores s n = simp (no_row line, no_cause why)
-all_tried (happening.Line step (Err refused) line why) whose s n = simp (no_row line, no_cause why)
+all_tried (happening.Line step outcome line why) subjects.Cores s n = simp (no_row line, no_cause why)
+all_tried (happening.Line step outcome line why) whose s n = simp (no_row line, no_cause why)
 
 -- one more happening
 one_more : (p : Happening → Bool) (all : List Happening) (seen : Happening) → length (filter p (all ++ seen ∷ [])) ≡ length (filter p all) + cond (p seen) 1 0

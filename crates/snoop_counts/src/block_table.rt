@@ -1,5 +1,5 @@
 //! The counts of each block, as a table.
-ghost use Rattle.std.specs.Prelude.{◌≡◌, ◌<◌, ◌≤◌, ◌++◌, ◌∷◌, [], ℕ, true, List, All, IfOk, OnOk, map, if◌then◌else◌};
+ghost use Rattle.std.specs.Prelude.{◌≡◌, ◌<◌, ◌++◌, ◌∷◌, [], ℕ, true, List, All, IfOk, OnOk, map, if◌then◌else◌};
 ghost use Rattle.std.specs.List.{flat_map};
 ghost use Rattle.snoop_counts.specs.BlockTally.{CountsBlocks};
 ghost use Rattle.snoop_counts.specs.ByBlock.{block_line, block_table, blocks_named, blocks_shown, with_requests};

@@ -1,11 +1,12 @@
 //! What the table by block counts.
-ghost use Rattle.std.specs.Prelude.{◌≡◌, ◌<◌, ◌≤◌, ◌++◌, ◌∷◌, [], ℕ, List, IfOk};
+ghost use Rattle.std.specs.Prelude.{◌≡◌, ◌<◌, [], ℕ, List, IfOk};
 ghost use Rattle.snoop_counts.specs.BlockTally.{CountsBlocks};
 ghost use Rattle.snoop_counts.specs.Tally.{IsRowOf};
 ghost use Rattle.snoop_counts.specs.declared.count.Happening.{Happening as Seen};
 ghost use Rattle.snoop_counts.specs.declared.count.Subjects.TheVariants.{Blocks};
 
 use crate::count::{Count, Happening, Subjects};
+use crate::counts::Counts;
 use crate::sharers::Sharers;
 use crate::tally::{Counters, Tally};
 use snoop_trace::NoMemory;
@@ -33,29 +34,28 @@ impl BlockTally {
         })
     }
 
-    // Counts what has happened.
-    fn add(&mut self, happening: &Happening)
-        ensures { (blocks : ℕ) (seen : List Seen) → CountsBlocks blocks seen self.old → CountsBlocks blocks (seen ++ happening.now ∷ []) self.new }
-    {
-        self.tally.add(happening);
-        self.named.add(happening);
-        self.readers.add(happening);
-        self.writers.add(happening);
-    }
-
-    /// Counts all of this.
-    pub(crate) fn add_all(&mut self, happenings: &[Happening])
-        ensures { (blocks : ℕ) (seen : List Seen) → CountsBlocks blocks seen self.old → CountsBlocks blocks (seen ++ happenings.now) self.new }
-    {
-        for happening in happenings {
-            self.add(happening);
-        }
-    }
-
     /// The counters of a block, if a line names it.
     pub(crate) fn row(&self, block: u32) -> Option<Counters>
         ensures { (blocks : ℕ) (seen : List Seen) → CountsBlocks blocks seen self.now → block < blocks → IsRowOf Blocks seen block result }
     {
         self.tally.named(block)
+    }
+}
+
+impl Counts for BlockTally {
+    ghost use Rattle.std.specs.Prelude.{ℕ};
+    ghost use Rattle.snoop_counts.specs.BlockTally.{CountsBlocks};
+
+    ghost Of = { ℕ };
+
+    ghost of_shape = { λ shape. shape.blocks };
+
+    ghost has_counted = { CountsBlocks };
+
+    fn add(&mut self, happening: &Happening) {
+        self.tally.add(happening);
+        self.named.add(happening);
+        self.readers.add(happening);
+        self.writers.add(happening);
     }
 }

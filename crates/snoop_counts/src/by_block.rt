@@ -1,4 +1,4 @@
-//! The view of the counts of each block.
+//! The counts of each block of a run.
 ghost use Rattle.std.specs.Prelude.{◌≡◌, ◌≢◌, true, Err};
 ghost use Rattle.snoop_trace.specs.Output.{BlamesWriter};
 ghost use Rattle.snoop_trace.specs.Text.{BlamesReader};
@@ -9,63 +9,30 @@ ghost use Rattle.snoop_counts.specs.ByBlock.{counts_by_block};
 
 use crate::block_table::push_block_table;
 use crate::block_tally::BlockTally;
-use crate::watch::Watch;
-use snoop_engine::{Input, Seen, SimFault, View, simulate_view};
-use snoop_machine::Machine;
+use crate::whole_run::{Table, simulate_table};
+use snoop_engine::{Input, SimFault};
 use snoop_rules::Protocol;
 use snoop_trace::streams::{Sink, Source};
 use snoop_trace::{NoMemory, Shape};
 use std::alloc::Global;
 
-/// Counts by block, for a table of all blocks that a line names, or of so many; there are no counters before the run begins.
-#[derive(Drop)]
+/// The table of the counts of all blocks that a line names, or of so many.
+#[derive(Clone, Copy, Debug)]
 struct ByBlock {
     top: Option<u32>,
-    watch: Watch,
-    tally: Option<BlockTally>,
 }
 
-impl View for ByBlock {
-    ghost use Rattle.std.specs.Prelude.{[]};
-    ghost use Rattle.snoop_counts.specs.ByBlock.{counts_by_block};
-    ghost use Rattle.snoop_counts.specs.Views.{HasBegunByBlock};
+impl Table<BlockTally> for ByBlock {
+    ghost use Rattle.snoop_counts.specs.ByBlock.{block_table};
 
-    ghost has_seen = { λ first protocol shape frames now. HasBegunByBlock protocol shape frames first now };
+    ghost text = { λ table shape seen. block_table shape table.top seen };
 
-    ghost heading = { λ first protocol shape. [] };
-
-    ghost shows = { λ first protocol shape frames frame. [] };
-
-    ghost ending = { λ first protocol shape frames final. counts_by_block shape first.top frames final };
-
-    fn begin(&mut self, out: &mut Vec<u8>, machine: &Machine) -> Result<(), NoMemory> {
-        let alloc = *out.allocator();
-        let blocks = machine.shape().blocks();
-        self.watch = Watch::new(alloc);
-        self.tally = Some(BlockTally::new(alloc, blocks)?);
-        Ok(())
+    fn start(&self, alloc: Global, shape: Shape) -> Result<BlockTally, NoMemory> {
+        BlockTally::new(alloc, shape.blocks())
     }
 
-    fn see(
-        &mut self,
-        _out: &mut Vec<u8>,
-        machine: &Machine,
-        seen: Seen<'_>,
-    ) -> Result<(), NoMemory> {
-        self.watch.see(machine.log(), seen)?;
-        if let Some(tally) = &mut self.tally {
-            tally.add_all(self.watch.happenings());
-        }
-        Ok(())
-    }
-
-    fn end(&mut self, out: &mut Vec<u8>, machine: &Machine) -> Result<(), NoMemory> {
-        match &self.tally {
-            None => Ok(()),
-            Some(tally) => {
-                push_block_table(*out.allocator(), out, tally, machine.shape(), self.top)
-            }
-        }
+    fn push(&self, out: &mut Vec<u8>, counts: &BlockTally, shape: Shape) -> Result<(), NoMemory> {
+        push_block_table(*out.allocator(), out, counts, shape, self.top)
     }
 }
 
@@ -92,10 +59,6 @@ pub fn simulate_counts_by_block<R: Source, W: Sink>(
     ensures read_blamed { BlamesReader (R.failed reader.old) (R.failed reader.new) (result ≡ Err (SimFault.Text text_fault.Read)) }
     ensures blamed { BlamesWriter (W.failed writer.old) (W.failed writer.new) (result ≡ Err SimFault.Write) }
 {
-    let mut view = ByBlock {
-        top,
-        watch: Watch::new(alloc),
-        tally: None,
-    };
-    simulate_view(alloc, reader, writer, protocol, shape, input, &mut view)
+    let table = ByBlock { top };
+    simulate_table(alloc, reader, writer, protocol, shape, input, table)
 }

@@ -1,4 +1,4 @@
-//! The view of the counts of each core.
+//! The counts of each core of a run.
 ghost use Rattle.std.specs.Prelude.{◌≡◌, ◌≢◌, true, Err};
 ghost use Rattle.snoop_trace.specs.Output.{BlamesWriter};
 ghost use Rattle.snoop_trace.specs.Text.{BlamesReader};
@@ -10,60 +10,28 @@ ghost use Rattle.snoop_counts.specs.CoreTable.{counts_by_core};
 use crate::core_table::push_core_table;
 use crate::count::Subjects;
 use crate::tally::Tally;
-use crate::watch::Watch;
-use snoop_engine::{Input, Seen, SimFault, View, simulate_view};
-use snoop_machine::Machine;
+use crate::whole_run::{Table, simulate_table};
+use snoop_engine::{Input, SimFault};
 use snoop_rules::Protocol;
 use snoop_trace::streams::{Sink, Source};
 use snoop_trace::{NoMemory, Shape};
 use std::alloc::Global;
 
-/// Counts by core; there are no counters before the run begins.
-#[derive(Drop)]
-struct ByCore {
-    watch: Watch,
-    tally: Option<Tally>,
-}
+/// The table of the counts of each core.
+#[derive(Clone, Copy, Debug)]
+struct ByCore;
 
-impl View for ByCore {
-    ghost use Rattle.std.specs.Prelude.{[]};
-    ghost use Rattle.snoop_counts.specs.CoreTable.{counts_by_core};
-    ghost use Rattle.snoop_counts.specs.Views.{HasBegunByCore};
+impl Table<Tally> for ByCore {
+    ghost use Rattle.snoop_counts.specs.CoreTable.{core_table};
 
-    ghost has_seen = { λ first protocol shape frames now. HasBegunByCore protocol shape frames now };
+    ghost text = { λ table shape seen. core_table shape.cores seen };
 
-    ghost heading = { λ first protocol shape. [] };
-
-    ghost shows = { λ first protocol shape frames frame. [] };
-
-    ghost ending = { λ first protocol shape frames final. counts_by_core shape frames final };
-
-    fn begin(&mut self, out: &mut Vec<u8>, machine: &Machine) -> Result<(), NoMemory> {
-        let alloc = *out.allocator();
-        let cores = machine.shape().cores();
-        self.watch = Watch::new(alloc);
-        self.tally = Some(Tally::new(alloc, Subjects::Cores, cores)?);
-        Ok(())
+    fn start(&self, alloc: Global, shape: Shape) -> Result<Tally, NoMemory> {
+        Tally::new(alloc, Subjects::Cores, shape.cores())
     }
 
-    fn see(
-        &mut self,
-        _out: &mut Vec<u8>,
-        machine: &Machine,
-        seen: Seen<'_>,
-    ) -> Result<(), NoMemory> {
-        self.watch.see(machine.log(), seen)?;
-        if let Some(tally) = &mut self.tally {
-            tally.add_all(self.watch.happenings());
-        }
-        Ok(())
-    }
-
-    fn end(&mut self, out: &mut Vec<u8>, machine: &Machine) -> Result<(), NoMemory> {
-        match &self.tally {
-            None => Ok(()),
-            Some(tally) => push_core_table(out, tally, machine.shape().cores()),
-        }
+    fn push(&self, out: &mut Vec<u8>, counts: &Tally, shape: Shape) -> Result<(), NoMemory> {
+        push_core_table(out, counts, shape.cores())
     }
 }
 
@@ -89,9 +57,5 @@ pub fn simulate_counts_by_core<R: Source, W: Sink>(
     ensures read_blamed { BlamesReader (R.failed reader.old) (R.failed reader.new) (result ≡ Err (SimFault.Text text_fault.Read)) }
     ensures blamed { BlamesWriter (W.failed writer.old) (W.failed writer.new) (result ≡ Err SimFault.Write) }
 {
-    let mut view = ByCore {
-        watch: Watch::new(alloc),
-        tally: None,
-    };
-    simulate_view(alloc, reader, writer, protocol, shape, input, &mut view)
+    simulate_table(alloc, reader, writer, protocol, shape, input, ByCore)
 }

@@ -14,6 +14,7 @@ ghost use Rattle.snoop_counts.specs.declared.count.Subjects.TheVariants.{Machine
 
 use crate::core_table::push_counts;
 use crate::count::{Count, Subjects};
+use crate::counts::add_all;
 use crate::tally::Tally;
 use crate::watch::Watch;
 use snoop_engine::{Input, Seen, SimFault, View, simulate_view};
@@ -128,7 +129,7 @@ impl View for BySteps {
         match &mut self.tally {
             None => Ok(()),
             Some(tally) => {
-                tally.add_all(self.watch.happenings());
+                add_all(tally, self.watch.happenings());
                 if seen.number % every != 0 {
                     return Ok(());
                 }

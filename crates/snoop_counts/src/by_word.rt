@@ -1,4 +1,4 @@
-//! The view of the counts of each word of the blocks that cores share.
+//! The counts of each word of the blocks that cores share in a run.
 ghost use Rattle.std.specs.Prelude.{◌≡◌, ◌≢◌, true, Err};
 ghost use Rattle.snoop_trace.specs.Output.{BlamesWriter};
 ghost use Rattle.snoop_trace.specs.Text.{BlamesReader};
@@ -7,61 +7,30 @@ ghost use Rattle.snoop_trace.specs.declared.fault.TextFault.TheVariants as text_
 ghost use Rattle.snoop_engine.specs.SimulatedView.{SimulatesView};
 ghost use Rattle.snoop_counts.specs.ByWord.{counts_by_word};
 
-use crate::watch::Watch;
+use crate::whole_run::{Table, simulate_table};
 use crate::word_table::push_word_table;
 use crate::word_tally::WordTally;
-use snoop_engine::{Input, Seen, SimFault, View, simulate_view};
-use snoop_machine::Machine;
+use snoop_engine::{Input, SimFault};
 use snoop_rules::Protocol;
 use snoop_trace::streams::{Sink, Source};
 use snoop_trace::{NoMemory, Shape};
 use std::alloc::Global;
 
-/// Counts by word; there are no counters before the run begins.
-#[derive(Drop)]
-struct ByWord {
-    watch: Watch,
-    tally: Option<WordTally>,
-}
+/// The table of the counts of each word.
+#[derive(Clone, Copy, Debug)]
+struct ByWord;
 
-impl View for ByWord {
-    ghost use Rattle.std.specs.Prelude.{[]};
-    ghost use Rattle.snoop_counts.specs.ByWord.{counts_by_word};
-    ghost use Rattle.snoop_counts.specs.Views.{HasBegunByWord};
+impl Table<WordTally> for ByWord {
+    ghost use Rattle.snoop_counts.specs.ByWord.{word_table};
 
-    ghost has_seen = { λ first protocol shape frames now. HasBegunByWord protocol shape frames now };
+    ghost text = { λ table shape seen. word_table shape seen };
 
-    ghost heading = { λ first protocol shape. [] };
-
-    ghost shows = { λ first protocol shape frames frame. [] };
-
-    ghost ending = { λ first protocol shape frames final. counts_by_word shape frames final };
-
-    fn begin(&mut self, out: &mut Vec<u8>, machine: &Machine) -> Result<(), NoMemory> {
-        let alloc = *out.allocator();
-        self.watch = Watch::new(alloc);
-        self.tally = Some(WordTally::new(alloc, machine.shape())?);
-        Ok(())
+    fn start(&self, alloc: Global, shape: Shape) -> Result<WordTally, NoMemory> {
+        WordTally::new(alloc, shape)
     }
 
-    fn see(
-        &mut self,
-        _out: &mut Vec<u8>,
-        machine: &Machine,
-        seen: Seen<'_>,
-    ) -> Result<(), NoMemory> {
-        self.watch.see(machine.log(), seen)?;
-        if let Some(tally) = &mut self.tally {
-            tally.add_all(self.watch.happenings());
-        }
-        Ok(())
-    }
-
-    fn end(&mut self, out: &mut Vec<u8>, machine: &Machine) -> Result<(), NoMemory> {
-        match &self.tally {
-            None => Ok(()),
-            Some(tally) => push_word_table(out, tally, machine.shape()),
-        }
+    fn push(&self, out: &mut Vec<u8>, counts: &WordTally, shape: Shape) -> Result<(), NoMemory> {
+        push_word_table(out, counts, shape)
     }
 }
 
@@ -87,9 +56,5 @@ pub fn simulate_counts_by_word<R: Source, W: Sink>(
     ensures read_blamed { BlamesReader (R.failed reader.old) (R.failed reader.new) (result ≡ Err (SimFault.Text text_fault.Read)) }
     ensures blamed { BlamesWriter (W.failed writer.old) (W.failed writer.new) (result ≡ Err SimFault.Write) }
 {
-    let mut view = ByWord {
-        watch: Watch::new(alloc),
-        tally: None,
-    };
-    simulate_view(alloc, reader, writer, protocol, shape, input, &mut view)
+    simulate_table(alloc, reader, writer, protocol, shape, input, ByWord)
 }

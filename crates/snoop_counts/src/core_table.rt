@@ -1,5 +1,6 @@
 //! The counts of each core, as a table.
 ghost use Rattle.std.specs.Prelude.{◌≡◌, ◌<◌, ◌++◌, ℕ, List, OnOk};
+ghost use Rattle.std.specs.List.{flat_map, range_with_len};
 ghost use Rattle.snoop_counts.specs.CoreTable.{core_line, core_table, count_fields};
 ghost use Rattle.snoop_counts.specs.Tally.{HasCounted, counter_in};
 ghost use Rattle.snoop_counts.specs.declared.count.Happening.{Happening};
@@ -72,6 +73,17 @@ fn push_core(out: &mut Vec<u8>, tally: &Tally, core: u32) -> Result<(), NoMemory
     }
 }
 
+// Appends the lines of so many cores.
+fn push_cores(out: &mut Vec<u8>, tally: &Tally, cores: u32) -> Result<(), NoMemory>
+    ensures { (seen : List Happening) → HasCounted Cores cores seen tally.now
+        → OnOk result (out.new.items ≡ out.old.items ++ flat_map (core_line seen) (range_with_len 0 cores)) }
+{
+    for core in 0..cores {
+        push_core(out, tally, core)?;
+    }
+    Ok(())
+}
+
 /// Appends the table of so many cores.
 pub(crate) fn push_core_table(out: &mut Vec<u8>, tally: &Tally, cores: u32) -> Result<(), NoMemory>
     ensures { (seen : List Happening) → HasCounted Cores cores seen tally.now
@@ -81,8 +93,5 @@ pub(crate) fn push_core_table(out: &mut Vec<u8>, tally: &Tally, cores: u32) -> R
         out,
         "core,loads,load_hits,stores,store_hits,gets,getm,putm,from_memory,from_caches,writebacks,clean,stale,misses,cold,given_up,true_sharing,false_sharing,upgrades,upgrades_lost,invalidated,taken,downgraded,overtaken,invalidates,supplied,stalled,bus_taken,nothing_waiting\n",
     )?;
-    for core in 0..cores {
-        push_core(out, tally, core)?;
-    }
-    Ok(())
+    push_cores(out, tally, cores)
 }

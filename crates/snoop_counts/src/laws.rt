@@ -1,5 +1,6 @@
 //! What holds of all tables of counts. These functions do nothing: a proof calls them for what they ensure.
 ghost use Rattle.std.specs.Prelude.{All, List, ℕ};
+ghost use Rattle.snoop_trace.specs.Extent.{IsWithinLimits};
 ghost use Rattle.snoop_history.specs.Within.{IsItemWithin};
 ghost use Rattle.snoop_model.specs.Pictures.Situation.{reset};
 ghost use Rattle.snoop_engine.specs.Frames.{Frame, FramesFrom};
@@ -8,10 +9,12 @@ ghost use Rattle.snoop_counts.specs.Happenings.{happenings};
 
 use snoop_machine::Machine;
 
-// The items of a machine's history are within its shape.
+// The items of a machine's history are within its shape, and the shape is within its limits.
 fn kept(machine: &Machine)
-    ensures { All (IsItemWithin machine.now.situation.shape.cores machine.now.situation.shape.blocks machine.now.situation.shape.words) machine.now.situation.log }
+    ensures limits { IsWithinLimits machine.now.situation.shape }
+    ensures items { All (IsItemWithin machine.now.situation.shape.cores machine.now.situation.shape.blocks machine.now.situation.shape.words) machine.now.situation.log }
 {
+    machine.shape().within_limits();
     machine.log().kept();
 }
 
@@ -31,6 +34,7 @@ pub fn parts()
 
 /// Of a machine that some steps have led to: over all cores, and over all blocks, the sums of the first twelve counts are those
 /// of its report.
+#[tactic(auto, using(crate::proofs::LawLemmas::sums_are_totals))]
 pub fn sums(machine: &Machine)
     ensures { (frames : List Frame) → FramesFrom (reset machine.now.situation.protocol machine.now.situation.shape) frames machine.now.situation
         → SumsAreTotals machine.now.situation.shape frames machine.now.situation.log }
@@ -40,6 +44,7 @@ pub fn sums(machine: &Machine)
 
 /// Of a machine that some steps have led to: over all cores, `invalidates` has the sum of `invalidated`, and `supplied` that
 /// of `from_caches`.
+#[tactic(auto, using(crate::proofs::LawLemmas::done_is_suffered))]
 pub fn others(machine: &Machine)
     ensures { (frames : List Frame) → FramesFrom (reset machine.now.situation.protocol machine.now.situation.shape) frames machine.now.situation
         → DoneIsSuffered machine.now.situation.shape frames }
@@ -53,6 +58,5 @@ pub fn words(machine: &Machine)
     ensures { (frames : List Frame) → FramesFrom (reset machine.now.situation.protocol machine.now.situation.shape) frames machine.now.situation
         → (block : ℕ) → WordsAddUp machine.now.situation.shape (happenings frames) block }
 {
-    machine.shape().within_limits();
     kept(machine);
 }

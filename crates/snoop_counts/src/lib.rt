@@ -12,12 +12,14 @@ mod copies;
 mod core_table;
 mod count;
 mod counted;
+mod counts;
 mod last_steps;
 pub mod laws;
 mod ranking;
 mod sharers;
 mod tally;
 mod watch;
+mod whole_run;
 mod word_table;
 mod word_tally;
 

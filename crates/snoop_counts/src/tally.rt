@@ -1,5 +1,5 @@
 //! Counters, a row of them for each core, block or word, or one for the machine.
-ghost use Rattle.std.specs.Prelude.{◌≡◌, ◌<◌, ◌++◌, ◌∷◌, [], ℕ, List, IfOk, IsSomeAnd, None, Ok};
+ghost use Rattle.std.specs.Prelude.{◌≡◌, ◌<◌, [], ℕ, List, IfOk, IsSomeAnd, None, Ok};
 ghost use Rattle.snoop_model.specs.declared.replies.Reply.{Reply as Answer};
 ghost use Rattle.snoop_trace.specs.declared.step.Step.{Step as Given};
 ghost use Rattle.snoop_counts.specs.Counted.{counted_of};
@@ -11,6 +11,7 @@ ghost use Rattle.snoop_counts.specs.declared.count.Subjects.{Subjects};
 
 use crate::count::{Count, Happening, Subjects};
 use crate::counted::{counts, has_some_row, subject_of};
+use crate::counts::Counts;
 use snoop_blocks::{BlockTable, Change};
 use snoop_engine::Taken;
 use snoop_history::Item;
@@ -244,24 +245,25 @@ impl Tally {
             self.rows.change(subject, Own { happening });
         }
     }
+}
 
-    /// Counts what has happened.
-    pub(crate) fn add(&mut self, happening: &Happening)
-        ensures { (whose : Subjects) (many : ℕ) (seen : List Happening) → HasCounted whose many seen self.old → HasCounted whose many (seen ++ happening.now ∷ []) self.new }
-    {
+impl Counts for Tally {
+    ghost use Rattle.std.specs.Prelude.{ℕ};
+    ghost use Rattle.snoop_counts.specs.Tally.{HasCounted};
+    ghost use Rattle.snoop_counts.specs.declared.count.Subjects.{Subjects};
+    ghost use Rattle.snoop_counts.specs.declared.count.Subjects.TheVariants.{Cores};
+
+    ghost Of = { Subjects × ℕ };
+
+    ghost of_shape = { λ shape. (Cores, shape.cores) };
+
+    ghost has_counted = { λ whose. HasCounted whose.0 whose.1 };
+
+    fn add(&mut self, happening: &Happening) {
         self.add_own(happening);
         match happening {
             Happening::Line { .. } => self.count(Count::Invalidates, happening),
             Happening::Item(_) => self.count(Count::Supplied, happening),
-        }
-    }
-
-    /// Counts all of this.
-    pub(crate) fn add_all(&mut self, happenings: &[Happening])
-        ensures { (whose : Subjects) (many : ℕ) (seen : List Happening) → HasCounted whose many seen self.old → HasCounted whose many (seen ++ happenings.now) self.new }
-    {
-        for happening in happenings {
-            self.add(happening);
         }
     }
 }

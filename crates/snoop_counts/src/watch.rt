@@ -41,6 +41,7 @@ fn push(all: &mut Vec<Happening>, happening: Happening) -> Result<(), NoMemory>
 }
 
 // Writes the lines of a step anew, with the causes of misses.
+#[tactic(auto, using(std::proofs::lemmas::List::map_more))]
 fn write_lines(
     all: &mut Vec<Happening>,
     copies: &Copies,

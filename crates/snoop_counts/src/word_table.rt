@@ -1,5 +1,6 @@
 //! The counts of each word of the blocks that cores share, as a table.
 ghost use Rattle.std.specs.Prelude.{◌≡◌, ◌<◌, ◌*◌, ◌++◌, List, OnOk};
+ghost use Rattle.std.specs.List.{flat_map, range_with_len};
 ghost use Rattle.snoop_trace.specs.Output.{word_address};
 ghost use Rattle.snoop_counts.specs.ByWord.{word_line, word_lines, word_table};
 ghost use Rattle.snoop_counts.specs.Counted.{place_of_word};
@@ -44,7 +45,7 @@ fn push_word(
         → OnOk result (out.new.items ≡ out.old.items ++ word_line shape seen block word) }
 {
     let place = place_of_word(shape, block, word);
-    match tally.row(place) {
+    match tally.counters.row(place) {
         None => Ok(()),
         Some(row) => {
             push_decimal(out, block as u64)?;
@@ -67,6 +68,7 @@ fn push_word(
 }
 
 // Appends the lines of the words of a block, if it is shared.
+#[tactic(auto, using(crate::proofs::BlockLemmas::pieces_more))]
 fn push_words(
     out: &mut Vec<u8>,
     shape: Shape,
@@ -86,6 +88,18 @@ fn push_words(
     Ok(())
 }
 
+// Appends the lines of the words of all blocks that are shared.
+#[tactic(auto, using(crate::proofs::BlockLemmas::pieces_more))]
+fn push_blocks(out: &mut Vec<u8>, tally: &WordTally, shape: Shape) -> Result<(), NoMemory>
+    ensures { (seen : List Happening) → CountsWords shape seen tally.now
+        → OnOk result (out.new.items ≡ out.old.items ++ flat_map (word_lines shape seen) (range_with_len 0 shape.blocks)) }
+{
+    for block in 0..shape.blocks() {
+        push_words(out, shape, tally, block)?;
+    }
+    Ok(())
+}
+
 /// Appends the table.
 pub(crate) fn push_word_table(
     out: &mut Vec<u8>,
@@ -98,8 +112,5 @@ pub(crate) fn push_word_table(
         out,
         "block,word,address,cores,readers,writers,loads,load_hits,stores,store_hits\n",
     )?;
-    for block in 0..shape.blocks() {
-        push_words(out, shape, tally, block)?;
-    }
-    Ok(())
+    push_blocks(out, tally, shape)
 }

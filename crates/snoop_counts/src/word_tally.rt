@@ -1,24 +1,21 @@
 //! What the table by word counts.
-ghost use Rattle.std.specs.Prelude.{◌≡◌, ◌<◌, ◌≤◌, ◌*◌, ◌++◌, ◌∷◌, [], ℕ, List, IfOk, IsSomeAnd, nat_lt};
+ghost use Rattle.std.specs.Prelude.{◌≡◌, ◌<◌, ◌≤◌, [], List, IfOk};
 ghost use Rattle.snoop_trace.specs.Extent.{Extent};
 ghost use Rattle.snoop_counts.specs.ByWord.{is_shared};
-ghost use Rattle.snoop_counts.specs.Counted.{counted_of, place_of_word};
-ghost use Rattle.snoop_counts.specs.Tally.{counter_in};
 ghost use Rattle.snoop_counts.specs.WordTally.{CountsWords};
-ghost use Rattle.snoop_counts.specs.declared.count.Count.{Count as Counted};
 ghost use Rattle.snoop_counts.specs.declared.count.Happening.{Happening as Seen};
-ghost use Rattle.snoop_counts.specs.declared.count.Subjects.TheVariants.{Words as OfWords};
 
 use crate::count::{Count, Happening, Subjects};
+use crate::counts::Counts;
 use crate::sharers::Sharers;
-use crate::tally::{Counters, Tally};
+use crate::tally::Tally;
 use snoop_trace::{NoMemory, Shape};
 use std::alloc::Global;
 
 /// The counters of each word, and the cores that performed an operation on each block, and on each word, a load of it and a store.
 #[derive(Drop)]
 pub(crate) struct WordTally {
-    tally: Tally,
+    pub(crate) counters: Tally,
     shared: Sharers,
     pub(crate) cores: Sharers,
     pub(crate) readers: Sharers,
@@ -35,32 +32,12 @@ impl WordTally {
         let whose = Subjects::Words(shape.words());
         let words = blocks * shape.words();
         Ok(WordTally {
-            tally: Tally::new(alloc, whose, words)?,
+            counters: Tally::new(alloc, whose, words)?,
             shared: Sharers::new(alloc, Subjects::Blocks, Count::Operations, blocks)?,
             cores: Sharers::new(alloc, whose, Count::Operations, words)?,
             readers: Sharers::new(alloc, whose, Count::Loads, words)?,
             writers: Sharers::new(alloc, whose, Count::Stores, words)?,
         })
-    }
-
-    // Counts what has happened.
-    fn add(&mut self, happening: &Happening)
-        ensures { (shape : Extent) (seen : List Seen) → CountsWords shape seen self.old → CountsWords shape (seen ++ happening.now ∷ []) self.new }
-    {
-        self.tally.add(happening);
-        self.shared.add(happening);
-        self.cores.add(happening);
-        self.readers.add(happening);
-        self.writers.add(happening);
-    }
-
-    /// Counts all of this.
-    pub(crate) fn add_all(&mut self, happenings: &[Happening])
-        ensures { (shape : Extent) (seen : List Seen) → CountsWords shape seen self.old → CountsWords shape (seen ++ happenings.now) self.new }
-    {
-        for happening in happenings {
-            self.add(happening);
-        }
     }
 
     /// Whether at least two cores performed an operation on the block.
@@ -70,12 +47,23 @@ impl WordTally {
     {
         self.shared.of(block, cores) > 1
     }
+}
 
-    /// The counters of the word at this place.
-    pub(crate) fn row(&self, place: u32) -> Option<Counters>
-        ensures { (shape : Extent) (seen : List Seen) → CountsWords shape seen self.now → place < shape.blocks * shape.words
-            → IsSomeAnd result (λ row. (counted : Counted) → counter_in row counted ≡ counted_of (OfWords shape.words) seen place counted) }
-    {
-        self.tally.row(place)
+impl Counts for WordTally {
+    ghost use Rattle.snoop_trace.specs.Extent.{Extent};
+    ghost use Rattle.snoop_counts.specs.WordTally.{CountsWords};
+
+    ghost Of = { Extent };
+
+    ghost of_shape = { λ shape. shape };
+
+    ghost has_counted = { CountsWords };
+
+    fn add(&mut self, happening: &Happening) {
+        self.counters.add(happening);
+        self.shared.add(happening);
+        self.cores.add(happening);
+        self.readers.add(happening);
+        self.writers.add(happening);
     }
 }

@@ -1,4 +1,2 @@
 pub mod Common
-pub mod EachLemmas
-pub mod RowLemmas
 pub mod TableLemmas

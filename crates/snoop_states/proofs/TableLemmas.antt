@@ -1,14 +1,50 @@
--- The table of a block, when one frame more is seen.
-use Rattle.std.proofs.Common.{◌&&◌, ◌-◌, ◌==◌, filter, if◌then◌else◌, leb-true, lt-ltb, nat_le, nat_lt, take_all}
-use Rattle.std.proofs.lemmas.{Bool.{and_parts, cases_lt, Decides.nat_tests}, List.{take-append-le, Elements.filter-append}}
+-- Lists of tables, and the table of a block: its rows by its cells and by its columns, and one frame more.
+use Rattle.std.proofs.Common.{◌&&◌, ◌-◌, ◌==◌, filter, if◌then◌else◌, leb-true, length-set, lt-ltb, nat_le, nat_lt, slice_set, take_all}
+use Rattle.std.proofs.lemmas.{Bool.{and_parts, cases_lt, Decides.nat_tests}, Grind.get_or-set_at}
+use Rattle.std.proofs.lemmas.List.{get_or-set_other, get_or_append_left, get_or_push, take-append-le, Elements.filter-append, Folds.flat_map-map}
 use Rattle.std.specs.Option.{option_map_or}
 use Rattle.snoop_model.specs.Pictures.Situation.{reset}
-use Rattle.snoop_engine.{proofs.NumberedLemmas.{led_on, numbered, numbered_on}, specs.Chosen.{is_chosen, is_in_range}}
+use Rattle.snoop_engine.proofs.{Common.flat_map_more, NumberedLemmas.{led_on, numbered, numbered_on}, RangeLemmas.more_from_zero}
+use Rattle.snoop_engine.specs.Chosen.{is_chosen, is_in_range}
 use Rattle.snoop_engine.specs.{Numbered.{led_to, Numbered, numbered_from}, Views.block_of_step}
-use Rattle.snoop_states.proofs.Common.{[], ℕ, ◌++◌, ◌+◌, ◌<◌, ◌∙◌, ◌∷◌, ◌≡◌, ◌≤◌, ap, append-nil, append_assoc, arith, Bool, both_ways, cell_text, Chosen, codes, Column, Extent, false, Frame, Grows, inl, inr, IsEmpty, IsTable, length, length_push, line_text, List, map, map-append, Option, Protocol, refl, Situation, sym, take, true}
-use Rattle.snoop_states.specs.{Rows.{cells_text, names_text}, Seen.HasRows}
-use Rattle.snoop_states.specs.{Tables.{first_row, first_shown, heading_text, is_of, rows_text, shown_block, shown_of, table_text}, declared.table.Table.Table}
+use Rattle.snoop_states.proofs.Common.{[], ℕ, ◌++◌, ◌+◌, ◌<◌, ◌∙◌, ◌∷◌, ◌≡◌, ◌≤◌, ap, append-nil, append_assoc, AreEach, arith, Bool, both_ways, cell_text, Chosen, codes, Column, Extent, false, flat_map, Frame, get_or, Grows, inl, inr, IsEmpty, IsTable, length, length_push, line_text, List, map, map-append, map-map, Option, pair, Protocol, range_with_len, refl, Situation, sym, take, true}
+use Rattle.snoop_states.specs.{Rows.{cells_text, names_text}, Seen.{HasCells, HasRows}, declared.table.{Cell.Cell, Table.Table}}
+use Rattle.snoop_states.specs.Tables.{first_row, first_shown, heading_text, is_of, rows_text, shown_block, shown_of, table_text}
 use Rattle.snoop_states.specs.declared.widths.Widths.{Widths}
+
+-- the piece of the next number comes after the pieces so far
+pub pieces_more : (f : ℕ → List ℕ) (before : List ℕ) (n : ℕ) → before ++ flat_map f (range_with_len 0 (n + 1)) ≡ (before ++ flat_map f (range_with_len 0 n)) ++ f n
+pieces_more f before n = rw (more_from_zero n) (sym (flat_map_more f before (range_with_len 0 n) n))
+
+module _ {X : Type 0} {n : ℕ} {P Q : ℕ → X → Type 0} {xs : List X} (are : AreEach n P xs) where
+  -- what follows of each element
+  pub each_mapped : ((k : ℕ) (x : X) → k < n → P k x → Q k x) → AreEach n Q xs
+  each_mapped f = record { count = are.count; each = λ k low d. f k (get_or xs k d) low (are.each k low d) }
+
+  -- one element changes
+  pub each_set : (i : ℕ) (x : X) → i < n → Q i x → ((k : ℕ) (y : X) → (k ≡ i → ⊥) → P k y → Q k y) → AreEach n Q (slice_set xs i x)
+  each_set i x low here others = record {
+    count = length-set xs i x ∙ are.count;
+    each = λ k inside d. grind (arith, get_or-set_at, get_or-set_other, here, others k (get_or xs k d), are.each k inside d);
+  }
+
+-- one element more
+pub each_more : {X : Type 0} {n : ℕ} {P : ℕ → X → Type 0} {xs : List X} → AreEach n P xs → (x : X) → P n x → AreEach (n + 1) P (xs ++ x ∷ [])
+each_more {n = n} {xs = xs} are x here = record {
+  count = omega (arith, are.count, length_push xs x);
+  each = λ k low d. grind (arith, get_or_push, get_or_append_left, here, are.each k, are.count);
+}
+
+module _ (columns : List Column) (text : Column → List ℕ) (cells : List Cell) (has : HasCells columns text cells) where
+  -- what is appended of each cell, by its column and its text
+  pub pieces_of : (g : Column × List ℕ → List ℕ) → flat_map (λ cell. g (pair cell)) cells ≡ flat_map (λ column. g (column, text column)) columns
+  pieces_of g = rw (← flat_map-map g pair cells, has, flat_map-map g (λ column. (column, text column)) columns) refl
+
+  -- new texts in the same columns
+  pub cells_of : (next : Column → List ℕ) → map {B = Column × List ℕ} (λ cell. (cell.column, next cell.column)) cells ≡ map (λ column. (column, next column)) columns
+  cells_of next =
+      let change : Column × List ℕ → Column × List ℕ = λ p. (p.0, next p.0) in
+      rw (← map-map change pair cells, has, map-map change (λ column. (column, text column)) columns) refl
 
 -- one row more
 rows_on : (widths : Widths) (shape : Extent) (block : ℕ) (columns : List Column) (above : Situation) (ns : List Numbered) (n : Numbered)

@@ -55,6 +55,7 @@ fn add(asked: &mut Vec<Marks>, marks: Marks) -> Result<(), NoMemory>
 }
 
 // Marks for each block, none of which is set.
+#[tactic(auto, using(crate::proofs::TableLemmas::each_more))]
 fn no_marks(alloc: Global, shape: Shape) -> Result<Vec<Marks>, NoMemory>
     ensures { IfOk result (λ asked. AreMarks shape (λ block core. false) asked.items) }
 {

@@ -75,6 +75,7 @@ fn empty_table(alloc: Global, shape: Shape, asked: &[Marks], block: u32) -> Resu
 }
 
 // A table without a row for each block.
+#[tactic(auto, using(crate::proofs::TableLemmas::each_more))]
 fn empty_tables(alloc: Global, shape: Shape, asked: &[Marks]) -> Result<Vec<Table>, NoMemory>
     ensures { IfOk result (λ tables. AreEach shape.blocks (λ block. IsEmpty (columns_for shape (mark_at asked.now block))) tables.items) }
 {
@@ -128,6 +129,7 @@ fn start_tables(
 }
 
 // The tables at reset.
+#[tactic(auto, using(crate::proofs::TableLemmas::each_mapped, crate::proofs::TableLemmas::empty_at_reset))]
 fn begin_tables(
     alloc: Global,
     choice: Choice,
@@ -214,6 +216,7 @@ fn push_table(
 }
 
 // Appends the tables of all blocks.
+#[tactic(auto, using(crate::proofs::TableLemmas::pieces_more))]
 fn push_tables(
     alloc: Global,
     choice: Choice,
@@ -266,6 +269,7 @@ impl View for Tables {
         )
     }
 
+    #[tactic(auto, using(std::proofs::lemmas::List::append_assoc))]
     fn end(&mut self, out: &mut Vec<u8>, machine: &Machine) -> Result<(), NoMemory> {
         push_tables(
             self.alloc,

@@ -1,5 +1,5 @@
 use Rattle.std.proofs.lemmas.List.Sorted.{answers_always}
-use Rattle.snoop_counts.proofs.{Common.rules, RankingLemmas.{goes_before, order, sorted_is_ranked}}
+use Rattle.snoop_counts.proofs.{Common.rules, BlockLemmas.{goes_before, order, sorted_is_ranked}}
 use Rattle.snoop_counts.proofs.ranking.rank.Goals as goal
 
 pub returns-in-Ok : goal.returns-in-Ok

@@ -1,4 +1,4 @@
-use Rattle.snoop_states.proofs.{Common.{ℕ, append_assoc, Column, column_name, IfOk-equal, List, padded_text, rules, width_of}, RowLemmas.pieces_of}
+use Rattle.snoop_states.proofs.{Common.{ℕ, append_assoc, Column, column_name, IfOk-equal, List, padded_text, rules, width_of}, TableLemmas.pieces_of}
 use Rattle.snoop_states.proofs.table.push_names_line.Goals as goal
 
 pub returns : goal.returns

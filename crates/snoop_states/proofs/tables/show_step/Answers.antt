@@ -1,6 +1,6 @@
 use Rattle.std.proofs.Common.{eq-eqb, ne_eqb}
 use Rattle.snoop_states.proofs.Common.{◌+◌, ◌<◌, ◌≡◌, arith, get_or, Grows, length, line_text, on_ok_weaker, refl, sym, true}
-use Rattle.snoop_states.proofs.{EachLemmas.{each_mapped, each_set}, TableLemmas.{table_grows, table_starts, table_stays}}
+use Rattle.snoop_states.proofs.TableLemmas.{each_mapped, each_set, table_grows, table_starts, table_stays}
 use Rattle.snoop_states.proofs.tables.show_step.Goals as goal
 
 pub returns-then-number-from : goal.returns-then-number-from

@@ -1,5 +1,5 @@
 use Rattle.std.proofs.lemmas.Bool.{cases_eq}
-use Rattle.snoop_states.proofs.{Common.{◌∙◌, ◌≡◌, arith, both_ways, get_or, inl, inr, on_ok_weaker, sym}, EachLemmas.{each_mapped, each_set}}
+use Rattle.snoop_states.proofs.{Common.{◌∙◌, ◌≡◌, arith, both_ways, get_or, inl, inr, on_ok_weaker, sym}, TableLemmas.{each_mapped, each_set}}
 use Rattle.snoop_states.proofs.tables.start_table.Goals as goal
 
 pub returns-else-has_block : goal.returns-else-has_block

@@ -1,4 +1,4 @@
-use Rattle.snoop_states.proofs.{Common.{◌<◌, ◌≤◌, arith}, EachLemmas.each_mapped}
+use Rattle.snoop_states.proofs.{Common.{◌<◌, ◌≤◌, arith}, TableLemmas.each_mapped}
 use Rattle.snoop_states.proofs.tables.start_tables.Goals as goal
 
 pub loop-block-init : goal.loop-block-init

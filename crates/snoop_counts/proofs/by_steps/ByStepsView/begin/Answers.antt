@@ -1,5 +1,5 @@
 use Rattle.std.proofs.Common.{◌%◌}
-use Rattle.snoop_counts.proofs.{Common.{[], arith, non_zero_u64_get, on_ok_weaker, refl}, WindowLemmas.seen_last_none}
+use Rattle.snoop_counts.proofs.{Common.{[], arith, non_zero_u64_get, on_ok_weaker, refl}, LastLemmas.seen_last_none}
 use Rattle.snoop_counts.proofs.by_steps.ByStepsView.begin.Goals as goal
 
 pub returns-clause-begins : goal.returns-clause-begins

@@ -1,4 +1,4 @@
-use Rattle.snoop_counts.proofs.{Common.{◌≡◌, non_zero_u64_get}, WindowLemmas.left_line}
+use Rattle.snoop_counts.proofs.{Common.{◌≡◌, non_zero_u64_get}, LastLemmas.left_line}
 use Rattle.snoop_counts.proofs.by_steps.ByStepsView.end.Goals as goal
 
 pub returns-in-Some : goal.returns-in-Some

@@ -1,4 +1,4 @@
-use Rattle.snoop_counts.proofs.{Common.on_ok_weaker, CauseLemmas.follows_more}
+use Rattle.snoop_counts.proofs.{Common.on_ok_weaker, LastLemmas.follows_more}
 use Rattle.snoop_counts.proofs.copies.Copies.follow.Goals as goal
 
 pub returns : goal.returns

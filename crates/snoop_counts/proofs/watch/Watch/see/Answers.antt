@@ -1,5 +1,5 @@
 use Rattle.snoop_model.specs.Pictures.Situation.{reset}
-use Rattle.snoop_counts.proofs.{Common.{frame_seen, on_ok_weaker, refl}, CauseLemmas.led_by_last}
+use Rattle.snoop_counts.proofs.{Common.{frame_seen, on_ok_weaker, refl}, LastLemmas.led_by_last}
 use Rattle.snoop_counts.proofs.watch.Watch.see.Goals as goal
 
 pub returns : goal.returns

@@ -1,5 +1,5 @@
 use Rattle.snoop_states.proofs.Common.{ℕ, ◌∙◌, append-nil, append_assoc, below, cell_text, Column, List, padded_text, refl, width_of}
-use Rattle.snoop_states.proofs.RowLemmas.{cells_of, pieces_of}
+use Rattle.snoop_states.proofs.TableLemmas.{cells_of, pieces_of}
 use Rattle.snoop_states.proofs.table.Table.push_row.Goals as goal
 
 pub returns : goal.returns

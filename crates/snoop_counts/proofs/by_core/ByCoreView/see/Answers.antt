@@ -1,9 +1,0 @@
-use Rattle.snoop_counts.proofs.{Common.{[], append-nil, Cores, frame_seen, happenings, sym}, LawLemmas.seen_on}
-use Rattle.snoop_counts.proofs.by_core.ByCoreView.see.Goals as goal
-
-pub returns-in-Some : goal.returns-in-Some
-returns-in-Some c first frames before has next =
-    let watched = c.in_ok-see.ensures _ _ frames before _ has.0 next c.log.ensures.items in
-    let counted = c.add_all.ensures Cores _ (happenings frames) (rw c.in-Some.is at has.1) in
-    let more = rw (c.happenings.ensures, watched.1, ← seen_on [] frames (frame_seen before c.args.seen c.args.machine.now.situation)) at counted in
-    ((watched.0, more), sym (append-nil c.args._out.now.items))

@@ -1,7 +1,0 @@
-use Rattle.snoop_counts.{proofs.Common.{◌++◌, ◌≡◌, Cores, flat_map, Happening, HasCounted, List, range_with_len}, specs.CoreTable.{core_header, core_line}}
-use Rattle.snoop_counts.proofs.core_table.push_core_table.Given as goal
-
--- the lines so far
-abbrev pub invariant-loop-core : goal.invariant-loop-core
-invariant-loop-core l = (seen : List Happening) → HasCounted Cores l.cores seen l.tally
-    → l.out.items ≡ (l.fn.out.items ++ core_header) ++ flat_map (core_line seen) (range_with_len 0 l.core)
