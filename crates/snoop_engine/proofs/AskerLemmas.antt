@@ -32,11 +32,11 @@ module _ (old new : Situation) (core block : ℕ) (idle : state_of old core bloc
       rw f.held (grind (arith, common_steps, idle_in b same, cases, f.fills.arrives, f.fills.is_row))
 
 -- the step is the core's Ask for the block
-abbrev IsAskOf : Step → ℕ → ℕ → Type 0
+abbrev pub IsAskOf : Step → ℕ → ℕ → Type 0
 IsAskOf (Ask asker on word asking) core block = (core ≡ asker) × (block ≡ on)
 IsAskOf _ core block = ⊥
 
-stays_in_i : (old new : Situation) (step : Step) (answer : Reply) → GoesFirst old step (Ok answer) new → (core block : ℕ) → (IsAskOf step core block → ⊥) → state_of old core block ≡ I → state_of new core block ≡ I
+pub stays_in_i : (old new : Situation) (step : Step) (answer : Reply) → GoesFirst old step (Ok answer) new → (core block : ℕ) → (IsAskOf step core block → ⊥) → state_of old core block ≡ I → state_of new core block ≡ I
 stays_in_i old new (Ask asker on word asking) answer goes core block another idle = elim goes.1.1.moves [
   | inl absent ↦ rw absent.3 idle
   | inr a ↦

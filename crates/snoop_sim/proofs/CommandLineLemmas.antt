@@ -1,5 +1,5 @@
 -- What a command is described as, once an option or a subcommand is added.
-use Rattle.std.proofs.Common.{◌∙◌, ap, ap₂, refl, ◌||◌}
+use Rattle.std.proofs.Common.{◌∙◌, ap, ap₂, ◌||◌}
 use Rattle.clap.specs.{Words.{AddsArg, AddsSubcommand, App, Rule, app_of, with_rule, with_subcommand}, declared.builder.{arg.Arg.Arg, command.Command.Command}}
 use Rattle.snoop_sim.specs.CommandLine.{Describes, DescribesOption, IsLocal}
 
@@ -10,13 +10,9 @@ adds_option before option adds = record {
   is = adds.shape option.local ∙ ap₂ with_rule before.is option.is;
 }
 
-pub adds_command : {old sub new : Command} {app below : App}
-    → Describes old app → Describes sub below → AddsSubcommand old sub new → Describes new (with_subcommand app below.top)
-adds_command before under adds = record {
-  local = adds.globals ∙ ap₂ (λ a b. a || b) before.local under.local;
-  is = adds.shape under.local ∙ ap₂ with_subcommand before.is (ap (λ (a : App). a.top) under.is);
+pub adds_command : {old sub new : Command} {app : App}
+    → Describes old app → IsLocal sub → AddsSubcommand old sub new → Describes new (with_subcommand app (app_of sub).top)
+adds_command {sub = sub} before local adds = record {
+  local = adds.globals ∙ ap₂ (λ a b. a || b) before.local local;
+  is = adds.shape local ∙ ap (λ (a : App). with_subcommand a (app_of sub).top) before.is;
 }
-
--- a command is described by what it is
-pub described : (command : Command) → IsLocal command → Describes command (app_of command)
-described command local = record { local = local; is = refl }

@@ -3,35 +3,34 @@
 use Rattle.std.specs.Prelude.{⊤, ◌≡◌, ◌≢◌, ◌⊎◌, true, false, List, [], Option, Some, None, Ok, Err, codes}
 use Rattle.clap.specs.{Words.{App, IsAmong, Row, Text, fault_of, kind_of, subcommand_of}, declared.error.kind.ErrorKind.ErrorKind}
 use Rattle.clap.specs.declared.error.kind.ErrorKind.TheVariants.{DisplayHelp, DisplayVersion}
-use Rattle.snoop_trace.specs.Extent.{Extent}
-use Rattle.snoop_sim.specs.{CommandLine.IsSnoop, declared.{failure.Failure.Failure, options.{Engine.Engine, Task.Task}}}
+use Rattle.snoop_trace.specs.{Extent.Extent, declared.protocol.Protocol.Protocol}
+use Rattle.snoop_sim.specs.{CommandLine.IsSnoop, declared.{failure.Failure.Failure, options.Task.Task}}
 use Rattle.snoop_sim.specs.Options.{IsChoiceOf, IsGroupingOf, IsInputOf, IsLongOf, IsPaperOf, IsShapeOf, HasNoGrouping, MisplacesPaper, MisplacesSerial, asks_serial, charset_named, kind_named, layout_named, protocol_named, says, which_named}
 use Rattle.snoop_engine.specs.declared.{fault.SimFault.TheVariants.NoMemory, input.Input.Input}
 use Rattle.snoop_svg.specs.declared.paper.Paper.{Paper}
 use Rattle.snoop_sim.specs.declared.failure.Failure.TheVariants.{BadBy, BadChoice, BadEvery, BadSerial, BadTop, CommandLine, NoCommand, Shape, Simulation, Unchosen}
-use Rattle.snoop_sim.specs.declared.options.Engine.TheVariants.{Steps, Run, Serial, Threads, Counts, Lint}
-use Rattle.snoop_sim.specs.declared.options.Task.TheVariants.{Help, Table, Simulate, States, StateFields, Draw, DrawSvg}
+use Rattle.snoop_sim.specs.declared.options.Task.TheVariants.{Help, Table, Steps, Run, Serial, Threads, Counts, Lint, States, StateFields, Draw, DrawSvg}
 
--- the engine of a command with its options
-abbrev pub IsEngineOf : Text → List Row → Engine → Type 0
-IsEngineOf name options Steps = name ≡ codes "steps"
-IsEngineOf name options Run = (name ≡ codes "run") × (asks_serial options ≡ false)
-IsEngineOf name options Serial = (name ≡ codes "run") × (asks_serial options ≡ true)
-IsEngineOf name options Threads = name ≡ codes "threads"
-IsEngineOf name options (Counts input grouping) = (name ≡ codes "counts") × IsInputOf options input × IsGroupingOf options grouping
-IsEngineOf name options (Lint form most) = (name ≡ codes "lint") × (form ≡ kind_named options) × IsLongOf (codes "most") options most
+-- the protocol and the shape that the options name
+abbrev pub IsMachineOf : List Row → Protocol → Extent → Type 0
+IsMachineOf options protocol shape = (protocol ≡ protocol_named options) × IsShapeOf options (Ok shape)
 
 -- the task of a command with its options
 abbrev pub IsTaskOf : Text × List Row → Task → Type 0
 IsTaskOf command (Help help) = ⊥
 IsTaskOf (name, options) (Table protocol which layout) = (name ≡ codes "table") × (protocol ≡ protocol_named options) × (which ≡ which_named options) × (layout ≡ layout_named options)
-IsTaskOf (name, options) (Simulate protocol shape engine) = (protocol ≡ protocol_named options) × IsShapeOf options (Ok shape) × IsEngineOf name options engine
-IsTaskOf (name, options) (States protocol shape input choice) = (protocol ≡ protocol_named options) × IsShapeOf options (Ok shape) × (name ≡ codes "states") × IsInputOf options input × IsChoiceOf shape options (Ok choice)
+IsTaskOf (name, options) (Steps protocol shape) = (name ≡ codes "steps") × IsMachineOf options protocol shape
+IsTaskOf (name, options) (Run protocol shape) = (name ≡ codes "run") × IsMachineOf options protocol shape × (asks_serial options ≡ false)
+IsTaskOf (name, options) (Serial protocol shape) = (name ≡ codes "run") × IsMachineOf options protocol shape × (asks_serial options ≡ true)
+IsTaskOf (name, options) (Threads protocol shape) = (name ≡ codes "threads") × IsMachineOf options protocol shape
+IsTaskOf (name, options) (Counts protocol shape input grouping) = (name ≡ codes "counts") × IsMachineOf options protocol shape × IsInputOf options input × IsGroupingOf options grouping
+IsTaskOf (name, options) (Lint protocol shape form most) = (name ≡ codes "lint") × IsMachineOf options protocol shape × (form ≡ kind_named options) × IsLongOf (codes "most") options most
+IsTaskOf (name, options) (States protocol shape input choice) = (name ≡ codes "states") × IsMachineOf options protocol shape × IsInputOf options input × IsChoiceOf shape options (Ok choice)
     × (says false (codes "as") (codes "csv") options ≡ false)
-IsTaskOf (name, options) (StateFields protocol shape input choice) = (protocol ≡ protocol_named options) × IsShapeOf options (Ok shape) × (name ≡ codes "states") × IsInputOf options input × IsChoiceOf shape options (Ok choice)
+IsTaskOf (name, options) (StateFields protocol shape input choice) = (name ≡ codes "states") × IsMachineOf options protocol shape × IsInputOf options input × IsChoiceOf shape options (Ok choice)
     × (says false (codes "as") (codes "csv") options ≡ true)
-IsTaskOf (name, options) (Draw protocol shape input charset choice) = (protocol ≡ protocol_named options) × IsShapeOf options (Ok shape) × (name ≡ codes "draw") × IsInputOf options input × IsPaperOf options None × (charset ≡ charset_named options) × IsChoiceOf shape options (Ok choice)
-IsTaskOf (name, options) (DrawSvg protocol shape input choice paper) = (protocol ≡ protocol_named options) × IsShapeOf options (Ok shape) × (name ≡ codes "draw") × IsInputOf options input × IsPaperOf options (Some paper) × IsChoiceOf shape options (Ok choice)
+IsTaskOf (name, options) (Draw protocol shape input charset choice) = (name ≡ codes "draw") × IsMachineOf options protocol shape × IsInputOf options input × IsPaperOf options None × (charset ≡ charset_named options) × IsChoiceOf shape options (Ok choice)
+IsTaskOf (name, options) (DrawSvg protocol shape input choice paper) = (name ≡ codes "draw") × IsMachineOf options protocol shape × IsInputOf options input × IsPaperOf options (Some paper) × IsChoiceOf shape options (Ok choice)
 
 -- the command that was named has this task
 abbrev pub HasTask : Option (Text × List Row) → Task → Type 0
@@ -50,24 +49,24 @@ ReadsInput options = (input : Input) × IsInputOf options input
 abbrev pub HasPaper : List Row → Type 0
 HasPaper options = (paper : Option Paper) × IsPaperOf options paper
 
--- a command has no engine: none that simulates has its name, or one of its options is refused
-abbrev pub HasNoEngine : Text → List Row → Extent → Failure → Type 0
-HasNoEngine name options shape NoCommand = (name ≢ codes "steps") × (name ≢ codes "run") × (name ≢ codes "threads") × (name ≢ codes "states") × (name ≢ codes "counts")
+-- nothing is made of a text for a command: none that reads one has its name, or one of its options is refused
+abbrev pub MakesNothing : Text → List Row → Extent → Failure → Type 0
+MakesNothing name options shape NoCommand = (name ≢ codes "steps") × (name ≢ codes "run") × (name ≢ codes "threads") × (name ≢ codes "states") × (name ≢ codes "counts")
     × (name ≢ codes "lint") × (name ≢ codes "draw")
-HasNoEngine name options shape BadSerial = IsViewer name × MisplacesSerial options
-HasNoEngine name options shape (Unchosen fault) = ((name ≡ codes "states") ⊎ ((name ≡ codes "draw") × HasPaper options)) × ReadsInput options × IsChoiceOf shape options (Err fault)
-HasNoEngine name options shape BadChoice = (name ≡ codes "draw") × ReadsInput options × MisplacesPaper options
-HasNoEngine name options shape BadBy = (name ≡ codes "counts") × ReadsInput options × HasNoGrouping options BadBy
-HasNoEngine name options shape BadTop = (name ≡ codes "counts") × ReadsInput options × HasNoGrouping options BadTop
-HasNoEngine name options shape BadEvery = (name ≡ codes "counts") × ReadsInput options × HasNoGrouping options BadEvery
-HasNoEngine name options shape failure = ⊥
+MakesNothing name options shape BadSerial = IsViewer name × MisplacesSerial options
+MakesNothing name options shape (Unchosen fault) = ((name ≡ codes "states") ⊎ ((name ≡ codes "draw") × HasPaper options)) × ReadsInput options × IsChoiceOf shape options (Err fault)
+MakesNothing name options shape BadChoice = (name ≡ codes "draw") × ReadsInput options × MisplacesPaper options
+MakesNothing name options shape BadBy = (name ≡ codes "counts") × ReadsInput options × HasNoGrouping options BadBy
+MakesNothing name options shape BadTop = (name ≡ codes "counts") × ReadsInput options × HasNoGrouping options BadTop
+MakesNothing name options shape BadEvery = (name ≡ codes "counts") × ReadsInput options × HasNoGrouping options BadEvery
+MakesNothing name options shape failure = ⊥
 
--- the command that was named has no task: its shape is refused, or it has no engine
+-- the command that was named has no task: its shape is refused, or nothing is made of a text for it
 abbrev pub HasNoTask : Option (Text × List Row) → Failure → Type 0
 HasNoTask None NoCommand = ⊤
 HasNoTask None failure = ⊥
 HasNoTask (Some (name, options)) (Shape fault) = (name ≢ codes "table") × IsShapeOf options (Err fault)
-HasNoTask (Some (name, options)) failure = (name ≢ codes "table") × ((shape : Extent) × IsShapeOf options (Ok shape) × HasNoEngine name options shape failure)
+HasNoTask (Some (name, options)) failure = (name ≢ codes "table") × ((shape : Extent) × IsShapeOf options (Ok shape) × MakesNothing name options shape failure)
 
 -- the text is that of help or of the version
 abbrev pub IsShown : ErrorKind → Type 0

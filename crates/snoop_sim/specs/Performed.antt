@@ -3,10 +3,11 @@
 use Rattle.std.specs.{Prelude.{⊤, ◌≡◌, ◌⊎◌, ℕ, Bool, true, List, Option, Result, Ok, Err}, Int.NonZero.non_zero_u64_get, Io.KnownBytes.Appends}
 use Rattle.snoop_trace.specs.{Extent.Extent, Output.AppendsFront, Text.BlamesReader, declared.{protocol.Protocol.Protocol, fault.TextFault.TheVariants.Read}}
 use Rattle.snoop_rules.specs.{Matrix.matrix_text, TableText.table_text, declared.table_text.Which.Which}
+use Rattle.snoop_model.specs.Pictures.Situation.{Situation}
 use Rattle.clap.specs.Words.{Text}
 use Rattle.snoop_sim.specs.{Asked.{AsksFor, BeginsNothing}, Threaded.SimulatesThreads, Status.status_of, declared.{failure.Failure.Failure, options.Task.Task}}
 use Rattle.snoop_counts.specs.{ByBlock.counts_by_block, BySteps.counts_by_steps, ByWord.counts_by_word, CoreTable.counts_by_core}
-use Rattle.snoop_engine.specs.{Counts.frames_counts_text, Simulated.Simulates, SimulatedRun.SimulatesRun, SimulatedSerial.SimulatesSerial, States.states_text}
+use Rattle.snoop_engine.specs.{Counts.frames_counts_text, Frames.Frame, Simulated.Simulates, SimulatedRun.SimulatesRun, SimulatedSerial.SimulatesSerial, States.states_text}
 use Rattle.snoop_engine.specs.{SimulatedView.SimulatesView, declared.fault.SimFault.SimFault}
 use Rattle.snoop_draw.specs.Simulated.{Draws}
 use Rattle.snoop_draw.specs.declared.fault.DrawFault.TheVariants as draw
@@ -17,10 +18,11 @@ use Rattle.snoop_svg.specs.Simulated.{Draws as DrawsSvg}
 use Rattle.snoop_engine.specs.declared.fault.SimFault.TheVariants.{Text as TextRefused, NoMemory, Write}
 use Rattle.snoop_sim.specs.declared.fault.ThreadsFault.TheVariants.{Text as RowsRefused}
 use Rattle.snoop_sim.specs.declared.failure.Failure.TheVariants.{Simulation, Threads as ThreadsFailure, Lint as LintFailure, Drawing}
+use Rattle.snoop_sim.specs.declared.options.Grouping.{Grouping}
 use Rattle.snoop_sim.specs.declared.options.Grouping.TheVariants as grouping
-use Rattle.snoop_sim.specs.declared.options.{Layout.Layout, Engine.{Engine, TheVariants.{Steps, Run, Serial, Threads, Counts, Lint}}}
+use Rattle.snoop_sim.specs.declared.options.Layout.{Layout}
 use Rattle.snoop_sim.specs.declared.options.Layout.TheVariants as layout
-use Rattle.snoop_sim.specs.declared.options.Task.TheVariants.{Help, Table, Simulate, States, StateFields, Draw, DrawSvg}
+use Rattle.snoop_sim.specs.declared.options.Task.TheVariants.{Help, Table, Steps, Run, Serial, Threads, Counts, Lint, States, StateFields, Draw, DrawSvg}
 
 -- a text was written whole; or, out of memory, nothing; or, where a write failed, a beginning; there was none to refuse
 abbrev pub WritesText : List ℕ → Result (Unit {0}) SimFault → Option (List ℕ) → Option (List ℕ) → Type 0
@@ -39,24 +41,24 @@ abbrev pub layout_text : Protocol → Which → Layout → List ℕ
 layout_text protocol which layout.Rows = table_text protocol which
 layout_text protocol which layout.Matrix = matrix_text protocol which
 
--- what each engine leaves
-abbrev pub Runs : Protocol → Extent → Engine → Option (List ℕ) → Result (Unit {0}) Failure → Option (List ℕ) → Option (List ℕ) → Type 0
-Runs protocol shape Steps input ending old new = EndsAs Simulation ending (λ done. Simulates protocol shape input done old new)
-Runs protocol shape Run input ending old new = EndsAs Simulation ending (λ done. SimulatesRun protocol shape input done old new)
-Runs protocol shape Serial input ending old new = EndsAs Simulation ending (λ done. SimulatesSerial protocol shape input done old new)
-Runs protocol shape Threads input ending old new = EndsAs ThreadsFailure ending (λ done. SimulatesThreads protocol shape input done old new)
-Runs protocol shape (Counts input grouping.Row) text ending old new = EndsAs Simulation ending (λ done. SimulatesView protocol shape input (λ frames final. frames_counts_text protocol frames) text done old new)
-Runs protocol shape (Counts input grouping.Core) text ending old new = EndsAs Simulation ending (λ done. SimulatesView protocol shape input (counts_by_core shape) text done old new)
-Runs protocol shape (Counts input (grouping.Block top)) text ending old new = EndsAs Simulation ending (λ done. SimulatesView protocol shape input (counts_by_block shape top) text done old new)
-Runs protocol shape (Counts input grouping.Word) text ending old new = EndsAs Simulation ending (λ done. SimulatesView protocol shape input (counts_by_word shape) text done old new)
-Runs protocol shape (Counts input (grouping.Steps every)) text ending old new = EndsAs Simulation ending (λ done. SimulatesView protocol shape input (counts_by_steps (non_zero_u64_get every)) text done old new)
-Runs protocol shape (Lint form most) input ending old new = EndsAs LintFailure ending (λ done. Lints form most protocol shape input done old new)
+-- the counts of a run, as the grouping says
+abbrev pub grouped_counts : Protocol → Extent → Grouping → List Frame → Situation → List ℕ
+grouped_counts protocol shape grouping.Row frames final = frames_counts_text protocol frames
+grouped_counts protocol shape grouping.Core frames final = counts_by_core shape frames final
+grouped_counts protocol shape (grouping.Block top) frames final = counts_by_block shape top frames final
+grouped_counts protocol shape grouping.Word frames final = counts_by_word shape frames final
+grouped_counts protocol shape (grouping.Steps every) frames final = counts_by_steps (non_zero_u64_get every) frames final
 
--- what each task leaves: the text of help, the table by rows or as a matrix, or its engine's output
+-- what each task leaves: the text of help, the table by rows or as a matrix, or what is made of the text
 abbrev pub PerformsTask : Task → Option (List ℕ) → Result (Unit {0}) Failure → Option (List ℕ) → Option (List ℕ) → Type 0
 PerformsTask (Help help) input ending old new = (text : List ℕ) × EndsAs Simulation ending (λ done. WritesText text done old new)
 PerformsTask (Table protocol which layout) input ending old new = EndsAs Simulation ending (λ done. WritesText (layout_text protocol which layout) done old new)
-PerformsTask (Simulate protocol shape engine) input ending old new = Runs protocol shape engine input ending old new
+PerformsTask (Steps protocol shape) text ending old new = EndsAs Simulation ending (λ done. Simulates protocol shape text done old new)
+PerformsTask (Run protocol shape) text ending old new = EndsAs Simulation ending (λ done. SimulatesRun protocol shape text done old new)
+PerformsTask (Serial protocol shape) text ending old new = EndsAs Simulation ending (λ done. SimulatesSerial protocol shape text done old new)
+PerformsTask (Threads protocol shape) text ending old new = EndsAs ThreadsFailure ending (λ done. SimulatesThreads protocol shape text done old new)
+PerformsTask (Counts protocol shape input grouping) text ending old new = EndsAs Simulation ending (λ done. SimulatesView protocol shape input (grouped_counts protocol shape grouping) text done old new)
+PerformsTask (Lint protocol shape form most) text ending old new = EndsAs LintFailure ending (λ done. Lints form most protocol shape text done old new)
 PerformsTask (States protocol shape input choice) text ending old new = EndsAs Simulation ending (λ done. SimulatesView protocol shape input (states_table_text protocol shape choice) text done old new)
 PerformsTask (StateFields protocol shape input choice) text ending old new = EndsAs Simulation ending (λ done. SimulatesView protocol shape input (λ frames final. states_text shape choice frames) text done old new)
 PerformsTask (Draw protocol shape input charset choice) text ending old new = EndsAs Drawing ending (λ done. Draws protocol shape input charset choice text done old new)

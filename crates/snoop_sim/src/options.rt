@@ -1,7 +1,7 @@
 //! The command line: its words and what they ask for.
 ghost use Rattle.std.specs.Prelude.{◌≡◌, ◌≢◌, ◌^◌, [], IfErr, IfOk, Ok, codes, false, is_some, map, string_bytes, true};
 ghost use Rattle.clap.specs.Words.{App, app_of, first_of, found_of, one_of, rows_of, subcommand_rows_of};
-ghost use Rattle.snoop_sim.specs.Asked.{AsksFor, HasNoEngine, HasNoTask, HasTask, IsTaskOf, BeginsNothing};
+ghost use Rattle.snoop_sim.specs.Asked.{AsksFor, BeginsNothing, HasNoTask, IsTaskOf};
 ghost use Rattle.snoop_sim.specs.CommandLine.{Describes, DescribesOption, IsCounts, IsDraw, IsGroupings, IsKinds, IsLayouts, IsLint, IsLocal, IsProtocols, IsRun, IsSimulation, IsSnoop, IsStates, IsSteps, IsTable, IsThemes, IsThreads, IsView, Names, choice_rules, flag_rule, form_rule, grouping_rule, kind_rule, layout_rule, number_rule, optional_rule, protocol_rule, theme_rule, top_app, with_rules};
 ghost use Rattle.snoop_sim.specs.Options.{IsChoiceOf, HasNoGrouping, HasNoNamed, HasNoSteps, IsGroupingOf, IsInputOf, IsNamed, IsPaperOf, IsSteps as IsStepsOf, IsNumberOf, IsReadAs, IsShapeOf, MisplacesPaper, MisplacesSerial, asks_ascii, asks_serial, charset_named, form_named, kind_named, layout_named, protocol_named, says, theme_named, which_named};
 
@@ -18,12 +18,21 @@ use snoop_trace::{Shape, ShapeFault};
 use std::alloc::{AllocError, Global};
 use std::num::NonZeroU64;
 
-/// What the command line asks for.
+/// What the command line asks for: the help, a table, or what is made of a text for a protocol and a shape.
 #[derive(Debug, Drop)]
 pub(crate) enum Task {
     Help(Error),
     Table(Protocol, Which, Layout),
-    Simulate(Protocol, Shape, Engine),
+    Steps(Protocol, Shape),
+    /// The rows of cores side by side.
+    Run(Protocol, Shape),
+    /// One row after another.
+    Serial(Protocol, Shape),
+    /// The rows in threads.
+    Threads(Protocol, Shape),
+    Counts(Protocol, Shape, Input, Grouping),
+    /// So many faulty records are named at most.
+    Lint(Protocol, Shape, Form, u64),
     /// Its states, in tables.
     States(Protocol, Shape, Input, Choice),
     /// Its states, in fields.
@@ -32,18 +41,6 @@ pub(crate) enum Task {
     Draw(Protocol, Shape, Input, Charset, Choice),
     /// Its drawing as SVG or as a page.
     DrawSvg(Protocol, Shape, Input, Choice, Paper),
-}
-
-/// What is done with a text.
-#[derive(Clone, Copy, Debug, PartialEq, Eq)]
-pub(crate) enum Engine {
-    Steps,
-    Run,
-    Serial,
-    Threads,
-    Counts(Input, Grouping),
-    /// So many faulty records are named at most.
-    Lint(Form, u64),
 }
 
 /// How a table is written.
@@ -90,49 +87,30 @@ pub(crate) fn task_in(alloc: Global, words: &[String]) -> Result<Task, Failure>
     ensures err { IfErr result (BeginsNothing (map string_bytes words.now)) }
 {
     match grammar(alloc)?.try_get_matches_from(words) {
-        Ok(matches) => task_of(&matches),
+        Ok(matches) => match matches.subcommand() {
+            Some((name, options)) => task_of(name, options),
+            None => Err(Failure::NoCommand),
+        },
         Err(error) if error.use_stderr() => Err(Failure::from(error)),
         Err(help) => Ok(Task::Help(help)),
     }
 }
 
-fn task_of(matches: &ArgMatches) -> Result<Task, Failure>
-    ensures ok { IfOk result (HasTask (subcommand_rows_of matches.now)) }
-    ensures err { IfErr result (HasNoTask (subcommand_rows_of matches.now)) }
-{
-    match matches.subcommand() {
-        Some(("table", options)) => Ok(Task::Table(
-            protocol_in(options),
-            which_in(options),
-            layout_in(options),
-        )),
-        Some((name, options)) => simulation_of(name, options),
-        None => Err(Failure::NoCommand),
-    }
-}
-
-/// The simulation that a command other than `table` asks for.
-fn simulation_of(name: &str, options: &ArgMatches) -> Result<Task, Failure>
-    requires { name.now ≢ codes "table" }
+/// The task of the command of this name.
+fn task_of(name: &str, options: &ArgMatches) -> Result<Task, Failure>
     ensures ok { IfOk result (IsTaskOf (name.now, rows_of (found_of options.now))) }
     ensures err { IfErr result (HasNoTask (Some (name.now, rows_of (found_of options.now)))) }
 {
-    let shape = shape_in(options)?;
-    task_on(name, options, shape)
-}
-
-/// The task of a command other than `table` on a machine of this shape.
-fn task_on(name: &str, options: &ArgMatches, shape: Shape) -> Result<Task, Failure>
-    requires { IsShapeOf (rows_of (found_of options.now)) (Ok shape) }
-    ensures ok { IfOk result (IsTaskOf (name.now, rows_of (found_of options.now))) }
-    ensures err { IfErr result (HasNoEngine name.now (rows_of (found_of options.now)) shape) }
-{
     let protocol = protocol_in(options);
+    if name == "table" {
+        return Ok(Task::Table(protocol, which_in(options), layout_in(options)));
+    }
+    let shape = shape_in(options)?;
     match name {
-        "steps" => Ok(Task::Simulate(protocol, shape, Engine::Steps)),
-        "run" if is_serial(options) => Ok(Task::Simulate(protocol, shape, Engine::Serial)),
-        "run" => Ok(Task::Simulate(protocol, shape, Engine::Run)),
-        "threads" => Ok(Task::Simulate(protocol, shape, Engine::Threads)),
+        "steps" => Ok(Task::Steps(protocol, shape)),
+        "run" if is_serial(options) => Ok(Task::Serial(protocol, shape)),
+        "run" => Ok(Task::Run(protocol, shape)),
+        "threads" => Ok(Task::Threads(protocol, shape)),
         "states" => {
             let input = input_in(options)?;
             let choice = choice_in(options, shape)?;
@@ -145,11 +123,11 @@ fn task_on(name: &str, options: &ArgMatches, shape: Shape) -> Result<Task, Failu
         "counts" => {
             let input = input_in(options)?;
             let grouping = grouping_in(options)?;
-            Ok(Task::Simulate(protocol, shape, Engine::Counts(input, grouping)))
+            Ok(Task::Counts(protocol, shape, input, grouping))
         }
         "lint" => {
             let most = long_in(options, "most").unwrap_or(0);
-            Ok(Task::Simulate(protocol, shape, Engine::Lint(kind_in(options), most)))
+            Ok(Task::Lint(protocol, shape, kind_in(options), most))
         }
         "draw" => {
             let input = input_in(options)?;
@@ -168,7 +146,12 @@ fn task_on(name: &str, options: &ArgMatches, shape: Shape) -> Result<Task, Failu
 fn grammar<'a>(alloc: Global) -> Result<Command<'a>, AllocError>
     ensures { IfOk result (λ command. IsSnoop (app_of command)) }
 {
-    top(alloc)?
+    let named = Command::new(alloc, "snoop").bin_name("snoop")?;
+    named
+        .version("0.1.0")
+        .about("Simulates private caches on a snooping bus, under MSI or MESI")
+        .after_help(help::PROGRAM)
+        .subcommand_required(true)
         .subcommand(steps(alloc)?)?
         .subcommand(run(alloc)?)?
         .subcommand(threads(alloc)?)?
@@ -177,20 +160,6 @@ fn grammar<'a>(alloc: Global) -> Result<Command<'a>, AllocError>
         .subcommand(lint(alloc)?)?
         .subcommand(draw(alloc)?)?
         .subcommand(table(alloc)?)
-}
-
-/// The program before its commands.
-fn top<'a>(alloc: Global) -> Result<Command<'a>, AllocError>
-    ensures { IfOk result (λ command. Describes command top_app) }
-{
-    let named = Command::new(alloc, "snoop").bin_name("snoop")?;
-    Ok(
-        named
-            .version("0.1.0")
-            .about("Simulates private caches on a snooping bus, under MSI or MESI")
-            .after_help(help::PROGRAM)
-            .subcommand_required(true),
-    )
 }
 
 fn steps<'a>(alloc: Global) -> Result<Command<'a>, AllocError>

@@ -4,11 +4,14 @@ ghost use Rattle.std.specs.IoError.{error_kind};
 ghost use Rattle.std.specs.Io.KnownBytes.{Appends};
 ghost use Rattle.snoop_trace.specs.Output.{AppendsFront, BlamesWriter};
 ghost use Rattle.snoop_trace.specs.Text.{BlamesReader};
+ghost use Rattle.snoop_trace.specs.declared.fault.TextFault.{TextFault};
+ghost use Rattle.snoop_trace.specs.declared.fault.TextFault.TheVariants as text_fault;
+ghost use Rattle.snoop_engine.specs.SimulatedView.{SimulatesView};
 ghost use Rattle.snoop_sim.specs.Status.{status_of};
-ghost use Rattle.snoop_sim.specs.Performed.{EndsWithStatus, IsFailedRead, PerformsTask, Runs, WritesText, layout_text, status_of_ending};
+ghost use Rattle.snoop_sim.specs.Performed.{EndsWithStatus, IsFailedRead, PerformsTask, WritesText, grouped_counts, layout_text, status_of_ending};
 
 use crate::failure::Failure;
-use crate::options::{Engine, Grouping, Layout, Task, task_in};
+use crate::options::{Grouping, Layout, Task, task_in};
 use crate::threads::simulate_threads;
 use snoop_counts::{
     simulate_counts_by_block, simulate_counts_by_core, simulate_counts_by_steps,
@@ -16,7 +19,8 @@ use snoop_counts::{
 };
 use snoop_draw::simulate_drawing;
 use snoop_engine::{
-    SimFault, simulate_counts, simulate_run, simulate_serial, simulate_states, simulate_steps,
+    Input, SimFault, simulate_counts, simulate_run, simulate_serial, simulate_states,
+    simulate_steps,
 };
 use snoop_lint::lint_text;
 use snoop_rules::{Protocol, Which, write_matrix, write_table};
@@ -98,8 +102,25 @@ fn perform<T: Threads + Wait + Sync, R: Source, W: Sink>(
                 .map_err(SimFault::from)
                 .map_err(Failure::Simulation)
         }
-        Task::Simulate(protocol, shape, engine) => {
-            simulate(rt, alloc, reader, writer, protocol, shape, engine)
+        Task::Steps(protocol, shape) => {
+            simulate_steps(alloc, reader, writer, protocol, shape).map_err(Failure::Simulation)
+        }
+        Task::Run(protocol, shape) => {
+            simulate_run(alloc, reader, writer, protocol, shape).map_err(Failure::Simulation)
+        }
+        Task::Serial(protocol, shape) => {
+            simulate_serial(alloc, reader, writer, protocol, shape).map_err(Failure::Simulation)
+        }
+        Task::Threads(protocol, shape) => {
+            simulate_threads(rt, alloc, reader, writer, protocol, shape).map_err(Failure::Threads)
+        }
+        Task::Counts(protocol, shape, input, grouping) => {
+            simulate_counts_by(alloc, reader, writer, protocol, shape, input, grouping).map_err(
+                Failure::Simulation,
+            )
+        }
+        Task::Lint(protocol, shape, form, most) => {
+            lint_text(alloc, reader, writer, form, most, protocol, shape).map_err(Failure::Lint)
         }
         Task::States(protocol, shape, input, choice) => {
             simulate_states_table(alloc, reader, writer, protocol, shape, input, choice).map_err(
@@ -145,64 +166,32 @@ fn write_layout<W: Sink>(
     }
 }
 
-/// Does with the text what the engine is for.
-fn simulate<T: Threads + Wait + Sync, R: Source, W: Sink>(
-    rt: &T,
+/// Counts as the grouping says.
+fn simulate_counts_by<R: Source, W: Sink>(
     alloc: Global,
     reader: &mut R,
     writer: &mut W,
     protocol: Protocol,
     shape: Shape,
-    engine: Engine,
-) -> Result<(), Failure>
-    ensures does { Runs protocol shape engine (R.remaining reader.old) result (W.contents writer.old) (W.contents writer.new) }
-    ensures reads { R.never_fails ≡ true → ¬ IsFailedRead result }
-    ensures read_blamed { BlamesReader (R.failed reader.old) (R.failed reader.new) (IsFailedRead result) }
-    ensures unwritten { IfErr result (λ failure. status_of failure < 3 → writer.new ≡ writer.old) }
-    ensures refused { IfErr result (λ failure. status_of failure ≡ 5 → writer.new ≡ writer.old) }
-    ensures never_blamed { IfErr result (λ failure. W.never_fails ≡ true → status_of failure ≢ 4) }
-    ensures blamed { BlamesWriter (W.failed writer.old) (W.failed writer.new) (status_of_ending result ≡ 4) }
+    input: Input,
+    grouping: Grouping,
+) -> Result<(), SimFault>
+    ensures does { SimulatesView protocol shape input (grouped_counts protocol shape grouping) (R.remaining reader.old) result (W.contents writer.old) (W.contents writer.new) }
+    ensures unwritten { (fault : TextFault) → result ≡ Err (SimFault.Text fault) → writer.new ≡ writer.old }
+    ensures reads { R.never_fails ≡ true → result ≢ Err (SimFault.Text text_fault.Read) }
+    ensures writes { W.never_fails ≡ true → result ≢ Err SimFault.Write }
+    ensures read_blamed { BlamesReader (R.failed reader.old) (R.failed reader.new) (result ≡ Err (SimFault.Text text_fault.Read)) }
+    ensures blamed { BlamesWriter (W.failed writer.old) (W.failed writer.new) (result ≡ Err SimFault.Write) }
 {
-    match engine {
-        Engine::Steps => {
-            simulate_steps(alloc, reader, writer, protocol, shape).map_err(Failure::Simulation)
+    match grouping {
+        Grouping::Row => simulate_counts(alloc, reader, writer, protocol, shape, input),
+        Grouping::Core => simulate_counts_by_core(alloc, reader, writer, protocol, shape, input),
+        Grouping::Block(top) => {
+            simulate_counts_by_block(alloc, reader, writer, protocol, shape, input, top)
         }
-        Engine::Run => {
-            simulate_run(alloc, reader, writer, protocol, shape).map_err(Failure::Simulation)
-        }
-        Engine::Serial => {
-            simulate_serial(alloc, reader, writer, protocol, shape).map_err(Failure::Simulation)
-        }
-        Engine::Threads => {
-            simulate_threads(rt, alloc, reader, writer, protocol, shape).map_err(Failure::Threads)
-        }
-        Engine::Counts(input, Grouping::Row) => {
-            simulate_counts(alloc, reader, writer, protocol, shape, input).map_err(
-                Failure::Simulation,
-            )
-        }
-        Engine::Counts(input, Grouping::Core) => {
-            simulate_counts_by_core(alloc, reader, writer, protocol, shape, input).map_err(
-                Failure::Simulation,
-            )
-        }
-        Engine::Counts(input, Grouping::Block(top)) => {
-            simulate_counts_by_block(alloc, reader, writer, protocol, shape, input, top).map_err(
-                Failure::Simulation,
-            )
-        }
-        Engine::Counts(input, Grouping::Word) => {
-            simulate_counts_by_word(alloc, reader, writer, protocol, shape, input).map_err(
-                Failure::Simulation,
-            )
-        }
-        Engine::Counts(input, Grouping::Steps(every)) => {
-            simulate_counts_by_steps(alloc, reader, writer, protocol, shape, input, every).map_err(
-                Failure::Simulation,
-            )
-        }
-        Engine::Lint(form, most) => {
-            lint_text(alloc, reader, writer, form, most, protocol, shape).map_err(Failure::Lint)
+        Grouping::Word => simulate_counts_by_word(alloc, reader, writer, protocol, shape, input),
+        Grouping::Steps(every) => {
+            simulate_counts_by_steps(alloc, reader, writer, protocol, shape, input, every)
         }
     }
 }

@@ -1,11 +1,9 @@
 //! The cells of a row.
-ghost use Rattle.std.specs.Prelude.{◌≡◌, ◌-◌, ◌++◌, List, IfOk, OnOk, Some, None, map};
+ghost use Rattle.std.specs.Prelude.{◌≡◌, ◌-◌, ◌++◌, IfOk, OnOk, Some, None, map};
 ghost use Rattle.std.specs.List.{flat_map};
-ghost use Rattle.snoop_model.specs.Pictures.Situation.{Situation};
 ghost use Rattle.snoop_svg.specs.Bands.{band_text};
-ghost use Rattle.snoop_svg.specs.Cells.{cell_text, class_of_words, first_cells, is_silent, label_text, next_cells, one_cell, rail_of, rail_text, rail_top};
-ghost use Rattle.snoop_svg.specs.Looks.{cell_at, cells_at, look_at};
-ghost use Rattle.snoop_svg.specs.declared.columns.Column.{Column as Shown};
+ghost use Rattle.snoop_svg.specs.Cells.{cell_text, class_of_words, is_silent, label_text, one_cell, rail_of, rail_text, rail_top};
+ghost use Rattle.snoop_svg.specs.Looks.{cell_at, look_at};
 
 use crate::bands::{Band, push_band};
 use crate::columns::Column;
@@ -134,8 +132,8 @@ fn push_next_cell(out: &mut Vec<u8>, y: u32, above: &Cell, cell: &Cell) -> Resul
     push_cell(out, y, above.column(), false, old, is_fresh, cell.look())
 }
 
-// Appends these cells of a first row.
-fn push_filled(out: &mut Vec<u8>, y: u32, cells: &[Cell]) -> Result<(), NoMemory>
+/// Appends these cells of a first row.
+pub(crate) fn push_first_cells(out: &mut Vec<u8>, y: u32, cells: &[Cell]) -> Result<(), NoMemory>
     ensures { OnOk result (out.new.items ≡ out.old.items ++ flat_map (λ cell. cell_text y cell.column None cell.look) cells.now) }
 {
     for cell in cells {
@@ -144,15 +142,8 @@ fn push_filled(out: &mut Vec<u8>, y: u32, cells: &[Cell]) -> Result<(), NoMemory
     Ok(())
 }
 
-/// Appends these cells of a first row.
-pub(crate) fn push_first_cells(out: &mut Vec<u8>, y: u32, cells: &[Cell]) -> Result<(), NoMemory>
-    ensures { (s : Situation) (columns : List Shown) → cells.now ≡ cells_at s columns → OnOk result (out.new.items ≡ out.old.items ++ first_cells y columns s) }
-{
-    push_filled(out, y, cells)
-}
-
-// Appends the cells of a row below these, and answers them.
-fn push_below(
+/// Appends the cells of a row below these, and answers them.
+pub(crate) fn push_next_cells(
     out: &mut Vec<u8>,
     alloc: Global,
     y: u32,
@@ -169,18 +160,4 @@ fn push_below(
         add_cell(&mut cells, cell)?;
     }
     Ok(cells)
-}
-
-/// Appends the cells of a row below these, and answers them.
-pub(crate) fn push_next_cells(
-    out: &mut Vec<u8>,
-    alloc: Global,
-    y: u32,
-    above: &[Cell],
-    machine: &Machine,
-) -> Result<Vec<Cell>, NoMemory>
-    ensures cells { (s : Situation) (columns : List Shown) → above.now ≡ cells_at s columns → IfOk result (λ cells. cells.items ≡ cells_at machine.now.situation columns) }
-    ensures text { (s : Situation) (columns : List Shown) → above.now ≡ cells_at s columns → OnOk result (out.new.items ≡ out.old.items ++ next_cells y columns s machine.now.situation) }
-{
-    push_below(out, alloc, y, above, machine)
 }

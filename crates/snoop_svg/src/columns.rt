@@ -131,6 +131,7 @@ fn memory_column(sizes: Sizes, block: u32, start: u32, bus_end: u32) -> Column
 }
 
 // Adds the columns of a panel that begins at `start`, and answers where a further panel would begin.
+#[tactic(auto, using(crate::proofs::LayoutLemmas::after_lanes_near))]
 fn add_panel(
     columns: &mut Vec<Column>,
     sizes: Sizes,

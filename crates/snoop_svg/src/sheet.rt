@@ -175,6 +175,7 @@ fn push_protocol(out: &mut Vec<u8>, protocol: Protocol) -> Result<(), NoMemory>
     push_text(out, ", ")
 }
 
+#[tactic(auto, using(std::proofs::lemmas::List::append_assoc))]
 fn push_sheet_title(out: &mut Vec<u8>, protocol: Protocol, rows: u32) -> Result<(), NoMemory>
     ensures { OnOk result (out.new.items ≡ out.old.items ++ sheet_title protocol rows) }
 {
@@ -412,6 +413,7 @@ fn push_captions_of(
 }
 
 // Appends the beginning of the row of a step, below that of another.
+#[tactic(auto, using(std::proofs::lemmas::List::append_assoc))]
 fn push_row_head(
     out: &mut Vec<u8>,
     plan: &Plan,

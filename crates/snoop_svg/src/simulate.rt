@@ -20,7 +20,6 @@ use crate::size::is_small;
 use crate::sizes::sizes_for;
 use snoop_draw::{DrawFault, Panel, panels_for};
 use snoop_engine::{Choice, Input, SimFault, read_input, show_steps};
-use snoop_machine::laws::runs_are_one;
 use snoop_rules::Protocol;
 use snoop_trace::streams::{Sink, Source};
 use snoop_trace::{NoMemory, Shape, Step, WriteFault};
@@ -113,7 +112,6 @@ fn draw_planned<W: Sink>(
     ensures never_blamed { W.never_fails ≡ true → result ≢ Err WriteFault.Write }
     ensures blamed { BlamesWriter (W.failed writer.old) (W.failed writer.new) (result ≡ Err WriteFault.Write) }
 {
-    runs_are_one();
     let mut drawing = Drawing::new(alloc, plan);
     show_steps(alloc, writer, protocol, shape, steps, &mut drawing)
 }

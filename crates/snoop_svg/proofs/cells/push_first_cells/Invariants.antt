@@ -1,6 +1,6 @@
 use Rattle.std.{proofs.Common.{◌≡◌, ◌++◌, None, take}, specs.List.flat_map}
 use Rattle.snoop_svg.specs.Cells.{cell_text}
-use Rattle.snoop_svg.proofs.cells.push_filled.Given as goal
+use Rattle.snoop_svg.proofs.cells.push_first_cells.Given as goal
 
 -- the pieces so far
 abbrev pub invariant-loop-cell : goal.invariant-loop-cell

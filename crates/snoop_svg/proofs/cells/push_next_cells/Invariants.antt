@@ -1,6 +1,6 @@
 use Rattle.std.{proofs.Common.{◌≡◌, ◌++◌, Some, map, take}, specs.List.flat_map}
 use Rattle.snoop_svg.specs.{Cells.cell_text, Looks.{cell_at, look_at}}
-use Rattle.snoop_svg.proofs.cells.push_below.Given as goal
+use Rattle.snoop_svg.proofs.cells.push_next_cells.Given as goal
 
 -- the cells and the pieces so far
 abbrev pub invariant-loop-old : goal.invariant-loop-old
