@@ -1,4 +1,4 @@
--- A log beside the answers of seats, seats beside cores, and a bench with nothing under way, which joins them.
+-- A log beside the answers of seats, seats beside cores, and what a bench with nothing under way joins.
 use Rattle.std.proofs.Common.{◌≡◌, ℕ, ◌+◌, ◌<◌, ◌≤◌, List, [], ◌∷◌, ◌++◌, length, take, drop, Option, Some, None, get_or, refl, sym, ap, ◌∙◌, arith, append_assoc, append-nil, inl, inr}
 use Rattle.snoop_cores.proofs.Common.{answers_of, AreInOrder, block_at, cases_eq, cases_lt, Did, eq-eqb, get_or_from_slice_get, IsAnswered, IsFirst, IsFirstOutside, IsFree, IsJoined, IsKept, IsNotAllSeats, IsNumbered, IsServed, IsSome, Item, length-take-le, Locked, ne_eqb, next_number, none-some, OneForEach, operation_of, Row, Seating, slice_get, slice_get-get_or, slice_get_past, slice_get_within, slice_index_or, take-append-drop, take-take, take_at, take_more, Work, work_at, works_under_way}
 use Rattle.snoop_cores.proofs.Beginnings.{answers_of-append}

@@ -1,4 +1,4 @@
--- The table by block: a list that falls, with those that tie in the order of another, is the other one ranked; which blocks are shown.
+-- Tables: the text of some counters; of the table by block, that a list which falls, with those that tie in the order of another, is the other one ranked, and which blocks are shown.
 use Rattle.std.proofs.lemmas.{Bool.{cases_lt, le-ltb, lt-ltb, ltb-false}, List.Elements.{All-filter, All-map, All-take, filter_agree, filter_passes}}
 use Rattle.std.proofs.lemmas.List.{FromFn.{get_or-range_with_len, length-range_with_len}, Sums.prefix_len-le-length}
 use Rattle.std.proofs.lemmas.List.Sorted.{All-permutation, IsPermutation-insert, IsStrictWeakOrder-by_number, IsStrictWeakOrder-flip}

@@ -7,13 +7,13 @@ use crate::count::Happening;
 
 /// What counts all that happens in a run, or in a part of one.
 pub(crate) trait Counts {
-    // Whose counts they are, and of how many.
+    // What is counted for: cores, blocks or words, and how many there are.
     ghost Of: { Type 0 };
 
-    // Whose a table has, on a machine of this shape.
+    // The same for a table, on a machine of this shape.
     ghost of_shape: { Extent → Self.Of };
 
-    // This has happened, and is counted.
+    // All of this has been counted.
     ghost has_counted: { Self.Of → List Seen → Self → Type 0 };
 
     /// Counts what has happened.

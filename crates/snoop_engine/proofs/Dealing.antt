@@ -69,7 +69,7 @@ asks_within shape rows asks limits within is =
     (All-map (IsAskedWithin shape) (asked_of shape) rows
     (All-weaker (IsRowWithin shape) (λ r. IsAskedWithin shape (asked_of shape r)) (λ r h. (h.0, h.1, asked_within shape r.address r.op limits)) rows within))
 
--- what a driver of the asks has left is what it has of the rows
+-- a driver that has these asks left is at the start of the rows
 pub at_the_start : (protocol : Protocol) (shape : Extent) (rows : List Row) (asks : List Asked) (start : Progress) → start.situation ≡ reset protocol shape → asks ≡ map (asked_of shape) rows
     → ((core : ℕ) → (todo_of start.lanes core).left ≡ works_by asks core) → left_in start.lanes ≡ length asks → IsAtTheStart protocol shape rows start
 at_the_start protocol shape rows asks start at is left counted =

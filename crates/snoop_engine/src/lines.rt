@@ -150,7 +150,7 @@ pub(crate) fn write_lines<W: Sink, C: Course>(
     ensures never_blamed { W.never_fails ≡ true → result ≢ Err WriteFault.Write }
     ensures blamed { BlamesWriter (W.failed writer.old) (W.failed writer.new) (result ≡ Err WriteFault.Write) }
 {
-    // For the proof alone, as below.
+    // For the proof alone, here and in the loop.
     course.can_end();
     let shape = course.machine().shape();
     let mut chunk = Vec::new(alloc);

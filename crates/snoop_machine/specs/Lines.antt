@@ -72,7 +72,7 @@ pub record WritesLine (core block : ℕ) (line : Line) (old new : Held) : Type 0
   pub others : (k : ℕ) → k ≢ core → slice_index_or new.lines k [] ≡ slice_index_or old.lines k []
   pub room : KeepsMapsRoom old new
 
--- the lines of this block alone are others: as many lines go of each core's map as its line moves to I, and no room for lines is lost
+-- only lines of this block have changed: each core's map has one line less where its line of the block moved to I, and no room for lines is lost
 pub record WritesRow (block : ℕ) (old new : Held) : Type 0 where
   pub rows : new.rows ≡ slice_set old.rows block (row_of new.rows block)
   pub many : length new.lines ≡ length old.lines

@@ -82,7 +82,7 @@ entry_of_ask log core block word asking (Hit next value) = Some (item.Did (next_
 entry_of_ask log core block word asking (Issue request next) = None
 entry_of_ask log core block word asking (Drop next) = None
 
--- what the requestor performs with the data that came, if any did
+-- the operation that the requestor performs with the data, if data came
 abbrev pub did_of : List Item → Came → Option Filled → Option Did
 did_of log came None = None
 did_of log came (Some filled) = Some (next_did log came.core came.block filled.access.word filled.access.op filled.value false)

@@ -49,7 +49,7 @@ ReadsInput options = (input : Input) × IsInputOf options input
 abbrev pub HasPaper : List Row → Type 0
 HasPaper options = (paper : Option Paper) × IsPaperOf options paper
 
--- nothing is made of a text for a command: none that reads one has its name, or one of its options is refused
+-- nothing is made of a text for a command: no command that reads a text has this name, or one of its options is refused
 abbrev pub MakesNothing : Text → List Row → Extent → Failure → Type 0
 MakesNothing name options shape NoCommand = (name ≢ codes "steps") × (name ≢ codes "run") × (name ≢ codes "threads") × (name ≢ codes "states") × (name ≢ codes "counts")
     × (name ≢ codes "lint") × (name ≢ codes "draw")

@@ -24,11 +24,11 @@ pub(crate) enum Task {
     Help(Error),
     Table(Protocol, Which, Layout),
     Steps(Protocol, Shape),
-    /// The rows of cores side by side.
+    /// Its rows, cores side by side.
     Run(Protocol, Shape),
-    /// One row after another.
+    /// Its rows, one after another.
     Serial(Protocol, Shape),
-    /// The rows in threads.
+    /// Its rows, in threads.
     Threads(Protocol, Shape),
     Counts(Protocol, Shape, Input, Grouping),
     /// So many faulty records are named at most.

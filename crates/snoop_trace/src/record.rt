@@ -44,7 +44,7 @@ impl Entry for Step {
             letter => {
                 let row = row_by_letter(shape, n, letter, fields)?;
                 let block = shape.block_of(row.address).ok_or(TextFault::NoBlock(n))?;
-                // Its word is one of the shape's.
+                // For the proof alone: the word is one of the shape's.
                 shape.within_limits();
                 Ok(Step::Ask {
                     core: row.core,
@@ -137,7 +137,7 @@ impl Heading {
         })
     }
 
-    /// The heading of the texts for a protocol and a shape, where record n says it.
+    /// What record n says, where that is the heading for the protocol and the shape; else why it is refused.
     #[tactic(auto, unfolding(crate::specs::Heading::heading_as))]
     pub(crate) fn check(
         protocol: Protocol,
