@@ -43,11 +43,11 @@ layout_text protocol which layout.Matrix = matrix_text protocol which
 
 -- the counts of a run, as the grouping says
 abbrev pub grouped_counts : Protocol → Extent → Grouping → List Frame → Situation → List ℕ
-grouped_counts protocol shape grouping.Row frames final = frames_counts_text protocol frames
-grouped_counts protocol shape grouping.Core frames final = counts_by_core shape frames final
-grouped_counts protocol shape (grouping.Block top) frames final = counts_by_block shape top frames final
-grouped_counts protocol shape grouping.Word frames final = counts_by_word shape frames final
-grouped_counts protocol shape (grouping.Steps every) frames final = counts_by_steps (non_zero_u64_get every) frames final
+grouped_counts protocol shape grouping.Row = λ frames final. frames_counts_text protocol frames
+grouped_counts protocol shape grouping.Core = counts_by_core shape
+grouped_counts protocol shape (grouping.Block top) = counts_by_block shape top
+grouped_counts protocol shape grouping.Word = counts_by_word shape
+grouped_counts protocol shape (grouping.Steps every) = counts_by_steps (non_zero_u64_get every)
 
 -- what each task leaves: the text of help, the table by rows or as a matrix, or what is made of the text
 abbrev pub PerformsTask : Task → Option (List ℕ) → Result (Unit {0}) Failure → Option (List ℕ) → Option (List ℕ) → Type 0
