@@ -102,14 +102,24 @@ pub fn push_outcome(out: &mut Vec<u8>, outcome: Result<Reply, Refused>) -> Resul
     match outcome {
         Ok(Reply::Hit(value)) => push_numbered(out, "hit ", value),
         Ok(Reply::StoreHit) => push_text(out, "store hit"),
-        Ok(Reply::Issued(Request::GetS)) => push_text(out, "issued GetS"),
-        Ok(Reply::Issued(Request::GetM)) => push_text(out, "issued GetM"),
-        Ok(Reply::Issued(Request::PutM)) => push_text(out, "issued PutM"),
+        Ok(Reply::Issued(request)) => {
+            let text = match request {
+                Request::GetS => "issued GetS",
+                Request::GetM => "issued GetM",
+                Request::PutM => "issued PutM",
+            };
+            push_text(out, text)
+        }
         Ok(Reply::Gone) => push_text(out, "gone"),
         Ok(Reply::Absent) => push_text(out, "absent"),
-        Ok(Reply::Ordered(Request::GetS)) => push_text(out, "ordered GetS"),
-        Ok(Reply::Ordered(Request::GetM)) => push_text(out, "ordered GetM"),
-        Ok(Reply::Ordered(Request::PutM)) => push_text(out, "ordered PutM"),
+        Ok(Reply::Ordered(request)) => {
+            let text = match request {
+                Request::GetS => "ordered GetS",
+                Request::GetM => "ordered GetM",
+                Request::PutM => "ordered PutM",
+            };
+            push_text(out, text)
+        }
         Ok(Reply::Came { payload, from, did }) => push_came(out, payload, from, did),
         Err(Refused::NoCore) => push_text(out, "refused NoCore"),
         Err(Refused::NoBlock) => push_text(out, "refused NoBlock"),
