@@ -48,8 +48,6 @@ impl Counts for BlockTally {
 
     ghost Of = { ℕ };
 
-    ghost of_shape = { λ shape. shape.blocks };
-
     ghost has_counted = { CountsBlocks };
 
     fn add(&mut self, happening: &Happening) {

@@ -40,7 +40,7 @@ impl<B: Block> Parts<B> {
         let Some(closing) = self.transaction(block) else {
             return Err(Refused::NoTransaction);
         };
-        let memory = settle(
+        let memory = plan_settle(
             self.protocol,
             self.memory_state(block),
             closing.request,
@@ -55,7 +55,7 @@ impl<B: Block> Parts<B> {
             });
         }
         let found = self.line(closing.core, block);
-        let filled = fill(self.protocol, found, closing);
+        let filled = plan_fill(self.protocol, found, closing);
         Ok(Plan::Respond {
             came,
             memory,
@@ -121,7 +121,11 @@ fn came<B: Block>(closing: &Open<Kept<B>>) -> Came
 }
 
 /// What the response brings to its requestor's line.
-fn fill<B: Block>(protocol: Protocol, found: Option<&Entry<B>>, closing: &Open<Kept<B>>) -> Filled
+fn plan_fill<B: Block>(
+    protocol: Protocol,
+    found: Option<&Entry<B>>,
+    closing: &Open<Kept<B>>,
+) -> Filled
     requires proper { IsProper (line_or_nothing (option_copied found)) }
     requires word { IfSome (line_or_nothing (option_copied found)).waiting (λ access. access.word < B.count) }
     requires possible { IsSomeAnd (arrival closing.now.payload) (HasRow protocol (line_or_nothing (option_copied found)).state) }
@@ -162,7 +166,7 @@ fn fill<B: Block>(protocol: Protocol, found: Option<&Entry<B>>, closing: &Open<K
 }
 
 /// What memory does with the message of a transaction: its row for it at a PutM and where it waits for one, else nothing, and it stays.
-fn settle(protocol: Protocol, memory: MemState, request: Request, payload: Payload) -> MemCell
+fn plan_settle(protocol: Protocol, memory: MemState, request: Request, payload: Payload) -> MemCell
     requires { IsTrue (takes_payload request memory) → IsSomeAnd (arrival_at_memory payload) (HasMemRow protocol memory) }
     ensures { Settles protocol request payload memory result.action result.next }
 {

@@ -2,22 +2,22 @@ use Rattle.snoop_machine.proofs.Common.{arith, ◌≡◌, Some, refl, sym, ap, �
 use Rattle.snoop_machine.proofs.{PartsViews.{protocol_seen, words_seen}, parts.Parts.plan_respond.Goals.After-came-came}
 use Rattle.snoop_machine.proofs.parts.Parts.plan_respond.Goals as goal
 
-pub settle-memory-requires : goal.settle-memory-requires
-settle-memory-requires g c =
+pub plan_settle-memory-requires : goal.plan_settle-memory-requires
+plan_settle-memory-requires g c =
     let closing = c.in-Some.closing.now in
     rw (c.memory_state.ensures, protocol_seen c.self.invariant c.self.view_is)
     (λ takes. (finds_rows c.args.self.now.situation c.requires.inductive (Respond c.args.block)).memory c.args.block (arrival_at_memory closing.payload)
     (closing, (refl, sym c.transaction.ensures.value ∙ ap option_copied c.in-Some.is, takes, refl)))
 
-pub fill-filled-requires-clause-possible : goal.fill-filled-requires-clause-possible
-fill-filled-requires-clause-possible g c =
+pub plan_fill-filled-requires-clause-possible : goal.plan_fill-filled-requires-clause-possible
+plan_fill-filled-requires-clause-possible g c =
     let closing = c.in-Some.closing.now in
     rw (c.line-found.ensures.line, protocol_seen c.self.invariant c.self.view_is)
     ((finds_rows c.args.self.now.situation c.requires.inductive (Respond c.args.block)).cache closing.core c.args.block (arrival closing.payload)
     (closing, (refl, sym c.transaction.ensures.value ∙ ap option_copied c.in-Some.is, refl, c.in_default-request.not-PutM, refl)))
 
-pub fill-filled-requires-clause-word : goal.fill-filled-requires-clause-word
-fill-filled-requires-clause-word g c =
+pub plan_fill-filled-requires-clause-word : goal.plan_fill-filled-requires-clause-word
+plan_fill-filled-requires-clause-word g c =
     let count = words_seen c.self.invariant c.self.view_is in
     rw c.line-found.ensures.line (if_some _ (λ (access : Access). access.word < _)
     (λ access is. rw count at (c.requires.inductive.accesses c.in-Some.closing.now.core c.args.block access is).0))
@@ -30,14 +30,14 @@ opened g c = sym c.transaction.ensures.value ∙ ap option_copied c.in-Some.is
 its : (g : _) (c : After-came-came g) → c.came-came.result.block ≡ c.args.block
 its g c = ap (λ (x : Came). x.block) c.came-came.ensures ∙ c.in-Some.ensures.within.0
 
-closes : (g : _) (c : After-came-came g) → IsClosing c.args.self.now.situation c.came-came.result c.settle-memory.result
+closes : (g : _) (c : After-came-came g) → IsClosing c.args.self.now.situation c.came-came.result c.plan_settle-memory.result
 closes g c =
     let here = c.in-Some.ensures.within.0 in
     rw c.came-came.ensures (record {
       opened = grind (arith, here, opened g c);
       core = c.in-Some.ensures.within.1;
       sender = sender_within c.args.self.now.situation c.requires.inductive c.args.block c.in-Some.closing.now (opened g c);
-      settles = rw here (rw (c.memory_state.ensures, protocol_seen c.self.invariant c.self.view_is) at c.settle-memory.ensures);
+      settles = rw here (rw (c.memory_state.ensures, protocol_seen c.self.invariant c.self.view_is) at c.plan_settle-memory.ensures);
     })
 
 pub returns-in-PutM-clause-found : goal.returns-in-PutM-clause-found
@@ -48,8 +48,8 @@ returns-in-PutM-clause-found g c =
 pub returns-clause-found : goal.returns-clause-found
 returns-clause-found g c =
     let d = (goal.at.returns-clause-found g c).After-came-came in
-    let fills = rw (c.line-found.ensures.line, protocol_seen c.self.invariant c.self.view_is) at c.fill-filled.ensures in
-    let waits = ap (λ (x : Line). x.waiting) (sym c.line-found.ensures.line) ∙ c.fill-filled.ensures.waited in
-    let word = c.requires.inductive.accesses c.in-Some.closing.now.core c.args.block c.fill-filled.result.access waits in
+    let fills = rw (c.line-found.ensures.line, protocol_seen c.self.invariant c.self.view_is) at c.plan_fill-filled.ensures in
+    let waits = ap (λ (x : Line). x.waiting) (sym c.line-found.ensures.line) ∙ c.plan_fill-filled.ensures.waited in
+    let word = c.requires.inductive.accesses c.in-Some.closing.now.core c.args.block c.plan_fill-filled.result.access waits in
     let get = c.in_default-request.not-PutM in
     (ap Respond (its g d), grind (arith, its g d, c.requires.block, closes g d, get, c.came-came.ensures, opened g d, fills, word))
