@@ -54,14 +54,24 @@ NOTATION = [
     ("IsPermutation xs ys", "ys has the elements of xs, each as often, in any order"),
 ]
 
-HEAD = """# The theorem
+HEAD = r"""# The theorem
 
 {doc}
 
-MSI and MESI are protocols for caches that share one bus with memory; MESI also has E, for a copy
-that is clean and the only one. Each cache has a controller, and so has memory, with a table: a
-**row** for each event that it may meet in a state. A pair of state and event without a row is an
-**impossible cell** (but giving up a block in I asks no table, and is answered Absent).
+This page has all of it: the machine in words, what is proved, one run, what is left out, why it
+holds, and then every type and definition that the theorem stands on.
+
+## The machine
+
+MSI and MESI are protocols for caches that share one bus with memory. The letters are a cache's
+states of a block: M, it may write; S, it may read; I, it has nothing; and in MESI also E, a copy
+that may be written and is clean and the only one. Memory has states of its own, whose names say
+what it takes the caches to be in: in IorS none may write, in EorM one may. Each cache has a
+controller, and so has memory, with a table: a **row** for each event that it may meet in a state. A
+pair of state and event without a row is an **impossible cell** (but giving up a block in I asks no
+table, and is answered Absent). The tables are those of *A Primer on Memory Consistency and Cache
+Coherence* (second edition, chapter 7), but for E's eviction and memory's states under MESI, which
+are this project's; docs/PROTOCOL.md has them as grids.
 
 A machine begins at **reset**, with empty caches and a memory of 0, and takes **steps** of three
 kinds. At an **Ask** a core asks its cache to load, to store or to give a block up. A load or store
@@ -74,8 +84,8 @@ GetM is open, the cache may refuse a further operation on that block, which is a
 puts a waiting request on the bus: all controllers see it, one of them sends a message, and the
 block has an open **transaction**, whose **requestor** is the core of the request. A **Respond**
 brings the message, with data or without, to the requestor, to memory or to both, and closes the
-transaction; a block has at most one at a time. A step is taken, with a reply, or refused for a
-cause; a refused step changes nothing. The reply or the cause is its **outcome**.
+transaction. A step is taken, which is a **move**, with a reply, or refused for a cause; a refused
+step changes nothing. The reply or the cause is its **outcome**.
 
 A **situation** is all that is seen of a machine: its protocol and shape (how many cores and blocks
 it has, and how large a block is); of each block its **picture**; each core's queue; and the
@@ -85,13 +95,23 @@ stands in the log. A picture has a line for each core (its state; its copy, whic
 it keeps; the operation that waits, if any), memory's line, and the open transaction, if any. Flat
 memory is what the stores of a history leave in a memory of 0.
 
-The history's order is that of performance, at a hit or with the data that came, and not that of
-asking: a load may be performed before a store to the same word that its core asked for earlier, if
-the core does not wait for the store. This stands in no clause, and follows by hand from `told`,
-`once` and `legal`: where each core asks for nothing while an operation of its own waits, the
-history has each core's operations in the order of asking, so such a run is sequentially consistent.
+What this machine takes as given:
 
-The prover of the Rattle toolchain has checked the theorem, and docs/PROVED.md says what is trusted.
+- **Each step happens at once.** At an Order all caches and memory take their rows for the request
+  together; at a Respond the message comes whole, and to all who take it together.
+- **A block has one open transaction at most**, from its Order to its Respond. Other blocks may have
+  theirs meanwhile, and between the cores, and between the blocks of one core, requests are ordered
+  in any order.
+- **The history is in the order of performance**, at a hit or with the data that came, and not in
+  that of asking. A core that does not wait for its store may load the older value: while its store
+  to a block in S waits, its loads of the block hit as long as the copy lasts (SM_AD, SM_D), and
+  stand in the history before the store; once another core's GetM is ordered first, the copy is gone
+  (IM_AD), and they stall. Loads and stores hit too while a PutM waits (MI_A, EI_A).
+- **Any step may be refused as out of memory**, with nothing changed.
+- **Numbers have no bounds.** The code has: docs/TEXTS.md says how many cores, blocks and words
+  there may be, and how large a value.
+
+## What is proved
 
 ```rust
 {contract}
@@ -101,37 +121,68 @@ The prover of the Rattle toolchain has checked the theorem, and docs/PROVED.md s
 {records}
 ```
 
-So it is about every list of steps put to a machine from reset, in any order, and about the
-situation where they lead; the first steps of a run are a run, so it is about each situation on the
-way too. Each step is taken or refused, an Order may take any block on which its core waits and that
-has no open transaction, and any step may be refused as out of memory. An Order is atomic: all
-caches and memory move at once, each by its row of the tables, and the block's transaction is open
-until its Respond.
+| About | Clauses |
+|---|---|
+| who may read and write | `one_writer` |
+| values | `legal`, `kept`, `current`, `carried`, `memory`, `clean` |
+| operations | `once`, `told`, `logged`, `waiting`, `stalls`, `hits`, `gone` |
+| requests and transactions | `queued`, `awaited`, `opened`, `given_up`, `by_table`, `on_table` |
+| that no step is stuck | `moves`, `orders` |
+| sizes, protocol and shape | `shaped`, `stays` |
 
-While a core's store to a block in S waits for its request to be ordered, or for data, loads of the
-block by this core hit as long as its copy lasts (SM_AD, SM_D), and read what was there before the
-store; once another core's GetM is ordered first, the copy is gone (IM_AD), and its loads stall.
-Loads and stores hit too while a PutM waits (MI_A, EI_A). To read its own store, a core must wait
-until it is performed. A core's hits stand in the order of their Asks, by `told`; those that it
-makes while another operation of its own waits, on this block or on another, stand before that one,
-if it is ever performed; and of two that wait on different blocks either may come first. Nothing is
-said of time, nor that a request is ever ordered or answered: an operation that is not lost may wait
-for ever. But there is no deadlock, out of memory aside: by `moves` an open transaction can be
-answered, and by `orders` any waiting request of a free block can be ordered; an operation waits
-only where its request is in the queue (`waiting`, `queued`) or its transaction is open (`awaited`).
-By `stalls` an operation is stalled only while its core's own request for the block waits, or is
-open and no PutM.
+It is about every list of steps put to a machine from reset, in any order, and about the situation
+where they lead; the first steps of a run are a run, so it is about each situation on the way too.
+An Order may take any block on which its core waits and that has no open transaction; the code takes
+the one whose request is the oldest. That the code takes such steps and no others is proved of
+`Machine::step` and `run_steps` (docs/PROVED.md). The prover of the Rattle toolchain has checked all
+of it, and docs/PROVED.md says what is trusted.
 
-`given_up` is about words alone: a core whose PutM is open may have asked for the block anew.
+## One run
 
-A **move** is a step that is taken. By `moves` each step for which no cause of `Refuses` holds has
-one; so a load or store within the shape that may hit does hit, out of memory aside. Where a cause
-holds, the step is refused; but an Order of a core whose first block has an open transaction may be
-taken instead, of another free block on which the core waits.
+Two cores, MSI: core 0 stores 7 in block 0, then core 1 loads it. An Ask to store is written
+`S,core,address,value`, one to load `L,core,address`, an Order `O,core`, a Respond `R,address`. Each
+row is the situation after a step, with a dot where a line is as above; `#1` is the place of the
+request in its core's queue, and memory's words stand in brackets where it would not send them.
 
-A run is made of the moves below, so what they and the tables say of a step holds of each step of a
-run. `hits` follows from them alone, and says of a load or store that is taken that it hits or, by
-`told`, is issued. These things too the moves and the tables say, and no clause repeats them:
+```console
+$ printf 'S,0,0,7\nO,0\nR,0\nL,1,0\nO,1\nR,0\n' | ./snoop states
+MSI, block 0 (bytes 0 to 63)
+
+step  core 0        core 1        bus                 memory      line
+   0  I             I             free                IorS 0      at reset
+   1  IM_AD #1      .             .                   .           S,0,0,7: issued GetM
+   2  IM_D          .             C0 GetM: Data 0     M (0)       O,0: ordered GetM
+   3  M 7           .             free                .           R,0: Data from memory, store 7
+   4  .             IS_AD #1      .                   .           L,1,0: issued GetS
+   5  S 7           IS_D          C1 GetS: Data 7     IorS_D (0)  O,1: ordered GetS
+   6  .             S 7           free                IorS 7      R,0: Data from core 0, load 7
+
+at the end: nothing waits; nothing is open
+```
+
+The log has four items then: core 0's GetM was ordered; its response came from memory, and core 0
+performed its operation number 0, a store of 7; core 1's GetS was ordered; its response came from
+core 0, and core 1 performed its operation number 0, a load of 7.
+
+## What follows, and what is not said
+
+- **No deadlock**, out of memory aside: an operation that waits has its request in the queue or its
+  transaction open (`waiting`, `queued`, `awaited`); an open transaction can be answered (`moves`),
+  which closes it (`on_table`), and any waiting request of a free block can be ordered (`orders`).
+  But nothing is said of time, nor that a request is ever ordered or answered: an operation that is
+  not lost may wait for ever.
+- **Sequential consistency, by hand**: where each core asks for nothing while an operation of its
+  own waits, the history has each core's operations in the order of asking (`told`, `once`,
+  `legal`). Without that, a core's hits stand in the order of their Asks (`told`), and before each
+  operation of its own that waits meanwhile, on this block or on another, if that is ever performed;
+  of two that wait on different blocks either may come first.
+- **A load or store within the shape that may hit does hit**, out of memory aside: by `moves` each
+  step for which no cause of `Refuses` holds has a move, and by `hits`, which follows from the moves
+  alone, that is a hit. Where a cause holds, the step is refused; but an Order of a core whose first
+  block has an open transaction may be taken instead, of another free block on which the core waits.
+- `given_up` is about words alone: a core whose PutM is open may have asked for the block anew.
+
+These things the moves and the tables say too, of each step of a run, and no clause repeats them:
 
 - whether an eviction is answered Gone, Absent or by a request;
 - which operations stall while their core's request waits or is open, and why else a step is
@@ -147,68 +198,78 @@ run. `hits` follows from them alone, and says of a load or store that is taken t
   block, of the requestor that the history has, and no hit. Which of that core's operations it is,
   and a load's value, follow from `legal` and from `once`, of this run and of each of its
   beginnings;
-- that the requestor takes the message of each GetS and GetM, and no cache that of a PutM (memory's
-  state after a Respond is said by `on_table`; the target that a row names is not looked at);
+- who takes a message: the requestor that of each GetS and GetM, no cache that of a PutM, and memory
+  that of a PutM and, where its state ends in D, another's (its state after a Respond is said by
+  `on_table`). A message is no event for those who do not take it, and so no impossible cell. Of a
+  row that is taken at an Order only the next state and a Send are used, and of memory's row at a
+  Respond only the next state and a Write; the target that a row names is not looked at;
 - that the lines of the table of senders (`lines_of`) are all reached.
 
-That the code takes such steps and no others is proved of `Machine::step` and `run_steps`
-(docs/PROVED.md), and why all this holds is in docs/COHERENCE.md. `tools/theorem.py --write` makes
-this page from the sources, whose files say where each rule comes from.
+## Why it holds
 
-## How to read it
+By induction over the steps, of a statement that says more of each block. Memory's state and the
+open transaction decide what is claimed of the rest: whether a core **owns** the block, which is
+that it may write it; whether others may share it; and whether memory has the words of flat memory.
+docs/COHERENCE.md has these claims as a table of twelve lines. Each core's state fits the claims,
+each by itself: all that ties the cores together is which of them is the owner. Each reader's copy,
+and data under way, has the words of flat memory; so has memory beside a clean copy.
 
-The function `coherent` does nothing: what it ensures is the theorem. `pub` and `abbrev` may be
-passed over. Names of facts and types are in CamelCase (`OneWriter`), those of functions in
-snake_case (`flat`), and `f a b` is `f` of a and b. A definition begins with the types of its
-arguments and of what it is; `Type 0` says that it is a fact or a type. Below stands what it means,
-case by case, the first that fits, with `_` for any value. A record of facts holds where all of them
-do; a field that is no fact, as `done` of `IsSenderLine`, is a value that has to exist.
-`record s {{ .. }}` is s with these fields; with no `s` all of them stand there. `x.log` is a field,
-and binds before `f a`. In a case a small letter or word fits any value, as `_` does; `One` of
-`RunBy` and `P` of `EveryRun` are such values too, which are facts of what stands behind them.
-`{{A : Type 0}}` is a type that follows from the other arguments. `--` begins a comment, `where` the
-parts of a record or a type. `declared.` stands before a type as the code declares it. A member of a
-type may stand with a short name of its type before it, as `op.Load`, `state.ImAd`, `event.Data`,
-`action.Hit`, `mem.IorS`, `mem_event.GetS`, `payload.Data`, `item.Did` or `reply.Hit` (a capital
-after the dot; a field has none), and what it carries follows it in order, as in
-`Ask core block word asking`; `Nothing`, or `mem_action.None`, is a controller's action `None`.
-`data` begins a type by its members. `∷`, `++`, `×`, `⊎` and `→` read from the right. `∷` and `++`
-bind more strongly than `≡`, `≢`, `<` and `≤`, these than `×` and `⊎`, and these than `→`; `==`
-binds more strongly than `&&`. `(x : T) ×`, `(x : T) →` and `λ x.` reach to the end of their
-brackets. Some words name several things, told apart by where they stand: `Data`, for example, is
-the words of a block, a payload and an event, `I`, `S` and `M` are states of caches and of memory,
-`Load`, `Store` and `Evict` operations and events, `GetS`, `GetM` and `PutM` requests and events,
-`Hit` and `Came` several kinds of thing, `Requestor` and `Memory` senders and targets, `taken` a
-function and a field, and a line is a cache's, memory's or one of a table. From a row that is taken
-at an Order only the next state and a Send are used, and from memory's row at a Respond only the
-next state and a Write. In comments and in what is printed, states have underscores: `ImAd` is
-IM_AD. A block is free where no transaction is open on it, a copy clean where memory has the same
-words, and what a PutM is for is a writeback. The "oldest request" of a type's comment is the one
-that the code orders; the theorem is about Orders of any waiting request. What the types' comments
-say of texts is in docs/TEXTS.md. A core waits on a block (`Waits`) where its request for it is not
-yet ordered; an operation waits in a line until it is performed. `Extent` is the type of a shape.
-Each part below begins with what its file is about; of its definitions the page has those on which
-the theorem stands.
+So whether a step keeps this is a question about memory's state, the request, the payload, the state
+of the requestor and that of one other core. These are finitely many cases, whatever the number of
+cores, and the prover has tried them all. `one_writer`, `kept`, `current`, `carried`, `memory`,
+`clean`, `waiting` and `given_up` can be read off the statement; `legal` holds since each load that
+is performed gets its word of flat memory; `moves`, `orders`, `by_table` and `stalls` are tests of
+the tables at the states that fit; `awaited`, `queued` and `on_table` are kept beside it, as are
+`shaped`, `logged` and `opened`; `once` and `told` are what each move adds to the history; `hits`
+and `gone` follow from one move. The argument is in docs/COHERENCE.md, step by step.
 
-`(a, b)` is a pair, `(a, b, c)` three and so on. Between facts `A × B` is "A and B", between types
-it is their pairs; `(x : T) × P` "there is an x with P" (`(x y : T)` has two of one type),
-`(x : T) → P` "P for every x" (before one arrow there may be several such), `A → B` "if A then B",
-between types the functions from A to B; a fact may have a name, as in `(made : Orders ..) → ..`, by
-whose fields what it says exists can be spoken of; `¬ A` "not A", `⊥` what never holds, and
-`λ x. ..` a function of x.
+## How to read the definitions
 
-Look-ups have a default: outside a machine's shape a core holds nothing (state I), no transaction is
-open, and memory is in IorS with words of 0; the queue of such a core is empty. A block has 64
-places for words; a load or store of a word past them is refused. How many bytes a block has is part
-of a shape, and no definition looks at it.
+The function `coherent` does nothing: what it ensures is the theorem. Names of facts and types are
+in CamelCase (`OneWriter`), those of functions in snake_case (`flat`). A definition begins with the
+types of its arguments and of what it is, where `Type 0` says that it is a fact or a type. Below
+stands what it means, case by case, the first that fits. In a case a small letter or word fits any
+value, as `_` does; `One` of `RunBy` and `P` of `EveryRun` are such values too, which are facts of
+what stands behind them. Look-ups have a default: outside a machine's shape a core holds nothing
+(state I), no transaction is open, and memory is in IorS with words of 0; the queue of such a core
+is empty. A block has 64 places for words; a load or store of a word past them, or past the words of
+the shape, is refused. How many bytes a block has is part of a shape, and no definition looks at it.
+
+Some words name several things, told apart by where they stand: `Data` is the words of a block, a
+payload and an event; `I`, `S` and `M` are states of caches and of memory; `Load`, `Store` and
+`Evict` operations and events; `GetS`, `GetM` and `PutM` requests and events; `Hit` and `Came`
+several kinds of thing; `Requestor` and `Memory` senders and targets; `taken` and `other` are
+functions, and names of something else; and a line is a cache's, memory's or one of a table. A core
+waits on a block (`Waits`) where its request for it is not yet ordered; an operation waits in a line
+until it is performed. A block is free where no transaction is open on it, a copy clean where memory
+has the same words, and what a PutM is for is a writeback. In comments and in what is printed,
+states have underscores: `ImAd` is IM_AD.
 
 | Written | Means |
 |---|---|
+| `f a b`, `x.log`, `(a, b)`, `λ x. ..` | f of a and b; a field, which binds before `f a`; a pair (`(a, b, c)` three and so on); a function of x |
+| `A × B`, `A → B`, `¬ A`, `⊥` | between facts: A and B; if A then B; not A; what never holds. Between types: their pairs; the functions from A to B |
+| `(x : T) × P`, `(x : T) → P` | there is an x with P; P for every x. `(x y : T)` has two of one type, and before one arrow there may be several such |
+| `(made : Orders ..) → ..` | a fact with a name, by whose fields what it says exists can be spoken of |
+| `record R .. where`, `data D .. where` | a fact that holds where all its fields do (a field that is no fact, as `done` of `IsSenderLine`, is a value that has to exist), or a type by its fields; a type by its members |
+| `record s {{ .. }}`, `record {{ .. }}` | s with these fields; a value with all of them |
+| `op.Load`, `state.ImAd`, `mem_action.None`, `Nothing` | a member of a type, behind a short name of the type where need be (a capital after the dot; a field has none). What it carries follows it in order, as in `Ask core block word asking`; `Nothing` is a controller's action `None` |
+| `{{A : Type 0}}`, `pub`, `abbrev`, `declared.`, `--` | a type that follows from the other arguments; three words that may be passed over; a comment |
 {notation}
+
+`∷`, `++`, `×`, `⊎` and `→` read from the right. `∷` and `++` bind more strongly than `≡`, `≢`, `<`
+and `≤`, these than `×` and `⊎`, and these than `→`; `==` binds more strongly than `&&`.
+`(x : T) ×`, `(x : T) →` and `λ x.` reach to the end of their brackets.
+
+Each part below begins with what its file is about; of its definitions the page has those on which
+the theorem stands. `tools/theorem.py --write` makes the page from the sources.
 
 ## Types
 
-As the code declares them. In the definitions numbers are ℕ, and `K` is a block's `Data`.
+As the code declares them, in Rust: `u32` and `u64` are numbers, `bool` true or false, `Open<K>` is
+`Open` of a type K, which is a block's `Data` here, and in the definitions all numbers are ℕ. What
+the comments say of texts is in docs/TEXTS.md, and "the oldest request" is the one that the code
+orders.
 
 ```rust
 {types}
