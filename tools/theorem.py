@@ -58,91 +58,78 @@ HEAD = r"""# The theorem
 
 {doc}
 
-This page has all of it: the machine in words, what is proved, one run, what is left out, why it
+This page has all of it: the machine in words, a run, what is proved, what is left out, why it
 holds, and then every type and definition that the theorem stands on.
 
 ## The machine
 
-MSI and MESI are protocols for caches that share one bus with memory. The letters are a cache's
-states of a block: M, it may write; S, it may read; I, it has nothing; and in MESI also E, a copy
-that may be written and is clean and the only one. Memory has states of its own, whose names say
-what it takes the caches to be in: in IorS none may write, in EorM one may. Each cache has a
-controller, and so has memory, with a table: a **row** for each event that it may meet in a state. A
-pair of state and event without a row is an **impossible cell** (but giving up a block in I asks no
-table, and is answered Absent). The tables are those of *A Primer on Memory Consistency and Cache
-Coherence* (second edition, chapter 7), but for E's eviction and memory's states under MESI, which
-are this project's; docs/PROTOCOL.md has them as grids.
+MSI and MESI are protocols for caches that share one bus with memory. A cache's state of a block is
+M, where it may write it, S, where it may read it, or I, where it has nothing; MESI also has E, the
+only copy, which may be written and is clean: memory has the same words. Memory's states say what
+the caches may have: in IorS none may write, in EorM a core may, or will once its data comes. Each
+cache has a controller, and so has memory, with a table: a **row** for each event that it may meet
+in a state. A pair of state and event without a row is an **impossible cell** (but giving up a block
+in I asks no table, and is answered Absent). The tables are those of *A Primer on Memory Consistency
+and Cache Coherence* (second edition, chapter 7), but for E's eviction and memory's states under
+MESI, which are this project's; docs/PROTOCOL.md has them as grids.
 
 A machine begins at **reset**, with empty caches and a memory of 0, and takes **steps** of three
-kinds. At an **Ask** a core asks its cache to load, to store or to give a block up. A load or store
-**hits** where the table's row for it is a hit; a core in a state with such a row may load the
-block, and is a reader, or may store, and is a writer. Elsewhere the operation is stalled, or it
-misses. Where it misses, and where a block in E or M is to be given up, the cache issues a request,
-which waits in the core's queue; a load or store that missed waits until its data comes. A block in
-S is dropped silently, with no request. While the core's request for a block waits, or its GetS or
-GetM is open, the cache may refuse a further operation on that block, which is a stall. An **Order**
-puts a waiting request on the bus: all controllers see it, one of them sends a message, and the
-block has an open **transaction**, whose **requestor** is the core of the request. A **Respond**
-brings the message, with data or without, to the requestor, to memory or to both, and closes the
-transaction. A step is taken, which is a **move**, with a reply, or refused for a cause; a refused
-step changes nothing. The reply or the cause is its **outcome**.
+kinds.
 
-A **situation** is all that is seen of a machine: its protocol and shape (how many cores and blocks
-it has, and how large a block is); of each block its **picture**; each core's queue; and the
-**log**, the history of what was done, whose items are operations that hit, ordered requests, and
-responses with what they performed: an operation is performed when its value is read or written and
-stands in the log. A picture has a line for each core (its state; its copy, which is the words that
-it keeps; the operation that waits, if any), memory's line, and the open transaction, if any. Flat
-memory is what the stores of a history leave in a memory of 0.
+- **Ask**: a core asks its cache to load, to store, or to give a block up. A load or store **hits**
+  where the table's row for it is a hit; a core in a state with such a row may load the block, and
+  is a reader, or may store, and is a writer. Elsewhere it is stalled, which is a refusal, or it
+  misses: the cache issues a request, which waits in the core's queue, and the operation waits until
+  its data comes. A block in E or M is given up by a request too, a writeback; one in S is dropped,
+  which is answered Gone.
+- **Order**: a request that waits goes on the bus. All controllers see it, one of them sends a
+  message, and the block has an open **transaction**, whose **requestor** is the core of the
+  request. A block is free where it has none.
+- **Respond**: the message comes to the requestor, to memory or to both, and closes the transaction.
+
+A step is taken, which is a **move**, with a reply, or refused for a cause; a refused step changes
+nothing. The reply or the cause is its **outcome**.
+
+| Word | Is |
+|---|---|
+| GetS, GetM, PutM | the requests: for a copy to read; for one to write; to write the block back and give it up |
+| Data, DataE, NoData, NoDataE | the payloads of messages: the block's words; these, to a core that is the only one to have them; nothing, since the writeback is stale (the block went to another core first); nothing, since the block was clean |
+| IS_AD, IM_D, MI_A and the like | the states between: from I to S, and so on, in AD waiting for the core's own request to be ordered and then for data, in D for data, in A for its request to be ordered. In the definitions IS_AD is `IsAd` |
+| a core waits on a block | its request for it is not yet ordered; a queue has the blocks, and the states say for which request |
+| an operation waits | it missed, and stands in the line until it is **performed**: until its value is read or written, and stands in the history |
+| data under way | the words in an open transaction, at Data and DataE |
+
+A **situation** is all that is seen of a machine: its protocol and shape (`Extent`: how many cores
+and blocks it has, and how large a block is); of each block its **picture**; each core's queue; and
+the **log**, the history of what was done, whose items are operations that hit, ordered requests,
+and responses with what they performed. A picture has a line for each core (its state; its copy,
+which is the words that it keeps; the operation that waits, if any), memory's line, and the open
+transaction, if any. Flat memory is what the stores of a history leave in a memory of 0.
 
 What this machine takes as given:
 
 - **Each step happens at once.** At an Order all caches and memory take their rows for the request
   together; at a Respond the message comes whole, and to all who take it together.
 - **A block has one open transaction at most**, from its Order to its Respond. Other blocks may have
-  theirs meanwhile, and between the cores, and between the blocks of one core, requests are ordered
-  in any order.
+  theirs meanwhile. Between the cores, and between the blocks of one core, requests are ordered in
+  any order; the code orders a core's oldest one.
 - **The history is in the order of performance**, at a hit or with the data that came, and not in
   that of asking. A core that does not wait for its store may load the older value: while its store
   to a block in S waits, its loads of the block hit as long as the copy lasts (SM_AD, SM_D), and
   stand in the history before the store; once another core's GetM is ordered first, the copy is gone
-  (IM_AD), and they stall. Loads and stores hit too while a PutM waits (MI_A, EI_A).
+  (IM_AD), and they stall. In MI_A and EI_A loads and stores hit while the PutM waits.
 - **Any step may be refused as out of memory**, with nothing changed.
-- **Numbers have no bounds.** The code has: docs/TEXTS.md says how many cores, blocks and words
-  there may be, and how large a value.
-
-## What is proved
-
-```rust
-{contract}
-```
-
-```text
-{records}
-```
-
-| About | Clauses |
-|---|---|
-| who may read and write | `one_writer` |
-| values | `legal`, `kept`, `current`, `carried`, `memory`, `clean` |
-| operations | `once`, `told`, `logged`, `waiting`, `stalls`, `hits`, `gone` |
-| requests and transactions | `queued`, `awaited`, `opened`, `given_up`, `by_table`, `on_table` |
-| that no step is stuck | `moves`, `orders` |
-| sizes, protocol and shape | `shaped`, `stays` |
-
-It is about every list of steps put to a machine from reset, in any order, and about the situation
-where they lead; the first steps of a run are a run, so it is about each situation on the way too.
-An Order may take any block on which its core waits and that has no open transaction; the code takes
-the one whose request is the oldest. That the code takes such steps and no others is proved of
-`Machine::step` and `run_steps` (docs/PROVED.md). The prover of the Rattle toolchain has checked all
-of it, and docs/PROVED.md says what is trusted.
+- **Numbers have no bounds**, but that a block has at most 64 words. The code has limits for cores,
+  blocks and values too (docs/TEXTS.md).
 
 ## One run
 
-Two cores, MSI: core 0 stores 7 in block 0, then core 1 loads it. An Ask to store is written
-`S,core,address,value`, one to load `L,core,address`, an Order `O,core`, a Respond `R,address`. Each
-row is the situation after a step, with a dot where a line is as above; `#1` is the place of the
-request in its core's queue, and memory's words stand in brackets where it would not send them.
+Two cores under MSI, and blocks of 64 bytes and one word: core 0 stores 7 in block 0, then core 1
+loads it. An Ask to store is written `S,core,address,value`, one to load `L,core,address`, an Order
+`O,core`, a Respond `R,address`. Each row shows block 0 after a step: the state and the value in
+each core, the transaction, memory. A dot says that it is as above; `#1` is the place of the request
+in its core's queue, `C0` is core 0, and memory's value stands in brackets where it would not send
+it.
 
 ```console
 $ printf 'S,0,0,7\nO,0\nR,0\nL,1,0\nO,1\nR,0\n' | ./snoop states
@@ -160,9 +147,95 @@ step  core 0        core 1        bus                 memory      line
 at the end: nothing waits; nothing is open
 ```
 
-The log has four items then: core 0's GetM was ordered; its response came from memory, and core 0
-performed its operation number 0, a store of 7; core 1's GetS was ordered; its response came from
-core 0, and core 1 performed its operation number 0, a load of 7.
+After steps 1 and 2 core 0's store waits, after 4 and 5 core 1's load. The log has four items at the
+end: core 0's GetM was ordered; its response came from memory, and core 0 performed its operation
+number 0, a store of 7; core 1's GetS was ordered; its response came from core 0, and core 1
+performed its operation number 0, a load of 7.
+
+## How to read the definitions
+
+Names of facts and types are in CamelCase (`OneWriter`), those of functions in snake_case (`flat`).
+A definition begins with the types of its arguments and of what it is, where `Type 0` says that it
+is a fact or a type. Below stands what it means, case by case, the first that fits. In a case a
+small letter or word fits any value, as `_` does; `One` of `RunBy` and `P` of `EveryRun` are such
+values too, which are facts of what stands behind them.
+
+Look-ups have a default: outside a machine's shape a core holds nothing (state I), no transaction is
+open, and memory is in IorS with words of 0; the queue of such a core is empty. A block has 64
+places for words; a load or store of a word past them, or past the words of the shape, is refused.
+How many bytes a block has is part of a shape, and no definition looks at it.
+
+Some words name several things, told apart by where they stand: `Data` is the words of a block, a
+payload and an event, and `DataE`, `NoData` and `NoDataE` are the last two; `I`, `S` and `M` are
+states of caches and of memory; `Load`, `Store` and `Evict` operations and events; `GetS`, `GetM`
+and `PutM` requests and events; `None` no value, and no action; `Hit`, `Send` and `Came` several
+kinds of thing; `Requestor` and `Memory` senders and targets; `taken` and `other` are functions, and
+names of something else; clauses of the theorem and fields of other records may have one name; a
+line is a cache's, memory's or one of a table, and a row one of a table or, in `IsShaped`, the lines
+of a picture.
+
+| Written | Means |
+|---|---|
+| `f a b`, `x.log`, `(a, b)`, `λ x. ..` | f of a and b; a field, which binds before `f a`; a pair (`(a, b, c)` three and so on); a function of x |
+| `A × B`, `A → B`, `¬ A`, `⊥` | between facts: A and B; if A then B; not A; what never holds. Between types: their pairs; the functions from A to B |
+| `(x : T) × P`, `(x : T) → P` | there is an x with P; P for every x. `(x y : T)` has two of one type, and before one arrow there may be several such |
+| `(made : Orders ..) → ..` | a fact with a name, by whose fields what it says exists can be spoken of |
+| `record R .. where`, `data D .. where` | a fact that holds where all its fields do (a field that is no fact, as `done` of `IsSenderLine`, is a value that has to exist), or a type by its fields; a type by its members |
+| `record s {{ .. }}`, `record {{ .. }}` | s with these fields; a value with all of them |
+| `op.Load`, `state.ImAd`, `mem.IorS`, `mem_action.None`, `Nothing` | a member of a type, behind a short name of the type where need be: `state` and `mem` are of caches and of memory (a capital after the dot; a field has none). What it carries follows it in order, as in `Ask core block word asking`; `Nothing` is a controller's action `None` |
+| `{{A : Type 0}}`, `pub`, `abbrev`, `declared.`, `--` | a type that follows from the other arguments; three words that may be passed over; a comment |
+{notation}
+
+`∷`, `++`, `×`, `⊎` and `→` read from the right. `f a` and `¬` bind most strongly; `∷` and `++` bind
+more strongly than `≡`, `≢`, `<` and `≤`, these than `×` and `⊎`, and these than `→`; `==` binds
+more strongly than `&&`, and `↔` stands in brackets. `(x : T) ×`, `(x : T) →` and `λ x.` reach to
+the end of their brackets.
+
+## What is proved
+
+```rust
+{contract}
+```
+
+```text
+{records}
+```
+
+The function `coherent` does nothing: what it ensures is the theorem. It is about every list of
+steps put to a machine from reset, in any order, and about the situation where they lead; the first
+steps of a run are a run, so it is about each situation on the way too. That `Machine::step` and
+`run_steps` take these steps and no others, where an Order takes its core's oldest request, is
+proved of them (docs/PROVED.md). The prover of the Rattle toolchain, in which Snoop is written, has
+checked all of it; docs/PROVED.md says what is trusted.
+
+| About | Clauses | Why |
+|---|---|---|
+| who may read and write | `one_writer` | below |
+| values | `kept`, `current`, `carried`, `memory`, `clean` | below |
+| the history | `legal`, `logged` | each load that is performed gets its word of flat memory; an Ask beyond the shape is refused |
+| operations | `once`, `told` | what each move adds to the history, and moves out of a line |
+| | `waiting`, `given_up` | a state says what waits in its line, and whether it keeps words |
+| | `stalls`, `hits`, `gone` | the tables' rows, and how a move answers by them |
+| requests and transactions | `queued`, `awaited`, `opened` | an issue puts its block last, an Order takes it out and opens it, a Respond closes it |
+| that no step is stuck | `moves`, `orders` | in the states that can stand side by side each controller has the row that it needs |
+| the table of senders | `by_table`, `on_table` | the same; and while a transaction is open nothing moves its memory |
+| sizes, protocol and shape | `shaped`, `stays` | no move changes them |
+
+## Why it holds
+
+By induction over the steps, of a statement that says more of each block. Memory's state and the
+open transaction decide three things: whether a core **owns** the block, that is, may write it;
+whether other cores may have copies to read; and whether memory has the words of flat memory.
+docs/COHERENCE.md has this as a table of twelve lines. The statement says of each core, by itself,
+that its state agrees with the line, with whether it is the owner, and with whether it is the
+requestor; that a copy which may be read, and data under way, has the words of flat memory; and so
+has memory beside a clean copy. All that ties the cores together is which of them is the owner.
+
+So whether a step keeps the statement is a question about the tables: about the protocol, memory's
+state, the request, the payload, the state of the core that asks or is answered, and the state of
+one other core. These are finitely many cases, whatever the number of cores; the prover has computed
+them all. A word changes only by a store of the block's owner, at a hit or as its data comes, and no
+other copy may be read then. The argument is in docs/COHERENCE.md, step by step.
 
 ## What follows, and what is not said
 
@@ -176,100 +249,42 @@ core 0, and core 1 performed its operation number 0, a load of 7.
   `legal`). Without that, a core's hits stand in the order of their Asks (`told`), and before each
   operation of its own that waits meanwhile, on this block or on another, if that is ever performed;
   of two that wait on different blocks either may come first.
-- **A load or store within the shape that may hit does hit**, out of memory aside: by `moves` each
-  step for which no cause of `Refuses` holds has a move, and by `hits`, which follows from the moves
-  alone, that is a hit. Where a cause holds, the step is refused; but an Order of a core whose first
-  block has an open transaction may be taken instead, of another free block on which the core waits.
+- **A load or store of a word that there is, and that may hit, does hit**, out of memory aside: by
+  `moves` each step for which no cause of `Refuses` holds has a move, and by `hits`, which follows
+  from the moves alone, that is a hit. Where a cause holds, the step is refused; but an Order of a
+  core whose first block has an open transaction may be taken instead, of another block that is free
+  and on which the core waits.
 - `given_up` is about words alone: a core whose PutM is open may have asked for the block anew.
 
-These things the moves and the tables say too, of each step of a run, and no clause repeats them:
+The definitions say more of each step of a run, which no clause repeats:
 
-- whether an eviction is answered Gone, Absent or by a request;
-- which operations stall while their core's request waits or is open, and why else a step is
-  refused;
-- to which states caches go (but see `gone`), so how long a copy lasts, and that a state, as E, is
-  ever reached;
-- that a step leaves other blocks as they were, and at an Ask other cores;
-- that an Order opens the transaction of the request that it took, in which order the blocks stand
-  in a queue, and that a PutM that was issued stands there;
+- whether an eviction is answered Gone, Absent or by a request; which operations stall while their
+  core's request waits or is open, and why else a step is refused; to which states caches go (but
+  see `gone`), so how long a copy lasts;
+- that a step leaves other blocks as they were, and at an Ask other cores; that an Order opens the
+  transaction of the request that it took, in which order the blocks stand in a queue, and that a
+  PutM that was issued stands there;
 - whether a response performs an operation, and that the requestor and request which it has in the
   history are those of the open transaction. `told` says that the history has what was replied, that
   a response is of the block of its Respond, and that the operation which it performed is, on that
   block, of the requestor that the history has, and no hit. Which of that core's operations it is,
   and a load's value, follow from `legal` and from `once`, of this run and of each of its
   beginnings;
-- who takes a message: the requestor that of each GetS and GetM, no cache that of a PutM, and memory
-  that of a PutM and, where its state ends in D, another's (its state after a Respond is said by
-  `on_table`). A message is no event for those who do not take it, and so no impossible cell. Of a
-  row that is taken at an Order only the next state and a Send are used, and of memory's row at a
-  Respond only the next state and a Write; the target that a row names is not looked at;
-- that the lines of the table of senders (`lines_of`) are all reached.
+- who takes a message. The requestor takes that of a GetS or GetM, and no cache takes that of a
+  PutM. Memory takes that of a PutM, and that of another request where its state ends in D; its
+  state then is said by `on_table`. For those who do not take it, a message is no event, and so no
+  impossible cell. Of a row that is taken at an Order only the next state and a Send are used, and
+  of memory's row at a Respond only the next state and a Write; the target that a row names is not
+  looked at.
 
-## Why it holds
-
-By induction over the steps, of a statement that says more of each block. Memory's state and the
-open transaction decide what is claimed of the rest: whether a core **owns** the block, which is
-that it may write it; whether others may share it; and whether memory has the words of flat memory.
-docs/COHERENCE.md has these claims as a table of twelve lines. Each core's state fits the claims,
-each by itself: all that ties the cores together is which of them is the owner. Each reader's copy,
-and data under way, has the words of flat memory; so has memory beside a clean copy.
-
-So whether a step keeps this is a question about memory's state, the request, the payload, the state
-of the requestor and that of one other core. These are finitely many cases, whatever the number of
-cores, and the prover has tried them all. `one_writer`, `kept`, `current`, `carried`, `memory`,
-`clean`, `waiting` and `given_up` can be read off the statement; `legal` holds since each load that
-is performed gets its word of flat memory; `moves`, `orders`, `by_table` and `stalls` are tests of
-the tables at the states that fit; `awaited`, `queued` and `on_table` are kept beside it, as are
-`shaped`, `logged` and `opened`; `once` and `told` are what each move adds to the history; `hits`
-and `gone` follow from one move. The argument is in docs/COHERENCE.md, step by step.
-
-## How to read the definitions
-
-The function `coherent` does nothing: what it ensures is the theorem. Names of facts and types are
-in CamelCase (`OneWriter`), those of functions in snake_case (`flat`). A definition begins with the
-types of its arguments and of what it is, where `Type 0` says that it is a fact or a type. Below
-stands what it means, case by case, the first that fits. In a case a small letter or word fits any
-value, as `_` does; `One` of `RunBy` and `P` of `EveryRun` are such values too, which are facts of
-what stands behind them. Look-ups have a default: outside a machine's shape a core holds nothing
-(state I), no transaction is open, and memory is in IorS with words of 0; the queue of such a core
-is empty. A block has 64 places for words; a load or store of a word past them, or past the words of
-the shape, is refused. How many bytes a block has is part of a shape, and no definition looks at it.
-
-Some words name several things, told apart by where they stand: `Data` is the words of a block, a
-payload and an event; `I`, `S` and `M` are states of caches and of memory; `Load`, `Store` and
-`Evict` operations and events; `GetS`, `GetM` and `PutM` requests and events; `Hit` and `Came`
-several kinds of thing; `Requestor` and `Memory` senders and targets; `taken` and `other` are
-functions, and names of something else; and a line is a cache's, memory's or one of a table. A core
-waits on a block (`Waits`) where its request for it is not yet ordered; an operation waits in a line
-until it is performed. A block is free where no transaction is open on it, a copy clean where memory
-has the same words, and what a PutM is for is a writeback. In comments and in what is printed,
-states have underscores: `ImAd` is IM_AD.
-
-| Written | Means |
-|---|---|
-| `f a b`, `x.log`, `(a, b)`, `λ x. ..` | f of a and b; a field, which binds before `f a`; a pair (`(a, b, c)` three and so on); a function of x |
-| `A × B`, `A → B`, `¬ A`, `⊥` | between facts: A and B; if A then B; not A; what never holds. Between types: their pairs; the functions from A to B |
-| `(x : T) × P`, `(x : T) → P` | there is an x with P; P for every x. `(x y : T)` has two of one type, and before one arrow there may be several such |
-| `(made : Orders ..) → ..` | a fact with a name, by whose fields what it says exists can be spoken of |
-| `record R .. where`, `data D .. where` | a fact that holds where all its fields do (a field that is no fact, as `done` of `IsSenderLine`, is a value that has to exist), or a type by its fields; a type by its members |
-| `record s {{ .. }}`, `record {{ .. }}` | s with these fields; a value with all of them |
-| `op.Load`, `state.ImAd`, `mem_action.None`, `Nothing` | a member of a type, behind a short name of the type where need be (a capital after the dot; a field has none). What it carries follows it in order, as in `Ask core block word asking`; `Nothing` is a controller's action `None` |
-| `{{A : Type 0}}`, `pub`, `abbrev`, `declared.`, `--` | a type that follows from the other arguments; three words that may be passed over; a comment |
-{notation}
-
-`∷`, `++`, `×`, `⊎` and `→` read from the right. `∷` and `++` bind more strongly than `≡`, `≢`, `<`
-and `≤`, these than `×` and `⊎`, and these than `→`; `==` binds more strongly than `&&`.
-`(x : T) ×`, `(x : T) →` and `λ x.` reach to the end of their brackets.
-
-Each part below begins with what its file is about; of its definitions the page has those on which
-the theorem stands. `tools/theorem.py --write` makes the page from the sources.
+And no clause says that something is ever reached: a state, as E, or a line of the table of senders.
 
 ## Types
 
 As the code declares them, in Rust: `u32` and `u64` are numbers, `bool` true or false, `Open<K>` is
 `Open` of a type K, which is a block's `Data` here, and in the definitions all numbers are ℕ. What
-the comments say of texts is in docs/TEXTS.md, and "the oldest request" is the one that the code
-orders.
+the comments say of texts is in docs/TEXTS.md. Each part further below begins with what its file is
+about; of its definitions the page has those on which the theorem stands.
 
 ```rust
 {types}

@@ -80,7 +80,7 @@ pub struct Open<K = Words> {
     pub request: Request,
     pub block: u32,
     pub payload: Payload,
-    /// The block's words, where the payload carries data, else 0.
+    /// The block's words, where the payload carries data, else words of 0.
     pub value: K,
     /// The core that sent the message, or `None` for memory.
     pub from: Option<u32>,

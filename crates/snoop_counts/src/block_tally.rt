@@ -48,6 +48,8 @@ impl Counts for BlockTally {
 
     ghost Of = { ℕ };
 
+    ghost of_shape = { λ shape. shape.blocks };
+
     ghost has_counted = { CountsBlocks };
 
     fn add(&mut self, happening: &Happening) {

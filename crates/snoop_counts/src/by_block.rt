@@ -25,8 +25,6 @@ struct ByBlock {
 impl Table<BlockTally> for ByBlock {
     ghost use Rattle.snoop_counts.specs.ByBlock.{block_table};
 
-    ghost of_shape = { λ shape. shape.blocks };
-
     ghost text = { λ table shape seen. block_table shape table.top seen };
 
     fn start(&self, alloc: Global, shape: Shape) -> Result<BlockTally, NoMemory> {

@@ -23,9 +23,6 @@ struct ByCore;
 
 impl Table<Tally> for ByCore {
     ghost use Rattle.snoop_counts.specs.CoreTable.{core_table};
-    ghost use Rattle.snoop_counts.specs.declared.count.Subjects.TheVariants.{Cores};
-
-    ghost of_shape = { λ shape. (Cores, shape.cores) };
 
     ghost text = { λ table shape seen. core_table shape.cores seen };
 

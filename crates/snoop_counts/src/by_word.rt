@@ -23,8 +23,6 @@ struct ByWord;
 impl Table<WordTally> for ByWord {
     ghost use Rattle.snoop_counts.specs.ByWord.{word_table};
 
-    ghost of_shape = { λ shape. shape };
-
     ghost text = { λ table shape seen. word_table shape seen };
 
     fn start(&self, alloc: Global, shape: Shape) -> Result<WordTally, NoMemory> {

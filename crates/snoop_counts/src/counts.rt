@@ -1,5 +1,6 @@
 //! Counting of what happens, one happening after another.
 ghost use Rattle.std.specs.Prelude.{◌++◌, ◌∷◌, [], List};
+ghost use Rattle.snoop_trace.specs.Extent.{Extent};
 ghost use Rattle.snoop_counts.specs.declared.count.Happening.{Happening as Seen};
 
 use crate::count::Happening;
@@ -8,6 +9,9 @@ use crate::count::Happening;
 pub(crate) trait Counts {
     // What is counted for: cores, blocks or words, and how many there are.
     ghost Of: { Type 0 };
+
+    // The same for a table, on a machine of this shape.
+    ghost of_shape: { Extent → Self.Of };
 
     // All of this has been counted.
     ghost has_counted: { Self.Of → List Seen → Self → Type 0 };

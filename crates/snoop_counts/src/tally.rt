@@ -251,8 +251,11 @@ impl Counts for Tally {
     ghost use Rattle.std.specs.Prelude.{ℕ};
     ghost use Rattle.snoop_counts.specs.Tally.{HasCounted};
     ghost use Rattle.snoop_counts.specs.declared.count.Subjects.{Subjects};
+    ghost use Rattle.snoop_counts.specs.declared.count.Subjects.TheVariants.{Cores};
 
     ghost Of = { Subjects × ℕ };
+
+    ghost of_shape = { λ shape. (Cores, shape.cores) };
 
     ghost has_counted = { λ whose. HasCounted whose.0 whose.1 };
 

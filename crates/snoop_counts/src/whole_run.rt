@@ -20,19 +20,16 @@ use std::alloc::Global;
 
 /// A table of counts: what counts for it, and what is written.
 pub(crate) trait Table<C: Counts> {
-    // What its counts are for, on a machine of this shape.
-    ghost of_shape: { Extent → C.Of };
-
     // The text of the table.
     ghost text: { Self → Extent → List Happening → List ℕ };
 
     /// Nothing is counted yet.
     fn start(&self, alloc: Global, shape: Shape) -> Result<C, NoMemory>
-        ensures { IfOk result (C.has_counted (Self.of_shape shape) []) };
+        ensures { IfOk result (C.has_counted (C.of_shape shape) []) };
 
     /// Appends the table.
     fn push(&self, out: &mut Vec<u8>, counts: &C, shape: Shape) -> Result<(), NoMemory>
-        ensures { (seen : List Happening) → C.has_counted (Self.of_shape shape) seen counts.now → OnOk result (out.new.items ≡ out.old.items ++ Self.text self.now shape seen) };
+        ensures { (seen : List Happening) → C.has_counted (C.of_shape shape) seen counts.now → OnOk result (out.new.items ≡ out.old.items ++ Self.text self.now shape seen) };
 }
 
 /// Counts a run for a table; there are no counters before the run begins.
@@ -49,7 +46,7 @@ impl<C: Counts + Drop, T: Table<C> + Drop> View for WholeRun<T, C> {
     ghost use Rattle.snoop_counts.specs.Views.{HasWatched};
 
     ghost has_seen = { λ first protocol shape frames now.
-        (now.table ≡ first.table) × (HasWatched protocol shape frames now.watch × IsSomeAnd now.counts (C.has_counted (T.of_shape shape) (happenings frames))) };
+        (now.table ≡ first.table) × (HasWatched protocol shape frames now.watch × IsSomeAnd now.counts (C.has_counted (C.of_shape shape) (happenings frames))) };
 
     ghost heading = { λ first protocol shape. [] };
 

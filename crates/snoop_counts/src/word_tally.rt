@@ -55,6 +55,8 @@ impl Counts for WordTally {
 
     ghost Of = { Extent };
 
+    ghost of_shape = { λ shape. shape };
+
     ghost has_counted = { CountsWords };
 
     fn add(&mut self, happening: &Happening) {

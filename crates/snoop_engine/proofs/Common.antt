@@ -3,7 +3,7 @@ pub use Rattle.std.proofs.Common.{◌≡◌, List, [], ◌∷◌, ◌++◌, refl
 pub use Rattle.std.proofs.lemmas.{Bool.{cases_eq, cases_lt, eq-eqb, ne_eqb, le-ltb, cases_Bool, Decides.nat_tests}, Grind.common_steps}
 pub use Rattle.std.proofs.lemmas.List.{flat_map_more, get_or_default, get_or_past, length-map, length_push, map-append, take_more, map-id, length-drop, take-append-drop, length-replicate, length-set, get_or-replicate, get_or-set_other, get_or-set_same, take_all}
 pub use Rattle.std.proofs.lemmas.List.Elements.{All-append, All-cons, All-head, All-nil, All-tail, Contains-append_cases, Contains-append_left, Contains-append_right, Contains-push, All-take, All-drop, filter-append, All-map, All-filter, All-weaker}
-pub use Rattle.std.proofs.lemmas.{List.Sums.{sum_by-cons, sum_by-set}, Option.{same_Some, get_or_from_slice_get, unwrap_or-slice_get}, Result.on_ok_weaker}
+pub use Rattle.std.proofs.lemmas.{List.Sums.{sum_by-cons, sum_by-set}, Option.{none-some, same_Some, get_or_from_slice_get, unwrap_or-slice_get}, Result.on_ok_weaker}
 pub use Rattle.std.specs.{Io.KnownBytes.Appends, List.{range_with_len, position_or_len}, Option.option_map_or}
 pub use Rattle.snoop_trace.proofs.GathersLemmas.{gathers_cut, gathers_done, gathers_more, gathers_spilled, gathers_stop}
 pub use Rattle.snoop_trace.proofs.{OutputLemmas.{appends_none_of, on_err, appends_none, appends_more, front_after}, WordPlaces.{word_there, asked_within}}
@@ -28,11 +28,11 @@ pub use Rattle.snoop_engine.specs.{Frames.{Frame, FramesAreTheRun, FramesFrom, o
 pub use Rattle.snoop_engine.specs.InOrder.{InOrder, IsInOrder, TakesUpNext, row_under_way, EndsInOrder, remaining_in_order, LeadsToRest}
 pub use Rattle.snoop_engine.specs.{Numbered.{Numbered, numbered_from, led_to}, Serial.{ask_for, is_ask, ServesSerially, all_asks}, Widths.{most_stored, stored}}
 pub use Rattle.snoop_engine.specs.Packed.{step_by, step_of_head, steps_in, stored_by, stored_in, worded_by, worded_in, largest, values_of, words_of}
-pub use Rattle.snoop_engine.specs.Round.{Progress, TakesUp, remaining, IsEnabled, IsFit, IsIdle, IsWorkWithin, IsOver, IsTodoWithin, IsUnasked}
-pub use Rattle.snoop_engine.specs.{Served.{ask_of, Serves, asks_of}, Tallies.{Tallies, core_place, memory_place, counts_in, memory_counts_in}}
+pub use Rattle.snoop_engine.specs.Round.{AsksWhenQuiet, Progress, TakesUp, remaining, IsEnabled, IsFit, IsIdle, IsWorkWithin, IsOver, IsTodoWithin, IsUnasked}
+pub use Rattle.snoop_engine.specs.{Served.{ask_of, AsksOneByOne, IsQuietFor, LeadsToQuietFor, Serves, asks_of}, Tallies.{Tallies, core_place, memory_place, counts_in, memory_counts_in}}
 pub use Rattle.snoop_engine.specs.States.{kept_at, kept_text, place_text, value_text, header_text, shown_text, step_fields, taken_text, memory_value_at}
 pub use Rattle.snoop_engine.specs.Taken.{of_holder, unless_i, lines_of_step, state_at, event_asked, of_ask, of_core, of_memory, of_requestor, of_waiting_memory, of_arrival_at_memory, refused_by}
 pub use Rattle.snoop_engine.specs.Todo.{Todo, todo_of, left_in, asked_by, lanes_under_way, block_of_work, IsAskedWithin, nothing_to_do, works_by, works_of}
 pub use Rattle.snoop_engine.specs.{TrueLines.{DoesNothing, FitsStep, HasAllLines, ShowsRows, HasTakenRows}, UnderWay.{ServesOnly, nothing, only}}
 pub use Rattle.snoop_engine.specs.{Views.{shown, view_text, IsNextSeen, block_of_step, frame_seen}, declared.{fault.SimFault.SimFault, seen.Seen.Seen}}
-pub use Rattle.snoop_engine.specs.declared.{input.Input.TheVariants.SerialRows, taken.Taken.{Taken, TheVariants.{Core, Memory}}}
+pub use Rattle.snoop_engine.specs.declared.{input.Input.TheVariants.{Rows, SerialRows}, taken.Taken.{Taken, TheVariants.{Core, Memory}}}

@@ -1,8 +1,8 @@
 -- From wherever a driver of rows has come, its rows can be served.
-use Rattle.snoop_engine.proofs.Common.{eq-eqb, option_map_or, IsIdle, get_or, get_or_default, ◌≡◌, ℕ, zero, suc, ◌+◌, ◌/◌, ◌<◌, true, Option, Some, None, List, [], ◌∷◌, length, refl, sym, ◌∙◌, ap, arith, inl, inr, Result, Ok, IsOk, slice_set, All-head, All-nil, All-tail, Extent, word_asked, Row, Step, Ask, Work, Protocol, Reply, Refused, FirstMove, Situation, reset, TheRun, IsUnderWay, turn_of, CanEnd, Leading, LeadsOn, EndsInOrder, InOrder, IsInOrder, TakesUpNext, remaining_in_order, row_under_way, IsAtTheEnd, ServesOnly, nothing, IsEnabled, IsFit, IsOver, Progress, TakesUp, remaining, ask_for, Todo, block_of_work, left_in, nothing_to_do, todo_of, lanes_under_way}
+use Rattle.snoop_engine.proofs.Common.{eq-eqb, option_map_or, IsIdle, get_or, get_or_default, ◌≡◌, ℕ, zero, suc, ◌+◌, ◌/◌, ◌<◌, true, Option, Some, None, List, [], ◌∷◌, length, refl, sym, ◌∙◌, ap, arith, inl, inr, Result, Ok, IsOk, slice_set, All-head, All-nil, All-tail, Extent, word_asked, Row, Step, Ask, Work, Protocol, Reply, Refused, FirstMove, Situation, reset, TheRun, IsUnderWay, turn_of, CanEnd, Leading, LeadsOn, EndsInOrder, InOrder, IsInOrder, TakesUpNext, remaining_in_order, row_under_way, IsAtTheEnd, ServesOnly, nothing, AsksWhenQuiet, IsEnabled, IsFit, IsOver, Progress, TakesUp, remaining, ask_for, Todo, block_of_work, left_in, nothing_to_do, todo_of, lanes_under_way}
 use Rattle.snoop_model.proofs.{Queues.keeps_well, Runs.GoOn.{IsSteady, moves_on, reset_steady, run_steady, steady_on}}
-use Rattle.snoop_engine.proofs.CourseLemmas.{driver_leads, fewer_in_order, in_order_ends, in_order_leads, leaves_fewer, left_same}
-use Rattle.snoop_engine.proofs.Driving.{all_done, fit_begins, fit_idles, fit_moves, goes_begun, goes_on, lane_apart, lane_put, over_idle, over_now, takes_first}
+use Rattle.snoop_engine.proofs.CourseLemmas.{one_none, driver_leads, fewer_in_order, in_order_ends, in_order_leads, leaves_fewer, left_same}
+use Rattle.snoop_engine.proofs.Driving.{all_done, fit_begins, fit_idles, fit_moves, goes_begun, goes_on, lane_apart, lane_put, over_idle, over_now, quiet_over, takes_first}
 use Rattle.snoop_engine.proofs.InOrderLemmas.{asks_nothing_more, at_rest, begun_enabled, begun_fit, begun_takes_up, goes_on_enabled, in_order_moves, row_over, under_way_asks_nothing}
 
 -- a step that no cause refuses is taken, and then those that lead to the end from there
@@ -54,10 +54,11 @@ module _ {s : Situation} {lanes : List Todo} {core : ℕ} {turns : List ℕ} (fi
   read = get_or_default lanes core nothing_to_do (todo_of lanes core) (let cores = fit.cores in let has = has_core in omega arith)
 
   -- by one step more
-  by : (next : List Todo) (step : Step) → IsFit s next (core ∷ turns) → IsUnderWay (lanes_under_way next) step → IsEnabled s step → TakesUp lanes step next → CanEnd (IsAtTheEnd here)
-  by next step fit_next its enabled takes = by_step (IsAtTheEnd here) s steady step enabled (λ answer t move steady_then.
+  by : (next : List Todo) (step : Step) → IsFit s next (core ∷ turns) → IsUnderWay (lanes_under_way next) step → IsEnabled s step → TakesUp lanes step next → AsksWhenQuiet s step
+      → CanEnd (IsAtTheEnd here)
+  by next step fit_next its enabled takes quiet = by_step (IsAtTheEnd here) s steady step enabled (λ answer t move steady_then.
       let new : Progress = record { situation = t; lanes = next; turns = core ∷ turns } in
-      (IsAtTheEnd new, (driver_leads here new step answer move takes, on new (omega (arith, leaves_fewer here new step answer move takes)) (fit_moves fit_next t step answer its move) steady_then)))
+      (IsAtTheEnd new, (driver_leads here new step answer move takes quiet, on new (omega (arith, leaves_fewer here new step answer move takes)) (fit_moves fit_next t step answer its move) steady_then)))
 
   -- the core's work is over, and no row is left: it needs no turn
   idle : IsOver lanes s core → (todo_of lanes core).left ≡ [] → CanEnd (IsAtTheEnd here)
@@ -69,7 +70,7 @@ module _ {s : Situation} {lanes : List Todo} {core : ℕ} {turns : List ℕ} (fi
       let fit_then = without_turn (fit_idles fit has_core over nothing_to_do (0, omega arith, refl) (refl, refl)) (rw own (refl, refl)) in
       let end = on (record { situation = s; lanes = next; turns = turns }) (omega (arith, as_many)) fit_then steady in
       let way : IsAtTheEnd here end.steps end.outcomes end.final =
-      record { run = end.way.run; taken = end.way.taken; asked = λ k. sym (same k) ∙ end.way.asked k; quiet = end.way.quiet; few = (let few = end.way.few in omega (arith, as_many)) } in
+      record { run = end.way.run; taken = end.way.taken; asked = λ k. sym (same k) ∙ end.way.asked k; apart = end.way.apart; quiet = end.way.quiet; few = (let few = end.way.few in omega (arith, as_many)) } in
       record { steps = end.steps; outcomes = end.outcomes; final = end.final; way = way }
 
   by_left : IsOver lanes s core → (left : List Work) → (todo_of lanes core).left ≡ left → CanEnd (IsAtTheEnd here)
@@ -78,19 +79,20 @@ module _ {s : Situation} {lanes : List Todo} {core : ℕ} {turns : List ℕ} (fi
       let lane : Todo = record { left = works; work = Some work } in
       by (slice_set lanes core lane) (Ask core work.block work.word work.op) (fit_begins fit has_core over lane read first (0, omega arith, refl) refl)
       (ap (λ (t : Todo). block_of_work t.work) (lane_put fit has_core lane)) (goes_begun fit has_core over lane read first _ refl) (takes_first fit has_core over lane read first _ refl)
+      (quiet_over fit has_core over)
 
   by_work : (work : Option Work) (r : Option Step) → (todo_of lanes core).work ≡ work → r ≡ option_map_or (λ (w : Work). turn_of s core w.block w.word w.op true) work None → CanEnd (IsAtTheEnd here)
   by_work None r none is = by_left (over_idle fit has_core none) (todo_of lanes core).left refl
   by_work (Some work) None works is = by_left (over_now fit has_core read works None is) (todo_of lanes core).left refl
   by_work (Some work) (Some step) works is =
       let own = under_way_asks_nothing s core work.block work.word work.op (Some step) is in
-      by lanes step fit (own.1 (lanes_under_way lanes)) (goes_on fit has_core read works (Some step) is) (λ k. rw (own.2 k))
+      by lanes step fit (own.1 (lanes_under_way lanes)) (goes_on fit has_core read works (Some step) is) (λ k. rw (own.2 k)) (own.3 s)
 
 driver_ends : (s : Situation) (lanes : List Todo) (turns : List ℕ)
     → (let d : Progress = record { situation = s; lanes = lanes; turns = turns } in ((e : Progress) → turns_left e < turns_left d → DriverEnds e) → DriverEnds d)
 driver_ends s lanes [] on fit steady =
     let done = all_done fit None refl in
-    record { steps = []; outcomes = []; final = s; way = record { run = refl; taken = All-nil IsOk; asked = done.0; quiet = done.1; few = omega arith } }
+    record { steps = []; outcomes = []; final = s; way = record { run = refl; taken = All-nil IsOk; asked = done.0; apart = one_none s; quiet = done.1; few = omega arith } }
 driver_ends s lanes (core ∷ turns) on fit steady = by_work fit steady on (todo_of lanes core).work _ refl refl
 
 -- a driver that serves one row after another

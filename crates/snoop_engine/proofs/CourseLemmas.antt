@@ -1,5 +1,5 @@
 -- Courses, step by step: that each step leaves fewer to come, and the rows that they serve.
-use Rattle.snoop_engine.proofs.Common.{common_steps, ◌≡◌, ℕ, ◌+◌, ◌*◌, ◌<◌, true, cond, Option, Some, None, List, [], ◌∷◌, ◌++◌, length, length-append, map, refl, sym, ◌∙◌, ap, arith, Result, Ok, IsOk, IfNone, filter-append, length-map, map-append, All-cons, All-nil, Extent, Row, Step, Protocol, Reply, Refused, Picture, Situation, reset, FirstMove, TheRun, IsQuiet, steps_paid, turn_rule, untouched, has_transaction, steps_owed, LeadsOn, EndsInOrder, InOrder, LeadsToRest, remaining_in_order, StepsServe, StepsServeSerially, IsAtTheEnd, IsAtTheStart, Progress, ServesSerially, all_asks, ask_for, is_ask, Serves, asks_of, works_of, cases_lt, get_or_past, get_or-set_same, get_or-set_other, inl, inr, nothing_to_do, slice_set, sum_by-set, ◌≢◌, suc, sum_by-cons, Ask, eq-eqb, ne_eqb, Todo, todo_of, left_in, TakesUp, remaining, TakesUpNext}
+use Rattle.snoop_engine.proofs.Common.{AsksOneByOne, AsksWhenQuiet, IsQuietFor, LeadsToQuietFor, none-some, common_steps, ◌≡◌, ℕ, ◌+◌, ◌*◌, ◌<◌, true, cond, Option, Some, None, List, [], ◌∷◌, ◌++◌, length, length-append, map, refl, sym, ◌∙◌, ap, arith, Result, Ok, IsOk, IfNone, filter-append, length-map, map-append, All-cons, All-nil, Extent, Row, Step, Protocol, Reply, Refused, Picture, Situation, reset, FirstMove, TheRun, IsQuiet, steps_paid, turn_rule, untouched, has_transaction, steps_owed, LeadsOn, EndsInOrder, InOrder, LeadsToRest, remaining_in_order, StepsServe, StepsServeSerially, IsAtTheEnd, IsAtTheStart, Progress, ServesSerially, all_asks, ask_for, is_ask, Serves, asks_of, works_of, cases_lt, get_or_past, get_or-set_same, get_or-set_other, inl, inr, nothing_to_do, slice_set, sum_by-set, ◌≢◌, suc, sum_by-cons, Ask, eq-eqb, ne_eqb, Todo, todo_of, left_in, TakesUp, remaining, TakesUpNext}
 use Rattle.std.proofs.lemmas.List.Folds.{sum_by-replicate}
 use Rattle.snoop_engine.proofs.TakenLemmas.{same_shape}
 
@@ -38,13 +38,28 @@ pub leaves_fewer : (old new : Progress) (step : Step) (answer : Reply) → First
 leaves_fewer old new step answer move takes =
     omega (arith, left_paid old.lanes new.lanes step takes, turn_rule.pays old.situation new.situation step answer move)
 
+-- where each core asks for one thing at a time from here on, and the step asks so, it does from the step on
+one_more : (old new : Situation) (step : Step) (answer : Reply) → FirstMove old step answer new → AsksWhenQuiet old step → (steps : List Step) → AsksOneByOne new steps → AsksOneByOne old (step ∷ steps)
+one_more old new step answer move quiet steps apart [] after core block word asking split =
+    let same_step : step ≡ Ask core block word asking = cc in
+    record { outcomes = []; reached = old; run = refl; quiet = rw same_step at quiet }
+one_more old new step answer move quiet steps apart (b ∷ bs) after core block word asking split =
+    let same_step : step ≡ b = cc in
+    let later = apart bs after core block word asking (cc) in
+    rw (← same_step) (record { outcomes = Ok answer ∷ later.outcomes; reached = later.reached; run = (new, (move, later.run)); quiet = later.quiet })
+
+pub one_none : (here : Situation) → AsksOneByOne here []
+one_none here before after core block word asking split =
+    (let long : 0 ≡ length (before ++ Ask core block word asking ∷ after) = ap (λ (l : List Step). length l) split in absurd (omega (arith, length-append before (Ask core block word asking ∷ after))))
+
 -- a driver of rows leads on by its step
-pub driver_leads : (old new : Progress) (step : Step) (answer : Reply) → FirstMove old.situation step answer new.situation → TakesUp old.lanes step new.lanes
+pub driver_leads : (old new : Progress) (step : Step) (answer : Reply) → FirstMove old.situation step answer new.situation → TakesUp old.lanes step new.lanes → AsksWhenQuiet old.situation step
     → LeadsOn (IsAtTheEnd old) step (Ok answer) (IsAtTheEnd new)
-driver_leads old new step answer move takes steps outcomes final h = record {
+driver_leads old new step answer move takes quiet steps outcomes final h = record {
   run = (new.situation, (move, h.run));
   taken = All-cons IsOk (Ok answer) outcomes refl h.taken;
   asked = λ core. rw (takes core, h.asked core) (grind (arith, common_steps));
+  apart = one_more old.situation new.situation step answer move quiet steps h.apart;
   quiet = h.quiet;
   few = omega (arith, leaves_fewer old new step answer move takes, h.few);
 }
@@ -61,12 +76,13 @@ owed_reset protocol shape =
 -- the driver's steps from reset serve its rows
 pub driver_served : {protocol : Protocol} {shape : Extent} {rows : List Row} {start : Progress} {steps : List Step} {outcomes : List (Result Reply Refused)} {final : Situation}
     → IsAtTheStart protocol shape rows start → IsAtTheEnd start steps outcomes final
-    → TheRun protocol shape steps outcomes final × Serves shape rows steps outcomes final
+    → TheRun protocol shape steps outcomes final × Serves protocol shape rows steps outcomes final
 driver_served {protocol} {shape} begins end = (
   rw begins.situation at end.run,
   record {
     taken = end.taken;
     asked = λ core. sym (end.asked core) ∙ begins.left core;
+    apart = rw begins.situation at end.apart;
     quiet = end.quiet;
     few = omega (arith, rw (begins.situation, begins.all) at end.few, owed_reset protocol shape);
   },
@@ -116,6 +132,10 @@ in_order_ends old none quiet = record {
   few = omega arith;
 }
 
+-- where nothing waits and nothing is open, nothing of a core does
+quiet_for : {s : Situation} → IsQuiet s → (core : ℕ) → IsQuietFor s core
+quiet_for quiet core = record { ordered = quiet.ordered core; closed = λ block request has. none-some _ (sym (quiet.closed block) ∙ has.1.0) }
+
 -- a core's Asks are among the Asks of all cores
 asks_among : (core : ℕ) (steps : List Step) → asks_of steps core ≡ asks_of (all_asks steps) core
 asks_among core [] = refl
@@ -137,6 +157,9 @@ module _ {protocol : Protocol} {shape : Extent} {rows : List Row} {start : InOrd
           serves = record {
             taken = end.taken;
             asked = λ core. rw (asks_among core steps, asked) (asks_of_rows shape core rows);
+            apart = λ before after core block word asking split.
+                (let rest = rw at at (end.apart before after (Ask core block word asking) split refl) in
+                record { outcomes = rest.outcomes; reached = rest.reached; run = rest.run; quiet = quiet_for rest.quiet core });
             quiet = end.quiet;
             few = omega (arith, rw (at, left) at end.few, owed_reset protocol shape);
           };

@@ -1,6 +1,8 @@
 -- What a turn of a driver gives, and a round of turns.
-use Rattle.snoop_engine.proofs.Common.{nat_tests, ◌≡◌, ◌≢◌, ℕ, ◌<◌, true, false, Option, Some, None, refl, sym, ◌∙◌, ap, inl, inr, cond, eqb, arith, get_or, Contains, IfSome, IfNone, slice_set, List, ◌∷◌, length, cases_eq, get_or_default, All-head, All-nil, All-tail, Step, Ask, Reply, FirstMove, Situation, Work, turn_of, IsUnderWay, turn_rule, eq-eqb, ne_eqb, length-set, get_or-set_same, get_or-set_other, Todo, todo_of, nothing_to_do, lanes_under_way, block_of_work, IsOver, IsEnabled, IsFit, IsIdle, IsTodoWithin, IsWorkWithin, TakesUp, [], ◌++◌, take, drop, slice_get, All-append, Contains-append_cases, Contains-append_left, Contains-append_right, IsQuiet, take-append-drop, All-take, All-drop, IsServing}
+use Rattle.snoop_engine.proofs.Common.{IsQuietFor, none-some, queue_of, nat_tests, ◌≡◌, ◌≢◌, ℕ, ◌<◌, true, false, Option, Some, None, refl, sym, ◌∙◌, ap, inl, inr, cond, eqb, arith, get_or, Contains, IfSome, IfNone, slice_set, List, ◌∷◌, length, cases_eq, get_or_default, All-head, All-nil, All-tail, Step, Ask, Reply, FirstMove, Situation, Work, turn_of, IsUnderWay, turn_rule, eq-eqb, ne_eqb, length-set, get_or-set_same, get_or-set_other, Todo, todo_of, nothing_to_do, lanes_under_way, block_of_work, IsOver, IsEnabled, IsFit, IsIdle, IsTodoWithin, IsWorkWithin, TakesUp, [], ◌++◌, take, drop, slice_get, All-append, Contains-append_cases, Contains-append_left, Contains-append_right, IsQuiet, take-append-drop, All-take, All-drop, IsServing}
 use Rattle.snoop_engine.proofs.TakenLemmas.{same_shape}
+use Rattle.snoop_model.proofs.Queues.{waits_queued}
+use Rattle.std.proofs.lemmas.List.Elements.{All-contains}
 
 module _ {s : Situation} {lanes : List Todo} {turns : List ℕ} (fit : IsFit s lanes turns) {core : ℕ} (has_core : core < s.shape.cores) where
   has_lane : core < length lanes
@@ -40,6 +42,17 @@ module _ {s : Situation} {lanes : List Todo} {turns : List ℕ} (fit : IsFit s l
 
     pub first_in : {work : Work} {rest : List Work} → lane.left ≡ work ∷ rest → IsWorkWithin s work
     first_in {work} {rest} first = All-head (IsWorkWithin s) work rest (rw (is, first) at (fit.within core).left)
+
+  -- no request of a core whose work is over waits or is open
+  pub quiet_over : IsOver lanes s core → IsQuietFor s core
+  quiet_over over =
+      let bare : ℕ → Option ℕ = λ k. cond {A = Option ℕ} (eqb k core) None (lanes_under_way lanes k) in
+      let serving = over bare (λ other ne. rw (ne_eqb other core ne)) in
+      let here : bare core ≡ None = rw (eq-eqb core core refl) in
+      record {
+        ordered = λ block request waits. none-some block (sym here ∙ All-contains (λ b. bare core ≡ Some b) (queue_of s.queues core) block (serving.waits core) (waits_queued s fit.kept.queued core block request waits));
+        closed = λ block request has. none-some block (sym here ∙ (rw has.1.1 at (serving.opened block has.0 has.1.0)));
+      }
 
   module _ (over : IsOver lanes s core) (next : Todo) where
     -- a core with a turn may have any other lane, once its work is over

@@ -1,5 +1,5 @@
 -- A driver that serves rows one after another: what its steps need, and what they keep.
-use Rattle.snoop_engine.proofs.Common.{arith, common_steps, nat_tests, ask_of, ◌≡◌, ℕ, ◌/◌, true, false, Option, Some, None, List, [], ◌∷◌, refl, sym, ◌∙◌, IfNone, IfSome, subst, All-head, All-tail, Extent, IsRowWithin, word_asked, Op, Row, Step, Ask, Reply, FirstMove, Situation, IsQuiet, IsUnderWay, turn_of, turn_rule, eq-eqb, ne_eqb, block_at, word_there, InOrder, IsInOrder, TakesUpNext, row_under_way, ServesOnly, nothing, only, IsEnabled, ask_for, is_ask}
+use Rattle.snoop_engine.proofs.Common.{AsksWhenQuiet, arith, common_steps, nat_tests, ask_of, ◌≡◌, ℕ, ◌/◌, true, false, Option, Some, None, List, [], ◌∷◌, refl, sym, ◌∙◌, IfNone, IfSome, subst, All-head, All-tail, Extent, IsRowWithin, word_asked, Op, Row, Step, Ask, Reply, FirstMove, Situation, IsQuiet, IsUnderWay, turn_of, turn_rule, eq-eqb, ne_eqb, block_at, word_there, InOrder, IsInOrder, TakesUpNext, row_under_way, ServesOnly, nothing, only, IsEnabled, ask_for, is_ask}
 use Rattle.snoop_engine.proofs.TakenLemmas.{same_shape}
 
 -- a core whose block is under way
@@ -8,7 +8,8 @@ here core block = rw (eq-eqb core core refl)
 
 -- a step of work under way is no Ask
 abbrev pub AsksNothing : Step → Type 0
-AsksNothing step = (is_ask step ≡ false) × ((under_way : ℕ → Option ℕ) → IsUnderWay under_way step) × ((core : ℕ) → ask_of core step ≡ None)
+AsksNothing step =
+    (is_ask step ≡ false) × ((under_way : ℕ → Option ℕ) → IsUnderWay under_way step) × ((core : ℕ) → ask_of core step ≡ None) × ((s : Situation) → AsksWhenQuiet s step)
 
 pub under_way_asks_nothing : (s : Situation) (core block word : ℕ) (asking : Op) (r : Option Step) → r ≡ turn_of s core block word asking true
     → IfSome r AsksNothing

@@ -85,6 +85,7 @@ module _ {protocol : Protocol} {shape : Extent} {rows : List Row} {start : Progr
         run = served.0;
         taken = served.1.taken;
         asked = λ core. ([], sym (served.1.asked core) ∙ sym (append-nil _));
+        apart = served.1.apart;
         output = inr (served.1, rw at.situation at end.holds);
       }
 

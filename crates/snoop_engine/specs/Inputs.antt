@@ -11,7 +11,7 @@ pub record StepsServe (protocol : Protocol) (shape : Extent) (rows : List Row) (
   pub outcomes : List (Result Reply Refused)
   pub final : Situation
   pub run : TheRun protocol shape steps outcomes final
-  pub serves : Serves shape rows steps outcomes final
+  pub serves : Serves protocol shape rows steps outcomes final
 
 -- the run of the steps serves the rows one after another, in the order of the text
 pub record StepsServeSerially (protocol : Protocol) (shape : Extent) (rows : List Row) (steps : List Step) : Type 0 where

@@ -1,10 +1,10 @@
 -- What a turn takes up, and what holds of a driver between turns.
 -- Source: this project's profile.
-use Rattle.std.specs.Prelude.{◌≡◌, ◌≢◌, ℕ, ◌+◌, ◌*◌, ◌<◌, List, [], ◌++◌, length, All, Contains, Option, None, IfSome, ◌⊎◌, option_to_list}
-use Rattle.snoop_trace.specs.{Words.HasWord, declared.step.{Step.Step, Work.Work}}
+use Rattle.std.specs.Prelude.{◌≡◌, ◌≢◌, ℕ, ◌+◌, ◌*◌, ◌<◌, List, [], ◌++◌, length, All, Contains, Option, None, IfSome, ◌⊎◌, ⊤, option_to_list}
+use Rattle.snoop_trace.specs.{Words.HasWord, declared.step.{Step.{Step, TheVariants.Ask}, Work.Work}}
 use Rattle.snoop_model.specs.{declared.replies.Refused.Refused, Pictures.Situation.Situation, Moves.Refuses.Refuses}
 use Rattle.snoop_model.specs.{Turns.Serving.{IsServing, IsUnderWay, steps_owed}, Invariant.WellKept.IsWellKept}
-use Rattle.snoop_engine.specs.{Todo.{Todo, todo_of, left_in, lanes_under_way}, Served.ask_of}
+use Rattle.snoop_engine.specs.{Todo.{Todo, todo_of, left_in, lanes_under_way}, Served.{ask_of, IsQuietFor}}
 
 -- the value of a driver: the machine's situation, what each core has to do, and the cores that may have a step, in the order of their turns
 pub record Progress : Type 0 where
@@ -23,6 +23,11 @@ IsIdle todo = (todo.left ≡ []) × (todo.work ≡ None)
 -- what the core has under way is over: it may have anything else
 abbrev pub IsOver : List Todo → Situation → ℕ → Type 0
 IsOver lanes s core = (after : ℕ → Option ℕ) → ((other : ℕ) → other ≢ core → after other ≡ lanes_under_way lanes other) → IsServing after s
+
+-- where the step is an Ask, no request of its core waits or is open
+abbrev pub AsksWhenQuiet : Situation → Step → Type 0
+AsksWhenQuiet s (Ask core block word asking) = IsQuietFor s core
+AsksWhenQuiet s _ = ⊤
 
 -- no cause refuses the step
 abbrev pub IsEnabled : Situation → Step → Type 0
@@ -50,10 +55,11 @@ pub record IsFit (s : Situation) (lanes : List Todo) (turns : List ℕ) : Type 0
 abbrev pub remaining : Progress → ℕ
 remaining progress = 3 * left_in progress.lanes + steps_owed progress.situation
 
--- the step is the next one: its core has it left first, or has its row under way, and no cause refuses it
+-- the step is the next one: its core has it left first and nothing else under way, or has its row under way, and no cause refuses it
 pub record Finds (old : Progress) (step : Step) (new : Progress) : Type 0 where
   pub situation : new.situation ≡ old.situation
   pub takes_up : TakesUp old.lanes step new.lanes
+  pub apart : AsksWhenQuiet old.situation step
   pub under_way : IsUnderWay (lanes_under_way new.lanes) step
   pub enabled : IsEnabled new.situation step
 

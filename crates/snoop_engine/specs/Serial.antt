@@ -34,6 +34,6 @@ AsksAtRest protocol shape steps =
 
 -- the steps serve the rows, whose Asks come in the order of the text, each when nothing waits and nothing is open
 pub record ServesSerially (protocol : Protocol) (shape : Extent) (rows : List Row) (steps : List Step) (outcomes : List (Result Reply Refused)) (final : Situation) : Type 0 where
-  pub serves : Serves shape rows steps outcomes final
+  pub serves : Serves protocol shape rows steps outcomes final
   pub asked : all_asks steps ≡ map (ask_for shape) rows
   pub apart : AsksAtRest protocol shape steps

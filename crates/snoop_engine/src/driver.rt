@@ -6,7 +6,7 @@ ghost use Rattle.snoop_model.specs.Turns.Serving.{IsUnderWay};
 ghost use Rattle.snoop_engine.specs.Todo.{IsAskedWithin, todo_of, lanes_under_way, left_in, works_by};
 ghost use Rattle.snoop_engine.specs.Served.{ask_of};
 ghost use Rattle.snoop_engine.specs.Journey.{IsAtTheEnd};
-ghost use Rattle.snoop_engine.specs.Round.{TakesUp, Finds, IsIdle, IsOver, IsEnabled};
+ghost use Rattle.snoop_engine.specs.Round.{AsksWhenQuiet, TakesUp, Finds, IsIdle, IsOver, IsEnabled};
 
 use crate::asks::AskQueue;
 use crate::course::{Course, take_enabled};
@@ -95,6 +95,7 @@ impl Driver {
     fn continued(&self, core: u32) -> Option<Step>
         requires core { core < self.now.situation.shape.cores }
         ensures asks_nothing { IfSome result (λ step. (k : ℕ) → ask_of k step ≡ None) }
+        ensures apart { IfSome result (AsksWhenQuiet self.now.situation) }
         ensures under_way { IfSome result (IsUnderWay (lanes_under_way self.now.lanes)) }
         ensures enabled { IfSome result (IsEnabled self.now.situation) }
         ensures over { IfNone result (IsOver self.now.lanes self.now.situation core) }
@@ -114,6 +115,7 @@ impl Driver {
         ensures turns { self.new.turns ≡ self.old.turns }
         ensures others { (k : ℕ) → k ≢ core → todo_of self.new.lanes k ≡ todo_of self.old.lanes k }
         ensures takes_up { IfSome result (λ step. TakesUp self.old.lanes step self.new.lanes) }
+        ensures apart { IfSome result (AsksWhenQuiet self.old.situation) }
         ensures under_way { IfSome result (IsUnderWay (lanes_under_way self.new.lanes)) }
         ensures enabled { IfSome result (IsEnabled self.new.situation) }
         ensures idle { IfNone result (((todo_of self.old.lanes core).left ≡ []) × IsIdle (todo_of self.new.lanes core)) }
@@ -131,6 +133,7 @@ impl Driver {
         ensures turns { self.new.turns ≡ self.old.turns }
         ensures others { (k : ℕ) → k ≢ core → todo_of self.new.lanes k ≡ todo_of self.old.lanes k }
         ensures takes_up { IfSome result (λ step. TakesUp self.old.lanes step self.new.lanes) }
+        ensures apart { IfSome result (AsksWhenQuiet self.old.situation) }
         ensures under_way { IfSome result (IsUnderWay (lanes_under_way self.new.lanes)) }
         ensures enabled { IfSome result (IsEnabled self.new.situation) }
         ensures idle { IfNone result (((todo_of self.old.lanes core).left ≡ []) × IsIdle (todo_of self.new.lanes core)) }

@@ -21,7 +21,6 @@ use std::alloc::Global;
 
 /// Reads a text to its end, and answers the steps that come of it: its own, or those that serve its rows, for the protocol
 /// and the shape. `NoMemory` may come in serving rows, too.
-#[tactic(auto, using(crate::proofs::CourseLemmas::driver_serves))]
 pub fn read_input<R: Source>(
     alloc: Global,
     reader: &mut R,

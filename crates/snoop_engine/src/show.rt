@@ -80,7 +80,6 @@ fn view_steps<R: Source, W: Sink, V: View>(
 }
 
 /// Shows the steps that serve the rows of a text, whose cores go side by side.
-#[tactic(auto, using(crate::proofs::CourseLemmas::driver_serves, crate::proofs::ShownLemmas::view_faulted))]
 fn view_rows<R: Source, W: Sink, V: View>(
     alloc: Global,
     reader: &mut R,

@@ -19,7 +19,7 @@ pub struct Did {
     pub word: u32,
     /// Whether it was a load; a store otherwise.
     pub load: bool,
-    /// Whether it was performed when it was asked for, with no request.
+    /// Whether it was performed when it was asked for, with no request of its own.
     pub hit: bool,
     /// The value that was loaded or stored.
     pub value: u64,

@@ -53,7 +53,7 @@ pub record IsCoherent (s : Situation) : Type 0 where
   pub orders : (core block : ℕ) (request : Request) → CanOrder s core block request → (new : Situation) × Orders s core block request new
   -- each Order that is taken next, of any block, goes by a line of the table of senders, `lines_of`
   pub by_table : (core block : ℕ) (request : Request) (new : Situation) (made : Orders s core block request new) → IsSenderLine s.protocol (picture_of s block) core request made.from made.payload made.next.memory.state
-  -- an open transaction is on such a line, for some picture of its block; a Respond taken next closes it and leaves memory in that line's last state
+  -- an open transaction is on such a line, for some picture; a Respond taken next closes it and leaves memory in that line's last state
   pub on_table : (block : ℕ) → IfSome (picture_of s block).transaction (IsOpenByTable s block)
 
 -- what holds where these steps, with these outcomes, have led a machine of this protocol and shape from reset to this situation

@@ -17,9 +17,10 @@ pub enum Reply {
     Gone,
     /// An eviction of a block in I.
     Absent,
-    /// The core's oldest request is ordered, and its transaction is open.
+    /// A request of the core is ordered, and its transaction is open.
     Ordered(Request),
-    /// The message came from this core, or from memory, and the transaction is closed; the requestor performed its waiting operation, if any.
+    /// The message came from this core, or from memory, and the transaction is closed; at a GetS or GetM the requestor performed the operation
+    /// that waited for it.
     Came {
         payload: Payload,
         from: Option<u32>,

@@ -36,7 +36,7 @@ pub enum Step {
         word: u32,
         op: Op,
     },
-    /// The oldest request of the core is ordered on the bus.
+    /// A request of the core that waits is ordered on the bus. A machine takes the oldest.
     Order {
         core: u32,
     },

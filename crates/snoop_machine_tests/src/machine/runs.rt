@@ -10,11 +10,15 @@ use std::test::Fail;
 
 /// Whether core 1 has won the race: its GetM is open on block 0, and core 0 has lost its copy.
 fn has_a_winner(machine: &Machine) -> bool {
-    let Some((core, request, _)) = machine.transfer(0) else {
+    let (Some(open), Some((core, request, _))) = (machine.open(0), machine.transfer(0)) else {
         return false;
     };
     core == 1
         && request == Request::GetM
+        && open.core == core
+        && open.request == request
+        && open.payload == Payload::Data
+        && open.from.is_none()
         && machine.state(0, 0) == Some(CacheState::ImAd)
         && machine.state(1, 0) == Some(CacheState::SmD)
         && machine.mem_state(0) == Some(MemState::M)

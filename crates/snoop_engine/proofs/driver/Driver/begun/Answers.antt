@@ -1,4 +1,4 @@
-use Rattle.snoop_engine.proofs.Driving.{first_in, fit_begins, goes_begun}
+use Rattle.snoop_engine.proofs.Driving.{first_in, fit_begins, goes_begun, quiet_over}
 use Rattle.snoop_engine.proofs.driver.Driver.begun.Goals as goal
 
 pub turn_step-requires-clause-block : goal.turn_step-requires-clause-block
@@ -13,3 +13,7 @@ pub returns-clause-enabled : goal.returns-clause-enabled
 returns-clause-enabled c =
     goes_begun c.self.invariant (rw (← c.self.view_is) at c.requires.core) (rw (← c.self.view_is) at c.requires.over) c.take_up.new.self c.index_mut.ensures.value c.in_ok-work.ensures.left _
     c.turn_step.ensures
+
+pub returns-clause-apart : goal.returns-clause-apart
+returns-clause-apart c =
+    rw (← c.self.view_is, c.turn_step.ensures) (quiet_over c.self.invariant (rw (← c.self.view_is) at c.requires.core) (rw (← c.self.view_is) at c.requires.over))

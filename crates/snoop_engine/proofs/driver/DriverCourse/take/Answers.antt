@@ -13,4 +13,4 @@ returns-clause-fewer c before finds =
 pub returns-clause-leads : goal.returns-clause-leads
 returns-clause-leads c before finds =
     let found = rw (← c.self.view_is) at finds in
-    driver_leads before _ c.args.step c.in_ok-reply.reply (rw found.situation at c.in_ok-reply.ensures.taken) found.takes_up
+    driver_leads before _ c.args.step c.in_ok-reply.reply (rw found.situation at c.in_ok-reply.ensures.taken) found.takes_up found.apart
