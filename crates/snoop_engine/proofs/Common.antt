@@ -29,7 +29,7 @@ pub use Rattle.snoop_engine.specs.InOrder.{InOrder, IsInOrder, TakesUpNext, row_
 pub use Rattle.snoop_engine.specs.{Numbered.{Numbered, numbered_from, led_to}, Serial.{ask_for, is_ask, ServesSerially, all_asks}, Widths.{most_stored, stored}}
 pub use Rattle.snoop_engine.specs.Packed.{step_by, step_of_head, steps_in, stored_by, stored_in, worded_by, worded_in, largest, values_of, words_of}
 pub use Rattle.snoop_engine.specs.Round.{AsksWhenQuiet, Progress, TakesUp, remaining, IsEnabled, IsFit, IsIdle, IsWorkWithin, IsOver, IsTodoWithin, IsUnasked}
-pub use Rattle.snoop_engine.specs.{Served.{ask_of, AsksOneByOne, IsQuietFor, LeadsToQuietFor, Serves, asks_of}, Tallies.{Tallies, core_place, memory_place, counts_in, memory_counts_in}}
+pub use Rattle.snoop_engine.specs.{Served.{ask_of, is_operation, AsksOneByOne, IsQuietFor, LeadsToQuietFor, Serves, asks_of}, Tallies.{Tallies, core_place, memory_place, counts_in, memory_counts_in}}
 pub use Rattle.snoop_engine.specs.States.{kept_at, kept_text, place_text, value_text, header_text, shown_text, step_fields, taken_text, memory_value_at}
 pub use Rattle.snoop_engine.specs.Taken.{of_holder, unless_i, lines_of_step, state_at, event_asked, of_ask, of_core, of_memory, of_requestor, of_waiting_memory, of_arrival_at_memory, refused_by}
 pub use Rattle.snoop_engine.specs.Todo.{Todo, todo_of, left_in, asked_by, lanes_under_way, block_of_work, IsAskedWithin, nothing_to_do, works_by, works_of}

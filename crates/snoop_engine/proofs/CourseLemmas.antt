@@ -1,7 +1,7 @@
 -- Courses, step by step: that each step leaves fewer to come, and the rows that they serve.
-use Rattle.snoop_engine.proofs.Common.{AsksOneByOne, AsksWhenQuiet, IsQuietFor, LeadsToQuietFor, none-some, common_steps, ◌≡◌, ℕ, ◌+◌, ◌*◌, ◌<◌, true, cond, Option, Some, None, List, [], ◌∷◌, ◌++◌, length, length-append, map, refl, sym, ◌∙◌, ap, arith, Result, Ok, IsOk, IfNone, filter-append, length-map, map-append, All-cons, All-nil, Extent, Row, Step, Protocol, Reply, Refused, Picture, Situation, reset, FirstMove, TheRun, IsQuiet, steps_paid, turn_rule, untouched, has_transaction, steps_owed, LeadsOn, EndsInOrder, InOrder, LeadsToRest, remaining_in_order, StepsServe, StepsServeSerially, IsAtTheEnd, IsAtTheStart, Progress, ServesSerially, all_asks, ask_for, is_ask, Serves, asks_of, works_of, cases_lt, get_or_past, get_or-set_same, get_or-set_other, inl, inr, nothing_to_do, slice_set, sum_by-set, ◌≢◌, suc, sum_by-cons, Ask, eq-eqb, ne_eqb, Todo, todo_of, left_in, TakesUp, remaining, TakesUpNext}
+use Rattle.snoop_engine.proofs.Common.{filter, is_operation, AsksOneByOne, AsksWhenQuiet, IsQuietFor, LeadsToQuietFor, none-some, common_steps, ◌≡◌, ℕ, ◌+◌, ◌*◌, ◌<◌, true, cond, Option, Some, None, List, [], ◌∷◌, ◌++◌, length, length-append, map, refl, sym, ◌∙◌, ap, arith, Result, Ok, IsOk, IfNone, filter-append, length-map, map-append, All-cons, All-nil, Extent, Row, Step, Protocol, Reply, Refused, Picture, Situation, reset, FirstMove, TheRun, IsQuiet, steps_paid, turn_rule, untouched, has_transaction, steps_owed, LeadsOn, EndsInOrder, InOrder, LeadsToRest, remaining_in_order, StepsServe, StepsServeSerially, IsAtTheEnd, IsAtTheStart, Progress, ServesSerially, all_asks, ask_for, is_ask, Serves, asks_of, works_of, cases_lt, get_or_past, get_or-set_same, get_or-set_other, inl, inr, nothing_to_do, slice_set, sum_by-set, ◌≢◌, suc, sum_by-cons, Ask, eq-eqb, ne_eqb, Todo, todo_of, left_in, TakesUp, remaining, TakesUpNext}
 use Rattle.std.proofs.lemmas.List.Folds.{sum_by-replicate}
-use Rattle.snoop_engine.proofs.TakenLemmas.{same_shape}
+use Rattle.snoop_engine.proofs.{OrderLemmas.performed_in_order, TakenLemmas.same_shape}
 
 left_cons : (lane : Todo) (lanes : List Todo) → left_in (lane ∷ lanes) ≡ length lane.left + left_in lanes
 left_cons lane lanes = omega (arith, sum_by-cons (λ (t : Todo). length t.left) lane lanes)
@@ -77,12 +77,14 @@ owed_reset protocol shape =
 pub driver_served : {protocol : Protocol} {shape : Extent} {rows : List Row} {start : Progress} {steps : List Step} {outcomes : List (Result Reply Refused)} {final : Situation}
     → IsAtTheStart protocol shape rows start → IsAtTheEnd start steps outcomes final
     → TheRun protocol shape steps outcomes final × Serves protocol shape rows steps outcomes final
-driver_served {protocol} {shape} begins end = (
+driver_served {protocol} {shape} {steps = steps} {outcomes = outcomes} {final = final} begins end = (
   rw begins.situation at end.run,
   record {
     taken = end.taken;
     asked = λ core. sym (end.asked core) ∙ begins.left core;
     apart = rw begins.situation at end.apart;
+    performed = λ core. performed_in_order protocol shape steps outcomes final (rw begins.situation at end.run) end.taken (rw begins.situation at end.apart) end.quiet core
+        ∙ ap (filter is_operation) (sym (end.asked core) ∙ begins.left core);
     quiet = end.quiet;
     few = omega (arith, rw (begins.situation, begins.all) at end.few, owed_reset protocol shape);
   },
@@ -151,15 +153,19 @@ module _ {protocol : Protocol} {shape : Extent} {rows : List Row} {start : InOrd
     {steps : List Step} {outcomes : List (Result Reply Refused)} {final : Situation} (end : EndsInOrder start steps outcomes final) where
   pub in_order_served : TheRun protocol shape steps outcomes final × ServesSerially protocol shape rows steps outcomes final
   in_order_served =
-      let asked : all_asks steps ≡ map (ask_for shape) rows = rw (at, left) at end.asked in (
-        rw at at end.run,
+      let asked : all_asks steps ≡ map (ask_for shape) rows = rw (at, left) at end.asked in
+      let run : TheRun protocol shape steps outcomes final = rw at at end.run in
+      let own : (core : ℕ) → asks_of steps core ≡ works_of shape rows core = λ core. rw (asks_among core steps, asked) (asks_of_rows shape core rows) in
+      let one : AsksOneByOne (reset protocol shape) steps = λ before after core block word asking split.
+      (let rest = rw at at (end.apart before after (Ask core block word asking) split refl) in
+      record { outcomes = rest.outcomes; reached = rest.reached; run = rest.run; quiet = quiet_for rest.quiet core }) in (
+        run,
         record {
           serves = record {
             taken = end.taken;
-            asked = λ core. rw (asks_among core steps, asked) (asks_of_rows shape core rows);
-            apart = λ before after core block word asking split.
-                (let rest = rw at at (end.apart before after (Ask core block word asking) split refl) in
-                record { outcomes = rest.outcomes; reached = rest.reached; run = rest.run; quiet = quiet_for rest.quiet core });
+            asked = own;
+            apart = one;
+            performed = λ core. performed_in_order protocol shape steps outcomes final run end.taken one end.quiet core ∙ ap (filter is_operation) (own core);
             quiet = end.quiet;
             few = omega (arith, rw (at, left) at end.few, owed_reset protocol shape);
           };

@@ -12,6 +12,7 @@ pub mod TrueLines
 pub mod TallyLemmas
 pub mod ShownLemmas
 pub mod ViewLemmas
+pub mod OrderLemmas
 pub mod CourseLemmas
 pub mod InOrderLemmas
 pub mod Completing

@@ -1,11 +1,12 @@
 -- When the rows of a text have been served by a run.
 -- Source: this project's profile.
-use Rattle.std.specs.Prelude.{◌≡◌, ℕ, ◌*◌, ◌≤◌, ◌==◌, List, ◌∷◌, ◌++◌, length, filter_map, All, IsOk, Option, Some, None, Result, if◌then◌else◌}
+use Rattle.std.specs.Prelude.{◌≡◌, ℕ, ◌*◌, ◌≤◌, ◌==◌, Bool, List, ◌∷◌, ◌++◌, length, map, filter, filter_map, All, IsOk, is_some, Option, Some, None, Result, if◌then◌else◌}
 use Rattle.snoop_trace.specs.{Extent.Extent, declared.step.{Op.Op, Row.Row, Step.{Step, TheVariants.{Ask, Order, Respond}}, Work.Work}}
 use Rattle.snoop_trace.specs.declared.protocol.Protocol.{Protocol}
 use Rattle.snoop_rules.specs.declared.names.Request.{Request}
+use Rattle.snoop_history.specs.{History.answers_of, declared.items.Did.Did}
 use Rattle.snoop_model.specs.{declared.replies.{Reply.Reply, Refused.Refused}, Pictures.Situation.{Situation, HasOpen, reset}, Turns.Quiet.IsQuiet}
-use Rattle.snoop_model.specs.{Moves.Refuses.WaitsOnNone, Runs.Run.FirstRunFrom}
+use Rattle.snoop_model.specs.{Moves.{Move.as_access, Refuses.WaitsOnNone}, Runs.{Once.did_access, Run.FirstRunFrom}}
 use Rattle.snoop_engine.specs.Todo.{works_of}
 
 -- the work that a step asks of the core, if it is that core's Ask
@@ -35,10 +36,19 @@ abbrev pub AsksOneByOne : Situation → List Step → Type 0
 AsksOneByOne here steps =
     (before after : List Step) (core block word : ℕ) (asking : Op) → steps ≡ before ++ Ask core block word asking ∷ after → LeadsToQuietFor here before core
 
--- the steps, each taken, ask each core's rows in order and one at a time, end with nothing waiting or open, and are at most three a row
+-- the work is a load or a store
+abbrev pub is_operation : Work → Bool
+is_operation work = is_some (as_access work.word work.op)
+
+-- an operation of the history, as it was asked for
+abbrev pub work_done : Did → Work
+work_done did = record { block = did.block; word = did.word; op = (did_access did).op }
+
+-- the steps, each taken, ask each core's rows in order and one at a time, end with nothing waiting or open, and are at most three a row; and each core's operations in the history are the loads and stores of its rows, in order
 pub record Serves (protocol : Protocol) (shape : Extent) (rows : List Row) (steps : List Step) (outcomes : List (Result Reply Refused)) (final : Situation) : Type 0 where
   pub taken : All IsOk outcomes
   pub asked : (core : ℕ) → asks_of steps core ≡ works_of shape rows core
   pub apart : AsksOneByOne (reset protocol shape) steps
+  pub performed : (core : ℕ) → map work_done (answers_of final.log core) ≡ filter is_operation (works_of shape rows core)
   pub quiet : IsQuiet final
   pub few : length steps ≤ 3 * length rows
