@@ -58,8 +58,9 @@ HEAD = r"""# The theorem
 
 {doc}
 
-This page has all of it: the machine in words, a run, what is proved, what is left out, why it
-holds, and then every type and definition that the theorem stands on.
+This page begins with the machine in words and a run; it says how to read definitions, has the
+theorem, says in outline why it holds and what it leaves out, and then has every type and definition
+that the theorem stands on.
 
 ## The machine
 
@@ -81,11 +82,14 @@ kinds.
   is a reader, or may store, and is a writer. Elsewhere it is stalled, which is a refusal, or it
   misses: the cache issues a request, which waits in the core's queue, and the operation waits until
   its data comes. A block in E or M is given up by a request too, a writeback; one in S is dropped,
-  which is answered Gone.
+  which is answered Gone; in the states between, an eviction is stalled.
 - **Order**: a request that waits goes on the bus. All controllers see it, one of them sends a
   message, and the block has an open **transaction**, whose **requestor** is the core of the
   request. A block is free where it has none.
-- **Respond**: the message comes to the requestor, to memory or to both, and closes the transaction.
+- **Respond**: the message, which is the response to the request, comes to the requestor, to memory
+  or to both, and closes the transaction. The requestor takes that of a GetS or GetM, and no cache
+  takes that of a PutM; memory takes that of a PutM, and another's where its state ends in D, in
+  which it waits for data.
 
 A step is taken, which is a **move**, with a reply, or refused for a cause; a refused step changes
 nothing. The reply or the cause is its **outcome**.
@@ -93,10 +97,13 @@ nothing. The reply or the cause is its **outcome**.
 | Word | Is |
 |---|---|
 | GetS, GetM, PutM | the requests: for a copy to read; for one to write; to write the block back and give it up |
-| Data, DataE, NoData, NoDataE | the payloads of messages: the block's words; these, to a core that is the only one to have them; nothing, since the writeback is stale (the block went to another core first); nothing, since the block was clean |
-| IS_AD, IM_D, MI_A and the like | the states between: from I to S, and so on, in AD waiting for the core's own request to be ordered and then for data, in D for data, in A for its request to be ordered. In the definitions IS_AD is `IsAd` |
+| Data | a payload, which is what a message carries: the block's words |
+| DataE | the same words, for a GetS of a core while no other has the block |
+| NoData | nothing, since the writeback is stale: the block went to another core before its PutM was ordered |
+| NoDataE | nothing, since the block was clean |
+| IS_AD, IM_D, MI_A and the like | the states between: from I to S, and so on, in AD waiting for the core's own request to be ordered and then for data, in D for data, in A for its request to be ordered; in II_A a PutM waits that another's request has overtaken. In the definitions IS_AD is `IsAd` |
 | a core waits on a block | its request for it is not yet ordered; a queue has the blocks, and the states say for which request |
-| an operation waits | it missed, and stands in the line until it is **performed**: until its value is read or written, and stands in the history |
+| an operation waits | it missed, and the core keeps it until it is **performed**: until its value is read or written, and stands in the history |
 | data under way | the words in an open transaction, at Data and DataE |
 
 A **situation** is all that is seen of a machine: its protocol and shape (`Extent`: how many cores
@@ -158,7 +165,7 @@ Names of facts and types are in CamelCase (`OneWriter`), those of functions in s
 A definition begins with the types of its arguments and of what it is, where `Type 0` says that it
 is a fact or a type. Below stands what it means, case by case, the first that fits. In a case a
 small letter or word fits any value, as `_` does; `One` of `RunBy` and `P` of `EveryRun` are such
-values too, which are facts of what stands behind them.
+values too: each is a fact about the arguments that follow it.
 
 Look-ups have a default: outside a machine's shape a core holds nothing (state I), no transaction is
 open, and memory is in IorS with words of 0; the queue of such a core is empty. A block has 64
@@ -168,28 +175,26 @@ How many bytes a block has is part of a shape, and no definition looks at it.
 Some words name several things, told apart by where they stand: `Data` is the words of a block, a
 payload and an event, and `DataE`, `NoData` and `NoDataE` are the last two; `I`, `S` and `M` are
 states of caches and of memory; `Load`, `Store` and `Evict` operations and events; `GetS`, `GetM`
-and `PutM` requests and events; `None` no value, and no action; `Hit`, `Send` and `Came` several
-kinds of thing; `Requestor` and `Memory` senders and targets; `taken` and `other` are functions, and
-names of something else; clauses of the theorem and fields of other records may have one name; a
-line is a cache's, memory's or one of a table, and a row one of a table or, in `IsShaped`, the lines
-of a picture.
+and `PutM` requests and events; `None` no value, no action, and as a sender memory; `Did`, `Sent`,
+`Came`, `Hit` and `Send` several kinds of thing; `Requestor` and `Memory` senders and targets;
+`taken` and `other` are functions, and names of something else; clauses of the theorem and fields of
+other records may have one name; a line is a cache's, memory's or one of a table.
 
 | Written | Means |
 |---|---|
 | `f a b`, `x.log`, `(a, b)`, `λ x. ..` | f of a and b; a field, which binds before `f a`; a pair (`(a, b, c)` three and so on); a function of x |
 | `A × B`, `A → B`, `¬ A`, `⊥` | between facts: A and B; if A then B; not A; what never holds. Between types: their pairs; the functions from A to B |
 | `(x : T) × P`, `(x : T) → P` | there is an x with P; P for every x. `(x y : T)` has two of one type, and before one arrow there may be several such |
-| `(made : Orders ..) → ..` | a fact with a name, by whose fields what it says exists can be spoken of |
+| `(made : Orders ..) → ..` | the fact has the name `made`, and `made.from` is the `from` that it says exists |
 | `record R .. where`, `data D .. where` | a fact that holds where all its fields do (a field that is no fact, as `done` of `IsSenderLine`, is a value that has to exist), or a type by its fields; a type by its members |
 | `record s {{ .. }}`, `record {{ .. }}` | s with these fields; a value with all of them |
-| `op.Load`, `state.ImAd`, `mem.IorS`, `mem_action.None`, `Nothing` | a member of a type, behind a short name of the type where need be: `state` and `mem` are of caches and of memory (a capital after the dot; a field has none). What it carries follows it in order, as in `Ask core block word asking`; `Nothing` is a controller's action `None` |
-| `{{A : Type 0}}`, `pub`, `abbrev`, `declared.`, `--` | a type that follows from the other arguments; three words that may be passed over; a comment |
+| `op.Load`, `state.ImAd`, `mem.IorS`, `mem_action.None`, `Nothing` | a member of a type, behind a short name of the type where need be: `op`, `state`, `event`, `action`, `payload`, `reply` and `item`, and of memory `mem`, `mem_event` and `mem_action` (a capital after the dot; a field has none). What it carries follows it in order, as in `Ask core block word asking`; `Nothing` is a controller's action `None` |
+| `{{A : Type 0}}`, `{{A}}`, `pub`, `abbrev`, `declared.`, `--` | a type that follows from the other arguments; three words that may be passed over; a comment |
 {notation}
 
-`∷`, `++`, `×`, `⊎` and `→` read from the right. `f a` and `¬` bind most strongly; `∷` and `++` bind
-more strongly than `≡`, `≢`, `<` and `≤`, these than `×` and `⊎`, and these than `→`; `==` binds
-more strongly than `&&`, and `↔` stands in brackets. `(x : T) ×`, `(x : T) →` and `λ x.` reach to
-the end of their brackets.
+`∷`, `++`, `×`, `⊎` and `→` read from the right. `f a` and `¬` bind most strongly, then `∷` and
+`++`, then `≡`, `≢`, `<` and `≤`, then `×` and `⊎`, then `↔`, then `→`; `==` binds more strongly
+than `&&`. `(x : T) ×`, `(x : T) →` and `λ x.` reach to the end of their brackets.
 
 ## What is proved
 
@@ -202,18 +207,18 @@ the end of their brackets.
 ```
 
 The function `coherent` does nothing: what it ensures is the theorem. It is about every list of
-steps put to a machine from reset, in any order, and about the situation where they lead; the first
-steps of a run are a run, so it is about each situation on the way too. That `Machine::step` and
-`run_steps` take these steps and no others, where an Order takes its core's oldest request, is
-proved of them (docs/PROVED.md). The prover of the Rattle toolchain, in which Snoop is written, has
-checked all of it; docs/PROVED.md says what is trusted.
+steps put to a machine from reset, in any order, and about every situation to which they may lead;
+the first steps of a run are a run, so it is about each situation on the way too. docs/PROVED.md
+says of the code (`Machine::step` for one step, `run_steps` for a list) that it takes these steps
+and no others, an Order being of a core's oldest request, and what is trusted: above all the prover
+of the Rattle toolchain, in whose language Snoop is written, which has checked all of it.
 
 | About | Clauses | Why |
 |---|---|---|
 | who may read and write | `one_writer` | below |
 | values | `kept`, `current`, `carried`, `memory`, `clean` | below |
 | the history | `legal`, `logged` | each load that is performed gets its word of flat memory; an Ask beyond the shape is refused |
-| operations | `once`, `told` | what each move adds to the history, and moves out of a line |
+| operations | `once`, `told` | what each move adds to the history and takes from a line |
 | | `waiting`, `given_up` | a state says what waits in its line, and whether it keeps words |
 | | `stalls`, `hits`, `gone` | the tables' rows, and how a move answers by them |
 | requests and transactions | `queued`, `awaited`, `opened` | an issue puts its block last, an Order takes it out and opens it, a Respond closes it |
@@ -225,17 +230,19 @@ checked all of it; docs/PROVED.md says what is trusted.
 
 By induction over the steps, of a statement that says more of each block. Memory's state and the
 open transaction decide three things: whether a core **owns** the block, that is, may write it;
-whether other cores may have copies to read; and whether memory has the words of flat memory.
-docs/COHERENCE.md has this as a table of twelve lines. The statement says of each core, by itself,
-that its state agrees with the line, with whether it is the owner, and with whether it is the
-requestor; that a copy which may be read, and data under way, has the words of flat memory; and so
-has memory beside a clean copy. All that ties the cores together is which of them is the owner.
+whether other cores may have copies to read; and whether memory is sure to have the words of flat
+memory. docs/COHERENCE.md has this as a table of twelve lines. The statement has three parts. Each
+core's state, by itself, agrees with that table, with whether the core is the owner, and with
+whether it is the requestor. Each copy that may be read, and data under way, has the words of flat
+memory. So has memory beside a clean copy. All that ties the cores together is which of them is the
+owner.
 
 So whether a step keeps the statement is a question about the tables: about the protocol, memory's
 state, the request, the payload, the state of the core that asks or is answered, and the state of
 one other core. These are finitely many cases, whatever the number of cores; the prover has computed
-them all. A word changes only by a store of the block's owner, at a hit or as its data comes, and no
-other copy may be read then. The argument is in docs/COHERENCE.md, step by step.
+them all. A word of flat memory changes only by a store: of the owner at a hit, or of a GetM's
+requestor as its data comes; and no other copy may be read then. The argument is in
+docs/COHERENCE.md, step by step.
 
 ## What follows, and what is not said
 
@@ -244,16 +251,16 @@ other copy may be read then. The argument is in docs/COHERENCE.md, step by step.
   which closes it (`on_table`), and any waiting request of a free block can be ordered (`orders`).
   But nothing is said of time, nor that a request is ever ordered or answered: an operation that is
   not lost may wait for ever.
-- **Sequential consistency, by hand**: where each core asks for nothing while an operation of its
-  own waits, the history has each core's operations in the order of asking (`told`, `once`,
-  `legal`). Without that, a core's hits stand in the order of their Asks (`told`), and before each
-  operation of its own that waits meanwhile, on this block or on another, if that is ever performed;
-  of two that wait on different blocks either may come first.
-- **A load or store of a word that there is, and that may hit, does hit**, out of memory aside: by
-  `moves` each step for which no cause of `Refuses` holds has a move, and by `hits`, which follows
-  from the moves alone, that is a hit. Where a cause holds, the step is refused; but an Order of a
-  core whose first block has an open transaction may be taken instead, of another block that is free
-  and on which the core waits.
+- **Sequential consistency** is no clause, but follows by hand where each core asks for nothing
+  while an operation of its own waits: the history has each core's operations in the order of asking
+  then (`told`, `once`, `legal`). For runs that serve rows it is proved (docs/PROVED.md, "Served").
+  Without that, hits keep their order of asking and stand before each earlier miss that still waits;
+  two misses may be performed in either order.
+- **A load or store of an existing word, in a state whose row for it is a hit, does hit**, out of
+  memory aside: each step for which no cause of `Refuses` holds has a move (`moves`), and that is a
+  hit (`hits`, which follows from the moves alone). Where a cause holds, the step is refused; but an
+  Order of a core whose first block has an open transaction may be taken instead, of another block
+  that is free and on which the core waits.
 - `given_up` is about words alone: a core whose PutM is open may have asked for the block anew.
 
 The definitions say more of each step of a run, which no clause repeats:
@@ -266,16 +273,14 @@ The definitions say more of each step of a run, which no clause repeats:
   PutM that was issued stands there;
 - whether a response performs an operation, and that the requestor and request which it has in the
   history are those of the open transaction. `told` says that the history has what was replied, that
-  a response is of the block of its Respond, and that the operation which it performed is, on that
-  block, of the requestor that the history has, and no hit. Which of that core's operations it is,
-  and a load's value, follow from `legal` and from `once`, of this run and of each of its
-  beginnings;
-- who takes a message. The requestor takes that of a GetS or GetM, and no cache takes that of a
-  PutM. Memory takes that of a PutM, and that of another request where its state ends in D; its
-  state then is said by `on_table`. For those who do not take it, a message is no event, and so no
-  impossible cell. Of a row that is taken at an Order only the next state and a Send are used, and
-  of memory's row at a Respond only the next state and a Write; the target that a row names is not
-  looked at.
+  a response is of the block of its Respond, and that its operation, if it has one, is on that
+  block, by the requestor that the history has, and not marked as a hit. Which of that core's
+  operations it is, and a load's value, follow from `legal` and from `once`, of this run and of each
+  of its beginnings;
+- who takes a message (memory's state then is said by `on_table`). For those who do not take it, it
+  is no event, and so no impossible cell. Of a row that is taken at an Order only the next state and
+  a Send are used, and of memory's row at a Respond only the next state and a Write; the target that
+  a row names is not looked at.
 
 And no clause says that something is ever reached: a state, as E, or a line of the table of senders.
 
