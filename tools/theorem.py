@@ -125,18 +125,20 @@ What this machine takes as given:
   to a block in S waits, its loads of the block hit as long as the copy lasts (SM_AD, SM_D), and
   stand in the history before the store; once another core's GetM is ordered first, the copy is gone
   (IM_AD), and they stall. In MI_A and EI_A loads and stores hit while the PutM waits.
-- **Any step may be refused as out of memory**, with nothing changed.
+- **Any step may be refused as out of memory**, with nothing changed: of the memory of the program
+  that simulates, which is no part of the machine.
 - **Numbers have no bounds**, but that a block has at most 64 words. The code has limits for cores,
   blocks and values too (docs/TEXTS.md).
 
 ## One run
 
-Two cores under MSI, and blocks of 64 bytes and one word: core 0 stores 7 in block 0, then core 1
-loads it. An Ask to store is written `S,core,address,value`, one to load `L,core,address`, an Order
-`O,core`, a Respond `R,address`. Each row shows block 0 after a step: the state and the value in
-each core, the transaction, memory. A dot says that it is as above; `#1` is the place of the request
-in its core's queue, `C0` is core 0, and memory's value stands in brackets where it would not send
-it.
+Two cores under MSI, and blocks of 64 bytes and one word, as the program has them where no option
+says otherwise: core 0 stores 7 in block 0, then core 1 loads it. An Ask to store is written
+`S,core,address,value`, one to load `L,core,address`, an Order `O,core`, a Respond `R,address`; an
+address is in bytes, so those from 0 to 63 are of block 0. Each row shows block 0 after a step: the
+state and the value in each core, the transaction, memory. A dot says that it is as above; `#1` is
+the place of the request in its core's queue, `C0` is core 0, and memory's value stands in brackets
+where it would not send it.
 
 ```console
 $ printf 'S,0,0,7\nO,0\nR,0\nL,1,0\nO,1\nR,0\n' | ./snoop states
@@ -287,9 +289,10 @@ And no clause says that something is ever reached: a state, as E, or a line of t
 ## Types
 
 As the code declares them, in Rust: `u32` and `u64` are numbers, `bool` true or false, `Open<K>` is
-`Open` of a type K, which is a block's `Data` here, and in the definitions all numbers are ℕ. What
-the comments say of texts is in docs/TEXTS.md. Each part further below begins with what its file is
-about; of its definitions the page has those on which the theorem stands.
+`Open` of a type K, which is a block's `Data` here, and in the definitions all numbers are ℕ. Their
+comments speak of texts too (docs/TEXTS.md); a holder of a block is a core that has words of it.
+Each part further below begins with what its file is about, and names the file; of its definitions
+the page has those on which the theorem stands.
 
 ```rust
 {types}
