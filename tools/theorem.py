@@ -58,6 +58,10 @@ HEAD = r"""# The theorem
 
 {doc}
 
+The history is in the order in which operations are performed. For a core that does not wait for its
+stores that is not the order of its program: it may load the older value of a word to which it has a
+store waiting.
+
 This page begins with the machine in words and a run; it says how to read definitions, has the
 theorem, says in outline why it holds and what it leaves out, and then has every type and definition
 that the theorem stands on.
@@ -254,10 +258,10 @@ docs/COHERENCE.md, step by step.
   But nothing is said of time, nor that a request is ever ordered or answered: an operation that is
   not lost may wait for ever.
 - **Sequential consistency** is no clause, but follows by hand where each core asks for nothing
-  while an operation of its own waits: the history has each core's operations in the order of asking
-  then (`told`, `once`, `legal`). For runs that serve rows it is proved (docs/PROVED.md, "Served").
-  Without that, hits keep their order of asking and stand before each earlier miss that still waits;
-  two misses may be performed in either order.
+  while an operation of its own waits: the history has each core's operations in program order then
+  (`told`, `once`), and is legal. Of runs that serve rows it is proved that the history has them so
+  (docs/PROVED.md, "Served"). Without that, hits keep their order of asking and stand before each
+  earlier miss that still waits; two misses may be performed in either order.
 - **A load or store of an existing word, in a state whose row for it is a hit, does hit**, out of
   memory aside: each step for which no cause of `Refuses` holds has a move (`moves`), and that is a
   hit (`hits`, which follows from the moves alone). Where a cause holds, the step is refused; but an
