@@ -12,10 +12,11 @@ fn words(rt: &HostRuntime) -> io::Result<Vec<String>> {
 }
 
 fn main(rt: HostRuntime) -> ExitCode {
+    let words = words(&rt);
     let mut reader = AnyReader::new(rt.stdin());
     let mut writer = AnyWriter::new(rt.stdout());
     let mut errors = AnyWriter::new(rt.stderr());
-    let status = match words(&rt) {
+    let status = match words {
         Ok(words) => command(
             &rt,
             rt.alloc(),

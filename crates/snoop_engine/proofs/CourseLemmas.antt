@@ -1,7 +1,7 @@
 -- Courses, step by step: that each step leaves fewer to come, and the rows that they serve.
 use Rattle.snoop_engine.proofs.Common.{filter, is_operation, AsksOneByOne, AsksWhenQuiet, IsQuietFor, LeadsToQuietFor, none-some, common_steps, ◌≡◌, ℕ, ◌+◌, ◌*◌, ◌<◌, true, cond, Option, Some, None, List, [], ◌∷◌, ◌++◌, length, length-append, map, refl, sym, ◌∙◌, ap, arith, Result, Ok, IsOk, IfNone, filter-append, length-map, map-append, All-cons, All-nil, Extent, Row, Step, Protocol, Reply, Refused, Picture, Situation, reset, FirstMove, TheRun, IsQuiet, steps_paid, turn_rule, untouched, has_transaction, steps_owed, LeadsOn, EndsInOrder, InOrder, LeadsToRest, remaining_in_order, StepsServe, StepsServeSerially, IsAtTheEnd, IsAtTheStart, Progress, ServesSerially, all_asks, ask_for, is_ask, Serves, asks_of, works_of, cases_lt, get_or_past, get_or-set_same, get_or-set_other, inl, inr, nothing_to_do, slice_set, sum_by-set, ◌≢◌, suc, sum_by-cons, Ask, eq-eqb, ne_eqb, Todo, todo_of, left_in, TakesUp, remaining, TakesUpNext}
 use Rattle.std.proofs.lemmas.List.Folds.{sum_by-replicate}
-use Rattle.snoop_engine.proofs.{OrderLemmas.performed_in_order, TakenLemmas.same_shape}
+use Rattle.snoop_engine.proofs.{OrderLemmas.{legal_history, performed_in_order}, TakenLemmas.same_shape}
 
 left_cons : (lane : Todo) (lanes : List Todo) → left_in (lane ∷ lanes) ≡ length lane.left + left_in lanes
 left_cons lane lanes = omega (arith, sum_by-cons (λ (t : Todo). length t.left) lane lanes)
@@ -83,6 +83,7 @@ driver_served {protocol} {shape} {steps = steps} {outcomes = outcomes} {final = 
     taken = end.taken;
     asked = λ core. sym (end.asked core) ∙ begins.left core;
     apart = rw begins.situation at end.apart;
+    legal = legal_history protocol shape steps outcomes final (rw begins.situation at end.run);
     performed = λ core. performed_in_order protocol shape steps outcomes final (rw begins.situation at end.run) end.taken (rw begins.situation at end.apart) end.quiet core
         ∙ ap (filter is_operation) (sym (end.asked core) ∙ begins.left core);
     quiet = end.quiet;
@@ -165,6 +166,7 @@ module _ {protocol : Protocol} {shape : Extent} {rows : List Row} {start : InOrd
             taken = end.taken;
             asked = own;
             apart = one;
+            legal = legal_history protocol shape steps outcomes final run;
             performed = λ core. performed_in_order protocol shape steps outcomes final run end.taken one end.quiet core ∙ ap (filter is_operation) (own core);
             quiet = end.quiet;
             few = omega (arith, rw (at, left) at end.few, owed_reset protocol shape);

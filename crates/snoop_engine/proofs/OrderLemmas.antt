@@ -1,9 +1,10 @@
 -- Where each core asks for one thing at a time, its operations stand in the history in the order in which it asked for them.
 use Rattle.snoop_model.proofs.Common.{[], answers_of, ap, append-nil, append_assoc, append_cancel_left, arith, as_access, Ask, asked_access, Did, did_access, eqb, Err, filter, filter-append, filter_map-append, FirstMove, FirstRunFrom, held_by, inl, inr, IsPermutation, Item, Line, List, map, map-append, None, none-some, none_from_not_some, of_core, Ok, OnceMore, Op, Option, option_to_list, Order, picture_of, Protocol, refl, reset, Respond, Result, same_Some, Situation, Some, state_of, Step, sym, zero, ℕ, ◌&&◌, ◌++◌, ◌==◌, ◌∙◌, ◌∷◌, ◌≡◌, ◌⊎◌, ◌≢◌, All, cases_eq, eq-eqb, ne_eqb, Extent}
 use Rattle.snoop_model.proofs.{Invariant.Runs.reset_line, Once.{answers_are, cons_one, one_or_none, step_once}, OneBlock.Facts.did_in, Queues.keeps_well, Turns.busy_cases}
-use Rattle.snoop_model.proofs.Runs.{GoOn.{IsSteady, reset_steady, run_one, steady_on}, Replies.on_stays}
+use Rattle.snoop_model.proofs.Runs.{GoOn.{IsSteady, reset_steady, run_one, run_steady, steady_on}, Replies.on_stays}
 use Rattle.snoop_model.specs.{Turns.Quiet.IsQuiet, declared.{access.Access.Access, replies.{Refused.Refused, Reply.Reply}}}
 use Rattle.std.{proofs.lemmas.{Grind.common_steps, List.{Elements.{All-head, All-tail}, Sorted.{length_permutation, Contains-permutation}}}, specs.Prelude.{Bool, true, false, if◌then◌else◌, IsOk}}
+use Rattle.snoop_history.specs.History.{Legal}
 use Rattle.snoop_trace.specs.declared.step.Work.{Work}
 use Rattle.snoop_trace.specs.declared.step.Op.TheVariants as op
 use Rattle.snoop_engine.specs.Served.{ask_of, asks_of, AsksOneByOne, is_operation, IsQuietFor, work_done}
@@ -187,6 +188,10 @@ run_keeps_up core (step ∷ steps) (Ok answer ∷ outcomes) s t steady run ok ap
     rw (filter_map-append (ask_of core) (step ∷ []) steps, filter-append, ← append_assoc asks (operations_asked (step ∷ []) core) (operations_asked steps core)) on
 run_keeps_up core (step ∷ steps) (Err cause ∷ outcomes) s t steady run ok apart asks follows = (let clash = All-head IsOk (Err cause) outcomes ok in cc)
 run_keeps_up core _ _ s t steady run ok apart asks follows = absurd run
+
+-- the history of the run of some steps is legal
+pub legal_history : (protocol : Protocol) (shape : Extent) (steps : List Step) (outcomes : List (Result Reply Refused)) (final : Situation) → FirstRunFrom (reset protocol shape) steps outcomes final → Legal final.log
+legal_history protocol shape steps outcomes final run = (run_steady steps outcomes (reset protocol shape) final (reset_steady protocol shape) run).0.legal
 
 -- from reset to rest
 pub performed_in_order : (protocol : Protocol) (shape : Extent) (steps : List Step) (outcomes : List (Result Reply Refused)) (final : Situation) → FirstRunFrom (reset protocol shape) steps outcomes final → All IsOk outcomes

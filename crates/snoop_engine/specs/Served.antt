@@ -4,7 +4,7 @@ use Rattle.std.specs.Prelude.{◌≡◌, ℕ, ◌*◌, ◌≤◌, ◌==◌, Bool
 use Rattle.snoop_trace.specs.{Extent.Extent, declared.step.{Op.Op, Row.Row, Step.{Step, TheVariants.{Ask, Order, Respond}}, Work.Work}}
 use Rattle.snoop_trace.specs.declared.protocol.Protocol.{Protocol}
 use Rattle.snoop_rules.specs.declared.names.Request.{Request}
-use Rattle.snoop_history.specs.{History.answers_of, declared.items.Did.Did}
+use Rattle.snoop_history.specs.{History.{answers_of, Legal}, declared.items.Did.Did}
 use Rattle.snoop_model.specs.{declared.replies.{Reply.Reply, Refused.Refused}, Pictures.Situation.{Situation, HasOpen, reset}, Turns.Quiet.IsQuiet}
 use Rattle.snoop_model.specs.{Moves.{Move.as_access, Refuses.WaitsOnNone}, Runs.{Once.did_access, Run.FirstRunFrom}}
 use Rattle.snoop_engine.specs.Todo.{works_of}
@@ -44,11 +44,12 @@ is_operation work = is_some (as_access work.word work.op)
 abbrev pub work_done : Did → Work
 work_done did = record { block = did.block; word = did.word; op = (did_access did).op }
 
--- the steps, each taken, ask each core's rows in order and one at a time, end with nothing waiting or open, and are at most three a row; and each core's operations in the history are the loads and stores of its rows, in order
+-- the steps, each taken, ask each core's rows in order and one at a time, end with nothing waiting or open, and are at most three a row; and the history is legal, and has of each core the loads and stores of its rows, in order
 pub record Serves (protocol : Protocol) (shape : Extent) (rows : List Row) (steps : List Step) (outcomes : List (Result Reply Refused)) (final : Situation) : Type 0 where
   pub taken : All IsOk outcomes
   pub asked : (core : ℕ) → asks_of steps core ≡ works_of shape rows core
   pub apart : AsksOneByOne (reset protocol shape) steps
+  pub legal : Legal final.log
   pub performed : (core : ℕ) → map work_done (answers_of final.log core) ≡ filter is_operation (works_of shape rows core)
   pub quiet : IsQuiet final
   pub few : length steps ≤ 3 * length rows

@@ -1,28 +1,19 @@
-//! The lines of a run: the step and the machine's reply or refusal, and the loop that writes them and then the report.
+//! The line of a step: its text and the machine's reply or refusal.
 //!
 //! The words of a reply up to its first number are one literal, its state, request or payload with them, so that they are
 //! appended in one piece.
-ghost use Rattle.std.specs.Prelude.{◌≡◌, ◌≢◌, ◌++◌, codes, true, Err, OnErr, OnOk};
+ghost use Rattle.std.specs.Prelude.{◌≡◌, ◌++◌, codes, OnOk};
 ghost use Rattle.std.specs.Fmt.{decimal};
-ghost use Rattle.std.specs.Io.KnownBytes.{Appends};
-ghost use Rattle.snoop_trace.specs.Output.{AppendsFront, BlamesWriter};
 ghost use Rattle.snoop_rules.specs.Names.{payload_name, state_name};
 ghost use Rattle.snoop_model.specs.declared.replies.Reply.TheVariants.{Came};
-ghost use Rattle.snoop_model.specs.Pictures.Situation.{reset};
 ghost use Rattle.snoop_model.specs.Texts.{reply_text};
-ghost use Rattle.snoop_engine.specs.Courses.{LeadsToEndWith};
 ghost use Rattle.snoop_engine.specs.Line.{line_text, outcome_text};
-ghost use Rattle.snoop_engine.specs.Written.{run_text};
 
-use crate::course::Course;
-use snoop_history::{Did, write_report};
+use snoop_history::Did;
 use snoop_machine::{Refused, Reply};
 use snoop_rules::{CacheState, Payload, Request};
-use snoop_trace::streams::{
-    Sink, push_byte, push_decimal, push_step, push_text, spill, write_whole,
-};
-use snoop_trace::{NoMemory, Shape, Step, WriteFault};
-use std::alloc::Global;
+use snoop_trace::streams::{push_decimal, push_step, push_text};
+use snoop_trace::{NoMemory, Shape, Step};
 
 /// Appends a text and then a number.
 pub fn push_numbered(out: &mut Vec<u8>, text: &str, number: u64) -> Result<(), NoMemory>
@@ -142,35 +133,7 @@ pub fn push_line(
     ensures ok { OnOk result (out.new.items ≡ out.old.items ++ line_text shape step outcome) }
 {
     push_step(out, shape, step)?;
-    push_byte(out, b':')?;
-    push_byte(out, b' ')?;
+    push_text(out, ": ")?;
     push_outcome(out, outcome)?;
-    push_byte(out, b'\n')
-}
-
-/// Takes the steps of a course to its end, and writes the line of each and then the report.
-pub(crate) fn write_lines<W: Sink, C: Course>(
-    alloc: Global,
-    writer: &mut W,
-    course: &mut C,
-) -> Result<(), WriteFault>
-    requires { let s = C.situation course.old in s ≡ reset s.protocol s.shape }
-    ensures ok { OnOk result (LeadsToEndWith (C.leads course.old) (λ steps outcomes final. Appends (W.contents writer.old) (W.contents writer.new) (run_text (C.situation course.old).shape steps outcomes final))) }
-    ensures front { OnErr result (LeadsToEndWith (C.leads course.old) (λ steps outcomes final. AppendsFront (W.contents writer.old) (W.contents writer.new) (run_text (C.situation course.old).shape steps outcomes final))) }
-    ensures never_blamed { W.never_fails ≡ true → result ≢ Err WriteFault.Write }
-    ensures blamed { BlamesWriter (W.failed writer.old) (W.failed writer.new) (result ≡ Err WriteFault.Write) }
-{
-    // For the proof alone, here and in the loop.
-    course.can_end();
-    let shape = course.machine().shape();
-    let mut chunk = Vec::new(alloc);
-    while let Some(step) = course.find() {
-        let outcome = course.take(step)?;
-        push_line(&mut chunk, shape, step, outcome)?;
-        course.can_end();
-        spill(writer, &mut chunk)?;
-    }
-    write_whole(writer, &chunk)?;
-    write_report(alloc, writer, course.machine().log())?;
-    Ok(())
+    push_text(out, "\n")
 }

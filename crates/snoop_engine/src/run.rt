@@ -8,7 +8,7 @@ ghost use Rattle.snoop_engine.specs.SimulatedRun.{SimulatesRun};
 
 use crate::fault::SimFault;
 use crate::gather::read_driver;
-use crate::lines::write_lines;
+use crate::steps::write_lines;
 use snoop_rules::Protocol;
 use snoop_trace::Shape;
 use snoop_trace::streams::{Sink, Source};

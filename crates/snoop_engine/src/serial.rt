@@ -6,8 +6,8 @@ ghost use Rattle.snoop_trace.specs.declared.fault.TextFault.TheVariants as text_
 ghost use Rattle.snoop_engine.specs.SimulatedSerial.{SimulatesSerial};
 
 use crate::fault::SimFault;
-use crate::lines::write_lines;
 use crate::serial_driver::SerialDriver;
+use crate::steps::write_lines;
 use snoop_rules::Protocol;
 use snoop_trace::streams::{Sink, Source};
 use snoop_trace::{Shape, TextFault, read_rows};

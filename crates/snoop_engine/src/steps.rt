@@ -1,22 +1,27 @@
-//! The command `steps`, and the course of steps that are all known before the first is taken.
-ghost use Rattle.std.specs.Prelude.{◌≡◌, ◌≢◌, length, true, Err};
-ghost use Rattle.snoop_trace.specs.Output.{BlamesWriter};
+//! The command `steps`, the loop that writes the lines of a course and then the report, and the course of steps that are all known
+//! before the first is taken.
+ghost use Rattle.std.specs.Prelude.{◌≡◌, ◌≢◌, length, true, Err, OnErr, OnOk};
+ghost use Rattle.std.specs.Io.KnownBytes.{Appends};
+ghost use Rattle.snoop_trace.specs.Output.{AppendsFront, BlamesWriter};
 ghost use Rattle.snoop_trace.specs.Text.{BlamesReader};
 ghost use Rattle.snoop_trace.specs.declared.fault.TextFault.{TextFault};
 ghost use Rattle.snoop_trace.specs.declared.fault.TextFault.TheVariants as text_fault;
-ghost use Rattle.snoop_engine.specs.Courses.{FindsListed, LeadsListed};
+ghost use Rattle.snoop_model.specs.Pictures.Situation.{reset};
+ghost use Rattle.snoop_engine.specs.Courses.{FindsListed, LeadsListed, LeadsToEndWith};
 ghost use Rattle.snoop_engine.specs.Simulated.{Simulates};
+ghost use Rattle.snoop_engine.specs.Written.{run_text};
 
 use crate::course::Course;
 use crate::fault::SimFault;
-use crate::lines::write_lines;
+use crate::lines::push_line;
 use crate::packed::StepQueue;
 use crate::script::Script;
+use snoop_history::write_report;
 use snoop_machine::laws::runs_go_on;
 use snoop_machine::{Machine, Refused, Reply};
 use snoop_rules::Protocol;
-use snoop_trace::streams::{Sink, Source, gather_steps};
-use snoop_trace::{NoMemory, Shape, Step};
+use snoop_trace::streams::{Sink, Source, gather_steps, spill, write_whole};
+use snoop_trace::{NoMemory, Shape, Step, WriteFault};
 use std::alloc::Global;
 
 /// Reads a text of steps for the protocol and the shape to its end, takes them in order on a machine at reset, and writes the line of each
@@ -50,6 +55,33 @@ pub fn simulate_steps<R: Source, W: Sink>(
         script: steps,
     };
     write_lines(alloc, writer, &mut course)?;
+    Ok(())
+}
+
+/// Takes the steps of a course to its end, and writes the line of each and then the report.
+pub(crate) fn write_lines<W: Sink, C: Course>(
+    alloc: Global,
+    writer: &mut W,
+    course: &mut C,
+) -> Result<(), WriteFault>
+    requires { let s = C.situation course.old in s ≡ reset s.protocol s.shape }
+    ensures ok { OnOk result (LeadsToEndWith (C.leads course.old) (λ steps outcomes final. Appends (W.contents writer.old) (W.contents writer.new) (run_text (C.situation course.old).shape steps outcomes final))) }
+    ensures front { OnErr result (LeadsToEndWith (C.leads course.old) (λ steps outcomes final. AppendsFront (W.contents writer.old) (W.contents writer.new) (run_text (C.situation course.old).shape steps outcomes final))) }
+    ensures never_blamed { W.never_fails ≡ true → result ≢ Err WriteFault.Write }
+    ensures blamed { BlamesWriter (W.failed writer.old) (W.failed writer.new) (result ≡ Err WriteFault.Write) }
+{
+    // For the proof alone, here and in the loop.
+    course.can_end();
+    let shape = course.machine().shape();
+    let mut chunk = Vec::new(alloc);
+    while let Some(step) = course.find() {
+        let outcome = course.take(step)?;
+        push_line(&mut chunk, shape, step, outcome)?;
+        course.can_end();
+        spill(writer, &mut chunk)?;
+    }
+    write_whole(writer, &chunk)?;
+    write_report(alloc, writer, course.machine().log())?;
     Ok(())
 }
 

@@ -1,12 +1,12 @@
 -- Coherence: what holds after any steps that a machine at reset takes or refuses, in any order.
 -- Source: chapters 2 and 7 of "A Primer on Memory Consistency and Cache Coherence", 2nd edition; the rest is this project's profile.
-use Rattle.std.specs.Prelude.{◌≡◌, ◌≢◌, ◌↔◌, ◌⊎◌, ◌<◌, ℕ, List, [], All, Some, None, Result, IfSome, IsSome, option_map}
+use Rattle.std.specs.Prelude.{◌≡◌, ◌≢◌, ◌↔◌, ◌⊎◌, ◌<◌, ℕ, List, [], All, Some, None, Result, IfSome, IsSome, IsTrue, option_map}
 use Rattle.snoop_trace.specs.{Extent.Extent, Words.IsWord, declared.step.{Op.{Op, TheVariants.Evict}, Step.{Step, TheVariants.Ask}}}
 use Rattle.snoop_trace.specs.declared.protocol.Protocol.{Protocol}
 use Rattle.snoop_rules.specs.{declared.names.{CacheState.{CacheState, TheVariants.{E, EiA}}, Request.{Request, TheVariants.PutM}}, Possible.{MayLoad, MayStore}}
 use Rattle.snoop_history.specs.History.{flat_words, operations, Legal}
 use Rattle.snoop_model.specs.{declared.replies.{Reply.{Reply, TheVariants.{Gone, Absent}}, Refused.{Refused, TheVariants.Stalled}}, Pictures.InQueue.IsInQueue}
-use Rattle.snoop_model.specs.{Pictures.{Picture.{held_by, nothing_held, data_under_way}, OneWriter.OneWriter}, Moves.Move.{IsWithin, Orders, MoveOn, FirstMove}}
+use Rattle.snoop_model.specs.{Pictures.{Picture.{held_by, nothing_held, data_under_way}, OneWriter.{OneWriter, lets_load, lets_store}}, Moves.Move.{IsWithin, Orders, MoveOn, FirstMove}}
 use Rattle.snoop_model.specs.{Pictures.Situation.{Situation, IsShaped, picture_of, state_of, Waits, CanOrder, HasOpen}, Moves.{Refuses.Refuses, Replies.{IsHit, MayHit, Tells}}}
 use Rattle.snoop_model.specs.{Pictures.Proper.{missed_request, request_for, awaited_request}, Moves.SenderTable.{IsSenderLine, IsOpenByTable}, Runs.Run.RunBy}
 use Rattle.snoop_model.specs.Runs.Once.{Once}
@@ -17,6 +17,12 @@ pub record IsCoherent (s : Situation) : Type 0 where
   pub shaped : IsShaped s
   -- each block has one writer alone, or only readers, or neither
   pub one_writer : (block : ℕ) → OneWriter s.protocol (picture_of s block)
+  -- memory's state says what the caches may have: a core may load the block only where it is neither I nor I_D
+  pub readers : (core block : ℕ) → MayLoad s.protocol (state_of s core block) → IsTrue (lets_load (picture_of s block).memory.state)
+  -- a core may store in it only where it is M, M_D, EorM or EorM_D
+  pub writers : (core block : ℕ) → MayStore s.protocol (state_of s core block) → IsTrue (lets_store (picture_of s block).memory.state)
+  -- and where it is one of these, and no transaction is open, some core may
+  pub owned : (block : ℕ) → IsTrue (lets_store (picture_of s block).memory.state) → (picture_of s block).transaction ≡ None → (core : ℕ) × MayStore s.protocol (state_of s core block)
   -- in the history each load has the value of the last store to its word before it, or 0 where there is none, and each core's operations are numbered in order
   pub legal : Legal s.log
   -- each operation of the history is by a core, of a block and of a word that the machine has

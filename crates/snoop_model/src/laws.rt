@@ -1,13 +1,13 @@
 //! What holds of every run: calls that do nothing, and ensure it.
 ghost use Rattle.snoop_model.specs.Coherent.{IsCoherentRun};
-ghost use Rattle.snoop_model.specs.Runs.Run.{EveryRun, RunsAreOne, RunsGoOn, TakenBegins, TakenGoesOn};
-ghost use Rattle.snoop_model.specs.Runs.Safe.{RowsAreFound};
+ghost use Rattle.snoop_model.specs.Runs.Run.{EveryRun, TheRunIsARun, RunsAreOne, RunsGoOn, TakenBegins, TakenGoesOn};
+ghost use Rattle.snoop_model.specs.Runs.Safe.{RowsAreFound, TheRunIsCoherent};
 ghost use Rattle.snoop_model.specs.Runs.TakenOnce.{TakenOnce};
 
 /// Every run from reset is coherent, for every number of cores and blocks, under MSI and MESI.
 ///
 /// `IsCoherentRun` has what that says: each block has one writer alone, or only readers, or neither; in the history each load has
-/// the value of the last store to its word before it, or 0; no step is stuck at an impossible cell; no load or store that was taken
+/// the value of the last store to its word before it, or 0 where there is none; no step is stuck at an impossible cell; no load or store that was taken
 /// is lost or doubled; and each reply is true to the history.
 #[tactic(auto, using(crate::proofs::Invariant::Safety::every_run_is_coherent))]
 pub fn coherent()
@@ -19,6 +19,15 @@ pub fn coherent()
 #[tactic(auto, using(crate::proofs::Invariant::Safety::rows_are_found))]
 pub fn rows_are_found()
     ensures { RowsAreFound }
+{}
+
+/// The run of some steps, in which each Order takes the first block of its core's queue and memory is ample, is one of the runs
+/// that `coherent` speaks of, and so it is coherent.
+///
+/// A machine takes its steps so, and what is written of steps or rows is the run of them.
+pub fn the_run_is_coherent()
+    ensures is_run { TheRunIsARun }
+    ensures coherent { TheRunIsCoherent }
 {}
 
 /// Every run goes on: from where some steps have led, any further steps have a run too.

@@ -1,11 +1,13 @@
 -- What the invariant says of a situation: where nobody owns a block, what lies within the shape, which states a requestor is in, that all rows are found, that one sends.
-use Rattle.snoop_rules.specs.Possible.{MayStore}
-use Rattle.snoop_model.proofs.Common.{arith, arrival, arrival_at_memory, Ask, asked, awaited_request, BlockInvariant, CacheEvent, CacheState, CanOrder, Cell, eq-eqb, Evict, false, false_from_ne_true, flat_words, FollowsSenderTable, ForSome, get_or_past, HasOpen, held_by, Hit, I, Invariant, is_put_m, is_some, IsSomeAnd, IsWellKept, IsWithin, keeps, length, Line, List, MemEvent, ne_eqb, None, none-some, nothing_held, nothing_there, Op, Open, Option, Order, OrdersFollowSenderTable, Picture, picture_of, Protocol, PutM, refl, Request, Respond, seen_by, Situation, Some, state_of, Step, sym, true, waiting_request, Waits, ℕ, ◌<◌, ◌↔◌, ◌∙◌, ◌≡◌, ◌≢◌, ◌≤◌, GetS}
+use Rattle.snoop_rules.specs.Possible.{MayLoad, MayStore}
+use Rattle.snoop_model.proofs.Common.{arith, arrival, arrival_at_memory, Ask, asked, awaited_request, BlockInvariant, both_ways, CacheEvent, cases_Bool, CacheState, CanOrder, Cell, eq-eqb, Evict, false, false_from_ne_true, flat_words, FollowsSenderTable, ForSome, get_or_past, HasOpen, held_by, Hit, I, inl, inr, Invariant, is_put_m, is_some, IsSomeAnd, IsWellKept, IsWithin, keeps, length, Line, List, MemEvent, ne_eqb, None, none-some, nothing_held, nothing_there, Op, Open, Option, Order, OrdersFollowSenderTable, owns, Picture, picture_of, Protocol, PutM, refl, Request, Respond, seen_by, Situation, Some, state_of, Step, Store, sym, true, waiting_request, Waits, ℕ, ◌<◌, ◌↔◌, ◌∙◌, ◌≡◌, ◌≢◌, ◌≤◌, GetS}
 use Rattle.snoop_model.specs.Moves.LookUps.{ConsultsCache, ConsultsMemory, FindsRows, HasMemRow, HasRow}
 use Rattle.snoop_model.proofs.Lists.{if_some}
-use Rattle.snoop_model.proofs.OneBlock.{Facts.it_is, OrderStep.{each_row, look, meant, meant_in, sender_told, sends, sends_if_meant, sent}, RespondStep.{answered, close, Closing}}
-use Rattle.snoop_model.proofs.Tables.{OrderTests.{awaited-get, led_line, memory_row_for, row_for}, Rows.{ask_rule, fit_rule, hit_keeps, is_idle_evict, some_of}}
+use Rattle.snoop_model.proofs.OneBlock.{Facts.{it_is, owner_is}, OrderStep.{each_row, look, meant, meant_in, sender_told, sends, sends_if_meant, sent}, RespondStep.{answered, close, Closing}}
+use Rattle.snoop_model.proofs.Tables.{OrderTests.{awaited-get, led_line, memory_row_for, row_for}, Rows.{ask_rule, fit_rule, hit_keeps, is_idle_evict, memory_rule, some_of}, Tested.of_open}
 use Rattle.snoop_rules.specs.Takers.{other as another}
+use Rattle.snoop_rules.specs.declared.names.CacheEvent.TheVariants as event
+use Rattle.snoop_model.specs.Pictures.OneWriter.{lets_load, lets_store}
 
 -- where no core may write the block, none owns it
 pub nobody_owns : {p : Protocol} {n : ℕ} {value : List ℕ} {picture : Picture} (g : BlockInvariant p n value picture) → ((core : ℕ) → ¬ MayStore p (held_by picture core).state) → g.claims.owned ≡ false
@@ -48,6 +50,43 @@ module _ (s : Situation) (g : Invariant s) where
   hit_within core block e hits =
       let keeping = (hit_keeps s.protocol (state_of s core block) e hits.0 hits.1).0 in
       (keeping, held_within core block (λ x. keeps x.state ≡ true) (λ h. cc) keeping)
+
+  -- a core that may store owns the block
+  owner_in : (core block : ℕ) (within : IsWithin s core block) → MayStore s.protocol (state_of s core block) → owns (g.blocks block within.1).owner core ≡ true
+  owner_in core block within writes =
+      let (owning, _) = ((ask_rule _ _ _ _ _ (Store 0) ((g.blocks block within.1).states core within.0)).1 (record { action = Hit; next = writes.0 }) writes.1).1.1 refl in
+      owning
+
+  -- a core may load only where memory's state lets one
+  pub memory_lets_load : (core block : ℕ) → MayLoad s.protocol (state_of s core block) → lets_load (picture_of s block).memory.state ≡ true
+  memory_lets_load core block reads =
+      let (keeping, within) = hit_within core block event.Load reads in
+      let good = g.blocks block within.1 in
+      elim (cases_Bool (lets_load (picture_of s block).memory.state)) [
+        | inl lets ↦ lets
+        | inr bars ↦
+            let (unowned, blind) = (memory_rule s.protocol _ _ good.claims good.is_claims).1.0 bars in
+            let apart : owns good.owner core ≡ false = grind (arith, unowned, good.is_owned) in
+            absurd (both_ways _ (of_open s.protocol good.claims.shared (picture_of s block).transaction _ blind core _ _ (good.states core within.0) apart) keeping)
+      ]
+
+  -- and store only where it lets one
+  pub memory_lets_store : (core block : ℕ) → MayStore s.protocol (state_of s core block) → lets_store (picture_of s block).memory.state ≡ true
+  memory_lets_store core block writes =
+      let (_, within) = hit_within core block event.Store writes in
+      let good = g.blocks block within.1 in
+      let owning = owner_is good.owner core (owner_in core block within writes) in
+      grind (arith, (memory_rule s.protocol _ _ good.claims good.is_claims).0, good.is_owned, owning)
+
+  -- where it lets one store, and nothing is open, a core may
+  pub owner_stores : (block : ℕ) → lets_store (picture_of s block).memory.state ≡ true → (picture_of s block).transaction ≡ None → (core : ℕ) × MayStore s.protocol (state_of s core block)
+  owner_stores block lets free =
+      let within : block < s.shape.blocks = grind (arith, outside block, lets) in
+      let good = g.blocks block within in
+      let owned : is_some good.owner ≡ true = good.is_owned ∙ (memory_rule s.protocol _ _ good.claims good.is_claims).1.1 lets (rw free refl) in
+      let (o, is) = some_of good.owner owned in
+      let (row, is_row, hit) = (fit_rule _ _ _ _ _ (good.states o (good.owner_in o is))).0 (grind (arith, is)) in
+      (o, (row.next, grind (arith, is_row, hit)))
 
   -- an open transaction is of a block within the shape
   pub opened_within : (block : ℕ) (o : Open) → (picture_of s block).transaction ≡ Some o → block < s.shape.blocks

@@ -1,5 +1,5 @@
 -- From every situation of a run each step leads on, in one way: it is a move, or refused for a cause. And runs whose steps were all taken.
-use Rattle.snoop_model.proofs.Common.{[], ap, Err, Extent, FirstMove, FirstRunFrom, Goes, GoesFirst, Invariant, IsWellKept, KeepsWell, List, map, map-append, None, Ok, Protocol, refl, Refused, Refuses, Reply, reset, Result, rules, Situation, Step, sym, taken, TakenGoesOn, ◌++◌, ◌∙◌, ◌∷◌, ◌≡◌, arith}
+use Rattle.snoop_model.proofs.Common.{[], ap, Err, Extent, FirstMove, FirstRunFrom, Goes, GoesFirst, Invariant, IsWellKept, KeepsWell, List, map, map-append, None, Ok, Protocol, refl, Refused, Refuses, Reply, reset, Result, rules, RunBy, Situation, Step, sym, taken, TakenGoesOn, ◌++◌, ◌∙◌, ◌∷◌, ◌≡◌, arith}
 use Rattle.snoop_model.specs.Runs.{Run.RunsAreOne, TakenOnce.TakenOnce}
 use Rattle.snoop_model.proofs.{Invariant.Runs.{move_keeps, reset_invariant}, Once.run_asked_once, Queues.{AreQueued, keeps_well, starts_well}}
 use Rattle.snoop_model.proofs.{Runs.Along.{kept_along, run_more, seen_along}, Steps.{goes_is, goes_next, next_of}}
@@ -54,6 +54,14 @@ pub runs_are_one : RunsAreOne
 runs_are_one protocol shape steps outcomes others final end run other =
     run_one steps outcomes others (reset protocol shape) final end (reset_steady protocol shape) run other
 
+-- one step of the run of some steps is one of a run, in which an Order may be on any block
+goes_on_any : (old : Situation) (step : Step) (outcome : Result Reply Refused) (new : Situation) → GoesFirst old step outcome new → Goes old step outcome new
+goes_on_any old step outcome new goes = grind (arith, goes)
+
+-- so the run of some steps is a run
+pub goes_any : (steps : List Step) (outcomes : List (Result Reply Refused)) (old new : Situation) → FirstRunFrom old steps outcomes new → RunBy Goes old steps outcomes new
+goes_any = seen_along GoesFirst Goes (λ s. s) goes_on_any
+
 -- the outcomes of steps that were all taken
 abbrev all_ok : List Reply → List (Result Reply Refused)
 all_ok replies = map (λ reply. Ok reply) replies
@@ -61,10 +69,6 @@ all_ok replies = map (λ reply. Ok reply) replies
 pub taken_goes_on : TakenGoesOn
 taken_goes_on protocol shape steps step answer middle new taken move =
     (taken.0 ++ answer ∷ [], rw map-append (run_more GoesFirst steps (all_ok taken.0) (reset protocol shape) middle new step (Ok answer) taken.1 move))
-
--- the same steps as a run on any block
-goes_on_any : (old : Situation) (step : Step) (outcome : Result Reply Refused) (new : Situation) → GoesFirst old step outcome new → Goes old step outcome new
-goes_on_any old step outcome new goes = grind (arith, goes)
 
 -- none of them was refused
 none_refused : (old new : Situation) (steps : List Step) (replies : List Reply) → FirstRunFrom old steps (all_ok replies) new → taken steps (all_ok replies) ≡ steps
@@ -75,4 +79,4 @@ none_refused old new _ _ run = absurd run
 pub taken_once : TakenOnce
 taken_once protocol shape steps s all core block =
     rw (none_refused (reset protocol shape) s steps all.0 all.1) at
-    (run_asked_once protocol shape steps (all_ok all.0) s (seen_along GoesFirst Goes (λ s. s) goes_on_any steps (all_ok all.0) (reset protocol shape) s all.1) core block)
+    (run_asked_once protocol shape steps (all_ok all.0) s (goes_any steps (all_ok all.0) (reset protocol shape) s all.1) core block)

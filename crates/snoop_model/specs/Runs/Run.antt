@@ -40,6 +40,12 @@ EveryRun P =
     (protocol : Protocol) (shape : Extent) (steps : List Step) (outcomes : List (Result Reply Refused)) (new : Situation) →
     RunBy Goes (reset protocol shape) steps outcomes new → P protocol shape steps outcomes new
 
+-- the run of some steps is a run
+abbrev pub TheRunIsARun : Type 0
+TheRunIsARun =
+    (protocol : Protocol) (shape : Extent) (steps : List Step) (outcomes : List (Result Reply Refused)) (new : Situation) →
+    TheRun protocol shape steps outcomes new → RunBy Goes (reset protocol shape) steps outcomes new
+
 -- from where the run of some steps has led, any further steps have a run too
 abbrev pub RunsGoOn : Type 0
 RunsGoOn =

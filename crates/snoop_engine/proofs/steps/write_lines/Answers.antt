@@ -1,6 +1,6 @@
 use Rattle.snoop_engine.proofs.{Common.{[], on_err}, Gathering.{gathering_none, gathering_spilled}}
 use Rattle.snoop_engine.proofs.WrittenLemmas.{writing_cut, writing_done, writing_more, writing_report_cut, writing_stop}
-use Rattle.snoop_engine.proofs.lines.write_lines.Goals as goal
+use Rattle.snoop_engine.proofs.steps.write_lines.Goals as goal
 
 pub loop-step-init : goal.loop-step-init
 loop-step-init g c =

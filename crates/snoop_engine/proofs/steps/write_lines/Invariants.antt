@@ -1,5 +1,5 @@
 use Rattle.snoop_engine.proofs.{Common.◌≡◌, Common.{Some, false}, WrittenLemmas.Writing}
-use Rattle.snoop_engine.proofs.lines.write_lines.Given as goal
+use Rattle.snoop_engine.proofs.steps.write_lines.Given as goal
 
 -- the lines of the steps so far were written or stand in the chunk, and no write has failed
 abbrev pub invariant-loop-step : goal.invariant-loop-step
