@@ -7,8 +7,8 @@ ghost use Rattle.snoop_model.specs.Runs.TakenOnce.{TakenOnce};
 /// Every run from reset is coherent, for every number of cores and blocks, under MSI and MESI.
 ///
 /// `IsCoherentRun` has what that says: each block has one writer alone, or only readers, or neither; in the history each load has
-/// the value of the last store to its word before it, or 0 where there is none; no step is stuck at an impossible cell; no load or store that was taken
-/// is lost or doubled; and each reply is true to the history.
+/// the value of the last store to its word before it, or 0 where there is none; no step is stuck at an impossible cell; no load
+/// or store that was taken is lost or doubled; and each reply is true to the history.
 #[tactic(auto, using(crate::proofs::Invariant::Safety::every_run_is_coherent))]
 pub fn coherent()
     ensures { EveryRun IsCoherentRun }
