@@ -60,40 +60,51 @@ HEAD = r"""# The theorem
 
 The history is in the order in which operations are performed. For a core that does not wait for its
 stores that is not the order of its program: it may load the older value of a word to which it has a
-store waiting.
+store waiting. Some definitions of coherence ask that a core's operations on one word keep the order
+of its program; here that is so of cores that wait.
 
 This page begins with the machine in words and a run; it says how to read definitions, has the
 theorem, says in outline why it holds and what it leaves out, and then has every type and definition
-that the theorem stands on.
+that the theorem stands on. The machine is a model; "the code" is that of Snoop, a simulator of it.
 
 ## The machine
 
-MSI and MESI are protocols for caches that share one bus with memory. A cache's state of a block is
-M, where it may write it, S, where it may read it, or I, where it has nothing; MESI also has E, the
-only copy, which may be written and is clean: memory has the same words. Memory's states say what
-the caches may have: in IorS none may write, in EorM a core may, or will once its data comes. Each
-cache has a controller, and so has memory, with a table: a **row** for each event that it may meet
-in a state. A pair of state and event without a row is an **impossible cell** (but giving up a block
-in I asks no table, and is answered Absent). The tables are those of *A Primer on Memory Consistency
-and Cache Coherence* (second edition, chapter 7), but for E's eviction and memory's states under
-MESI, which are this project's; docs/PROTOCOL.md has them as grids.
+MSI and MESI are protocols for caches that share one bus with memory. A cache has a state of each
+block: M, where its core may read and write the block, S, where it may read it, or I, where it has
+nothing. MESI also has E, which is as M, but clean: memory has the same words. Memory's state of the
+block says what the caches may have:
+
+| Memory's state | Which cores may read or write the block | Clauses |
+|---|---|---|
+| I (MESI) | none may do either | `readers`, `writers` |
+| S (MESI), IorS (MSI) | none may write it, any number may read it | `writers` |
+| EorM (MESI), M (MSI) | one may write it, where no transaction of it is open; while one is open perhaps none may, as the data is under way to the next writer | `owned`, `one_writer` |
+| I_D; S_D, IorS_D; EorM_D, M_D | as without the D, while memory waits for a message; in the last two perhaps none may write it any more | the same |
+
+Each cache has a controller, and so has memory, with a table: a **row** for each event that it may
+meet in a state. A pair of state and event without a row is an **impossible cell**. The tables are
+those of *A Primer on Memory Consistency and Cache Coherence* (second edition, chapter 7), but for
+E's eviction and memory's states under MESI, which are this project's; docs/PROTOCOL.md has them as
+grids.
 
 A machine begins at **reset**, with empty caches and a memory of 0, and takes **steps** of three
 kinds.
 
 - **Ask**: a core asks its cache to load, to store, or to give a block up. A load or store **hits**
-  where the table's row for it is a hit; a core in a state with such a row may load the block, and
-  is a reader, or may store, and is a writer. Elsewhere it is stalled, which is a refusal, or it
-  misses: the cache issues a request, which waits in the core's queue, and the operation waits until
-  its data comes. A block in E or M is given up by a request too, a writeback; one in S is dropped,
-  which is answered Gone; in the states between, an eviction is stalled.
+  where the table's row for it is a hit. A core whose state has such a row for a load may load the
+  block, and is a **reader**; one whose state has it for a store may store in it, and is a
+  **writer**. Elsewhere the operation is stalled, which is a refusal, or it misses: the cache issues
+  a request, which waits in the core's queue, and the operation waits until its data comes. A block
+  in E or M is given up by a request too, a writeback. One in S is dropped, which is answered Gone;
+  in I there is none to give up, which is answered Absent, by no row. In the states between, an
+  eviction is stalled.
 - **Order**: a request that waits goes on the bus. All controllers see it, one of them sends a
   message, and the block has an open **transaction**, whose **requestor** is the core of the
   request. A block is free where it has none.
 - **Respond**: the message, which is the response to the request, comes to the requestor, to memory
   or to both, and closes the transaction. The requestor takes that of a GetS or GetM, and no cache
-  takes that of a PutM; memory takes that of a PutM, and another's where its state ends in D, in
-  which it waits for data.
+  takes that of a PutM. Memory takes that of a PutM always, and that of a GetS or GetM where its
+  state ends in D.
 
 A step is taken, which is a **move**, with a reply, or refused for a cause; a refused step changes
 nothing. The reply or the cause is its **outcome**.
@@ -102,12 +113,12 @@ nothing. The reply or the cause is its **outcome**.
 |---|---|
 | GetS, GetM, PutM | the requests: for a copy to read; for one to write; to write the block back and give it up |
 | Data | a payload, which is what a message carries: the block's words |
-| DataE | the same words, for a GetS of a core while no other has the block |
+| DataE | the same words, sent for a GetS by memory in I, where no core has the block (in S it sends Data, even if all copies were dropped) |
 | NoData | nothing, since the writeback is stale: the block went to another core before its PutM was ordered |
 | NoDataE | nothing, since the block was clean |
 | IS_AD, IM_D, MI_A and the like | the states between: from I to S, and so on, in AD waiting for the core's own request to be ordered and then for data, in D for data, in A for its request to be ordered; in II_A a PutM waits that another's request has overtaken. In the definitions IS_AD is `IsAd` |
-| a core waits on a block | its request for it is not yet ordered; a queue has the blocks, and the states say for which request |
-| an operation waits | it missed, and the core keeps it until it is **performed**: until its value is read or written, and stands in the history |
+| a core waits on a block | its request for it is issued and not yet ordered; a queue has the blocks, and the states say for which request |
+| an operation waits | it missed, and the core keeps it until it is **performed**: until its value is read or written, and stands in the history. In IS_D, IM_D and SM_D an operation waits, though its core waits on the block no more |
 | data under way | the words in an open transaction, at Data and DataE |
 
 A **situation** is all that is seen of a machine: its protocol and shape (`Extent`: how many cores
@@ -123,23 +134,25 @@ What this machine takes as given:
   together; at a Respond the message comes whole, and to all who take it together.
 - **A block has one open transaction at most**, from its Order to its Respond. Other blocks may have
   theirs meanwhile. Between the cores, and between the blocks of one core, requests are ordered in
-  any order; the code orders a core's oldest one.
+  any order: the code takes a core's oldest request, the model any. The Primer calls this
+  non-atomic requests and atomic transactions. A core may have misses on many blocks; of one block
+  one operation at most waits at it.
 - **The history is in the order of performance**, at a hit or with the data that came, and not in
   that of asking. A core that does not wait for its store may load the older value: while its store
   to a block in S waits, its loads of the block hit as long as the copy lasts (SM_AD, SM_D), and
   stand in the history before the store; once another core's GetM is ordered first, the copy is gone
   (IM_AD), and they stall. In MI_A and EI_A loads and stores hit while the PutM waits.
-- **Any step may be refused as out of memory**, with nothing changed: of the memory of the program
-  that simulates, which is no part of the machine.
-- **Numbers have no bounds**, but that a block has at most 64 words. The code has limits for cores,
-  blocks and values too (docs/TEXTS.md).
+- **Any step may be refused as out of memory**, with nothing changed: of the simulator's memory,
+  which is no part of the machine.
+- **Numbers have no bounds**, but of a block's words at most 64 can be used. The code has limits for
+  cores, blocks and values too (docs/TEXTS.md).
 
 ## One run
 
-Two cores under MSI, and blocks of 64 bytes and one word, as the program has them where no option
-says otherwise: core 0 stores 7 in block 0, then core 1 loads it. An Ask to store is written
+Two cores under MSI, and blocks of 64 bytes and one word, as `snoop` has them where no option says
+otherwise: core 0 stores 7 in block 0, then core 1 loads it. An Ask to store is written
 `S,core,address,value`, one to load `L,core,address`, an Order `O,core`, a Respond `R,address`; an
-address is in bytes, so those from 0 to 63 are of block 0. Each row shows block 0 after a step: the
+address is in bytes, so those from 0 to 63 are of block 0. Each line shows block 0 after a step: the
 state and the value in each core, the transaction, memory. A dot says that it is as above; `#1` is
 the place of the request in its core's queue, `C0` is core 0, and memory's value stands in brackets
 where it would not send it.
@@ -163,15 +176,17 @@ at the end: nothing waits; nothing is open
 After steps 1 and 2 core 0's store waits, after 4 and 5 core 1's load. The log has four items at the
 end: core 0's GetM was ordered; its response came from memory, and core 0 performed its operation
 number 0, a store of 7; core 1's GetS was ordered; its response came from core 0, and core 1
-performed its operation number 0, a load of 7.
+performed its operation number 0, a load of 7. A core's operations are numbered in the order in
+which they are performed.
 
 ## How to read the definitions
 
-Names of facts and types are in CamelCase (`OneWriter`), those of functions in snake_case (`flat`).
-A definition begins with the types of its arguments and of what it is, where `Type 0` says that it
-is a fact or a type. Below stands what it means, case by case, the first that fits. In a case a
-small letter or word fits any value, as `_` does; `One` of `RunBy` and `P` of `EveryRun` are such
-values too: each is a fact about the arguments that follow it.
+Names of facts (`OneWriter`), of types (`Picture`) and of a type's members (`GetS`) are in
+CamelCase, those of functions (`flat`), of values (`word_places`) and of the clauses of a record
+(`one_writer`) in snake_case. A definition begins with the types of its arguments and of what it is,
+where `Type 0` says that it is a fact or a type. Below stands what it means, case by case, the first
+that fits. In a case a small letter or word fits any value, as `_` does; `One` of `RunBy` and `P` of
+`EveryRun` are such values too: each is a fact about the arguments that follow it.
 
 Look-ups have a default: outside a machine's shape a core holds nothing (state I), no transaction is
 open, and memory is in IorS with words of 0; the queue of such a core is empty. A block has 64
@@ -184,7 +199,9 @@ states of caches and of memory; `Load`, `Store` and `Evict` operations and event
 and `PutM` requests and events; `None` no value, no action, and as a sender memory; `Did`, `Sent`,
 `Came`, `Hit` and `Send` several kinds of thing; `Requestor` and `Memory` senders and targets;
 `taken` and `other` are functions, and names of something else; clauses of the theorem and fields of
-other records may have one name; a line is a cache's, memory's or one of a table.
+other records may have one name; a line is a cache's, memory's or one of a table. Names that differ
+in a capital or an ending are not of one thing: `hits` is a clause, `Hits` a fact, `Hit` an action
+and a reply; `orders` is a clause, `Orders` a fact, `Order` a step.
 
 | Written | Means |
 |---|---|
@@ -212,16 +229,27 @@ than `&&`. `(x : T) ×`, `(x : T) →` and `λ x.` reach to the end of their bra
 {records}
 ```
 
+The names in it stand further below, those of types under "Types", the others here:
+
+| Part | Names, by file |
+|---|---|
+{index}
+
 The function `coherent` does nothing: what it ensures is the theorem. It is about every list of
 steps put to a machine from reset, in any order, and about every situation to which they may lead;
-the first steps of a run are a run, so it is about each situation on the way too. docs/PROVED.md
-says of the code (`Machine::step` for one step, `run_steps` for a list) that it takes these steps
-and no others, an Order being of a core's oldest request, and what is trusted: above all the prover
-of the Rattle toolchain, in whose language Snoop is written, which has checked all of it.
+the first steps of a run are a run, so it is about each situation on the way too. One more function,
+`the_run_is_coherent`, ensures that a run as the code has it, where each Order is of a core's oldest
+request and memory is ample, is one of these, and so coherent. docs/PROVED.md says of the code
+(`Machine::step` for one step, `run_steps` for a list) that it takes these steps and no others, and
+what is trusted: above all the prover of the Rattle toolchain, in whose language Snoop is written,
+which has checked all of it.
+
+`Orders`, of which `orders` and `by_table` speak, is a move but for the bounds of core and block
+(`IsWithin`). It needs none: outside the shape no request waits.
 
 | About | Clauses | Why |
 |---|---|---|
-| who may read and write | `one_writer` | below |
+| who may read and write | `one_writer`, `readers`, `writers`, `owned` | below |
 | values | `kept`, `current`, `carried`, `memory`, `clean` | below |
 | the history | `legal`, `logged` | each load that is performed gets its word of flat memory; an Ask beyond the shape is refused |
 | operations | `once`, `told` | what each move adds to the history and takes from a line |
@@ -229,7 +257,7 @@ of the Rattle toolchain, in whose language Snoop is written, which has checked a
 | | `stalls`, `hits`, `gone` | the tables' rows, and how a move answers by them |
 | requests and transactions | `queued`, `awaited`, `opened` | an issue puts its block last, an Order takes it out and opens it, a Respond closes it |
 | that no step is stuck | `moves`, `orders` | in the states that can stand side by side each controller has the row that it needs |
-| the table of senders | `by_table`, `on_table` | the same; and while a transaction is open nothing moves its memory |
+| the table of senders | `by_table`, `on_table` | the same; and while a transaction is open nothing moves its memory. The picture before its Order is past, so `on_table` speaks of some picture |
 | sizes, protocol and shape | `shaped`, `stays` | no move changes them |
 
 ## Why it holds
@@ -240,11 +268,12 @@ whether other cores may have copies to read; and whether memory is sure to have 
 memory. docs/COHERENCE.md has this as a table of twelve lines. The statement has three parts. Each
 core's state, by itself, agrees with that table, with whether the core is the owner, and with
 whether it is the requestor. Each copy that may be read, and data under way, has the words of flat
-memory. So has memory beside a clean copy. All that ties the cores together is which of them is the
-owner.
+memory. So has memory where the table says so, and beside a clean copy. All that ties the cores
+together is which of them is the owner. The clauses about reading and writing are read off the first
+part and the table.
 
 So whether a step keeps the statement is a question about the tables: about the protocol, memory's
-state, the request, the payload, the state of the core that asks or is answered, and the state of
+state, the request, the payload, the state of the core that asks or whose request it is, and that of
 one other core. These are finitely many cases, whatever the number of cores; the prover has computed
 them all. A word of flat memory changes only by a store: of the owner at a hit, or of a GetM's
 requestor as its data comes; and no other copy may be read then. The argument is in
@@ -255,13 +284,20 @@ docs/COHERENCE.md, step by step.
 - **No deadlock**, out of memory aside: an operation that waits has its request in the queue or its
   transaction open (`waiting`, `queued`, `awaited`); an open transaction can be answered (`moves`),
   which closes it (`on_table`), and any waiting request of a free block can be ordered (`orders`).
-  But nothing is said of time, nor that a request is ever ordered or answered: an operation that is
-  not lost may wait for ever.
+  The code orders a core's oldest request first; where a transaction is open on its block, that is
+  to be answered before. But nothing is said of time, nor that a request is ever ordered or
+  answered: an operation that is not lost may wait for ever.
 - **Sequential consistency** is no clause, but follows by hand where each core asks for nothing
   while an operation of its own waits: the history has each core's operations in program order then
-  (`told`, `once`), and is legal. Of runs that serve rows it is proved that the history has them so
-  (docs/PROVED.md, "Served"). Without that, hits keep their order of asking and stand before each
-  earlier miss that still waits; two misses may be performed in either order.
+  (`told`, `once`), and is legal. Both are proved of runs for inputs of loads, stores and evictions
+  alone, where the code finds the bus steps (docs/PROVED.md, "Served"). Where cores do not wait,
+  hits keep their order of asking and stand before each earlier miss that still waits; two misses
+  may be performed in either order.
+- **Real time** is no clause, but follows by hand too: an operation is performed between its Ask and
+  its answer, a hit at its Ask, a miss at the Respond whose reply has it (`told`, `once`). So where
+  each core waits the history is a linearization.
+- **That a step has one outcome alone**, but for the block of an Order and out of memory, is no
+  clause; of a run as the code has it `laws::runs_are_one` says so (docs/PROVED.md).
 - **A load or store of an existing word, in a state whose row for it is a hit, does hit**, out of
   memory aside: each step for which no cause of `Refuses` holds has a move (`moves`), and that is a
   hit (`hits`, which follows from the moves alone). Where a cause holds, the step is refused; but an
@@ -292,11 +328,15 @@ And no clause says that something is ever reached: a state, as E, or a line of t
 
 ## Types
 
-As the code declares them, in Rust: `u32` and `u64` are numbers, `bool` true or false, `Open<K>` is
-`Open` of a type K, which is a block's `Data` here, and in the definitions all numbers are ℕ. Their
-comments speak of texts too (docs/TEXTS.md); a holder of a block is a core that has words of it.
+As the code declares them, in Rust, an `enum` by its members and a `struct` by its fields: `u32` and
+`u64` are numbers, `bool` true or false, `Open<K>` is `Open` of a type K, which is a block's `Data`
+here, and in the definitions all numbers are ℕ. Their comments speak of the code too: a machine is
+the code's there, a text what Snoop reads (docs/TEXTS.md), and a row a load, a store or an eviction
+in a text. A holder of a block is a core that has words of it.
+
 Each part further below begins with what its file is about, and names the file; of its definitions
-the page has those on which the theorem stands.
+the page has those alone on which the theorem stands. `lines_of` is but a list: that runs go by it
+is what `by_table` and `on_table` say.
 
 ```rust
 {types}
@@ -379,6 +419,19 @@ def files_of(pages, shown, subject):
             yield f"{wrapped(f'{about} ({pages[at].path.as_posix()})')}\n\n```text\n{texts}\n```\n"
 
 
+def index(pages, shown, contract):
+    """The rows of the table of names in the contract and the theorem's records: each part, and its names by file."""
+    page = next(page for page in pages if TOP / page.path == RECORDS)
+    named = [*specs.cited_in(contract, *specs.imports_of(specs.THEOREM.read_text()))]
+    named += specs.made_of(page, "\n".join(line for definition in page.definitions for line in definition.lines))
+    parts = {}
+    for key in dict.fromkeys(key for key in named if key in shown and subject_of(shown[key][0])):
+        file = shown[key][0]
+        parts.setdefault(subject_of(file)[0], {}).setdefault(file.path.stem, []).append(f"`{key[2]}`")
+    return "\n".join(
+        f"| {SUBJECTS[number][0]} | {'; '.join(f'{file}: ' + ', '.join(names) for file, names in files.items())} |" for number, files in sorted(parts.items()))
+
+
 def lacks(shown, explained):
     """What the page can't show."""
     used = set().union(*(used_of_std(page, "\n".join(definition.lines)) for page, definition in shown.values()))
@@ -399,7 +452,7 @@ def page_of(pages):
     law = re.search(r"((?:^///.*\n)+)(?:#.*\n)*(pub fn coherent\(\)(?:\n .*)+)", specs.THEOREM.read_text(), re.MULTILINE)
     doc = re.sub(r"(?<!\n)\n(?!\n)", " ", re.sub(r"^/// ?", "", law.group(1).strip(), flags=re.MULTILINE))
     records = RECORDS.read_text().split("\n\n", 1)[1].strip()
-    text = HEAD.format(doc=wrapped(doc), contract=law.group(2), records=records, notation=rows, types=types_of(shown.values()).strip())
+    text = HEAD.format(doc=wrapped(doc), contract=law.group(2), records=records, index=index(pages, shown, law.group(2)), notation=rows, types=types_of(shown.values()).strip())
     for number, (title, _) in enumerate(SUBJECTS):
         text += f"\n## {title}\n\n" + "\n".join(files_of(pages, shown, number))
     return text

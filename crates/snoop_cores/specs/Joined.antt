@@ -68,7 +68,7 @@ pub record Joins (items : List Item) (seats : List Seating) : Type 0 where
   pub legal : Legal items
   pub answered : All (λ seat. answers_of items seat.core ≡ seat.answers) seats
 
--- a log and steps of one moment at which nothing is under way or pending; the log joins the seats
+-- a log and steps that belong together, at whose end nothing waits or is open, and seats with nothing pending; the log joins the seats
 pub record IsJoined (protocol : Protocol) (shape : Extent) (seats : List Seating) (items : List Item) (steps : List Step) : Type 0 where
   -- the steps were all taken, lead there from reset, and made this log
   pub at : Situation
