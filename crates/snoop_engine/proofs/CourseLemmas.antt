@@ -1,5 +1,5 @@
 -- Courses, step by step: that each step leaves fewer to come, and the rows that they serve.
-use Rattle.snoop_engine.proofs.Common.{filter, is_operation, AsksOneByOne, AsksWhenQuiet, IsQuietFor, LeadsToQuietFor, none-some, common_steps, ◌≡◌, ℕ, ◌+◌, ◌*◌, ◌<◌, true, cond, Option, Some, None, List, [], ◌∷◌, ◌++◌, length, length-append, map, refl, sym, ◌∙◌, ap, arith, Result, Ok, IsOk, IfNone, filter-append, length-map, map-append, All-cons, All-nil, Extent, Row, Step, Protocol, Reply, Refused, Picture, Situation, reset, FirstMove, TheRun, IsQuiet, steps_paid, turn_rule, untouched, has_transaction, steps_owed, LeadsOn, EndsInOrder, InOrder, LeadsToRest, remaining_in_order, StepsServe, StepsServeSerially, IsAtTheEnd, IsAtTheStart, Progress, ServesSerially, all_asks, ask_for, is_ask, Serves, asks_of, works_of, cases_lt, get_or_past, get_or-set_same, get_or-set_other, inl, inr, nothing_to_do, slice_set, sum_by-set, ◌≢◌, suc, sum_by-cons, Ask, eq-eqb, ne_eqb, Todo, todo_of, left_in, TakesUp, remaining, TakesUpNext}
+use Rattle.snoop_engine.proofs.Common.{filter, is_operation, AsksOneByOne, AsksWhenQuiet, IsQuietFor, none-some, common_steps, ◌≡◌, ℕ, ◌+◌, ◌*◌, ◌<◌, true, cond, Option, Some, None, List, [], ◌∷◌, ◌++◌, length, length-append, map, refl, sym, ◌∙◌, ap, arith, Result, Ok, IsOk, IfNone, filter-append, length-map, map-append, All-cons, All-nil, Extent, Row, Step, Protocol, Reply, Refused, Picture, Situation, reset, FirstMove, TheRun, IsQuiet, steps_paid, turn_rule, untouched, has_transaction, steps_owed, LeadsOn, EndsInOrder, InOrder, LeadsToRest, remaining_in_order, StepsServe, StepsServeSerially, IsAtTheEnd, IsAtTheStart, Progress, ServesSerially, all_asks, ask_for, is_ask, Serves, asks_of, works_of, cases_lt, get_or_past, get_or-set_same, get_or-set_other, inl, inr, nothing_to_do, slice_set, sum_by-set, ◌≢◌, suc, sum_by-cons, Ask, eq-eqb, ne_eqb, Todo, todo_of, left_in, TakesUp, remaining, TakesUpNext}
 use Rattle.std.proofs.lemmas.List.Folds.{sum_by-replicate}
 use Rattle.snoop_engine.proofs.{OrderLemmas.{legal_history, performed_in_order}, TakenLemmas.same_shape}
 
