@@ -1,16 +1,13 @@
 -- Lists of tables, and the table of a block: its rows by its cells and by its columns, and one frame more.
 use Rattle.std.proofs.Common.{◌&&◌, ◌-◌, ◌==◌, filter, if◌then◌else◌, leb-true, length-set, lt-ltb, nat_le, nat_lt, slice_set, take_all}
-use Rattle.std.proofs.lemmas.{Bool.{and_parts, cases_lt, Decides.nat_tests}, Grind.get_or-set_at}
+use Rattle.std.{proofs.lemmas.{Bool.{and_parts, cases_lt, Decides.nat_tests}, Grind.get_or-set_at}, specs.Option.option_map_or}
 use Rattle.std.proofs.lemmas.List.{get_or-set_other, get_or_append_left, get_or_push, take-append-le, Elements.filter-append, Folds.flat_map-map}
-use Rattle.std.specs.Option.{option_map_or}
 use Rattle.snoop_model.specs.Pictures.Situation.{reset}
 use Rattle.snoop_engine.proofs.{Common.flat_map_more, NumberedLemmas.{led_on, numbered, numbered_on}, RangeLemmas.more_from_zero}
-use Rattle.snoop_engine.specs.Chosen.{is_chosen, is_in_range}
-use Rattle.snoop_engine.specs.{Numbered.{led_to, Numbered, numbered_from}, Views.block_of_step}
+use Rattle.snoop_engine.specs.{Chosen.{is_chosen, is_in_range}, Numbered.{led_to, Numbered, numbered_from}, Views.block_of_step}
 use Rattle.snoop_states.proofs.Common.{[], ℕ, ◌++◌, ◌+◌, ◌<◌, ◌∙◌, ◌∷◌, ◌≡◌, ◌≤◌, ap, append-nil, append_assoc, AreEach, arith, Bool, both_ways, cell_text, Chosen, codes, Column, Extent, false, flat_map, Frame, get_or, Grows, inl, inr, IsEmpty, IsTable, length, length_push, line_text, List, map, map-append, map-map, Option, pair, Protocol, range_with_len, refl, Situation, sym, take, true}
-use Rattle.snoop_states.specs.{Rows.{cells_text, names_text}, Seen.{HasCells, HasRows}, declared.table.{Cell.Cell, Table.Table}}
+use Rattle.snoop_states.specs.{Rows.{cells_text, names_text}, Seen.{HasCells, HasRows}, declared.{table.{Cell.Cell, Table.Table}, widths.Widths.Widths}}
 use Rattle.snoop_states.specs.Tables.{first_row, first_shown, heading_text, is_of, rows_text, shown_block, shown_of, table_text}
-use Rattle.snoop_states.specs.declared.widths.Widths.{Widths}
 
 -- the piece of the next number comes after the pieces so far
 pub pieces_more : (f : ℕ → List ℕ) (before : List ℕ) (n : ℕ) → before ++ flat_map f (range_with_len 0 (n + 1)) ≡ (before ++ flat_map f (range_with_len 0 n)) ++ f n

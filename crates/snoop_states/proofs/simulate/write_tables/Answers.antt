@@ -1,20 +1,11 @@
 use Rattle.std.proofs.{Common.{suc, zero}, lemmas.{Option.slice_get_cases, Result.on_err_weaker}}
 use Rattle.snoop_trace.{proofs.OutputLemmas.on_err, specs.declared.step.Step.Step}
-use Rattle.snoop_engine.{proofs.{RangeLemmas.filter_range, ShownLemmas.begins_nothing, ViewLemmas.quiet_view}, specs.Frames.AreFrames}
-use Rattle.snoop_engine.specs.{SimulatedView.{BeginsToShow, ShowsRun}, Views.view_text}
+use Rattle.snoop_engine.proofs.{RangeLemmas.filter_range, ShownLemmas.{begins_nothing, begun_so, shown_so}, ViewLemmas.quiet_view}
+use Rattle.snoop_engine.specs.{Frames.AreFrames, Views.view_text}
 use Rattle.snoop_states.proofs.Common.{[], ℕ, ◌+◌, ◌<◌, ◌∙◌, ◌≡◌, ◌≤◌, AreMarks, arith, block_table, Bool, Chosen, Column, columns_for, columns_in, Extent, flat_map, Frame, inl, inr, is_asker, List, mark_at, on_ok_weaker, Option, Protocol, range_with_len, refl, Situation}
 use Rattle.snoop_states.specs.{Columns.columns_of, Views.IsFor, Whole.{states_table_text, tables_text}, Widths.widths_of, declared.asked.Marks.Marks}
 use Rattle.snoop_states.specs.declared.tables.Tables.{Tables}
 use Rattle.snoop_states.proofs.simulate.write_tables.Goals as goal
-
--- another definition of the text that is shown of the run
-module _ {protocol : Protocol} {shape : Extent} {steps : List Step} {one other : List Frame → Situation → List ℕ} {old new : Option (List ℕ)}
-    (same : (frames : List Frame) (final : Situation) → AreFrames protocol shape steps frames final → one frames final ≡ other frames final) where
-  shown_so : ShowsRun protocol shape one steps old new → ShowsRun protocol shape other steps old new
-  shown_so h = record { frames = h.frames; final = h.final; run = h.run; taken = h.taken; rows = h.rows; output = rw (← same h.frames h.final h.run) h.output }
-
-  begun_so : BeginsToShow protocol shape one steps old new → BeginsToShow protocol shape other steps old new
-  begun_so h = record { frames = h.frames; final = h.final; run = h.run; taken = h.taken; rows = h.rows; output = rw (← same h.frames h.final h.run) h.output }
 
 -- what is the same of each number of a range
 flat_same : (f g : ℕ → List ℕ) (a n : ℕ) → ((k : ℕ) → a ≤ k → k < a + n → f k ≡ g k) → flat_map f (range_with_len a n) ≡ flat_map g (range_with_len a n)
