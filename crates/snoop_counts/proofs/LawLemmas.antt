@@ -2,24 +2,24 @@
 use Rattle.std.proofs.{Common.{◌^◌, zero}, Math.Bool.or-false, lemmas.Bool.{both_ways, false≢true, lt-ltb}}
 use Rattle.std.proofs.lemmas.List.Elements.{All-contains, All-contains_itself, All-map, Contains-append_left, Contains-append_right}
 use Rattle.std.proofs.lemmas.List.{Folds.{fold-map, fold_stays}, Sums.{length-filter, sum_by_from}}
-use Rattle.std.{proofs.lemmas.{Grind.common_steps, Nat.{mul-add-lt, mul-le, same_from_place}, Option.gets}, specs.{List.sum_by}}
+use Rattle.std.{proofs.lemmas.{Grind.common_steps, Nat.{mul-add-lt, mul-le, same_from_place}, Option.gets}, specs.{List.sum_by, Option.ForSome}}
 use Rattle.std.specs.Prelude.{Err, IsSomeAnd, nat_lt, option_to_list, slice_get}
-use Rattle.snoop_trace.specs.Extent.{IsWithinLimits}
-use Rattle.snoop_rules.specs.declared.names.{CacheEvent.TheVariants.OtherGetM, Payload.{Payload}}
+use Rattle.snoop_trace.specs.{Extent.IsWithinLimits, Words.IsWord, declared.step.Op.Op}
+use Rattle.snoop_rules.specs.declared.names.{CacheAction.CacheAction, CacheEvent.TheVariants.OtherGetM, Payload.{Payload}}
 use Rattle.snoop_history.specs.{Totals.{how_many, performed, totals_of}, Within.{block_of, IsItemWithin}}
-use Rattle.snoop_model.proofs.{Queues.keeps_well, Runs.{GoOn.{IsSteady, reset_steady, steady_on}, Replies.move_tells}}
-use Rattle.snoop_model.specs.{Moves.Replies.Tells, Pictures.Situation.{IsShaped, nothing_there}}
-use Rattle.snoop_model.specs.declared.replies.Reply.TheVariants.{Absent, Came, Gone, Hit, Issued, Ordered, StoreHit}
-use Rattle.snoop_engine.proofs.Common.{All-append, All-cons, arrival, Ask, CacheEvent, CacheState, cases_lt, ConsultsCache, Contains, Extent, get_or_past, GoesFirst, I, IfSome, Invariant, Item, nothing_held, Order, picture_of, Protocol, reset, Respond, ShowsRows, state_of, waiting_request}
+use Rattle.snoop_model.proofs.{OneBlock.AfterMoves.by_request, Queues.keeps_well, Runs.GoOn.{IsSteady, reset_steady, steady_on}}
+use Rattle.snoop_model.specs.{Moves.Move.{MoveOn, next_did, Takes}, Pictures.Situation.{IsShaped, nothing_there}}
+use Rattle.snoop_engine.proofs.Common.{All-append, All-cons, arrival, Ask, CacheEvent, CacheState, cases_lt, ConsultsCache, Contains, Extent, get_or_past, GoesFirst, HasWord, I, IfSome, Invariant, IsWithin, Item, Line, nothing_held, Order, picture_of, Protocol, reset, Respond, same_Some, ShowsRows, state_of, subst, waiting_request}
 use Rattle.snoop_engine.{proofs.{RangeLemmas.filter_range, TakenLemmas.goes_alike, TrueLines.lines_fit}, specs.{Frames.FramesFrom, TrueLines.FitsStep}}
-use Rattle.snoop_counts.proofs.Common.{[], ℕ, ◌&&◌, ◌*◌, ◌++◌, ◌+◌, ◌<◌, ◌==◌, ◌||◌, ◌∙◌, ◌∷◌, ◌≡◌, ◌≤◌, All, All-head, All-nil, All-tail, ap, append-nil, append_assoc, arith, Blocks, Bool, Cause, cause_of, cond, Core, Cores, Count, counts, Did, false, filter, filter-append, flat_map, Frame, get_or, Happening, happenings, if◌then◌else◌, is_counted, length, length-append, lines_of_step, List, map, nat_tests, None, not, Ok, operation_in, Option, option_map_or, range_with_len, refl, Refused, Reply, Result, Situation, Some, Step, Subjects, suc, sym, Taken, times_counted, true, Words}
+use Rattle.snoop_counts.proofs.Common.{[], ℕ, ◌&&◌, ◌*◌, ◌++◌, ◌+◌, ◌<◌, ◌==◌, ◌||◌, ◌∙◌, ◌∷◌, ◌≡◌, ◌≤◌, All, All-head, All-nil, All-tail, ap, append-nil, append_assoc, arith, Blocks, Bool, Cause, cause_of, cond, Core, Cores, Count, counts, Did, false, filter, filter-append, flat_map, Frame, get_or, Happening, happenings, if◌then◌else◌, inl, inr, is_counted, length, length-append, lines_of_step, List, map, nat_tests, None, not, Ok, operation_in, Option, option_map_or, range_with_len, refl, Refused, Reply, Result, Situation, Some, Step, Subjects, suc, sym, Taken, times_counted, true, Words}
 use Rattle.snoop_counts.{proofs.{LastLemmas.seen_cut, TallyLemmas.{IsOfItems, no_cause, no_line, not_refused}}, specs.Causes.item_of}
 use Rattle.snoop_counts.specs.Counted.{core_counted, counts_cause, counts_item, has_row, is_invalidation, is_it, is_miss, named_place, own_core, own_word, place_of_word, requestor_of, response_sender, subject_of}
-use Rattle.snoop_counts.specs.{Happenings.{seen_after, seen_in}, Laws.{CausesAreAll, DoneIsSuffered, PartsAddUp, sum_of, sum_of_words, sums_of, SumsAreTotals, WordsAddUp}}
+use Rattle.snoop_counts.specs.{Happenings.{seen_after, seen_in}, Laws.{CausesAreAll, HasSumsOfWords, HasTotals, PartsAddUp, SuffersWhatIsDone, sum_of, sum_of_words, sums_of}}
 use Rattle.snoop_counts.specs.declared.count.Count.TheVariants as count
 use Rattle.snoop_counts.specs.declared.count.Happening.TheVariants as happening
 use Rattle.snoop_counts.specs.declared.count.Subjects.TheVariants as subjects
 use Rattle.snoop_history.specs.declared.items.Item.TheVariants as item
+use Rattle.snoop_rules.specs.declared.names.CacheAction.TheVariants as action
 use Rattle.snoop_trace.specs.declared.step.Op.TheVariants as op
 
 -- parts add up
@@ -96,52 +96,101 @@ abbrev IsOfOneBlock : Item → Type 0
 IsOfOneBlock (item.Came came did) = IfSome did (λ done. done.block ≡ came.block)
 IsOfOneBlock _ = Unit {0}
 
+-- what a run may add to its history: an item within the shape, and if it is a response with an operation, this is of its block
+record IsSound (shape : Extent) (entry : Item) : Type 0 where
+  pub within : IsItemWithin shape.cores shape.blocks shape.words entry
+  pub of_one_block : IsOfOneBlock entry
+
 -- a history has one item more, or is the same
-record Adds (old new : List Item) (entry : Option Item) : Type 0 where
+record Adds (shape : Extent) (old new : List Item) (entry : Option Item) : Type 0 where
   pub logged : new ≡ old ++ option_to_list entry
-  pub of_one_block : All IsOfOneBlock (option_to_list entry)
+  pub sound : All (IsSound shape) (option_to_list entry)
 
-none_added : {old new : List Item} → new ≡ old → (entry : Option Item) × Adds old new entry
-none_added {old} same = (None, record { logged = same ∙ sym (append-nil old); of_one_block = All-nil IsOfOneBlock })
+module _ {shape : Extent} {old new : List Item} where
+  none_added : new ≡ old → (entry : Option Item) × Adds shape old new entry
+  none_added same = (None, record { logged = same ∙ sym (append-nil old); sound = All-nil (IsSound shape) })
 
-one_added : {old new : List Item} (entry : Item) → new ≡ old ++ entry ∷ [] → IsOfOneBlock entry → (entry : Option Item) × Adds old new entry
-one_added entry is one = (Some entry, record { logged = is; of_one_block = All-cons IsOfOneBlock entry [] one (All-nil IsOfOneBlock) })
+  one_added : (entry : Item) → new ≡ old ++ entry ∷ [] → IsSound shape entry → (entry : Option Item) × Adds shape old new entry
+  one_added entry is one = (Some entry, record { logged = is; sound = All-cons (IsSound shape) entry [] one (All-nil (IsSound shape)) })
 
--- a step adds one item at most, as its reply tells
-told_adds : {old new : List Item} (step : Step) (answer : Reply) → Tells old step (Ok answer) new → (entry : Option Item) × Adds old new entry
-told_adds (Ask core block word op.Load) (Hit value) tells = one_added _ tells tt
-told_adds (Ask core block word (op.Store value)) StoreHit tells = one_added _ tells tt
-told_adds (Ask core block word asking) (Issued request) tells = none_added tells.1
-told_adds (Ask core block word op.Evict) Gone tells = none_added tells
-told_adds (Ask core block word op.Evict) Absent tells = none_added tells
-told_adds (Order core) (Ordered request) tells = one_added _ tells.1 tt
-told_adds (Respond block) (Came payload from None) tells = one_added _ tells.1.1 tt
-told_adds (Respond block) (Came payload from (Some did)) tells = one_added _ tells.1.1 tells.1.2.1
-told_adds step answer tells = absurd tells
+-- a fact about what is there, if anything, as one about whatever that is
+if_any : {X : Type 0} (P : X → Type 0) (found : Option X) → IfSome found P → ForSome found P
+if_any P None holds x is = cc
+if_any P (Some y) holds x is = subst P (same_Some y x is) holds
+
+-- the core, the block and the word of an operation are there
+abbrev IsDidWithin : Extent → Did → Type 0
+IsDidWithin shape did = (did.core < shape.cores) × (did.block < shape.blocks) × (did.word < shape.words)
+
+-- an Ask's row adds its hit, or nothing
+module _ (s : Situation) (core block word : ℕ) (asking : Op) (within : IsWithin s core block) (there : HasWord s.shape word asking)
+    (next : CacheState) (old new : Line) (answer : Reply) where
+  row_adds : {log : List Item} (act : CacheAction) (entry : Option Item) → Takes act next s.log core block word asking old new answer entry
+      → log ≡ s.log ++ option_to_list entry → (entry : Option Item) × Adds s.shape s.log log entry
+  row_adds action.Hit entry took logged =
+      let has : IsWord s.shape word = grind (arith, there, took.1.0.performed) in
+      let did = next_did s.log core block word asking took.0 true in
+      one_added (item.Did did) (rw took.1.2 at logged) (record {
+        within = record { core = within.0; block = within.1; sender = if_any _ None tt; operation = if_any _ (Some did) (within.0, within.1, has.0) };
+        of_one_block = tt;
+      })
+  row_adds act entry took logged =
+      let none : entry ≡ None = grind (arith, took) in
+      none_added (rw none at logged ∙ append-nil s.log)
+
+-- a step adds one item at most
+move_adds : (block : ℕ) (old new : Situation) (step : Step) (answer : Reply) → Invariant old → MoveOn block old step answer new
+    → (entry : Option Item) × Adds old.shape old.log new.log entry
+move_adds block old new (Ask core on word asking) answer kept move = elim move.moves [
+  | inl absent ↦ none_added (ap (λ (s : Situation). s.log) absent.3)
+  | inr asks ↦ row_adds old core block word asking move.within move.has_word asks.row.next _ asks.held answer asks.row.action asks.entry asks.taken
+      (ap (λ (s : Situation). s.log) asks.after)
+]
+move_adds block old new (Order core) answer kept move =
+    one_added _ (ap (λ (s : Situation). s.log) move.orders.after) (record {
+      within = record { core = move.within.0; block = move.within.1; sender = if_any _ None tt; operation = if_any _ None tt };
+      of_one_block = tt;
+    })
+move_adds block old new (Respond on) answer kept move =
+    let closing = move.closing in
+    let responds = move.responds in
+    let here = kept.blocks block move.within in
+    let core = here.requestor_in closing responds.opened in
+    let placed : closing.block < old.shape.blocks = rw (kept.opened block closing responds.opened) move.within in
+    let done : IfSome move.did (IsDidWithin old.shape) × IfSome move.did (λ did. did.block ≡ closing.block) =
+    elim (by_request closing.request responds.requestor) [
+      | inl put ↦ rw put.2 (tt, tt)
+      | inr (_, fills) ↦ rw fills.logged ((core, placed, (kept.accesses closing.core block fills.asking fills.fills.waited).0), refl)
+    ] in
+    one_added _ (ap (λ (s : Situation). s.log) responds.after) (record {
+      within = record { core = core; block = placed; sender = here.sender_in closing responds.opened; operation = if_any _ move.did done.0 };
+      of_one_block = done.1;
+    })
 
 step_adds : (old new : Situation) (step : Step) (outcome : Result Reply Refused) → Invariant old → GoesFirst old step outcome new
-    → (entry : Option Item) × Adds old.log new.log entry
-step_adds old new step (Ok answer) kept move = told_adds step answer (move_tells old new step answer kept move)
+    → (entry : Option Item) × Adds old.shape old.log new.log entry
+step_adds old new step (Ok answer) kept goes = move_adds goes.0 old new step answer kept goes.1.1
 step_adds old new step (Err cause) kept refused = none_added (ap (λ (s : Situation). s.log) refused.1)
 
 last_got : {X : Type 0} (xs : List X) (entry : Option X) → slice_get (xs ++ option_to_list entry) (length xs) ≡ entry
 last_got xs entry = grind (arith, gets, common_steps)
 
-frame_adds : (frame : Frame) → (entry : Option Item) × Adds frame.before.log frame.after.log entry → Adds frame.before.log frame.after.log (item_of frame)
+frame_adds : (frame : Frame) → (entry : Option Item) × Adds frame.before.shape frame.before.log frame.after.log entry
+    → Adds frame.before.shape frame.before.log frame.after.log (item_of frame)
 frame_adds frame adds = rw (ap (λ (l : List Item). slice_get l (length frame.before.log)) adds.1.logged ∙ last_got frame.before.log adds.0) adds.1
 
--- a run: the machine has its shape before each step, and the history is what the steps added
+-- a run: the machine has its shape before each step, and the history is what the steps added, all of it sound
 abbrev IsShapedBefore : Extent → Frame → Type 0
 IsShapedBefore shape frame = IsShaped frame.before × (frame.before.shape ≡ shape)
 
 record IsRun (frames : List Frame) (old new : Situation) : Type 0 where
   pub shaped : All (IsShapedBefore old.shape) frames
   pub logged : new.log ≡ old.log ++ items_in frames
-  pub of_one_block : All IsOfOneBlock (items_in frames)
+  pub sound : All (IsSound old.shape) (items_in frames)
 
 are_run : (frames : List Frame) (old new : Situation) → IsSteady old → FramesFrom old frames new → IsRun frames old new
 are_run [] old new steady run =
-    record { shaped = All-nil (IsShapedBefore old.shape); logged = rw run (sym (append-nil old.log)); of_one_block = All-nil IsOfOneBlock }
+    record { shaped = All-nil (IsShapedBefore old.shape); logged = rw run (sym (append-nil old.log)); sound = All-nil (IsSound old.shape) }
 are_run (f ∷ fs) old new steady run =
     let from : IsSteady f.before = rw run.0.before steady in
     let goes = run.0.goes in
@@ -154,7 +203,7 @@ are_run (f ∷ fs) old new steady run =
       shaped = All-cons (IsShapedBefore old.shape) f fs (from.0.shaped, shape) (rw same at rest.shaped);
       logged = rest.logged ∙ ap (λ (l : List Item). l ++ items_in fs) (adds.logged ∙ ap (λ (s : Situation). s.log ++ added) run.0.before)
           ∙ append_assoc old.log added (items_in fs);
-      of_one_block = All-append IsOfOneBlock added (items_in fs) adds.of_one_block rest.of_one_block;
+      sound = All-append (IsSound old.shape) added (items_in fs) (rw shape at adds.sound) (rw same at rest.sound);
     }
 
 -- a test that no line passes is passed by items alone
@@ -280,14 +329,13 @@ by_row : (step : Step) (outcome : Result Reply Refused) (line : Taken) (why : Op
     → counts count.Invalidated (happening.Line step outcome line why) ≡ has_row is_invalidation line
 by_row step outcome line why = simp (not_refused outcome, no_cause why, or-false) refl
 
--- the counts of a run, of a machine whose history is within its shape
-module _ (protocol : Protocol) (shape : Extent) (frames : List Frame) (final : Situation) (run : FramesFrom (reset protocol shape) frames final)
-    (within : All (IsItemWithin shape.cores shape.blocks shape.words) final.log) where
+-- the counts of a run
+module _ (protocol : Protocol) (shape : Extent) (frames : List Frame) (final : Situation) (run : FramesFrom (reset protocol shape) frames final) where
   is_run : IsRun frames (reset protocol shape) final
   is_run = are_run frames (reset protocol shape) final (reset_steady protocol shape) run
 
-  item_within : (entry : Item) → Contains (items_in frames) entry → IsItemWithin shape.cores shape.blocks shape.words entry
-  item_within entry here = All-contains (IsItemWithin shape.cores shape.blocks shape.words) final.log entry within (rw (← is_run.logged) at here)
+  item_sound : (entry : Item) → Contains (items_in frames) entry → IsSound shape entry
+  item_sound entry here = All-contains (IsSound shape) (items_in frames) entry is_run.sound here
 
   -- the sum of a count of items, each of which is counted for one that is there
   items_sum : (whose : Subjects) (many : ℕ) (c : Count) → IsOfItems c
@@ -297,7 +345,7 @@ module _ (protocol : Protocol) (shape : Extent) (frames : List Frame) (final : S
       sum_once whose many c (happenings frames)
       (all_seen (IsThere whose many c) [] frames
       (λ before frame line here in_lines is. absurd (both_ways _ (no_line c items frame.step frame.outcome line _) is))
-      (λ entry here. there entry (item_within entry here)))
+      (λ entry here. there entry (item_sound entry here).within))
       ∙ items_alone (counts c) (no_line c items) [] frames ∙ ap (how_many (counts_item c)) (sym is_run.logged)
 
   -- of the counts of the report, over all cores or all blocks
@@ -323,10 +371,11 @@ module _ (protocol : Protocol) (shape : Extent) (frames : List Frame) (final : S
       stale = total count.Stale refl refl i;
     }
 
-  pub sums_are_totals : SumsAreTotals shape frames final.log
-  sums_are_totals = record {
+  pub has_totals : HasTotals shape frames final.log
+  has_totals = record {
     cores = sums_total Cores shape.cores (λ c own entry inside. rw own inside.core);
     blocks = sums_total Blocks shape.blocks (λ c own entry inside. inside.block);
+    machine = sums_total subjects.Machine 1 (λ c own entry inside. omega arith);
   }
 
   -- for each invalidation the cores are there
@@ -341,8 +390,8 @@ module _ (protocol : Protocol) (shape : Extent) (frames : List Frame) (final : S
       (line_there frame shaped.0 line why (All-contains (FitsStep frame) _ line fits in_lines) (sym (by_row frame.step frame.outcome line why) ∙ is)))
       (λ entry here is. absurd (false≢true is))
 
-  pub done_is_suffered : DoneIsSuffered shape frames
-  done_is_suffered = record {
+  pub suffers : SuffersWhatIsDone shape frames
+  suffers = record {
     invalidates = sum_once Cores shape.cores count.Invalidates (happenings frames) (λ k d low is. (invalidations_there k d low is).1)
         ∙ sym (sum_once Cores shape.cores count.Invalidated (happenings frames) (λ k d low is. (invalidations_there k d low is).0));
     supplied = items_sum Cores shape.cores count.Supplied refl (sender_there shape.cores shape.blocks shape.words)
@@ -359,11 +408,11 @@ module _ (protocol : Protocol) (shape : Extent) (frames : List Frame) (final : S
       sum_kept of_word (is_counted Blocks b c) numbers (happenings frames)
       (all_seen (IsOnce of_word (is_counted Blocks b c) numbers) [] frames
       (λ before frame line here in_lines. rw (no_line c items frame.step frame.outcome line (cause_of before (operation_in frame) line)) (sum_zero numbers))
-      (λ entry here. rw is (performed_ones shape.cores shape.blocks shape.words b few test entry (item_within entry here)
-      (All-contains IsOfOneBlock (items_in frames) entry is_run.of_one_block here))))
+      (λ entry here. let sound = item_sound entry here in
+      rw is (performed_ones shape.cores shape.blocks shape.words b few test entry sound.within sound.of_one_block)))
 
-  pub words_add_up : IsWithinLimits shape → (b : ℕ) → WordsAddUp shape (happenings frames) b
-  words_add_up limits b = record {
+  pub sums_of_words : IsWithinLimits shape → (b : ℕ) → HasSumsOfWords shape (happenings frames) b
+  sums_of_words limits b = record {
     loads = words_sum limits count.Loads (λ did. did.load) refl refl b;
     load_hits = words_sum limits count.LoadHits (λ did. did.load && did.hit) refl refl b;
     stores = words_sum limits count.Stores (λ did. not did.load) refl refl b;

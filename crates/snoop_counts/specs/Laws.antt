@@ -1,12 +1,19 @@
 -- What holds of all tables of counts.
 -- Source: this project's profile.
 use Rattle.std.specs.{Prelude.{◌≡◌, ℕ, ◌+◌, List, ◌++◌}, List.{range_with_len, sum_by}}
-use Rattle.snoop_trace.specs.Extent.{Extent}
+use Rattle.snoop_trace.specs.{Extent.{Extent, IsWithinLimits}, declared.{protocol.Protocol.Protocol, step.Step.Step}}
 use Rattle.snoop_history.specs.{Totals.totals_of, declared.items.{Item.Item, Totals.Totals}}
-use Rattle.snoop_engine.specs.Frames.{Frame}
+use Rattle.snoop_model.specs.Pictures.Situation.{Situation}
+use Rattle.snoop_engine.specs.Frames.{AreFrames, Frame}
 use Rattle.snoop_counts.specs.{Counted.{place_of_word, times_counted}, Happenings.{happenings, seen_after}, declared.count.{Count.Count, Happening.Happening}}
 use Rattle.snoop_counts.specs.declared.count.Count.TheVariants as count
-use Rattle.snoop_counts.specs.declared.count.Subjects.{Subjects, TheVariants.{Blocks, Cores, Words}}
+use Rattle.snoop_counts.specs.declared.count.Subjects.{Subjects, TheVariants.{Blocks, Cores, Machine, Words}}
+
+-- a fact about the run of any steps: its shape, its frames, and where they lead
+abbrev pub OfEveryRun : (Extent → List Frame → Situation → Type 0) → Type 0
+OfEveryRun P =
+    (protocol : Protocol) (shape : Extent) (steps : List Step) (frames : List Frame) (final : Situation) →
+    AreFrames protocol shape steps frames final → P shape frames final
 
 -- the sum of a count over so many subjects
 abbrev pub sum_of : Subjects → ℕ → List Happening → Count → ℕ
@@ -30,10 +37,15 @@ sums_of whose many seen =
       stale = sum_of whose many seen count.Stale;
     }
 
--- over all cores, and over all blocks, they are the report's
-pub record SumsAreTotals (shape : Extent) (frames : List Frame) (items : List Item) : Type 0 where
+-- over all cores, over all blocks, and of the machine, of which there is one, they are those of these items
+pub record HasTotals (shape : Extent) (frames : List Frame) (items : List Item) : Type 0 where
   pub cores : sums_of Cores shape.cores (happenings frames) ≡ totals_of items
   pub blocks : sums_of Blocks shape.blocks (happenings frames) ≡ totals_of items
+  pub machine : sums_of Machine 1 (happenings frames) ≡ totals_of items
+
+-- in the run of any steps, over all cores, over all blocks, and of the machine, the sums of the first twelve counts are those of the report
+abbrev pub SumsAreTotals : Type 0
+SumsAreTotals = OfEveryRun (λ shape frames final. HasTotals shape frames final.log)
 
 -- of every core, block and word, and of the machine, the misses are those of the four causes
 abbrev pub CausesAreAll : Type 0
@@ -48,18 +60,26 @@ PartsAddUp =
     (earlier first rest : List Frame) (whose : Subjects) (subject : ℕ) (counted : Count)
     → times_counted whose (seen_after earlier (first ++ rest)) subject counted ≡ times_counted whose (seen_after earlier first) subject counted + times_counted whose (seen_after (earlier ++ first) rest) subject counted
 
--- over all cores, what cores do to others has the sum of what others do to them
-pub record DoneIsSuffered (shape : Extent) (frames : List Frame) : Type 0 where
+-- over all cores, what cores do to others has the sum of what is done to them
+pub record SuffersWhatIsDone (shape : Extent) (frames : List Frame) : Type 0 where
   pub invalidates : sum_of Cores shape.cores (happenings frames) count.Invalidates ≡ sum_of Cores shape.cores (happenings frames) count.Invalidated
   pub supplied : sum_of Cores shape.cores (happenings frames) count.Supplied ≡ sum_of Cores shape.cores (happenings frames) count.FromCaches
+
+-- in the run of any steps, over all cores, what cores do to others has the sum of what others do to them
+abbrev pub DoneIsSuffered : Type 0
+DoneIsSuffered = OfEveryRun (λ shape frames final. SuffersWhatIsDone shape frames)
 
 -- the sum of a count over the words of a block
 abbrev pub sum_of_words : Extent → List Happening → ℕ → Count → ℕ
 sum_of_words shape seen block counted = sum_by (λ word. times_counted (Words shape.words) seen (place_of_word shape.words block word) counted) (range_with_len 0 shape.words)
 
 -- over the words of a block, the counts of the words have the sums that the block has
-pub record WordsAddUp (shape : Extent) (seen : List Happening) (block : ℕ) : Type 0 where
+pub record HasSumsOfWords (shape : Extent) (seen : List Happening) (block : ℕ) : Type 0 where
   pub loads : sum_of_words shape seen block count.Loads ≡ times_counted Blocks seen block count.Loads
   pub load_hits : sum_of_words shape seen block count.LoadHits ≡ times_counted Blocks seen block count.LoadHits
   pub stores : sum_of_words shape seen block count.Stores ≡ times_counted Blocks seen block count.Stores
   pub store_hits : sum_of_words shape seen block count.StoreHits ≡ times_counted Blocks seen block count.StoreHits
+
+-- in the run of any steps, for a shape within its limits, over the words of each block, the counts of the words have the sums that the block has
+abbrev pub WordsAddUp : Type 0
+WordsAddUp = OfEveryRun (λ shape frames final. IsWithinLimits shape → (block : ℕ) → HasSumsOfWords shape (happenings frames) block)

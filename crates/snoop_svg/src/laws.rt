@@ -1,14 +1,14 @@
-//! What holds of every drawing. These functions do nothing: a proof calls them for what they ensure.
-ghost use Rattle.snoop_svg.specs.Laws.{HasOneEdge, NewWordsAreBold};
+//! What holds of every drawing, which is of the run of some steps. These functions do nothing: a proof calls them for what they
+//! ensure.
+ghost use Rattle.snoop_svg.specs.Laws.{NewWordsAreBold, RowsHaveOneEdge};
 
 use snoop_draw::laws;
-use snoop_machine::Machine;
 
-/// In the rows of a panel at most one core's band has an edge, and beside it no other core has a band.
-pub fn one_edge(machine: &Machine)
-    ensures { HasOneEdge machine.now.situation }
+/// In each row of a panel at most one core's band has an edge, and beside it no other core has a band.
+pub fn one_edge()
+    ensures { RowsHaveOneEdge }
 {
-    laws::one_edge(machine);
+    laws::one_edge();
 }
 
 /// The words of a cell are bold exactly where they differ from those above it.

@@ -1,5 +1,5 @@
-use Rattle.snoop_counts.proofs.LawLemmas.{words_add_up}
+use Rattle.snoop_counts.proofs.LawLemmas.{sums_of_words}
 use Rattle.snoop_counts.proofs.laws.words.Goals as goal
 
 pub returns : goal.returns
-returns c frames run = words_add_up _ _ frames c.args.machine.now.situation run c.kept.ensures.items c.kept.ensures.limits
+returns c protocol shape steps frames final are = sums_of_words protocol shape frames final are.run
