@@ -104,8 +104,7 @@ module _ (every : ℕ) (some : 0 < every) (frames : List Frame) (frame : Frame) 
   -- no line yet
   pub no_line_yet : (length next % every ≡ 0 → ⊥)
       → (seen_last left frames ++ seen_in frames frame ≡ seen_last (length next % every) next) × (steps_shown every frames frame ≡ [])
-  no_line_yet more =
-      (counted_more ∙ ap (λ (size : ℕ). seen_last size next) (sym (left_now.1 more)), rw (← longer, ne_eqb (length next % every) 0 more) refl)
+  no_line_yet more = (counted_more ∙ ap (λ (size : ℕ). seen_last size next) (sym (left_now.1 more)), rw (← longer, ne_eqb (length next % every) 0 more) refl)
 
   -- a line, and nothing since
   pub line_now : length next % every ≡ 0 → (first : ℕ) → first ≡ length next - (every - 1)

@@ -307,8 +307,7 @@ abbrev AreThere : ℕ → Happening → Type 0
 AreThere cores seen = IsSomeAnd (own_core seen) (λ k. k < cores) × IsSomeAnd (requestor_of seen) (λ k. k < cores)
 
 requestor_there : (s : Situation) → IsShaped s → (step : Step) (outcome : Result Reply Refused) (line : Taken) (why : Option Cause) (core block : ℕ)
-    → ConsultsCache s step core block (Some OtherGetM)
-    → IsSomeAnd (requestor_of (happening.Line step outcome line why)) (λ k. k < s.shape.cores)
+    → ConsultsCache s step core block (Some OtherGetM) → IsSomeAnd (requestor_of (happening.Line step outcome line why)) (λ k. k < s.shape.cores)
 requestor_there s shaped (Ask asker on word op.Load) outcome line why core block looks = let is = looks.3 in absurd cc
 requestor_there s shaped (Ask asker on word asking) outcome line why core block looks = let is = looks.3 in absurd cc
 requestor_there s shaped (Order requestor) outcome line why core block looks =

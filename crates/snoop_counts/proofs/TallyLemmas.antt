@@ -1,7 +1,6 @@
 -- What a count of items alone counts of a line: nothing; rows of counters, and how they go up.
-use Rattle.std.proofs.{Common.{get_or-set_other, subst}, lemmas.{Bool.{and_right, cases_Bool}, Grind.get_or-set_at}}
+use Rattle.std.{proofs.{Common.{get_or-set_other, subst}, lemmas.{Bool.{and_right, cases_Bool}, Grind.get_or-set_at}}, specs.Prelude.slice_get}
 use Rattle.std.proofs.lemmas.{List.{length-set, set-get_or, Folds.fold_stays, Sums.{length-filter, sum_by_push}}, Option.{gets, slice_get-map, slice_get_within}}
-use Rattle.std.specs.Prelude.{slice_get}
 use Rattle.snoop_history.specs.{Journal.counted, Totals.capped}
 use Rattle.snoop_blocks.specs.Places.{changed_at}
 use Rattle.snoop_engine.proofs.Common.{CacheEvent, CacheState, take_more}

@@ -18,8 +18,7 @@ unequal a b ne = false_from_ne_true (bytes_eq a b) (λ is. ne ((bytes_eq-Decides
 
 -- MESI was named
 pub mesi_named : (f : Found) (name : List ℕ) → first_value f (codes "protocol") ≡ Some name
-    → map to_ascii_lowercase name ≡ map to_ascii_lowercase (codes "mesi")
-    → Mesi ≡ protocol_named (rows_of f)
+    → map to_ascii_lowercase name ≡ map to_ascii_lowercase (codes "mesi") → Mesi ≡ protocol_named (rows_of f)
 mesi_named f name given same =
     let lower = equal _ _ same in
     let of_rows = sym (first_value-rows f (codes "protocol")) ∙ given in
@@ -27,8 +26,7 @@ mesi_named f name given same =
 
 -- another text was named
 pub mesi_not_named : (f : Found) (name : List ℕ) → first_value f (codes "protocol") ≡ Some name
-    → (map to_ascii_lowercase name ≡ map to_ascii_lowercase (codes "mesi") → ⊥)
-    → Msi ≡ protocol_named (rows_of f)
+    → (map to_ascii_lowercase name ≡ map to_ascii_lowercase (codes "mesi") → ⊥) → Msi ≡ protocol_named (rows_of f)
 mesi_not_named f name given other =
     let lower = unequal _ _ other in
     let of_rows = sym (first_value-rows f (codes "protocol")) ∙ given in
@@ -57,10 +55,8 @@ given {A} f name text read is = mapped read ∙ ap is_some (is ∙ first_value-r
 
 -- a number that is read by `get_one`
 pub number_read : {E : Type 0} (f : Found) (bits : ℕ) (name : List ℕ) (gives : List ℕ → Result ℕ E → Type 0) (read : Option ℕ)
-    → (one_text f name ≡ None → read ≡ None)
-    → ((text : List ℕ) → one_text f name ≡ Some text → ReadsOne gives text read)
-    → ((text : List ℕ) (parsed : Result ℕ E) → gives text parsed → ParsesUnsigned bits 10 text parsed)
-    → IsReadAs (2 ^ bits) (one_of name (rows_of f)) read
+    → (one_text f name ≡ None → read ≡ None) → ((text : List ℕ) → one_text f name ≡ Some text → ReadsOne gives text read)
+    → ((text : List ℕ) (parsed : Result ℕ E) → gives text parsed → ParsesUnsigned bits 10 text parsed) → IsReadAs (2 ^ bits) (one_of name (rows_of f)) read
 number_read {E} f bits name gives read none some parses = rw (← one_text-rows f name) (go (one_text f name) refl)
   where
     parsed : (text : List ℕ) (answer : Option ℕ) → ReadsOne gives text answer → IsReadAs (2 ^ bits) (Some text) answer
@@ -76,8 +72,7 @@ pub shape_named : (cores blocks bytes words : ℕ) (made : Result Extent ShapeFa
     → OkIff made (IsCoreCount cores × IsBlockCount blocks × IsBlockSize bytes × IsWordCount words bytes) (record { cores = cores; blocks = blocks; block_bytes = bytes; words = words })
     → (made ≡ Err BadCores → ¬ IsCoreCount cores) → (made ≡ Err BadBlocks → IsCoreCount cores × ¬ IsBlockCount blocks)
     → (made ≡ Err BadBytes → IsCoreCount cores × IsBlockCount blocks × ¬ IsBlockSize bytes)
-    → (made ≡ Err BadWords → IsCoreCount cores × IsBlockCount blocks × IsBlockSize bytes × ¬ IsWordCount words bytes)
-    → IsShape cores blocks bytes words made
+    → (made ≡ Err BadWords → IsCoreCount cores × IsBlockCount blocks × IsBlockSize bytes × ¬ IsWordCount words bytes) → IsShape cores blocks bytes words made
 shape_named cores blocks bytes words (Ok shape) ok a b c d = ok.1
 shape_named cores blocks bytes words (Err BadCores) ok a b c d = a refl
 shape_named cores blocks bytes words (Err BadBlocks) ok a b c d = b refl

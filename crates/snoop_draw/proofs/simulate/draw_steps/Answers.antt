@@ -1,7 +1,7 @@
 use Rattle.std.proofs.Common.{◌≡◌, ◌+◌, List, [], length, refl, inr}
-use Rattle.snoop_engine.proofs.{Common.{AreFrames, Chosen, Extent, Frame, Protocol, Situation, Step, view_text}, ViewLemmas.shown_numbered}
-use Rattle.snoop_draw.{proofs.DrawnLemmas.{begun_so, shown_so}, specs.{Drawings.{Sheet, beginning_text, rows_at, sheet_for}, Headings.legend_text}}
-use Rattle.snoop_draw.specs.{Simulated.drawing, declared.marks.Charset.Charset}
+use Rattle.snoop_engine.proofs.Common.{AreFrames, Chosen, Extent, Frame, Protocol, Situation, Step, view_text}
+use Rattle.snoop_engine.proofs.{ShownLemmas.{begun_so, shown_so}, ViewLemmas.shown_numbered}
+use Rattle.snoop_draw.specs.{Drawings.{Sheet, beginning_text, rows_at, sheet_for}, Headings.legend_text, Simulated.drawing, declared.marks.Charset.Charset}
 use Rattle.snoop_draw.proofs.simulate.draw_steps.Goals as goal
 
 -- the view of the sheet for these steps writes their drawing
@@ -17,18 +17,18 @@ returns-in-Ok-show_steps-clause-does g c =
     let panels = rw c.block.ensures at c.in-Ok.ensures in
     let made = rw (c.in-Ok-widths_for.ensures, panels) at c.new-drawing.ensures in (
       rw (c.deref.ensures.value, panels) at (c.if-not-is_small.ensures.0 refl),
-      shown_so _ _ _ _ _ (whole_text made) _ _ c.in-Ok-show_steps.ensures.ok,
+      shown_so (whole_text made) c.in-Ok-show_steps.ensures.ok,
     )
 
 pub returns-in-Err-NoMemory-clause-does : goal.returns-in-Err-NoMemory-clause-does
 returns-in-Err-NoMemory-clause-does g c =
     let made = rw (c.in-Ok-widths_for.ensures, rw c.block.ensures at c.in-Ok.ensures) at c.new-drawing.ensures in
-    inr (begun_so _ _ _ _ _ (whole_text made) _ _ c.in-Err-NoMemory.ensures.front)
+    inr (begun_so (whole_text made) c.in-Err-NoMemory.ensures.front)
 
 pub returns-clause-does : goal.returns-clause-does
 returns-clause-does g c =
     let panels = rw c.block.ensures at c.in-Ok.ensures in
     let made = rw (c.in-Ok-widths_for.ensures, panels) at c.new-drawing.ensures in (
       rw (c.deref.ensures.value, panels) at (c.if-not-is_small.ensures.0 refl),
-      begun_so _ _ _ _ _ (whole_text made) _ _ c.in-Err-Write.ensures.front,
+      begun_so (whole_text made) c.in-Err-Write.ensures.front,
     )

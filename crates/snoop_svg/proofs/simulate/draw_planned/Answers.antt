@@ -1,8 +1,7 @@
 use Rattle.std.proofs.{Common.{ap, length, sym}, lemmas.Result.{on_err_weaker, on_ok_weaker}}
-use Rattle.snoop_engine.proofs.Common.{◌≡◌, List, [], ◌∷◌, refl, ◌∙◌, AreFrames, Chosen, Extent, Frame, FramesFrom, Protocol}
-use Rattle.snoop_engine.proofs.Common.{Situation, Step, steps_of}
+use Rattle.snoop_engine.proofs.Common.{◌≡◌, List, [], ◌∷◌, refl, ◌∙◌, AreFrames, Chosen, Extent, Frame, FramesFrom, Protocol, Situation, Step, steps_of}
 use Rattle.snoop_model.proofs.{Queues.keeps_well, Runs.GoOn.{IsSteady, reset_steady, steady_on}, Steps.goes_is}
-use Rattle.snoop_draw.proofs.DrawnLemmas.{begun_so, shown_so}
+use Rattle.snoop_engine.proofs.ShownLemmas.{begun_so, shown_so}
 use Rattle.snoop_svg.specs.{declared.paper.Paper.Paper, Drawings.{drawing_text, drawn, plan_for, planned_text}, Sheets.Plan, Simulated.IsPlanOf}
 use Rattle.snoop_svg.proofs.simulate.draw_planned.Goals as goal
 
@@ -31,7 +30,7 @@ whole_text {protocol = protocol} {shape = shape} {choice = choice} {paper = pape
     λ i. planned_text ((same ∙ planned.is ∙ (λ j. plan_for shape choice paper (sym are.whole j) (count j))) i) protocol shape frames final
 
 pub returns-clause-ok : goal.returns-clause-ok
-returns-clause-ok g c choice paper is = on_ok_weaker c.show_steps.result (shown_so _ _ _ _ _ (whole_text is c.new-drawing.ensures) _ _) c.show_steps.ensures.ok
+returns-clause-ok g c choice paper is = on_ok_weaker c.show_steps.result (shown_so (whole_text is c.new-drawing.ensures)) c.show_steps.ensures.ok
 
 pub returns-clause-front : goal.returns-clause-front
-returns-clause-front g c choice paper is = on_err_weaker c.show_steps.result (begun_so _ _ _ _ _ (whole_text is c.new-drawing.ensures) _ _) c.show_steps.ensures.front
+returns-clause-front g c choice paper is = on_err_weaker c.show_steps.result (begun_so (whole_text is c.new-drawing.ensures)) c.show_steps.ensures.front

@@ -1,9 +1,8 @@
 use Rattle.std.proofs.{Common.min, lemmas.{Bool.{both_ways, eqb-true}, List.take-append-le}}
 use Rattle.snoop_engine.proofs.Common.{◌≡◌, ℕ, ◌+◌, ◌-◌, ◌<◌, ◌≤◌, ◌==◌, ◌%◌, true, false, if◌then◌else◌, List, [], ◌∷◌, ◌++◌, length, filter}
-use Rattle.snoop_engine.proofs.Common.{Result, Ok, Err, OnOk, inl, inr, ap, refl, sym, ◌∙◌, append-nil, arith}
+use Rattle.snoop_engine.proofs.{Common.{Result, Ok, Err, OnOk, inl, inr, ap, refl, sym, ◌∙◌, append-nil, arith}, NumberedLemmas.{led_on, numbered, numbered_on}}
 use Rattle.snoop_engine.proofs.Common.{cases_lt, eq-eqb, filter-append, le-ltb, length_push, lt-ltb, nat_tests, take_all}
 use Rattle.snoop_engine.proofs.Common.{Chosen, Extent, Frame, Numbered, Protocol, block_of_step, frame_seen, lines_of_step, numbered_from}
-use Rattle.snoop_engine.proofs.NumberedLemmas.{led_on, numbered, numbered_on}
 use Rattle.snoop_svg.specs.{declared.drawing.Drawing.Drawing, Drawings.{HasSeen, StandsBelow, drawn, frame_text, has_row, last_above, row_above}}
 use Rattle.snoop_svg.specs.{Drawings.{rows_per_sheet, turn_text}, Sheets.{AfterSteps, Plan, row_text, row_y}}
 use Rattle.snoop_svg.proofs.drawing.DrawingView.see.Goals as goal
@@ -23,8 +22,7 @@ last_on above [] n = refl
 last_on above (m ∷ ms) n = last_on _ ms n
 
 -- what is drawn, with one frame more
-drawn_on : (choice : Chosen) (frames : List Frame) (frame : Frame)
-    → drawn choice (frames ++ frame ∷ [])
+drawn_on : (choice : Chosen) (frames : List Frame) (frame : Frame) → drawn choice (frames ++ frame ∷ [])
     ≡ drawn choice frames ++ (if has_row choice (numbered (1 + length frames) frame) then numbered (1 + length frames) frame ∷ [] else [])
 drawn_on choice frames frame = rw (numbered_on 1 frames frame, filter-append (has_row choice))
 
@@ -33,8 +31,7 @@ module _ {first old : Drawing} {protocol : Protocol} {shape : Extent} {frames : 
     (has : HasSeen first protocol shape frames old) where
   seen_on : {new : Drawing} → new.plan ≡ old.plan → new.place ≡ min (length (drawn old.plan.choice (frames ++ frame ∷ []))) old.plan.paper.shown
       → (old.plan.choice.from ≤ 2 + length frames → length (drawn old.plan.choice (frames ++ frame ∷ [])) ≤ old.plan.paper.shown
-      → StandsBelow new (row_above old.plan.choice protocol shape (frames ++ frame ∷ [])))
-      → HasSeen first protocol shape (frames ++ frame ∷ []) new
+      → StandsBelow new (row_above old.plan.choice protocol shape (frames ++ frame ∷ []))) → HasSeen first protocol shape (frames ++ frame ∷ []) new
   seen_on plan place above = record {
     plan = plan ∙ has.plan;
     place = rw (← plan) at place;
