@@ -113,7 +113,7 @@ nothing. The reply or the cause is its **outcome**.
 |---|---|
 | GetS, GetM, PutM | the requests: for a copy to read; for one to write; to write the block back and give it up |
 | Data | a payload, which is what a message carries: the block's words |
-| DataE | the same words, sent for a GetS by memory in I, where no core has the block (in S it sends Data, even if all copies were dropped) |
+| DataE | the same words, sent for a GetS by memory in I, where no core has the block (memory in S sends Data, even if all copies were dropped) |
 | NoData | nothing, since the writeback is stale: the block went to another core before its PutM was ordered |
 | NoDataE | nothing, since the block was clean |
 | IS_AD, IM_D, MI_A and the like | the states between: from I to S, and so on, in AD waiting for the core's own request to be ordered and then for data, in D for data, in A for its request to be ordered; in II_A a PutM waits that another's request has overtaken. In the definitions IS_AD is `IsAd` |
@@ -133,10 +133,10 @@ What this machine takes as given:
 - **Each step happens at once.** At an Order all caches and memory take their rows for the request
   together; at a Respond the message comes whole, and to all who take it together.
 - **A block has one open transaction at most**, from its Order to its Respond. Other blocks may have
-  theirs meanwhile. Between the cores, and between the blocks of one core, requests are ordered in
-  any order: the code takes a core's oldest request, the model any. The Primer calls this
-  non-atomic requests and atomic transactions. A core may have misses on many blocks; of one block
-  one operation at most waits at it.
+  theirs meanwhile. The Primer calls this atomic transactions, and that requests wait before they
+  are ordered non-atomic requests. Between the cores, and between the blocks of one core, requests
+  are ordered in any order: the code takes a core's oldest request, the model any. A core may have
+  misses on many blocks; of one block one operation at most waits at it.
 - **The history is in the order of performance**, at a hit or with the data that came, and not in
   that of asking. A core that does not wait for its store may load the older value: while its store
   to a block in S waits, its loads of the block hit as long as the copy lasts (SM_AD, SM_D), and
