@@ -29,7 +29,8 @@ pub fn others()
     ensures { DoneIsSuffered }
 {}
 
-/// In the run of any steps, over the words of each block, the counts of the words have the sums that the block has.
+/// In the run of any steps, for a shape within its limits, over the words of each block, the counts of the words have the sums
+/// that the block has.
 pub fn words()
     ensures { WordsAddUp }
 {}

@@ -17,11 +17,11 @@ pub record IsCoherent (s : Situation) : Type 0 where
   pub shaped : IsShaped s
   -- each block has one writer alone, or only readers, or neither
   pub one_writer : (block : ℕ) → OneWriter s.protocol (picture_of s block)
-  -- memory's state says what the caches may have: a core may load the block only where it is neither I nor I_D
+  -- memory's state says what the caches may have: a core may load a block only where memory's state of it is neither I nor I_D
   pub readers : (core block : ℕ) → MayLoad s.protocol (state_of s core block) → IsTrue (lets_load (picture_of s block).memory.state)
-  -- a core may store in it only where it is M, M_D, EorM or EorM_D
+  -- and store in it only where that state is M, M_D, EorM or EorM_D
   pub writers : (core block : ℕ) → MayStore s.protocol (state_of s core block) → IsTrue (lets_store (picture_of s block).memory.state)
-  -- and where it is one of these, and no transaction is open, some core may
+  -- where it is M or EorM, and no transaction is open, some core may store in the block; in M_D and EorM_D one is open always
   pub owned : (block : ℕ) → IsTrue (lets_store (picture_of s block).memory.state) → (picture_of s block).transaction ≡ None → (core : ℕ) × MayStore s.protocol (state_of s core block)
   -- in the history each load has the value of the last store to its word before it, or 0 where there is none, and each core's operations are numbered in order
   pub legal : Legal s.log

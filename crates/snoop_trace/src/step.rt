@@ -36,7 +36,7 @@ pub enum Step {
         word: u32,
         op: Op,
     },
-    /// A request of the core that waits is ordered on the bus. A machine takes the oldest.
+    /// A request of the core that waits is ordered on the bus. The code takes the oldest, the model of the theorem any.
     Order {
         core: u32,
     },
