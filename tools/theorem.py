@@ -78,8 +78,12 @@ block says what the caches may have:
 |---|---|---|
 | I (MESI) | none may do either | `readers`, `writers` |
 | S (MESI), IorS (MSI) | none may write it, any number may read it | `writers` |
-| EorM (MESI), M (MSI) | one may write it, where no transaction of it is open; while one is open perhaps none may, as the data is under way to the next writer | `owned`, `one_writer` |
+| EorM (MESI), M (MSI) | where no transaction of it is open one may write it, and no other may read it | `owned`, `one_writer` |
 | I_D; S_D, IorS_D; EorM_D, M_D | as without the D, while memory waits for a message; in the last two perhaps none may write it any more | the same |
+
+While a transaction is open in EorM or M, the data is under way to the next writer: none may write
+the block then, which no clause says, and that core may read its old copy still (SM_D).
+docs/PROTOCOL.md lists which of a cache's states may read and write.
 
 Each cache has a controller, and so has memory, with a table: a **row** for each event that it may
 meet in a state. A pair of state and event without a row is an **impossible cell**. The tables are
