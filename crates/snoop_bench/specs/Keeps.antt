@@ -2,7 +2,7 @@
 -- Source: this project's profile.
 use Rattle.std.specs.Prelude.{◌≡◌, ◌≢◌, ℕ, List, length, Option, Some}
 use Rattle.snoop_trace.specs.declared.step.Op.TheVariants as op
-use Rattle.snoop_model.specs.{declared.access.Access.Access, Pictures.{Situation.{Situation, picture_of}, Picture.held_by}, Turns.Serving.IsServing}
+use Rattle.snoop_model.specs.{declared.access.Access.Access, Pictures.Situation.{Situation, held_of}, Turns.Serving.IsServing}
 use Rattle.snoop_model.specs.Runs.Owed.{IsOwed}
 use Rattle.snoop_trace.specs.declared.step.Work.{Work}
 use Rattle.snoop_bench.specs.{declared.bench.Bench.TheInside.Inside, Works.{access_of, work_at, works_under_way}, Locked.Locked}
@@ -17,7 +17,7 @@ pub record AreUnderWay (works : List (Option Work)) (s : Situation) : Type 0 whe
   -- a core waits, and has a transaction open, on no block but that of its work under way
   pub serving : IsServing (works_under_way works) s
   -- an operation that waits is that of the core's work under way
-  pub waiting : (core block : ℕ) (wanted : Access) → (held_by (picture_of s block) core).waiting ≡ Some wanted → work_at works core ≡ Some (record { block = block; word = wanted.word; op = wanted.op })
+  pub waiting : (core block : ℕ) (wanted : Access) → (held_of s core block).waiting ≡ Some wanted → work_at works core ≡ Some (record { block = block; word = wanted.word; op = wanted.op })
   -- the load or store of a work under way waits, or is the core's last operation
   pub owed : (core : ℕ) (work : Work) → work_at works core ≡ Some work → work.op ≢ op.Evict → IsOwed s core work.block (access_of work)
 

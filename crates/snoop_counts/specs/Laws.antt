@@ -1,19 +1,12 @@
 -- What holds of all tables of counts.
 -- Source: this project's profile.
 use Rattle.std.specs.{Prelude.{◌≡◌, ℕ, ◌+◌, List, ◌++◌}, List.{range_with_len, sum_by}}
-use Rattle.snoop_trace.specs.{Extent.{Extent, IsWithinLimits}, declared.{protocol.Protocol.Protocol, step.Step.Step}}
+use Rattle.snoop_trace.specs.Extent.{Extent, IsWithinLimits}
 use Rattle.snoop_history.specs.{Totals.totals_of, declared.items.{Item.Item, Totals.Totals}}
-use Rattle.snoop_model.specs.Pictures.Situation.{Situation}
-use Rattle.snoop_engine.specs.Frames.{AreFrames, Frame}
+use Rattle.snoop_engine.specs.Frames.{Frame, OfAnySteps}
 use Rattle.snoop_counts.specs.{Counted.{place_of_word, times_counted}, Happenings.{happenings, seen_after}, declared.count.{Count.Count, Happening.Happening}}
 use Rattle.snoop_counts.specs.declared.count.Count.TheVariants as count
 use Rattle.snoop_counts.specs.declared.count.Subjects.{Subjects, TheVariants.{Blocks, Cores, Machine, Words}}
-
--- a fact about the run of any steps: its shape, its frames, and where they lead
-abbrev pub OfEveryRun : (Extent → List Frame → Situation → Type 0) → Type 0
-OfEveryRun P =
-    (protocol : Protocol) (shape : Extent) (steps : List Step) (frames : List Frame) (final : Situation) →
-    AreFrames protocol shape steps frames final → P shape frames final
 
 -- the sum of a count over so many subjects
 abbrev pub sum_of : Subjects → ℕ → List Happening → Count → ℕ
@@ -45,7 +38,7 @@ pub record HasTotals (shape : Extent) (frames : List Frame) (items : List Item) 
 
 -- in the run of any steps, over all cores, over all blocks, and of the machine, the sums of the first twelve counts are those of the report
 abbrev pub SumsAreTotals : Type 0
-SumsAreTotals = OfEveryRun (λ shape frames final. HasTotals shape frames final.log)
+SumsAreTotals = OfAnySteps (λ protocol shape steps frames final. HasTotals shape frames final.log)
 
 -- of every core, block and word, and of the machine, the misses are those of the four causes
 abbrev pub CausesAreAll : Type 0
@@ -67,7 +60,7 @@ pub record SuffersWhatIsDone (shape : Extent) (frames : List Frame) : Type 0 whe
 
 -- in the run of any steps, over all cores, what cores do to others has the sum of what others do to them
 abbrev pub DoneIsSuffered : Type 0
-DoneIsSuffered = OfEveryRun (λ shape frames final. SuffersWhatIsDone shape frames)
+DoneIsSuffered = OfAnySteps (λ protocol shape steps frames final. SuffersWhatIsDone shape frames)
 
 -- the sum of a count over the words of a block
 abbrev pub sum_of_words : Extent → List Happening → ℕ → Count → ℕ
@@ -82,4 +75,4 @@ pub record HasSumsOfWords (shape : Extent) (seen : List Happening) (block : ℕ)
 
 -- in the run of any steps, for a shape within its limits, over the words of each block, the counts of the words have the sums that the block has
 abbrev pub WordsAddUp : Type 0
-WordsAddUp = OfEveryRun (λ shape frames final. IsWithinLimits shape → (block : ℕ) → HasSumsOfWords shape (happenings frames) block)
+WordsAddUp = OfAnySteps (λ protocol shape steps frames final. IsWithinLimits shape → (block : ℕ) → HasSumsOfWords shape (happenings frames) block)

@@ -1,10 +1,9 @@
 -- What holds of every drawing.
 -- Source: "A Primer on Memory Consistency and Cache Coherence", 2nd edition: the single-writer-multiple-reader invariant.
 use Rattle.std.specs.Prelude.{◌≡◌, ◌≢◌, ⊤, ℕ, false, List, [], ◌∷◌, All}
-use Rattle.snoop_trace.specs.{Extent.Extent, declared.{protocol.Protocol.Protocol, step.Step.Step}}
 use Rattle.snoop_rules.specs.declared.names.CacheState.TheVariants.{I}
 use Rattle.snoop_model.specs.Pictures.Situation.{Situation, reset, state_of}
-use Rattle.snoop_engine.specs.Frames.{AreFrames, Frame}
+use Rattle.snoop_engine.specs.Frames.{Frame, OfAnySteps}
 use Rattle.snoop_draw.specs.{declared.marks.Mark.TheVariants.{Blank, MayWrite}, Events.may, Panels.asks_somewhere, Rows.held_in}
 
 -- beside a core that is marked as one that may write, no other has a mark
@@ -13,9 +12,7 @@ HasOneEdge s = (block core other : ℕ) → may s.protocol (held_in s block core
 
 -- in the run of any steps, at reset and after each step, which is what rows show: beside a core that is marked as one that may write, no other has a mark
 abbrev pub RowsHaveOneEdge : Type 0
-RowsHaveOneEdge =
-    (protocol : Protocol) (shape : Extent) (steps : List Step) (frames : List Frame) (final : Situation) →
-    AreFrames protocol shape steps frames final → HasOneEdge (reset protocol shape) × All (λ frame. HasOneEdge frame.after) frames
+RowsHaveOneEdge = OfAnySteps (λ protocol shape steps frames final. HasOneEdge (reset protocol shape) × All (λ frame. HasOneEdge frame.after) frames)
 
 -- in each of these frames the core is in I
 abbrev pub HoldsNothing : ℕ → ℕ → List Frame → Type 0
@@ -24,6 +21,4 @@ HoldsNothing block core (frame ∷ frames) = (state_of frame.after core block �
 
 -- in the run of some steps a core that asks for a block in none of them is in I throughout: the columns that are left out would hold nothing
 abbrev pub UnaskedHoldNothing : Type 0
-UnaskedHoldNothing =
-    (protocol : Protocol) (shape : Extent) (steps : List Step) (frames : List Frame) (final : Situation) →
-    AreFrames protocol shape steps frames final → (block core : ℕ) → asks_somewhere steps block core ≡ false → HoldsNothing block core frames
+UnaskedHoldNothing = OfAnySteps (λ protocol shape steps frames final. (block core : ℕ) → asks_somewhere steps block core ≡ false → HoldsNothing block core frames)

@@ -34,8 +34,12 @@ pub record AreFrames (protocol : Protocol) (shape : Extent) (steps : List Step) 
   pub whole : steps_of frames ≡ steps
   pub run : FramesFrom (reset protocol shape) frames final
 
+-- a fact about the run of any steps: the protocol and the shape, the steps, their frames, and where they lead
+abbrev pub OfAnySteps : (Protocol → Extent → List Step → List Frame → Situation → Type 0) → Type 0
+OfAnySteps P =
+    (protocol : Protocol) (shape : Extent) (steps : List Step) (frames : List Frame) (final : Situation) →
+    AreFrames protocol shape steps frames final → P protocol shape steps frames final
+
 -- the frames of some steps are the run of those steps
 abbrev pub FramesAreTheRun : Type 0
-FramesAreTheRun =
-    (protocol : Protocol) (shape : Extent) (steps : List Step) (frames : List Frame) (final : Situation) →
-    AreFrames protocol shape steps frames final → TheRun protocol shape steps (outcomes_of frames) final
+FramesAreTheRun = OfAnySteps (λ protocol shape steps frames final. TheRun protocol shape steps (outcomes_of frames) final)

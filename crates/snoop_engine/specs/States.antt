@@ -6,15 +6,15 @@ use Rattle.snoop_trace.specs.{Extent.Extent, Output.step_text, Words.word_at, de
 use Rattle.snoop_rules.specs.{declared.names.{CacheState.CacheState, CacheEvent.CacheEvent, MemState.MemState, MemEvent.MemEvent}, Cell.cell_of}
 use Rattle.snoop_rules.specs.{MemoryCell.memory_cell_of, Names.{action_text, event_name, memory_action_text, memory_event_name, memory_state_name, state_name}}
 use Rattle.snoop_bus.specs.Queues.{place_in, queue_of}
-use Rattle.snoop_model.specs.{declared.replies.{Reply.{Reply, TheVariants.Came}, Refused.Refused}, Pictures.Picture.held_by}
-use Rattle.snoop_model.specs.Pictures.Situation.{Situation, picture_of}
+use Rattle.snoop_model.specs.declared.replies.{Reply.{Reply, TheVariants.Came}, Refused.Refused}
+use Rattle.snoop_model.specs.Pictures.Situation.{Situation, picture_of, held_of}
 use Rattle.snoop_engine.specs.{Chosen.{Chosen, is_shown}, Line.outcome_text, Frames.Frame, Numbered.numbered_from, Taken.{lines_of_step, memory_at, state_at}}
 use Rattle.snoop_engine.specs.{Views.block_of_step, declared.taken.Taken.{Taken, TheVariants.{Core, Memory, Nobody}}}
 
 -- the value of a word that the core keeps, where all of them are there
 abbrev pub kept_at : Situation → ℕ → ℕ → ℕ → Option ℕ
 kept_at s core block word =
-    if nat_lt core s.shape.cores && nat_lt block s.shape.blocks && nat_lt word s.shape.words then option_map (λ ws. word_at ws word) (held_by (picture_of s block) core).kept else None
+    if nat_lt core s.shape.cores && nat_lt block s.shape.blocks && nat_lt word s.shape.words then option_map (λ ws. word_at ws word) (held_of s core block).kept else None
 
 -- memory's value of a word, where it is there
 abbrev pub memory_value_at : Situation → ℕ → ℕ → Option ℕ

@@ -9,7 +9,7 @@ use Rattle.snoop_history.specs.declared.items.{Came.Came, Did.Did, Item.Item}
 use Rattle.snoop_history.specs.declared.items.Item.TheVariants as item
 use Rattle.snoop_machine.specs.declared.parts.step.{Asked.{Asked, TheVariants.{Absent, Hit, Issue, Drop}}, Plan.{Plan, TheVariants.{Ask, Order, Respond}}, Filled.Filled}
 use Rattle.snoop_machine.specs.{Standing.{Standing, has_line}, Prepared.room_to_issue, Cache.filled_line, Asked.TakesAsk}
-use Rattle.snoop_model.specs.Pictures.{Situation.{Situation, picture_of, state_of, IsHead}, Picture.held_by, Sends.IsOnlySender, Proper.IsProper}
+use Rattle.snoop_model.specs.Pictures.{Situation.{Situation, picture_of, held_of, state_of, IsHead}, Sends.IsOnlySender, Proper.IsProper}
 use Rattle.snoop_model.specs.Moves.{LookUps.HasRow, Move.{Fills, Settles, IsWithin, TakesMemRow, came_of, next_did}}
 
 -- the step that a plan is for
@@ -38,12 +38,12 @@ abbrev pub BringsFill : Situation → Came → Option Filled → Type 0
 BringsFill s came None = came.request ≡ PutM
 BringsFill s came (Some filled) =
     (came.request ≢ PutM)
-    × IfSome (picture_of s came.block).transaction (λ closing. Fills closing s.protocol (held_by (picture_of s came.block) closing.core) (filled_line filled.next filled.access closing.value) filled.access filled.value)
+    × IfSome (picture_of s came.block).transaction (λ closing. Fills closing s.protocol (held_of s closing.core came.block) (filled_line filled.next filled.access closing.value) filled.access filled.value)
     × IsWord s.shape filled.access.word
 
 -- the rows were found for what the plan says
 abbrev pub IsPlan : Situation → Plan → Type 0
-IsPlan s (Ask core block word asking asked) = IsWithin s core block × TakesAsk s.protocol (held_by (picture_of s block) core) word asking asked × IsProper (held_by (picture_of s block) core) × HasWord s.shape word asking
+IsPlan s (Ask core block word asking asked) = IsWithin s core block × TakesAsk s.protocol (held_of s core block) word asking asked × IsProper (held_of s core block) × HasWord s.shape word asking
 IsPlan s (Order core request block from payload memory) = (core < s.shape.cores) × CanBeOrdered s core request block from payload memory
 IsPlan s (Respond came memory filled) = (came.block < s.shape.blocks) × IsClosing s came memory × BringsFill s came filled
 

@@ -8,8 +8,7 @@ ghost use Rattle.snoop_history.specs.declared.items.Item.{Item};
 ghost use Rattle.snoop_history.specs.History.{flat};
 ghost use Rattle.snoop_model.specs.declared.replies.Refused.{Refused};
 ghost use Rattle.snoop_model.specs.declared.replies.Refused.TheVariants.{NoMemory as OutOfMemory};
-ghost use Rattle.snoop_model.specs.Pictures.Picture.{held_by};
-ghost use Rattle.snoop_model.specs.Pictures.Situation.{picture_of, reset, state_of, IsHead};
+ghost use Rattle.snoop_model.specs.Pictures.Situation.{picture_of, held_of, reset, state_of, IsHead};
 ghost use Rattle.snoop_model.specs.Pictures.Proper.{keeps};
 ghost use Rattle.snoop_model.specs.Moves.Move.{FirstMove};
 ghost use Rattle.snoop_model.specs.Moves.Replies.{Tells};
@@ -170,7 +169,7 @@ impl Machine {
     /// The value of a word that the core keeps, which is that of the last store to it, or `None` outside the shape and in a
     /// state that may not read.
     pub fn kept(&self, core: u32, block: u32, word: u32) -> Option<u64>
-        ensures inside { core < self.now.situation.shape.cores → block < self.now.situation.shape.blocks → word < self.now.situation.shape.words → result ≡ option_map (λ ws. word_at ws word) (held_by (picture_of self.now.situation block) core).kept }
+        ensures inside { core < self.now.situation.shape.cores → block < self.now.situation.shape.blocks → word < self.now.situation.shape.words → result ≡ option_map (λ ws. word_at ws word) (held_of self.now.situation core block).kept }
         ensures readable { core < self.now.situation.shape.cores → block < self.now.situation.shape.blocks → word < self.now.situation.shape.words → is_some result ≡ keeps (state_of self.now.situation core block) }
         ensures current { IfSome result (λ value. value ≡ flat self.now.situation.log block word) }
         ensures outside { IfSome result (λ _. (core < self.now.situation.shape.cores) × (block < self.now.situation.shape.blocks) × (word < self.now.situation.shape.words)) }
@@ -306,7 +305,7 @@ enum AnyParts {
 impl AnyParts {
     /// The value of a word that the core keeps, or `None` outside the shape and in a state that may not read.
     fn kept(&self, core: u32, block: u32, word: u32) -> Option<u64>
-        ensures inside { core < (stand self.now).situation.shape.cores → block < (stand self.now).situation.shape.blocks → word < (stand self.now).situation.shape.words → result ≡ option_map (λ ws. word_at ws word) (held_by (picture_of (stand self.now).situation block) core).kept }
+        ensures inside { core < (stand self.now).situation.shape.cores → block < (stand self.now).situation.shape.blocks → word < (stand self.now).situation.shape.words → result ≡ option_map (λ ws. word_at ws word) (held_of (stand self.now).situation core block).kept }
         ensures readable { core < (stand self.now).situation.shape.cores → block < (stand self.now).situation.shape.blocks → word < (stand self.now).situation.shape.words → is_some result ≡ keeps (state_of (stand self.now).situation core block) }
         ensures outside { IfSome result (λ _. (core < (stand self.now).situation.shape.cores) × (block < (stand self.now).situation.shape.blocks) × (word < (stand self.now).situation.shape.words)) }
     {

@@ -3,8 +3,7 @@ ghost use Rattle.std.specs.Prelude.{◌≡◌, ◌<◌, ◌≤◌, ◌↔◌, �
 ghost use Rattle.snoop_trace.specs.Words.{AreZeroFrom, word_at};
 ghost use Rattle.snoop_bus.specs.Queues.{place_in, queue_of};
 ghost use Rattle.snoop_rules.specs.Waits.{waiting_request};
-ghost use Rattle.snoop_model.specs.Pictures.Picture.{held_by};
-ghost use Rattle.snoop_model.specs.Pictures.Situation.{picture_of, reset, state_of};
+ghost use Rattle.snoop_model.specs.Pictures.Situation.{picture_of, held_of, reset, state_of};
 ghost use Rattle.snoop_model.specs.Pictures.Proper.{IsProper, keeps};
 ghost use Rattle.snoop_model.specs.Moves.Move.{next_did, written};
 ghost use Rattle.snoop_machine.specs.Standing.{line_count};
@@ -121,7 +120,7 @@ impl<B: Block> Parts<B> {
 
     /// The value of a word that the core keeps, or `None` outside the shape and in a state that may not read.
     pub(crate) fn kept(&self, core: u32, block: u32, word: u32) -> Option<u64>
-        ensures inside { core < self.now.situation.shape.cores → block < self.now.situation.shape.blocks → word < self.now.situation.shape.words → result ≡ option_map (λ ws. word_at ws word) (held_by (picture_of self.now.situation block) core).kept }
+        ensures inside { core < self.now.situation.shape.cores → block < self.now.situation.shape.blocks → word < self.now.situation.shape.words → result ≡ option_map (λ ws. word_at ws word) (held_of self.now.situation core block).kept }
         ensures readable { core < self.now.situation.shape.cores → block < self.now.situation.shape.blocks → word < self.now.situation.shape.words → is_some result ≡ keeps (state_of self.now.situation core block) }
         ensures outside { IfSome result (λ _. (core < self.now.situation.shape.cores) × (block < self.now.situation.shape.blocks) × (word < self.now.situation.shape.words)) }
     {
@@ -241,7 +240,7 @@ impl<B: Block> Parts<B> {
     fn line(&self, core: u32, block: u32) -> Option<&Entry<B>>
         requires core { core < self.now.situation.shape.cores }
         requires block { block < self.now.situation.shape.blocks }
-        ensures line { line_or_nothing (option_copied result) ≡ held_by (picture_of self.now.situation block) core }
+        ensures line { line_or_nothing (option_copied result) ≡ held_of self.now.situation core block }
         ensures proper { IsProper (line_or_nothing (option_copied result)) }
     {
         self.lines.get(core, block)

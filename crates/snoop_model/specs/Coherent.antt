@@ -6,8 +6,8 @@ use Rattle.snoop_trace.specs.declared.protocol.Protocol.{Protocol}
 use Rattle.snoop_rules.specs.{declared.names.{CacheState.{CacheState, TheVariants.{E, EiA}}, Request.{Request, TheVariants.PutM}}, Possible.{MayLoad, MayStore}}
 use Rattle.snoop_history.specs.History.{flat_words, operations, Legal}
 use Rattle.snoop_model.specs.{declared.replies.{Reply.{Reply, TheVariants.{Gone, Absent}}, Refused.{Refused, TheVariants.Stalled}}, Pictures.InQueue.IsInQueue}
-use Rattle.snoop_model.specs.{Pictures.{Picture.{held_by, nothing_held, data_under_way}, OneWriter.{OneWriter, lets_load, lets_store}}, Moves.Move.{IsWithin, Orders, MoveOn, FirstMove}}
-use Rattle.snoop_model.specs.{Pictures.Situation.{Situation, IsShaped, picture_of, state_of, Waits, CanOrder, HasOpen}, Moves.{Refuses.Refuses, Replies.{IsHit, MayHit, Tells}}}
+use Rattle.snoop_model.specs.{Pictures.{Picture.{nothing_held, data_under_way}, OneWriter.{OneWriter, lets_load, lets_store}}, Moves.Move.{IsWithin, Orders, MoveOn, FirstMove}}
+use Rattle.snoop_model.specs.{Pictures.Situation.{Situation, IsShaped, picture_of, held_of, state_of, Waits, CanOrder, HasOpen}, Moves.{Refuses.Refuses, Replies.{IsHit, MayHit, Tells}}}
 use Rattle.snoop_model.specs.{Pictures.Proper.{missed_request, request_for, awaited_request}, Moves.SenderTable.{IsSenderLine, IsOpenByTable}, Runs.Run.RunBy}
 use Rattle.snoop_model.specs.Runs.Once.{Once}
 
@@ -28,9 +28,9 @@ pub record IsCoherent (s : Situation) : Type 0 where
   -- each operation of the history is by a core, of a block and of a word that the machine has
   pub logged : All (λ did. IsWithin s did.core did.block × IsWord s.shape did.word) (operations s.log)
   -- no core keeps words of a block that it may not read
-  pub kept : (core block : ℕ) → IsSome (held_by (picture_of s block) core).kept → MayLoad s.protocol (state_of s core block)
+  pub kept : (core block : ℕ) → IsSome (held_of s core block).kept → MayLoad s.protocol (state_of s core block)
   -- each copy that may be read has in each word the value of the last store to it, or 0 where there is none
-  pub current : (core block : ℕ) → MayLoad s.protocol (state_of s core block) → (held_by (picture_of s block) core).kept ≡ Some (flat_words s.log block)
+  pub current : (core block : ℕ) → MayLoad s.protocol (state_of s core block) → (held_of s core block).kept ≡ Some (flat_words s.log block)
   -- so has data under way in each of its words
   pub carried : (block : ℕ) → block < s.shape.blocks → IfSome (data_under_way (picture_of s block).transaction) (λ words. words ≡ flat_words s.log block)
   -- and so has memory, where no core may write the block and no data of it is under way
@@ -40,7 +40,7 @@ pub record IsCoherent (s : Situation) : Type 0 where
   -- a block's open transaction is of this block, and its requestor is a core of the machine; so is its sender, where that isn't memory
   pub opened : (block : ℕ) → IfSome (picture_of s block).transaction (λ transaction. (transaction.block ≡ block) × (transaction.core < s.shape.cores) × IfSome transaction.from (λ sender. sender < s.shape.cores))
   -- a load waits exactly in IS_AD and IS_D, a store exactly in IM_AD, IM_D, SM_AD and SM_D, and nothing in another state
-  pub waiting : (core block : ℕ) → option_map (λ access. request_for access.op) (held_by (picture_of s block) core).waiting ≡ missed_request (state_of s core block)
+  pub waiting : (core block : ℕ) → option_map (λ access. request_for access.op) (held_of s core block).waiting ≡ missed_request (state_of s core block)
   -- a core is in IS_D exactly where it is the requestor of the block's open GetS, and in IM_D or SM_D exactly where it is that of the block's open GetM
   pub awaited : (core block : ℕ) (request : Request) → (awaited_request (state_of s core block) ≡ Some request) ↔ (HasOpen s core block request × (request ≢ PutM))
   -- each core's queue has the blocks for which its request is not yet ordered, each once, and no others
@@ -50,9 +50,9 @@ pub record IsCoherent (s : Situation) : Type 0 where
   -- an Ask that is taken next is answered by a hit exactly where its row in the core's state is a hit: a load where the core may load, a store where it may store, an eviction never
   pub hits : (core block word : ℕ) (asking : Op) (answer : Reply) (new : Situation) → MoveOn block s (Ask core block word asking) answer new → (IsHit answer ↔ MayHit s.protocol (state_of s core block) asking)
   -- an eviction taken next that is answered Gone or Absent leaves the core in I, with no words kept and no operation waiting
-  pub gone : (core block word : ℕ) (answer : Reply) (new : Situation) → (answer ≡ Gone) ⊎ (answer ≡ Absent) → MoveOn block s (Ask core block word Evict) answer new → held_by (picture_of new block) core ≡ nothing_held
+  pub gone : (core block word : ℕ) (answer : Reply) (new : Situation) → (answer ≡ Gone) ⊎ (answer ≡ Absent) → MoveOn block s (Ask core block word Evict) answer new → held_of new core block ≡ nothing_held
   -- a core whose PutM is open keeps no words of the block
-  pub given_up : (core block : ℕ) → HasOpen s core block PutM → (held_by (picture_of s block) core).kept ≡ None
+  pub given_up : (core block : ℕ) → HasOpen s core block PutM → (held_of s core block).kept ≡ None
   -- no step is stuck at an impossible cell: each that has no cause to be refused has a move, an Order on the first block of its core's queue
   pub moves : (step : Step) → ((cause : Refused) → ¬ Refuses s step cause) → (answer : Reply) × ((new : Situation) × FirstMove s step answer new)
   -- so has an Order of a waiting request of any free block: each controller takes its row for it, and exactly one sends

@@ -1,9 +1,8 @@
 -- What holds of every drawing.
 -- Source: "A Primer on Memory Consistency and Cache Coherence", 2nd edition: the single-writer-multiple-reader invariant.
 use Rattle.std.specs.Prelude.{◌≡◌, ◌≢◌, ◌↔◌, ℕ, List, All, codes, Some}
-use Rattle.snoop_trace.specs.{Extent.Extent, declared.{protocol.Protocol.Protocol, step.Step.Step}}
 use Rattle.snoop_model.specs.Pictures.Situation.{Situation, reset}
-use Rattle.snoop_engine.specs.Frames.{AreFrames, Frame}
+use Rattle.snoop_engine.specs.Frames.OfAnySteps
 use Rattle.snoop_draw.specs.Rows.{held_in}
 use Rattle.snoop_svg.specs.{declared.bands.Band.TheVariants.Bare, Bands.{HasEdge, core_band}, Cells.{class_of_words, is_new}, Looks.Look}
 
@@ -13,9 +12,7 @@ HasOneEdge s = (block core other : ℕ) → HasEdge (core_band s.protocol (held_
 
 -- in the run of any steps, at reset and after each step, which is what rows show: beside a core whose band has an edge, no other has a band
 abbrev pub RowsHaveOneEdge : Type 0
-RowsHaveOneEdge =
-    (protocol : Protocol) (shape : Extent) (steps : List Step) (frames : List Frame) (final : Situation) →
-    AreFrames protocol shape steps frames final → HasOneEdge (reset protocol shape) × All (λ frame. HasOneEdge frame.after) frames
+RowsHaveOneEdge = OfAnySteps (λ protocol shape steps frames final. HasOneEdge (reset protocol shape) × All (λ frame. HasOneEdge frame.after) frames)
 
 -- words are bold exactly where they differ from those above
 abbrev pub NewWordsAreBold : Type 0

@@ -6,8 +6,8 @@ ghost use Rattle.snoop_rules.specs.Waits.{waiting_request};
 ghost use Rattle.snoop_rules.specs.declared.names.CacheState.TheVariants.{I};
 ghost use Rattle.snoop_machine.specs.Standing.{KeepsRoom};
 ghost use Rattle.snoop_machine.specs.Following.{LosesLines};
-ghost use Rattle.snoop_model.specs.Pictures.Picture.{held_by, with_line};
-ghost use Rattle.snoop_model.specs.Pictures.Situation.{picture_of, state_of, with_picture};
+ghost use Rattle.snoop_model.specs.Pictures.Picture.{with_line};
+ghost use Rattle.snoop_model.specs.Pictures.Situation.{picture_of, held_of, state_of, with_picture};
 ghost use Rattle.snoop_model.specs.Pictures.Proper.{IsProper};
 ghost use Rattle.snoop_model.specs.Moves.Move.{AskMove};
 ghost use Rattle.snoop_machine.specs.Cache.{changed, IsOfWords};
@@ -78,9 +78,9 @@ impl<B: Block> Parts<B> {
     ) -> Reply
         requires core { core < self.old.situation.shape.cores }
         requires block { block < self.old.situation.shape.blocks }
-        requires found { TakesAsk self.old.situation.protocol (held_by (picture_of self.old.situation block) core) word op asked }
+        requires found { TakesAsk self.old.situation.protocol (held_of self.old.situation core block) word op asked }
         requires word { HasWord self.old.situation.shape word op }
-        requires proper { IsProper (held_by (picture_of self.old.situation block) core) }
+        requires proper { IsProper (held_of self.old.situation core block) }
         requires room { HasRoomToAsk self.old core block asked }
         ensures moved { AskMove block self.old.situation core block word op result self.new.situation }
         ensures room { KeepsRoom self.old self.new }
@@ -120,8 +120,8 @@ impl<B: Block> Parts<B> {
         requires words { IsOfWords self.old.situation.shape.words change }
         requires same { waiting_request next ≡ waiting_request (state_of self.old.situation core block) }
         requires held { state_of self.old.situation core block ≢ I }
-        requires proper { IsProper (changed next change (held_by (picture_of self.old.situation block) core)) }
-        ensures written { self.new.situation ≡ with_picture self.old.situation block (with_line (picture_of self.old.situation block) core (changed next change (held_by (picture_of self.old.situation block) core))) }
+        requires proper { IsProper (changed next change (held_of self.old.situation core block)) }
+        ensures written { self.new.situation ≡ with_picture self.old.situation block (with_line (picture_of self.old.situation block) core (changed next change (held_of self.old.situation core block))) }
         ensures room { KeepsRoom self.old self.new }
         ensures lines { (k : ℕ) → LosesLines self.old self.new k }
     {

@@ -1,7 +1,7 @@
 -- What every run keeps between the states of the lines, the queues and the open transactions.
 -- Source: this project's profile.
 use Rattle.std.specs.Prelude.{◌≡◌, ℕ, Some, IsSome}
-use Rattle.snoop_model.specs.{declared.access.Access.Access, Pictures.{Picture.held_by, Situation.{Situation, IsShaped, picture_of, state_of, HasOpen}}}
+use Rattle.snoop_model.specs.{declared.access.Access.Access, Pictures.Situation.{Situation, IsShaped, held_of, state_of, HasOpen}}
 use Rattle.snoop_rules.specs.declared.names.Request.{Request}
 use Rattle.snoop_model.specs.Pictures.{InQueue.IsInQueue, Proper.{missed_request, awaited_request}}
 
@@ -13,4 +13,4 @@ pub record IsWellKept (s : Situation) : Type 0 where
   -- a core that awaits data has the block's transaction open
   pub awaits : (core block : ℕ) (request : Request) → awaited_request (state_of s core block) ≡ Some request → HasOpen s core block request
   -- an operation waits only where a load or a store has missed
-  pub operations : (core block : ℕ) (access : Access) → (held_by (picture_of s block) core).waiting ≡ Some access → IsSome (missed_request (state_of s core block))
+  pub operations : (core block : ℕ) (access : Access) → (held_of s core block).waiting ≡ Some access → IsSome (missed_request (state_of s core block))

@@ -14,9 +14,9 @@ use Rattle.snoop_rules.specs.Takers.{asked, seen_by, at_memory, arrival, arrival
 use Rattle.snoop_history.specs.{declared.items.{Did.Did, Came.Came, Item.Item}, History.next_number}
 use Rattle.snoop_history.specs.declared.items.Item.TheVariants as item
 use Rattle.snoop_bus.specs.{Traffic.Open, Queues.{after_issue, after_order}}
-use Rattle.snoop_model.specs.{declared.replies.Reply.Reply, Pictures.{Picture.{Picture, held_at, held_by, with_line, kept_on}, Lines.{Line, MemLine}}}
+use Rattle.snoop_model.specs.{declared.replies.Reply.Reply, Pictures.{Picture.{Picture, held_at, with_line, kept_on}, Lines.{Line, MemLine}}}
 use Rattle.snoop_model.specs.declared.replies.Reply.TheVariants as reply
-use Rattle.snoop_model.specs.{Pictures.Situation.{Situation, picture_of, with_picture, state_of, CanOrder, StandsFirst}, declared.access.Access.Access}
+use Rattle.snoop_model.specs.{Pictures.Situation.{Situation, picture_of, held_of, with_picture, state_of, CanOrder, StandsFirst}, declared.access.Access.Access}
 use Rattle.snoop_model.specs.Pictures.Sends.{IsOnlySender, value_sent}
 
 -- an operation on one word of a block: the value that it loads or stores, and the block's words after it; a store keeps the other words
@@ -143,7 +143,7 @@ pub record Asks (old : Situation) (core block word : ℕ) (asking : Op) (answer 
   pub is_row : cell_of old.protocol (state_of old core block) (asked asking) ≡ Some row
   pub held : Line
   pub entry : Option Item
-  pub taken : Takes row.action row.next old.log core block word asking (held_by (picture_of old block) core) held answer entry
+  pub taken : Takes row.action row.next old.log core block word asking (held_of old core block) held answer entry
   pub after : new ≡ record (with_picture old block (with_line (picture_of old block) core held)) {
     queues = queues_after row.action old.queues core block;
     log = old.log ++ option_to_list entry;

@@ -4,7 +4,7 @@ use Rattle.std.specs.Prelude.{◌≡◌, ◌<◌, ℕ, List, [], Some, None, sli
 use Rattle.snoop_trace.specs.{Extent.Extent, Words.zero_words, declared.protocol.Protocol.Protocol}
 use Rattle.snoop_rules.specs.{declared.names.{CacheState.CacheState, Request.Request, MemState.TheVariants.IorS}, Waits.waiting_request}
 use Rattle.snoop_history.specs.declared.items.Item.{Item}
-use Rattle.snoop_model.specs.Pictures.Picture.{Picture, first_memory, nothing_held, held_by}
+use Rattle.snoop_model.specs.Pictures.{Lines.Line, Picture.{Picture, first_memory, nothing_held, held_by}}
 use Rattle.snoop_bus.specs.{Queues.queue_of, Traffic.Open}
 
 -- the protocol and the shape, the picture of each block, each core's queue, and the log, which is the history
@@ -47,9 +47,13 @@ picture_of s block = slice_index_or s.pictures block nothing_there
 abbrev pub with_picture : Situation → ℕ → Picture → Situation
 with_picture s block picture = record s { pictures = slice_set s.pictures block picture }
 
+-- what the core holds of the block
+abbrev pub held_of : Situation → ℕ → ℕ → Line
+held_of s core block = held_by (picture_of s block) core
+
 -- the core's state of the block
 abbrev pub state_of : Situation → ℕ → ℕ → CacheState
-state_of s core block = (held_by (picture_of s block) core).state
+state_of s core block = (held_of s core block).state
 
 -- the core's request for the block is issued and not yet ordered
 abbrev pub Waits : Situation → ℕ → ℕ → Request → Type 0

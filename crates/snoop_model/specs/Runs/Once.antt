@@ -5,8 +5,8 @@ use Rattle.std.specs.List.Sorted.{IsPermutation}
 use Rattle.snoop_trace.specs.declared.step.Op.TheVariants as op
 use Rattle.snoop_trace.specs.declared.step.Step.{Step, TheVariants.Ask}
 use Rattle.snoop_history.specs.{declared.items.{Did.Did, Item.Item}, History.answers_of}
-use Rattle.snoop_model.specs.{declared.{access.Access.Access, replies.{Reply.Reply, Refused.Refused}}, Moves.Move.as_access, Pictures.Picture.held_by}
-use Rattle.snoop_model.specs.Pictures.Situation.{Situation, picture_of}
+use Rattle.snoop_model.specs.{declared.{access.Access.Access, replies.{Reply.Reply, Refused.Refused}}, Moves.Move.as_access}
+use Rattle.snoop_model.specs.Pictures.Situation.{Situation, held_of}
 
 -- the steps that were taken
 abbrev pub taken : List Step → List (Result Reply Refused) → List Step
@@ -29,7 +29,7 @@ accesses_in items core block = map did_access (filter (λ did. did.block == bloc
 
 -- the load or store of the block that waits at the core, if any
 abbrev pub waiting_at : Situation → ℕ → ℕ → List Access
-waiting_at s core block = option_to_list (held_by (picture_of s block) core).waiting
+waiting_at s core block = option_to_list (held_of s core block).waiting
 
 -- of each core and block, the loads and stores whose Asks were taken are those in the log and the one that waits, if any, each as often
 abbrev pub Once : List Step → List (Result Reply Refused) → Situation → Type 0

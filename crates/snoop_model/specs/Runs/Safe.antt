@@ -1,6 +1,6 @@
 -- What holds of every machine, as its users see it.
 -- Source: this project's profile.
-use Rattle.snoop_model.specs.{Coherent.{IsCoherent, IsCoherentRun}, declared.replies.{Reply.Reply, Refused.Refused}, Pictures.{Picture.held_by, Situation.{Situation, picture_of, state_of}, Proper.keeps}, Runs.Run.{EveryRun, TheRun}}
+use Rattle.snoop_model.specs.{Coherent.{IsCoherent, IsCoherentRun}, declared.replies.{Reply.Reply, Refused.Refused}, Pictures.{Situation.{Situation, held_of, state_of}, Proper.keeps}, Runs.Run.{EveryRun, TheRun}}
 use Rattle.snoop_trace.specs.{Extent.Extent, declared.{protocol.Protocol.Protocol, step.Step.Step}}
 use Rattle.std.specs.Prelude.{◌≡◌, ℕ, List, Result, is_some}
 use Rattle.snoop_model.specs.Moves.LookUps.{FindsRows}
@@ -19,4 +19,4 @@ TheRunIsCoherent =
 pub record IsSafe (s : Situation) : Type 0 where
   pub coherent : IsCoherent s
   pub finds_rows : (step : Step) → FindsRows s step
-  pub kept_where_readable : (core block : ℕ) → is_some (held_by (picture_of s block) core).kept ≡ keeps (state_of s core block)
+  pub kept_where_readable : (core block : ℕ) → is_some (held_of s core block).kept ≡ keeps (state_of s core block)
