@@ -224,7 +224,7 @@ impl<B: Block> Cache<B> {
         self.lines.insert(block, nothing).unwrap();
     }
 
-    /// Changes the block's line, and answers the state that it was in. A line that moves to I is taken out.
+    /// Changes the block's line, and returns the state that it was in. A line that moves to I is taken out.
     pub(crate) fn change(&mut self, block: u32, next: CacheState, change: LineChange) -> CacheState
         requires place { IsSome (lookup (nat_eq block) self.old.entries) }
         requires words { IsOfWords B.count change }
@@ -245,7 +245,7 @@ impl<B: Block> Cache<B> {
         before
     }
 
-    /// Fills the block's line with these words, on which this is performed, and answers the state that it was in.
+    /// Fills the block's line with these words, on which this is performed, and returns the state that it was in.
     pub(crate) fn fill(
         &mut self,
         block: u32,
@@ -267,7 +267,7 @@ impl<B: Block> Cache<B> {
         before
     }
 
-    /// Takes the row of the block's line for an event, and answers the states before and after. A line that moves to I is taken out.
+    /// Takes the row of the block's line for an event, and returns the states before and after. A line that moves to I is taken out.
     #[inline(always)]
     pub(crate) fn take_row(
         &mut self,

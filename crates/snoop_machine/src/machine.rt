@@ -32,7 +32,7 @@ use std::alloc::Global;
 use std::fmt;
 use std::marker::Model;
 
-/// The same done with the parts, whatever their size.
+/// Does the same with the parts, whatever the size of a block.
 macro_rules! each {
     ($any:expr, $parts:ident => $done:expr) => {
         match $any {
@@ -275,7 +275,7 @@ impl Machine {
     }
 }
 
-/// Takes the steps in order, passing over those that are refused. Answers how many were taken.
+/// Takes the steps in order, passing over those that are refused. Returns how many were taken.
 pub fn run_steps(machine: &mut Machine, steps: &[Step]) -> usize
     ensures run { HasRun machine.old steps.now result machine.new }
     ensures safe { IsSafe machine.new.situation }
@@ -332,7 +332,7 @@ impl AnyParts {
         }
     }
 
-    /// The same with blocks of several words. It stands apart: a function pays at its entry for the locals of all sizes that it holds.
+    /// The same for blocks of several words. Kept out of line, so that `step` does not reserve stack for every size.
     #[inline(never)]
     fn step_of_words(&mut self, step: Step) -> Result<Reply, Refused>
         requires { Invariant (stand self.old).situation }
