@@ -3,7 +3,7 @@
 use Rattle.std.specs.Prelude.{◌≡◌, ◌⊎◌, ◌<◌, is_some, ◌^◌, ℕ, List, Option, Some, None, Result, Ok, Err, Bool, if◌then◌else◌, codes, true, false, unwrap_or}
 use Rattle.std.specs.{Option.option_map_or, Int.NonZero.non_zero_u64_get, Str.Parse.{IsNumeral, digits_value, without_leading_plus}}
 use Rattle.clap.specs.Words.{Row, Text, first_of, one_of, same_text}
-use Rattle.snoop_trace.specs.{Extent.{Extent, IsBlockCount, IsBlockSize, IsCoreCount, IsWordCount}, declared.shape.ShapeFault.ShapeFault}
+use Rattle.snoop_trace.specs.{Extent.{Extent, IsBlockCount, IsBlockSize, IsCoreCount, IsWithinLimits, IsWordCount}, declared.shape.ShapeFault.ShapeFault}
 use Rattle.snoop_trace.specs.declared.{shape.ShapeFault.TheVariants.{BadCores, BadBlocks, BadBytes, BadWords}, protocol.Protocol.Protocol}
 use Rattle.snoop_trace.specs.declared.protocol.Protocol.TheVariants.{Msi, Mesi}
 use Rattle.snoop_engine.specs.{Choice.IsChoice, Chosen.Chosen, declared.{choice.ChoiceFault.ChoiceFault, input.Input.Input}}
@@ -156,9 +156,9 @@ IsLongOf name options number = (read : Option ℕ) × IsReadAs (2 ^ 64) (one_of 
 abbrev pub IsNumberOf : Text → List Row → ℕ → Type 0
 IsNumberOf name options number = (read : Option ℕ) × IsReadAs (2 ^ 32) (one_of name options) read × (number ≡ unwrap_or read 0)
 
--- the shape of these numbers, or the first of them that is out of its limits
+-- the shape of these numbers, which is within its limits; or the first of them that is out of its limits
 abbrev pub IsShape : ℕ → ℕ → ℕ → ℕ → Result Extent ShapeFault → Type 0
-IsShape cores blocks bytes words (Ok shape) = shape ≡ record { cores = cores; blocks = blocks; block_bytes = bytes; words = words }
+IsShape cores blocks bytes words (Ok shape) = (shape ≡ record { cores = cores; blocks = blocks; block_bytes = bytes; words = words }) × IsWithinLimits shape
 IsShape cores blocks bytes words (Err BadCores) = ¬ IsCoreCount cores
 IsShape cores blocks bytes words (Err BadBlocks) = IsCoreCount cores × ¬ IsBlockCount blocks
 IsShape cores blocks bytes words (Err BadBytes) = IsCoreCount cores × IsBlockCount blocks × ¬ IsBlockSize bytes

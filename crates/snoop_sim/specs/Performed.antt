@@ -1,18 +1,18 @@
 -- What the program leaves for what it was asked, and the status that it ends with.
 -- Source: this project's profile.
-use Rattle.std.specs.{Prelude.{⊤, ◌≡◌, ◌⊎◌, ℕ, Bool, true, List, Option, Result, Ok, Err}, Int.NonZero.non_zero_u64_get, Io.KnownBytes.Appends}
+use Rattle.std.specs.{Prelude.{⊤, ◌≡◌, ◌⊎◌, ℕ, Bool, true, List, Option, Result, Ok, Err, IfErr}, Int.NonZero.non_zero_u64_get, Io.KnownBytes.Appends}
 use Rattle.snoop_trace.specs.{Extent.Extent, Output.AppendsFront, Text.BlamesReader, declared.{protocol.Protocol.Protocol, fault.TextFault.TheVariants.Read}}
 use Rattle.snoop_rules.specs.{Matrix.matrix_text, TableText.table_text, declared.table_text.Which.Which}
 use Rattle.snoop_model.specs.Pictures.Situation.{Situation}
 use Rattle.clap.specs.Words.{Text}
-use Rattle.snoop_sim.specs.{Asked.{AsksFor, BeginsNothing}, Threaded.SimulatesThreads, Status.status_of, declared.{failure.Failure.Failure, options.Task.Task}}
+use Rattle.snoop_sim.specs.{Asked.{AsksFor, BeginsNothing}, Threaded.SimulatesThreads, ThreadsFault.IsBeforeWriting, Status.status_of, declared.{failure.Failure.Failure, options.Task.Task}}
 use Rattle.snoop_counts.specs.{ByBlock.counts_by_block, BySteps.counts_by_steps, ByWord.counts_by_word, CoreTable.counts_by_core}
 use Rattle.snoop_engine.specs.{Counts.frames_counts_text, Frames.Frame, Simulated.Simulates, SimulatedRun.SimulatesRun, SimulatedSerial.SimulatesSerial, States.states_text}
 use Rattle.snoop_engine.specs.{SimulatedView.SimulatesView, declared.fault.SimFault.SimFault}
 use Rattle.snoop_draw.specs.Simulated.{Draws}
 use Rattle.snoop_draw.specs.declared.fault.DrawFault.TheVariants as draw
 use Rattle.snoop_lint.specs.Linted.{Lints}
-use Rattle.snoop_lint.specs.declared.fault.LintFault.TheVariants.{Read as LintRead}
+use Rattle.snoop_lint.specs.declared.fault.LintFault.TheVariants.{Read as LintRead, Write as LintWrite}
 use Rattle.snoop_states.specs.Whole.{states_table_text}
 use Rattle.snoop_svg.specs.Simulated.{Draws as DrawsSvg}
 use Rattle.snoop_engine.specs.declared.fault.SimFault.TheVariants.{Text as TextRefused, NoMemory, Write}
@@ -64,10 +64,20 @@ PerformsTask (StateFields protocol shape input choice) text ending old new = End
 PerformsTask (Draw protocol shape input charset choice) text ending old new = EndsAs Drawing ending (λ done. Draws protocol shape input charset choice text done old new)
 PerformsTask (DrawSvg protocol shape input choice paper) text ending old new = EndsAs Drawing ending (λ done. DrawsSvg protocol shape input choice paper text done old new)
 
--- the task that the words ask for was performed; or nothing was begun for them, and nothing written
-abbrev pub LeavesOutput : List Text → Option (List ℕ) → Result (Unit {0}) Failure → Option (List ℕ) → Option (List ℕ) → Type 0
-LeavesOutput words input ending old new = ((task : Task) × AsksFor words task × PerformsTask task input ending old new)
-    ⊎ ((failure : Failure) × (ending ≡ Err failure) × BeginsNothing words failure × (new ≡ old))
+-- the task that the words ask for was performed; or nothing was begun for them, and the writer stays as it was
+abbrev pub LeavesOutput : List Text → Option (List ℕ) → Result (Unit {0}) Failure → Option (List ℕ) → Option (List ℕ) → Type 0 → Type 0
+LeavesOutput words input ending old new stays = ((task : Task) × AsksFor words task × PerformsTask task input ending old new)
+    ⊎ ((failure : Failure) × (ending ≡ Err failure) × BeginsNothing words failure × stays)
+
+-- the failure comes before anything is written: not out of memory, where an engine has read its text and begun to write, nor a failed write
+abbrev pub IsBeforeOutput : Failure → Type 0
+IsBeforeOutput (Simulation NoMemory) = ⊥
+IsBeforeOutput (Simulation Write) = ⊥
+IsBeforeOutput (ThreadsFailure fault) = IsBeforeWriting fault
+IsBeforeOutput (LintFailure LintWrite) = ⊥
+IsBeforeOutput (Drawing (draw.Simulation NoMemory)) = ⊥
+IsBeforeOutput (Drawing (draw.Simulation Write)) = ⊥
+IsBeforeOutput failure = ⊤
 
 -- the status of an ending
 abbrev pub status_of_ending : Result (Unit {0}) Failure → ℕ
@@ -82,7 +92,8 @@ IsFailedRead (Err (LintFailure LintRead)) = ⊤
 IsFailedRead (Err (Drawing (draw.Simulation (TextRefused Read)))) = ⊤
 IsFailedRead ending = ⊥
 
--- the program, for these words and this input, ended with this status, and left this; whether its reader never fails, and whether a read had failed before and after
-abbrev pub EndsWithStatus : List Text → Bool → Option Bool → Option Bool → Option (List ℕ) → ℕ → Option (List ℕ) → Option (List ℕ) → Type 0
-EndsWithStatus words never_fails before after input status old new = (ending : Result (Unit {0}) Failure) × (status ≡ status_of_ending ending)
-    × (never_fails ≡ true → ¬ IsFailedRead ending) × BlamesReader before after (IsFailedRead ending) × LeavesOutput words input ending old new
+-- the program, for these words and this input, ended with this status, and left this; whether its reader never fails, whether a read had failed before and after, and that its writer stays as it was
+abbrev pub EndsWithStatus : List Text → Bool → Option Bool → Option Bool → Option (List ℕ) → ℕ → Option (List ℕ) → Option (List ℕ) → Type 0 → Type 0
+EndsWithStatus words never_fails before after input status old new stays = (ending : Result (Unit {0}) Failure) × (status ≡ status_of_ending ending)
+    × (never_fails ≡ true → ¬ IsFailedRead ending) × BlamesReader before after (IsFailedRead ending) × LeavesOutput words input ending old new stays
+    × IfErr ending (λ failure. IsBeforeOutput failure → stays)

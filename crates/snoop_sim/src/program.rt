@@ -8,7 +8,7 @@ ghost use Rattle.snoop_trace.specs.declared.fault.TextFault.{TextFault};
 ghost use Rattle.snoop_trace.specs.declared.fault.TextFault.TheVariants as text_fault;
 ghost use Rattle.snoop_engine.specs.SimulatedView.{SimulatesView};
 ghost use Rattle.snoop_sim.specs.Status.{status_of};
-ghost use Rattle.snoop_sim.specs.Performed.{EndsWithStatus, IsFailedRead, PerformsTask, WritesText, grouped_counts, layout_text, status_of_ending};
+ghost use Rattle.snoop_sim.specs.Performed.{EndsWithStatus, IsBeforeOutput, IsFailedRead, PerformsTask, WritesText, grouped_counts, layout_text, status_of_ending};
 
 use crate::failure::Failure;
 use crate::options::{Grouping, Layout, Task, task_in};
@@ -48,7 +48,7 @@ pub fn command<T: Threads + Wait + Sync, R: Source, W: Sink, E: Write>(
     writer: &mut W,
     errors: &mut E,
 ) -> u8
-    ensures does { EndsWithStatus (map string_bytes words.now) R.never_fails (R.failed reader.old) (R.failed reader.new) (R.remaining reader.old) result (W.contents writer.old) (W.contents writer.new) }
+    ensures does { EndsWithStatus (map string_bytes words.now) R.never_fails (R.failed reader.old) (R.failed reader.new) (R.remaining reader.old) result (W.contents writer.old) (W.contents writer.new) (writer.new ≡ writer.old) }
     ensures known { result < 6 }
     // A text, a command line or a shape is refused, and leaves the writer as it was.
     ensures unwritten { 0 < result → result < 3 → writer.new ≡ writer.old }
@@ -90,6 +90,7 @@ fn perform<T: Threads + Wait + Sync, R: Source, W: Sink>(
     ensures does { PerformsTask task (R.remaining reader.old) result (W.contents writer.old) (W.contents writer.new) }
     ensures reads { R.never_fails ≡ true → ¬ IsFailedRead result }
     ensures read_blamed { BlamesReader (R.failed reader.old) (R.failed reader.new) (IsFailedRead result) }
+    ensures before { IfErr result (λ failure. IsBeforeOutput failure → writer.new ≡ writer.old) }
     ensures unwritten { IfErr result (λ failure. status_of failure < 3 → writer.new ≡ writer.old) }
     ensures refused { IfErr result (λ failure. status_of failure ≡ 5 → writer.new ≡ writer.old) }
     ensures never_blamed { IfErr result (λ failure. W.never_fails ≡ true → status_of failure ≢ 4) }

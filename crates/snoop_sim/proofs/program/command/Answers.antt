@@ -12,6 +12,7 @@ returns-in-Err-clause-does g c =
       (λ never. unread),
       (λ old. ((λ failed. absurd (unread failed)), (λ none. old))),
       inr (c.in-Err.failure, refl, begins, refl),
+      (λ early. refl),
     )
 
 pub returns-in-Err-clause-known : goal.returns-in-Err-clause-known
@@ -30,14 +31,14 @@ returns-in-Err-clause-blamed g c = λ old.
 pub returns-in-Ok-perform-clause-does : goal.returns-in-Ok-perform-clause-does
 returns-in-Ok-perform-clause-does g c =
     let done = c.perform.ensures in
-    (c.perform.result, sym (ap status_of_ending c.in-Ok-perform.is), done.reads, done.read_blamed, inl (c.in-Ok.task, c.in-Ok.ensures.ok, done.does))
+    (c.perform.result, sym (ap status_of_ending c.in-Ok-perform.is), done.reads, done.read_blamed, inl (c.in-Ok.task, c.in-Ok.ensures.ok, done.does), done.before)
 
 -- it failed
 pub returns-in-Err-perform-clause-does : goal.returns-in-Err-perform-clause-does
 returns-in-Err-perform-clause-does g c =
     let done = c.perform.ensures in
     let status = c.report-in-Err-perform.ensures ∙ sym (ap status_of_ending c.in-Err-perform.is) in
-    (c.perform.result, status, done.reads, done.read_blamed, inl (c.in-Ok.task, c.in-Ok.ensures.ok, done.does))
+    (c.perform.result, status, done.reads, done.read_blamed, inl (c.in-Ok.task, c.in-Ok.ensures.ok, done.does), done.before)
 
 pub returns-in-Err-perform-clause-known : goal.returns-in-Err-perform-clause-known
 returns-in-Err-perform-clause-known g c = rw c.report-in-Err-perform.ensures (status_known c.in-Err-perform.failure)
