@@ -1,3 +1,4 @@
+pub mod SeatsInOrder
 pub mod Threading
 pub mod OptionLemmas
 pub mod CommandLineLemmas
