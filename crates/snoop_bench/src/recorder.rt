@@ -84,7 +84,7 @@ impl Recorder {
         self.machine.coherent();
     }
 
-    /// Takes a step that no cause refuses, and publishes its item. `NoMemory` changes nothing: all growths come before the step.
+    /// Takes a step that no cause refuses, and publishes its item. `NoMemory` changes nothing: all that needs memory comes before the step.
     pub(crate) fn take<R: Wait>(&mut self, rt: &R, step: Step) -> Result<Reply, NoMemory>
         requires allowed { (cause : Refused) → ¬ Refuses self.old.situation step cause }
         requires within { IsReadableStep self.old.situation.shape step }

@@ -15,7 +15,7 @@ fn smaller(one: u64, other: u64) -> u64
     if one < other { one } else { other }
 }
 
-// How many of so many steps have a number that is chosen.
+// How many of the first `count` steps have a number that is chosen.
 fn steps_within(choice: Choice, count: u64) -> u64
     ensures { result ≡ steps_within choice count }
 {
@@ -37,7 +37,7 @@ pub fn columns_of(panels: &[Panel]) -> u64
     columns
 }
 
-/// Whether a drawing of so many steps with these panels is made.
+/// Whether a drawing of `count` steps with these panels is small enough to be made.
 pub(crate) fn is_small(choice: Choice, count: u64, panels: &[Panel]) -> bool
     ensures { IsTrue result ↔ IsSmall choice count panels.now }
 {

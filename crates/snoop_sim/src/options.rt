@@ -57,11 +57,11 @@ pub(crate) enum Layout {
 pub(crate) enum Grouping {
     Row,
     Core,
-    /// All blocks, or so many, those of most requests first.
+    /// All blocks, or this many of them, those with the most requests first.
     Block(Option<u32>),
     /// Each word of each shared block.
     Word,
-    /// So many steps.
+    /// This many steps.
     Steps(NonZeroU64),
 }
 

@@ -100,7 +100,7 @@ impl Plan {
         }
     }
 
-    /// How many rows the sheet has that begins after so many rows.
+    /// How many rows the sheet has that begins after `done` rows.
     pub(crate) fn sheet_rows(&self, done: u64) -> u32
         ensures value { result ≡ sheet_rows self.now done }
         ensures few { result ≤ 20000 }
