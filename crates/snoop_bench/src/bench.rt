@@ -17,7 +17,7 @@ use crate::work::{AdvanceFault, Turn, as_asked};
 use snoop_history::Log;
 use snoop_machine::turns_are_served;
 use snoop_rules::Protocol;
-use snoop_trace::{NoMemory, Op, Shape, Step, Work};
+use snoop_trace::{NoMemory, Shape, Step, Work};
 use snoop_versions::Readers;
 use std::alloc::Global;
 use std::marker::Model;
