@@ -1,13 +1,12 @@
 //! A machine whose steps are recorded, and whose items are published as they come.
-ghost use Rattle.std.specs.Prelude.{◌≡◌, ◌<◌, ◌^◌, ℕ, [], ◌∷◌, ◌++◌, IfOk, OnOk, OnErr, Ok, Option, option_to_list};
+ghost use Rattle.std.specs.Prelude.{◌≡◌, ◌<◌, ◌^◌, [], ◌∷◌, ◌++◌, IfOk, OnOk, OnErr, Ok, Option, option_to_list};
 ghost use Rattle.snoop_trace.specs.Output.{IsReadableStep};
 ghost use Rattle.snoop_model.specs.declared.replies.Refused.{Refused};
-ghost use Rattle.snoop_model.specs.Pictures.Situation.{Situation, reset};
+ghost use Rattle.snoop_model.specs.Pictures.Situation.{reset};
 ghost use Rattle.snoop_model.specs.Moves.Refuses.{Refuses};
 ghost use Rattle.snoop_model.specs.Moves.Replies.{Tells};
 ghost use Rattle.snoop_model.specs.Runs.Once.{OnceMore};
 ghost use Rattle.snoop_model.specs.Runs.Safe.{IsSafe};
-ghost use Rattle.snoop_machine.specs.Standing.{Standing};
 ghost use Rattle.snoop_machine.specs.Prepared.{IsPrepared};
 ghost use Rattle.snoop_bench.specs.Recording.{IsRecorded, TakesAndPublishes};
 
