@@ -85,7 +85,7 @@ impl Plan {
         ensures { result ≡ width_of self.now }
     {
         let rows = self.replies as u64 + self.sizes.reply as u64;
-        12 + if rows < 788 { 788 } else { rows }
+        12 + rows.max(788)
     }
 
     /// How many rows a sheet has at most.
