@@ -43,7 +43,7 @@ impl Model for Bench {
 }
 
 impl Bench {
-    /// A bench with a machine at reset, no work under way, and `readers` reading places; or out of memory.
+    /// A bench with a machine at reset, no work under way, and `readers` reading places. `NoMemory` if out of memory.
     pub fn new(
         alloc: Global,
         protocol: Protocol,
@@ -122,7 +122,7 @@ impl Bench {
     /// and the work is over. An eviction's word counts as 0.
     ///
     /// `NoCore` for a core outside the shape; `NoBlock` for a block or a word outside the shape; `Other` where the core has another
-    /// work under way; `NoMemory` is out of memory. A fault changes nothing.
+    /// work under way; `NoMemory` if out of memory. A fault changes nothing.
     pub fn advance<R: Wait>(&mut self, rt: &R, core: u32, work: Work) -> Result<Turn, AdvanceFault>
         ensures ok { IfOk result (λ given. Turns core (as_asked work) given self.old self.new) }
         ensures err { IfErr result (λ fault. RefusesTurn fault core (as_asked work) self.old × (self.new ≡ self.old)) }

@@ -31,7 +31,7 @@ pub struct Gathered {
 /// changes nothing, and may be called again.
 ///
 /// `NotAllSeats` where the seats are not one for each core; `Pending` where a core has work under way, or a seat a pending
-/// operation; `Mismatch` where a seat's answers are not its core's operations in the log; `NoMemory` is out of memory.
+/// operation; `Mismatch` where a seat's answers are not its core's operations in the log; `NoMemory` if out of memory.
 pub fn gather<R: Wait>(
     rt: &R,
     alloc: Global,

@@ -35,7 +35,7 @@ impl Model for Shared {
 impl Shared {
     /// A machine at reset under a lock, with a seat for each core, in order of core, and `watches` watches.
     ///
-    /// `NoPlace` where cores and watches are 2^32 or more together, or a reader of versions found no place; `NoMemory` is out of
+    /// `NoPlace` where cores and watches are 2^32 or more together, or a reader of versions found no place; `NoMemory` if out of
     /// memory.
     pub fn new<R: Wait>(
         rt: &R,
