@@ -17,7 +17,7 @@ use crate::work::{AdvanceFault, Turn, as_asked};
 use snoop_history::Log;
 use snoop_machine::turns_are_served;
 use snoop_rules::Protocol;
-use snoop_trace::{NoMemory, Op, Shape, Step, Work};
+use snoop_trace::{NoMemory, Shape, Step, Work};
 use snoop_versions::Readers;
 use std::alloc::Global;
 use std::marker::Model;
@@ -43,9 +43,7 @@ impl Model for Bench {
 }
 
 impl Bench {
-    /// A bench with a machine at reset, no work under way, and `readers` reading places.
-    ///
-    /// `NoMemory` where a growth was refused.
+    /// A bench with a machine at reset, no work under way, and `readers` reading places. `NoMemory` if out of memory.
     pub fn new(
         alloc: Global,
         protocol: Protocol,
@@ -116,12 +114,15 @@ impl Bench {
         self.works.get(core as usize).copied().flatten()
     }
 
-    /// One turn of the core with a work: at most one step, whose item is published before this returns.
+    /// Takes one turn of the core's work: at most one step, whose item is published before this returns.
     ///
-    /// An eviction's word is not looked at: it is asked, and is under way, as 0. With no work under way the core asks for it. If its request waits, the request is ordered where the block is free; otherwise
-    /// the block's open transaction gets its response. If the open transaction is its own, or another core's turn closed it, the
-    /// work is over. A fault changes nothing. `Other` where the core has another work under way; `NoMemory` where a growth was
-    /// refused.
+    /// With no work under way, the core asks for this one, and the work is over unless a request was issued. If its request waits,
+    /// the request is ordered where the block is free; otherwise the block's open transaction gets its response. If the core's own
+    /// transaction is open, that gets its response, and the work is over. If another core's turn has closed it, no step is taken,
+    /// and the work is over. An eviction's word counts as 0.
+    ///
+    /// `NoCore` for a core outside the shape; `NoBlock` for a block or a word outside the shape; `Other` where the core has another
+    /// work under way; `NoMemory` if out of memory. A fault changes nothing.
     pub fn advance<R: Wait>(&mut self, rt: &R, core: u32, work: Work) -> Result<Turn, AdvanceFault>
         ensures ok { IfOk result (λ given. Turns core (as_asked work) given self.old self.new) }
         ensures err { IfErr result (λ fault. RefusesTurn fault core (as_asked work) self.old × (self.new ≡ self.old)) }

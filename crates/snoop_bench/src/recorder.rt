@@ -1,13 +1,12 @@
 //! A machine whose steps are recorded, and whose items are published as they come.
-ghost use Rattle.std.specs.Prelude.{◌≡◌, ◌<◌, ◌^◌, ℕ, [], ◌∷◌, ◌++◌, IfOk, OnOk, OnErr, Ok, Option, option_to_list};
+ghost use Rattle.std.specs.Prelude.{◌≡◌, ◌<◌, ◌^◌, [], ◌∷◌, ◌++◌, IfOk, OnOk, OnErr, Ok, Option, option_to_list};
 ghost use Rattle.snoop_trace.specs.Output.{IsReadableStep};
 ghost use Rattle.snoop_model.specs.declared.replies.Refused.{Refused};
-ghost use Rattle.snoop_model.specs.Pictures.Situation.{Situation, reset};
+ghost use Rattle.snoop_model.specs.Pictures.Situation.{reset};
 ghost use Rattle.snoop_model.specs.Moves.Refuses.{Refuses};
 ghost use Rattle.snoop_model.specs.Moves.Replies.{Tells};
 ghost use Rattle.snoop_model.specs.Runs.Once.{OnceMore};
 ghost use Rattle.snoop_model.specs.Runs.Safe.{IsSafe};
-ghost use Rattle.snoop_machine.specs.Standing.{Standing};
 ghost use Rattle.snoop_machine.specs.Prepared.{IsPrepared};
 ghost use Rattle.snoop_bench.specs.Recording.{IsRecorded, TakesAndPublishes};
 
@@ -84,7 +83,7 @@ impl Recorder {
         self.machine.coherent();
     }
 
-    /// Takes a step that no cause refuses, and publishes its item. `NoMemory` changes nothing: all growths come before the step.
+    /// Takes a step that no cause refuses, and publishes its item. `NoMemory` changes nothing: all that needs memory comes before the step.
     pub(crate) fn take<R: Wait>(&mut self, rt: &R, step: Step) -> Result<Reply, NoMemory>
         requires allowed { (cause : Refused) → ¬ Refuses self.old.situation step cause }
         requires within { IsReadableStep self.old.situation.shape step }

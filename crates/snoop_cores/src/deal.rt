@@ -5,7 +5,7 @@ ghost use Rattle.snoop_cores.specs.Rows.{AreDealt};
 use snoop_trace::Row;
 use std::alloc::{AllocError, Global};
 
-/// Each core's rows, in order, for so many cores.
+/// Each core's rows, in order, for `cores` cores.
 pub(crate) fn deal<'a>(
     alloc: Global,
     cores: usize,

@@ -28,7 +28,7 @@ pub enum SeatFault {
     #[error("Busy")]
     Busy(Work),
     /// The published versions show an operation of the core that the seat did not make; this is the core's last one there. From then
-    /// on `load`, `store` and `evict` answer the same wherever `NoBlock` does not come.
+    /// on each `load`, `store` and `evict` that `NoBlock` does not refuse returns this.
     #[error("Stranger")]
     Stranger(Did),
 }

@@ -27,10 +27,11 @@ pub struct Gathered {
     pub steps: Vec<Step>,
 }
 
-/// Joins the log under the lock with what the seats were answered; it changes nothing, and may be called again.
+/// Copies the log and its steps from under the lock, after checking that each seat's answers are its core's operations there. It
+/// changes nothing, and may be called again.
 ///
 /// `NotAllSeats` where the seats are not one for each core; `Pending` where a core has work under way, or a seat a pending
-/// operation; `Mismatch` where a seat's answers are not its core's operations in the log; `NoMemory` where a growth was refused.
+/// operation; `Mismatch` where a seat's answers are not its core's operations in the log; `NoMemory` if out of memory.
 pub fn gather<R: Wait>(
     rt: &R,
     alloc: Global,

@@ -19,7 +19,7 @@ use std::thread::Threads;
 ///
 /// Before each row it waits for the gate; a gate that is never late stops no seat. Where a thread cannot be made, seats share one. A
 /// fault leaves all as it was: `NoSeat` names the core of the first row that has no seat, or whose address is outside the shape of a
-/// seat of its core; `NoMemory` where a growth was refused.
+/// seat of its core; `NoMemory` if out of memory.
 pub fn run_seats<R: Threads + Wait + Sync, G: Gate + Sync>(
     rt: &R,
     alloc: Global,

@@ -107,12 +107,7 @@ impl Seat {
         self.stop
     }
 
-    /// Loads a word of the block, and reports its value.
-    ///
-    /// `NoBlock` where the block or the word is outside the shape. `Stranger` where the published versions show an operation of this
-    /// core that the seat did not make; from then on `load`, `store` and `evict` answer the same wherever `NoBlock` does not come.
-    /// `Busy` where another operation is pending. `NoMemory` leaves this one pending: the same call, made again, goes on with it and
-    /// does it once.
+    /// Loads a word of the block, and reports its value. Fails as `SeatFault` says.
     pub fn load<R: Wait>(&mut self, rt: &R, block: u32, word: u32) -> Result<u64, SeatFault>
         ensures ok { IfOk result (λ value. (did : Did) × Completes (record { block = block; word = word; op = Load }) (did ∷ []) self.old self.new × Does did (record { block = block; word = word; op = Load }) × (did.value ≡ value)) }
         ensures err { IfErr result (λ fault. Fails fault (record { block = block; word = word; op = Load }) self.old self.new) }
@@ -127,12 +122,7 @@ impl Seat {
         Ok(did.value)
     }
 
-    /// Stores a value in a word of the block.
-    ///
-    /// `NoBlock` where the block or the word is outside the shape. `Stranger` where the published versions show an operation of this
-    /// core that the seat did not make; from then on `load`, `store` and `evict` answer the same wherever `NoBlock` does not come.
-    /// `Busy` where another operation is pending. `NoMemory` leaves this one pending: the same call, made again, goes on with it and
-    /// does it once.
+    /// Stores a value in a word of the block. Fails as `SeatFault` says.
     pub fn store<R: Wait>(
         &mut self,
         rt: &R,
@@ -153,11 +143,7 @@ impl Seat {
         Ok(())
     }
 
-    /// Gives the block up, and reports how. It adds no answer.
-    ///
-    /// `NoBlock` outside the shape. `Stranger` where the published versions show an operation of this core that the seat did not
-    /// make; from then on `load`, `store` and `evict` answer the same wherever `NoBlock` does not come. `Busy` where another
-    /// operation is pending. `NoMemory` leaves this one pending: the same call, made again, goes on with it and does it once.
+    /// Gives the block up, and reports how. It adds no answer. Fails as `SeatFault` says.
     pub fn evict<R: Wait>(&mut self, rt: &R, block: u32) -> Result<Evicted, SeatFault>
         ensures ok { OnOk result (Completes (record { block = block; word = 0; op = Evict }) [] self.old self.new) }
         ensures err { IfErr result (λ fault. Fails fault (record { block = block; word = 0; op = Evict }) self.old self.new) }

@@ -86,7 +86,9 @@ impl Share {
                 Ok(Turn::Going) => {}
                 Ok(turn) => return Ok(turn),
                 Err(AdvanceFault::NoMemory) => return Err(NoMemory),
-                Err(_) => {}
+                // The seat has checked the core and the block. Another work of the core ends by its own turns, so this tries
+                // again.
+                Err(AdvanceFault::NoCore | AdvanceFault::NoBlock | AdvanceFault::Other(_)) => {}
             }
         }
         unreachable!()

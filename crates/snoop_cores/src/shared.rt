@@ -33,10 +33,10 @@ impl Model for Shared {
 }
 
 impl Shared {
-    /// A machine at reset under a lock, with a seat for each core, in order of core, and so many watches.
+    /// A machine at reset under a lock, with a seat for each core, in order of core, and `watches` watches.
     ///
-    /// `NoPlace` where cores and watches are 2^32 or more together, or a reader of versions found no place; `NoMemory` where a
-    /// growth was refused.
+    /// `NoPlace` where cores and watches are 2^32 or more together, or a reader of versions found no place; `NoMemory` if out of
+    /// memory.
     pub fn new<R: Wait>(
         rt: &R,
         alloc: Global,
@@ -119,7 +119,7 @@ impl Shared {
         Ok(())
     }
 
-    // Adds so many watches, or reports why one cannot be made.
+    // Adds `count` watches, or reports why one cannot be made.
     fn add_watches<R: Wait>(
         &self,
         rt: &R,

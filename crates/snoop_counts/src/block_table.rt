@@ -135,7 +135,7 @@ fn push_blocks(
     Ok(())
 }
 
-/// Appends the table of a shape: of all blocks that a line names, or of so many with most ordered requests.
+/// Appends the table of a shape: of all blocks that a line names, or of the `top` with the most ordered requests.
 pub(crate) fn push_block_table(
     alloc: Global,
     out: &mut Vec<u8>,

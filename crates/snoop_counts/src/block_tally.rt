@@ -22,7 +22,7 @@ pub(crate) struct BlockTally {
 }
 
 impl BlockTally {
-    /// Nothing is counted yet, for so many blocks.
+    /// Nothing is counted yet, for `blocks` blocks.
     pub(crate) fn new(alloc: Global, blocks: u32) -> Result<Self, NoMemory>
         ensures { IfOk result (CountsBlocks blocks []) }
     {

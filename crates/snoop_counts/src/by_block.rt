@@ -16,7 +16,7 @@ use snoop_trace::streams::{Sink, Source};
 use snoop_trace::{NoMemory, Shape};
 use std::alloc::Global;
 
-/// The table of the counts of all blocks that a line names, or of so many.
+/// The table of the counts of all blocks that a line names, or of the `top` with the most ordered requests.
 #[derive(Clone, Copy, Debug)]
 struct ByBlock {
     top: Option<u32>,
@@ -36,9 +36,9 @@ impl Table<BlockTally> for ByBlock {
     }
 }
 
-/// Reads a text to its end, takes the steps that come of it in order on a machine at reset, for the protocol and the shape,
-/// and writes the counts of each block that a step is of, or of so many with most ordered requests, most first. A step that
-/// is refused because it is out of memory ends the simulation.
+/// Reads a text to its end, runs the steps that it gives, in order, on a machine at reset for the protocol and the shape, and
+/// writes the counts of each block that a line of `simulate_states` names, or of the `top` of them with the most ordered
+/// requests, most first. A step that is refused for lack of memory ends the simulation. Faults are as `SimFault` says.
 pub fn simulate_counts_by_block<R: Source, W: Sink>(
     alloc: Global,
     reader: &mut R,

@@ -35,9 +35,9 @@ impl Table<Tally> for ByCore {
     }
 }
 
-/// Reads a text to its end, takes the steps that come of it in order on a machine at reset, for the protocol and the shape,
-/// and writes the counts of each core that a step names. A step that is refused because it is out of memory ends the
-/// simulation.
+/// Reads a text to its end, runs the steps that it gives, in order, on a machine at reset for the protocol and the shape, and
+/// writes the counts of each core that a line of `simulate_states` names. A step that is refused for lack of memory ends the
+/// simulation. Faults are as `SimFault` says.
 pub fn simulate_counts_by_core<R: Source, W: Sink>(
     alloc: Global,
     reader: &mut R,

@@ -1,6 +1,5 @@
-//! The view of the counts of each so many steps.
-ghost use Rattle.std.specs.Prelude.{◌≡◌, ◌≢◌, ◌-◌, ◌++◌, ◌∷◌, [], true, Err, List, OnOk, codes};
-ghost use Rattle.std.specs.Fmt.{decimal};
+//! The counts of each group of `every` steps.
+ghost use Rattle.std.specs.Prelude.{◌≡◌, ◌≢◌, ◌-◌, ◌++◌, ◌∷◌, [], true, Err, List, OnOk};
 ghost use Rattle.std.specs.Int.NonZero.{non_zero_u64_get};
 ghost use Rattle.snoop_trace.specs.Output.{BlamesWriter};
 ghost use Rattle.snoop_trace.specs.Text.{BlamesReader};
@@ -58,7 +57,7 @@ static MACHINE_COUNTS: [Count; 29] = [
     Count::NoTransaction,
 ];
 
-/// Counts by so many steps; there are no counters before the run begins.
+/// Counts each group of `every` steps; there are no counters before the run begins.
 #[derive(Drop)]
 struct BySteps {
     every: NonZeroU64,
@@ -69,7 +68,7 @@ struct BySteps {
     tally: Option<Tally>,
 }
 
-// The number of the first of so many steps, by that of the last.
+// The number of the first of `size` steps, by that of the last.
 fn first_of(last: u64, size: u64) -> u64
     ensures { result ≡ last - (size - 1) }
 {
@@ -151,9 +150,9 @@ impl View for BySteps {
     }
 }
 
-/// Reads a text to its end, takes the steps that come of it in order on a machine at reset, for the protocol and the shape,
-/// and writes the counts of the whole machine for each so many steps; the last line may have fewer. A step that is refused
-/// because it is out of memory ends the simulation.
+/// Reads a text to its end, runs the steps that it gives, in order, on a machine at reset for the protocol and the shape, and
+/// writes the counts of the whole machine for each group of `every` steps; the last group may have fewer. A step that is refused
+/// for lack of memory ends the simulation. Faults are as `SimFault` says.
 pub fn simulate_counts_by_steps<R: Source, W: Sink>(
     alloc: Global,
     reader: &mut R,

@@ -34,9 +34,9 @@ impl Table<WordTally> for ByWord {
     }
 }
 
-/// Reads a text to its end, takes the steps that come of it in order on a machine at reset, for the protocol and the shape,
-/// and writes the counts of each word of the blocks on which at least two cores performed an operation. A step that is
-/// refused because it is out of memory ends the simulation.
+/// Reads a text to its end, runs the steps that it gives, in order, on a machine at reset for the protocol and the shape, and
+/// writes the counts of each word of the blocks on which at least two cores performed a load or a store. A step that is refused
+/// for lack of memory ends the simulation. Faults are as `SimFault` says.
 pub fn simulate_counts_by_word<R: Source, W: Sink>(
     alloc: Global,
     reader: &mut R,

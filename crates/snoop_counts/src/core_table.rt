@@ -73,7 +73,7 @@ fn push_core(out: &mut Vec<u8>, tally: &Tally, core: u32) -> Result<(), NoMemory
     }
 }
 
-// Appends the lines of so many cores.
+// Appends the lines of the first `cores` cores.
 fn push_cores(out: &mut Vec<u8>, tally: &Tally, cores: u32) -> Result<(), NoMemory>
     ensures { (seen : List Happening) → HasCounted Cores cores seen tally.now
         → OnOk result (out.new.items ≡ out.old.items ++ flat_map (core_line seen) (range_with_len 0 cores)) }
@@ -84,7 +84,7 @@ fn push_cores(out: &mut Vec<u8>, tally: &Tally, cores: u32) -> Result<(), NoMemo
     Ok(())
 }
 
-/// Appends the table of so many cores.
+/// Appends the table of the first `cores` cores.
 pub(crate) fn push_core_table(out: &mut Vec<u8>, tally: &Tally, cores: u32) -> Result<(), NoMemory>
     ensures { (seen : List Happening) → HasCounted Cores cores seen tally.now
         → OnOk result (out.new.items ≡ out.old.items ++ core_table cores seen) }

@@ -65,9 +65,9 @@ pub(crate) enum Count {
     NothingWaiting,
     /// Refused Responds: no transaction is open.
     NoTransaction,
-    /// Lines of steps. No field has them: whoever has none is left out.
+    /// Lines of steps. Not a field: whatever has none is left out.
     Lines,
-    /// Operations that were performed. No field has them: they say which blocks and words are shared.
+    /// Operations that were performed. Not a field: they say which blocks and words are shared.
     Operations,
 }
 
@@ -96,12 +96,12 @@ pub(crate) enum Happening {
     },
 }
 
-/// Whose counts they are.
+/// What there is a row of counters for.
 #[derive(Clone, Copy, Debug)]
 pub(crate) enum Subjects {
     Cores,
     Blocks,
-    /// The words of all blocks, of which each has so many.
+    /// The words of all blocks; each block has this many.
     Words(u32),
     /// All of the machine's, as one.
     Machine,

@@ -275,7 +275,7 @@ fn counts_cause(count: Count, cause: Option<Cause>) -> bool
     }
 }
 
-/// Whether it is counted.
+/// Whether the count counts the happening.
 #[inline(always)]
 pub(crate) fn counts(count: Count, happening: &Happening) -> bool
     ensures { result ≡ counts count happening.now }
@@ -387,7 +387,7 @@ fn sender_of(happening: &Happening) -> Option<u32>
     }
 }
 
-// The core for which it is counted.
+// The core for which the count counts the happening, if any.
 #[inline(always)]
 fn core_counted(count: Count, happening: &Happening) -> Option<u32>
     ensures { result ≡ core_counted count happening.now }
@@ -399,7 +399,7 @@ fn core_counted(count: Count, happening: &Happening) -> Option<u32>
     }
 }
 
-/// For whom it is counted, if for anybody.
+/// The subject for which the count counts the happening, if any.
 #[inline(always)]
 pub(crate) fn subject_of(subjects: Subjects, count: Count, happening: &Happening) -> Option<u32>
     ensures { result ≡ subject_of subjects count happening.now }

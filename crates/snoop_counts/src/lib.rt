@@ -1,5 +1,5 @@
-//! The views of the command `counts`: how often something happened to each core, block or word in a run, or to the machine for
-//! each so many steps.
+//! The views of the command `counts`: how often something happened to each core, block or word in a run, or to the machine in
+//! each group of steps.
 #![tactic(auto)]
 
 mod block_table;

@@ -22,7 +22,7 @@ pub(crate) struct Sharers {
 }
 
 impl Sharers {
-    /// Nothing is counted yet, for so many subjects.
+    /// Nothing is counted yet, for `many` subjects.
     pub(crate) fn new(
         alloc: Global,
         subjects: Subjects,
@@ -57,7 +57,7 @@ impl Sharers {
         self.sets.insert(subject, core);
     }
 
-    /// For how many of so many cores something of the subject was counted.
+    /// How many of the first `cores` cores something of the subject was counted for.
     pub(crate) fn of(&self, subject: u32, cores: u32) -> u64
         ensures { (whose : Whose) (counted : Counted) (many : ℕ) (seen : List Seen) → HasMarked whose counted many seen self.now → subject < many → cores ≤ 256 → result ≡ sharers whose counted cores seen subject }
     {
@@ -68,8 +68,8 @@ impl Sharers {
     }
 }
 
-/// Appends three numbers, a comma before each: for how many of so many cores something of the subject was counted, how many
-/// performed a load of it, and how many a store.
+/// Appends three numbers, a comma before each: for how many of the first `cores` cores something of the subject was counted, how
+/// many performed a load of it, and how many a store.
 pub(crate) fn push_sharing(
     out: &mut Vec<u8>,
     all: &Sharers,

@@ -82,7 +82,7 @@ impl Counters {
         self.raise_if(Count::Stale, happening);
     }
 
-    // Counts the line of a step that was taken, and that is no miss, for whom it names.
+    // Counts the line of a step that was taken, where no cause of a miss is given.
     fn raise_row(&mut self, happening: &Happening, line: Taken)
         requires { (step : Given) × ((answer : Answer) × (happening.now ≡ Line step (Ok answer) line None)) }
         ensures { self.new ≡ raised_all of_rows happening.now self.old }
@@ -188,7 +188,7 @@ pub(crate) struct Tally {
 }
 
 impl Tally {
-    /// Nothing is counted yet, for so many subjects.
+    /// Nothing is counted yet, for `count` subjects.
     pub(crate) fn new(alloc: Global, subjects: Subjects, count: u32) -> Result<Self, NoMemory>
         ensures { IfOk result (HasCounted subjects count []) }
     {
@@ -237,7 +237,7 @@ impl Tally {
         }
     }
 
-    // Counts the happening for whom it is of, by all counts but those of what a core does to others.
+    // Counts the happening for its own subject, by all counts but those of what a core does to others.
     fn add_own(&mut self, happening: &Happening)
         ensures { self.new ≡ record self.old { rows = own_raised self.old.subjects happening.now self.old.rows } }
     {

@@ -25,10 +25,7 @@ use std::alloc::Global;
 fn operation_of(item: Option<Item>) -> Option<Did>
     ensures { result ≡ option_map_or operation_of item None }
 {
-    match item {
-        None => None,
-        Some(item) => item.did(),
-    }
+    item?.did()
 }
 
 fn push(all: &mut Vec<Happening>, happening: Happening) -> Result<(), NoMemory>

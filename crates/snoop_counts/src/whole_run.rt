@@ -82,8 +82,9 @@ impl<C: Counts + Drop, T: Table<C> + Drop> View for WholeRun<T, C> {
     }
 }
 
-/// Reads a text to its end, takes the steps that come of it in order on a machine at reset, for the protocol and the shape,
-/// and writes the table of their counts. A step that is refused because it is out of memory ends the simulation.
+/// Reads a text to its end, runs the steps that it gives, in order, on a machine at reset for the protocol and the shape, and
+/// writes the table of their counts. A step that is refused for lack of memory ends the simulation. Faults are as `SimFault`
+/// says.
 pub(crate) fn simulate_table<R: Source, W: Sink, C: Counts + Drop, T: Table<C> + Drop>(
     alloc: Global,
     reader: &mut R,

@@ -58,7 +58,7 @@ impl Drawing {
         push_right(out, self.style.widths.number, &digits)
     }
 
-    // Appends the first row: the machine after so many steps.
+    // Appends the first row: the machine after `number` steps.
     fn push_standing(
         &self,
         out: &mut Vec<u8>,

@@ -83,7 +83,7 @@ fn event_of(step: Step, outcome: Result<Reply, Refused>, lines: &[Taken]) -> Eve
     }
 }
 
-// Whether something is of this block.
+// Whether the number, of a block or of a core, is this one.
 fn is_of(of: Option<u32>, block: u32) -> bool
     ensures { result ≡ is_of of block }
 {

@@ -87,7 +87,7 @@ pub(crate) fn push_mark(out: &mut Vec<u8>, charset: Charset, mark: Mark) -> Resu
     }
 }
 
-/// Appends the mark so many times.
+/// Appends the mark `count` times.
 #[tactic(auto, using(snoop_engine::proofs::RangeLemmas::more_from_zero, std::proofs::lemmas::Grind::common_steps))]
 pub(crate) fn push_marks(
     out: &mut Vec<u8>,

@@ -39,10 +39,7 @@ pub fn held_in(machine: &Machine, block: u32, core: u32) -> CacheState
 fn sender_in(opened: Option<Open>) -> Option<u32>
     ensures { result ≡ sender_in opened }
 {
-    match opened {
-        None => None,
-        Some(opened) => opened.from,
-    }
+    opened?.from
 }
 
 fn core_cell(machine: &Machine, moment: &Moment<'_>, core: u32) -> Cell

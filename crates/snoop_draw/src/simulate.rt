@@ -19,11 +19,11 @@ use snoop_trace::streams::{Sink, Source};
 use snoop_trace::{Shape, Step, WriteFault};
 use std::alloc::Global;
 
-/// Reads a text to its end, takes the steps that come of it in order on a machine at reset, for the protocol and the shape,
-/// and draws those that are chosen: a row for each, a panel for each block, a column for each core that asks for the block, the bus
+/// Reads a text to its end, runs the steps that it gives, in order, on a machine at reset for the protocol and the shape, and
+/// draws those that are chosen: a row for each, a panel for each block, a column for each core that asks for the block, the bus
 /// and memory. All columns are known before the first byte is written, and a drawing of more than a million cells, which
-/// are the product of the chosen steps and the columns, one more of each, is refused by `TooLarge`. A step that is refused
-/// because it is out of memory ends the simulation.
+/// are the product of the chosen steps and the columns, one more of each, is refused by `TooLarge`. A step that is refused for
+/// lack of memory ends the simulation. Faults are as `DrawFault` and `SimFault` say.
 pub fn simulate_drawing<R: Source, W: Sink>(
     alloc: Global,
     reader: &mut R,

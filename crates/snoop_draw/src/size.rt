@@ -8,18 +8,11 @@ use snoop_engine::Choice;
 /// The most cells of a drawing.
 const MAX_CELLS: u64 = 1_000_000;
 
-// The smaller of two numbers.
-fn smaller(one: u64, other: u64) -> u64
-    ensures { result ≡ min one other }
-{
-    if one < other { one } else { other }
-}
-
-// How many of so many steps have a number that is chosen.
+// How many of the first `count` steps have a number that is chosen.
 fn steps_within(choice: Choice, count: u64) -> u64
     ensures { result ≡ steps_within choice count }
 {
-    let last = smaller(choice.to(), count);
+    let last = choice.to().min(count);
     if last < choice.from() {
         return 0;
     }
@@ -37,7 +30,7 @@ pub fn columns_of(panels: &[Panel]) -> u64
     columns
 }
 
-/// Whether a drawing of so many steps with these panels is made.
+/// Whether a drawing of `count` steps with these panels is small enough to be made.
 pub(crate) fn is_small(choice: Choice, count: u64, panels: &[Panel]) -> bool
     ensures { IsTrue result ↔ IsSmall choice count panels.now }
 {

@@ -26,7 +26,7 @@ pub fn values_width(shape: Shape, steps: &[Step]) -> usize
     shape.words() as usize * (count_digits(most_stored(steps)) + 1) - 1
 }
 
-// How many characters a place in a queue takes, where so many blocks are asked for.
+// How many characters a place in a queue takes, where `blocks` blocks are asked for.
 fn place_width(blocks: u64) -> usize
     ensures value { result ≡ place_width blocks }
     ensures few { result ≤ 22 }
@@ -46,7 +46,7 @@ fn count_blocks(alloc: Global, shape: Shape, steps: &[Step]) -> Result<u64, NoMe
     Ok(panels.len() as u64)
 }
 
-// The widths in which whatever a drawing of the steps has to say finds room, where they ask for so many blocks.
+// The widths in which whatever a drawing of the steps has to say finds room, where they ask for `blocks` blocks.
 fn widths_of(shape: Shape, steps: &[Step], blocks: u64) -> Widths
     ensures { result ≡ widths_of shape steps.now blocks }
 {

@@ -18,7 +18,7 @@ pub(crate) struct Askers {
 }
 
 impl Askers {
-    /// No core has asked for any of so many blocks.
+    /// No core has asked for any of the `blocks` blocks.
     pub(crate) fn new(alloc: Global, blocks: u32) -> Result<Self, NoMemory>
         ensures { (protocol : Protocol) (shape : Extent) → shape.blocks ≡ blocks → IfOk result (λ askers. AreAskers (reset protocol shape) askers.sets) }
     {

@@ -81,7 +81,7 @@ impl Choice {
         self.to
     }
 
-    /// Whether the next step, after so many, has the first number that is shown.
+    /// Whether step `number + 1` has the first number that is shown.
     pub fn is_first_after(&self, number: u64) -> bool
         ensures { result ≡ (number + 1 == self.now.from) }
     {

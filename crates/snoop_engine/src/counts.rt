@@ -21,8 +21,9 @@ use snoop_trace::streams::{Sink, Source};
 use snoop_trace::{NoMemory, Shape};
 use std::alloc::Global;
 
-/// Reads a text to its end, takes the steps that come of it in order on a machine at reset, for the protocol and the shape, and writes
-/// how often each row of the tables was taken, but for the rows of I at another core's request. A step that is refused because it is out of memory ends the simulation.
+/// Reads a text to its end, runs the steps that it gives, in order, on a machine at reset for the protocol and the shape, and
+/// writes how often each row of the tables was taken, but for the rows of I at another core's request. A step that is refused
+/// for lack of memory ends the simulation. Faults are as `SimFault` says.
 pub fn simulate_counts<R: Source, W: Sink>(
     alloc: Global,
     reader: &mut R,

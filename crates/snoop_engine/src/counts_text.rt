@@ -78,11 +78,13 @@ fn push_cache_row(
 fn does_nothing(state: CacheState, event: CacheEvent) -> bool
     ensures { result ≡ does_nothing state event }
 {
-    match (state, event) {
-        (CacheState::I, CacheEvent::OtherGetS | CacheEvent::OtherGetM | CacheEvent::OtherPutM) =>
-            true,
-        _ => false,
-    }
+    matches!(
+        (state, event),
+        (
+            CacheState::I,
+            CacheEvent::OtherGetS | CacheEvent::OtherGetM | CacheEvent::OtherPutM
+        )
+    )
 }
 
 #[tactic(auto, using(snoop_rules::proofs::TextLemmas::pieces_all), unfolding(crate::specs::Counts::memory_counts))]

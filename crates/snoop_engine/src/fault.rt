@@ -3,7 +3,10 @@
 use snoop_trace::{TextFault, WriteFault};
 use thiserror::Error;
 
-/// Why a simulation stopped. After `Text` nothing was written; what was written at the others, each simulation says.
+/// Why a simulation stopped.
+///
+/// After `Text` the writer is as it was. After `NoMemory` and `Write` a beginning of the output was written, which may be empty.
+/// docs/PROVED.md says of which run it is where the text has rows.
 #[derive(Clone, Copy, Debug, PartialEq, Eq, Error)]
 pub enum SimFault {
     #[error(transparent)]

@@ -19,8 +19,8 @@ use snoop_trace::streams::{Source, gather_asked};
 use snoop_trace::{NoMemory, Shape, Step, TextFault, read_rows, read_steps};
 use std::alloc::Global;
 
-/// Reads a text to its end, and answers the steps that come of it: its own, or those that serve its rows, for the protocol
-/// and the shape. `NoMemory` may come in serving rows, too.
+/// Reads a text to its end, and returns its steps, or those that serve its rows, for the protocol and the shape. `NoMemory` may
+/// come in serving rows, too.
 pub fn read_input<R: Source>(
     alloc: Global,
     reader: &mut R,
@@ -47,7 +47,8 @@ pub fn read_input<R: Source>(
     }
 }
 
-/// Reads a text of rows to its end, and answers a driver that has them to do. `NoMemory` may come in dealing them or in making the machine, too.
+/// Reads a text of rows to its end, and returns a driver that has them to do. `NoMemory` may come in dealing them or in making
+/// the machine, too.
 #[tactic(auto, using(crate::proofs::Dealing::asks_within))]
 pub(crate) fn read_driver<R: Source>(
     alloc: Global,

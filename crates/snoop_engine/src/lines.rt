@@ -15,7 +15,7 @@ use snoop_rules::{CacheState, Payload, Request};
 use snoop_trace::streams::{push_decimal, push_step, push_text};
 use snoop_trace::{NoMemory, Shape, Step};
 
-/// Appends a text and then a number.
+/// Appends a text and then a number. After `NoMemory` the contents of `out` are unspecified.
 pub fn push_numbered(out: &mut Vec<u8>, text: &str, number: u64) -> Result<(), NoMemory>
     ensures ok { OnOk result (out.new.items ≡ out.old.items ++ (text.now ++ decimal number)) }
 {
@@ -85,7 +85,7 @@ fn stalled(state: CacheState) -> &'static str
     }
 }
 
-/// Appends what the machine answered, as a line of a step says it. After `NoMemory` nothing is said of what stands there.
+/// Appends what the machine answered, as a line of a step says it. After `NoMemory` the contents of `out` are unspecified.
 #[inline(always)]
 pub fn push_outcome(out: &mut Vec<u8>, outcome: Result<Reply, Refused>) -> Result<(), NoMemory>
     ensures ok { OnOk result (out.new.items ≡ out.old.items ++ outcome_text outcome) }
@@ -122,7 +122,7 @@ pub fn push_outcome(out: &mut Vec<u8>, outcome: Result<Reply, Refused>) -> Resul
     }
 }
 
-/// Appends the line of a step and what the machine answered.
+/// Appends the line of a step and what the machine answered. After `NoMemory` the contents of `out` are unspecified.
 #[inline(always)]
 pub fn push_line(
     out: &mut Vec<u8>,

@@ -19,6 +19,7 @@ use std::alloc::Global;
 /// each step and then the report.
 ///
 /// Out of memory before the first step, also in dealing the rows to the cores, is `Text(NoMemory)`: nothing is written then.
+/// Faults are as `SimFault` says.
 pub fn simulate_run<R: Source, W: Sink>(
     alloc: Global,
     reader: &mut R,

@@ -16,7 +16,8 @@ use std::alloc::Global;
 /// Reads a text of rows to its end, and serves them in the order of the text on a machine at reset, each whole before the
 /// next one is asked, whichever core's it is. Writes the line of each step and then the report.
 ///
-/// Out of memory before the first step is `Text(NoMemory)`: nothing is written then.
+/// Out of memory before the first step is `Text(NoMemory)`: nothing is written then. Faults are as
+/// `SimFault` says.
 pub fn simulate_serial<R: Source, W: Sink>(
     alloc: Global,
     reader: &mut R,

@@ -28,8 +28,9 @@ use snoop_trace::streams::{Sink, Source, gather_steps, spill, write_whole};
 use snoop_trace::{NoMemory, Shape, Step, TextFault, WriteFault, read_rows};
 use std::alloc::Global;
 
-/// Reads a text to its end, takes the steps that come of it in order on a machine at reset, for the protocol and the shape,
-/// and writes what the view shows of them. A step that is refused because it is out of memory ends the simulation.
+/// Reads a text to its end, runs the steps that it gives, in order, on a machine at reset for the protocol and the shape, and
+/// writes what the view shows of them. A step that is refused for lack of memory ends the simulation. Faults are as `SimFault`
+/// says.
 pub fn simulate_view<R: Source, W: Sink, V: View>(
     alloc: Global,
     reader: &mut R,
@@ -124,8 +125,8 @@ fn view_serial_rows<R: Source, W: Sink, V: View>(
     Ok(())
 }
 
-/// Takes the steps in order on a machine at reset, and writes what the view shows of them. A step that is refused because
-/// it is out of memory ends the simulation.
+/// Runs the steps in order on a machine at reset, and writes what the view shows of them. A step that is refused for lack of
+/// memory ends the simulation. After a fault a beginning of that output was written, which may be empty.
 pub fn show_steps<W: Sink, V: View>(
     alloc: Global,
     writer: &mut W,
@@ -206,7 +207,7 @@ fn show<W: Sink, C: Course, V: View>(
     Ok(())
 }
 
-/// The number of the next step. A run of so many steps that there is none has no memory.
+/// The number of the next step; `NoMemory` past the largest `u64`, which no run reaches.
 fn next_number(number: u64) -> Result<u64, NoMemory>
     ensures { IfOk result (λ next. next ≡ number + 1) }
 {

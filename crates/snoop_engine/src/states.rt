@@ -22,10 +22,10 @@ use snoop_trace::streams::{Sink, Source, push_text};
 use snoop_trace::{NoMemory, Shape};
 use std::alloc::Global;
 
-/// Reads a text to its end, takes the steps that come of it in order on a machine at reset, for the protocol and the shape, and writes
-/// a line for each controller that takes a row of its table at one of the steps that are shown, but for cores in I at an Order,
-/// and a line for a step at which no controller takes one. A step that is refused
-/// because it is out of memory ends the simulation.
+/// Reads a text to its end, runs the steps that it gives, in order, on a machine at reset for the protocol and the shape, and
+/// writes a line for each controller that takes a row of its table at one of the steps that are shown, but for cores in I at an
+/// Order, and a line for a step at which no controller takes one. A step that is refused for lack of memory ends the simulation.
+/// Faults are as `SimFault` says.
 pub fn simulate_states<R: Source, W: Sink>(
     alloc: Global,
     reader: &mut R,

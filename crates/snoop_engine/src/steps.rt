@@ -24,8 +24,9 @@ use snoop_trace::streams::{Sink, Source, gather_steps, spill, write_whole};
 use snoop_trace::{NoMemory, Shape, Step, WriteFault};
 use std::alloc::Global;
 
-/// Reads a text of steps for the protocol and the shape to its end, takes them in order on a machine at reset, and writes the line of each
-/// and then the report. A step that is refused because it is out of memory ends the simulation.
+/// Reads a text of steps for the protocol and the shape to its end, runs them in order on a machine at reset, and writes the
+/// line of each and then the report. A step that is refused for lack of memory ends the simulation. Faults are as `SimFault`
+/// says.
 pub fn simulate_steps<R: Source, W: Sink>(
     alloc: Global,
     reader: &mut R,

@@ -64,7 +64,7 @@ fn push_place(out: &mut Vec<u8>, least: usize, place: Option<usize>) -> Result<(
 }
 
 /// Appends what is said of the core: its state of the block, its values, and the place of its request in its queue, from
-/// the place `least` on.
+/// the place `least` on. After `NoMemory` the contents of `out` are unspecified.
 pub fn push_core_words(
     out: &mut Vec<u8>,
     machine: &Machine,
@@ -106,8 +106,8 @@ fn push_carried(
     }
 }
 
-/// Appends the message of an open transaction, whose block has so many words: the core that asked for it, its request, the
-/// payload and the values that it carries.
+/// Appends the message of an open transaction, whose block has `count` words: the core that asked for it, its request, the
+/// payload and the values that it carries. After `NoMemory` the contents of `out` are unspecified.
 pub fn push_message_words(out: &mut Vec<u8>, count: u32, opened: &Open) -> Result<(), NoMemory>
     requires { count ≤ 64 }
     ensures { OnOk result (out.new.items ≡ out.old.items ++ message_words count opened.now) }
@@ -153,6 +153,7 @@ fn push_memory(
 }
 
 /// Appends what is said of memory: its state of the block and its values, in brackets where it would not send them.
+/// After `NoMemory` the contents of `out` are unspecified.
 pub fn push_memory_words(out: &mut Vec<u8>, machine: &Machine, block: u32) -> Result<(), NoMemory>
     ensures { OnOk result (out.new.items ≡ out.old.items ++ memory_words machine.now.situation block) }
 {

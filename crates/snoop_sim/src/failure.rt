@@ -119,8 +119,8 @@ impl Failure {
         }
     }
 
-    /// The status that the program ends with: 1 for a refused text, 2 for the command line or the shape,
-    /// 3 for out of memory, 4 for a failed write, and 5 for what else the threads were refused.
+    /// The status that the program ends with: 1 for a refused text, 2 for a refused command line, shape or choice, and for a drawing
+    /// that is too large, 3 for out of memory, 4 for a failed write, and 5 where the threads were refused for any other reason.
     pub(crate) fn status(&self) -> u8
         ensures { result ≡ status_of self.now }
     {

@@ -15,7 +15,7 @@ pub enum ThreadsFault {
     /// The shared machine was not made.
     #[error(transparent)]
     Make(MakeFault),
-    /// The rows were not begun: out of memory, since rows within the shape have a seat each.
+    /// The rows were not started. Only out of memory can cause this: each row within the shape has a seat.
     #[error(transparent)]
     Run(RunFault),
     /// A seat was refused a row.

@@ -1,8 +1,8 @@
 //! The command line: its words and what they ask for.
-ghost use Rattle.std.specs.Prelude.{◌≡◌, ◌≢◌, ◌^◌, [], IfErr, IfOk, Ok, codes, false, is_some, map, string_bytes, true};
-ghost use Rattle.clap.specs.Words.{App, app_of, first_of, found_of, one_of, rows_of, subcommand_rows_of};
+ghost use Rattle.std.specs.Prelude.{◌≡◌, ◌≢◌, ◌^◌, [], IfErr, IfOk, Ok, false, is_some, map, string_bytes, true};
+ghost use Rattle.clap.specs.Words.{App, app_of, first_of, found_of, one_of, rows_of};
 ghost use Rattle.snoop_sim.specs.Asked.{AsksFor, BeginsNothing, HasNoTask, IsTaskOf};
-ghost use Rattle.snoop_sim.specs.CommandLine.{Describes, DescribesOption, IsCounts, IsDraw, IsGroupings, IsKinds, IsLayouts, IsLint, IsLocal, IsProtocols, IsRun, IsSimulation, IsSnoop, IsStates, IsSteps, IsTable, IsThemes, IsThreads, IsView, Names, choice_rules, flag_rule, form_rule, grouping_rule, kind_rule, layout_rule, number_rule, optional_rule, protocol_rule, theme_rule, top_app, with_rules};
+ghost use Rattle.snoop_sim.specs.CommandLine.{Describes, DescribesOption, IsCounts, IsDraw, IsGroupings, IsKinds, IsLayouts, IsLint, IsLocal, IsProtocols, IsRun, IsSimulation, IsSnoop, IsStates, IsSteps, IsTable, IsThemes, IsThreads, IsView, Names, choice_rules, flag_rule, form_rule, grouping_rule, kind_rule, layout_rule, number_rule, optional_rule, protocol_rule, theme_rule, with_rules};
 ghost use Rattle.snoop_sim.specs.Options.{IsChoiceOf, HasNoGrouping, HasNoNamed, HasNoSteps, IsGroupingOf, IsInputOf, IsNamed, IsPaperOf, IsSteps as IsStepsOf, IsNumberOf, IsReadAs, IsShapeOf, MisplacesPaper, MisplacesSerial, asks_ascii, asks_serial, charset_named, form_named, kind_named, layout_named, protocol_named, says, theme_named, which_named};
 
 use crate::failure::Failure;
@@ -57,11 +57,11 @@ pub(crate) enum Layout {
 pub(crate) enum Grouping {
     Row,
     Core,
-    /// All blocks, or so many, those of most requests first.
+    /// All blocks, or this many of them, those with the most requests first.
     Block(Option<u32>),
     /// Each word of each shared block.
     Word,
-    /// So many steps.
+    /// This many steps.
     Steps(NonZeroU64),
 }
 

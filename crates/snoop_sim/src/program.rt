@@ -34,12 +34,18 @@ use std::io::{ErrorKind, Write};
 use std::sync::Wait;
 use std::thread::Threads;
 
-/// Does what the words ask for, the first of which is the program's own name, and answers the status that the program ends
-/// with: 0 where it was done, 1 for a refused text, 2 for a command line that is not understood, a refused shape or a refused
-/// choice of what is shown, and for a drawing that is too large, 3 for out of memory, 4 for a failed write, and 5 where the threads of `threads` were refused for another cause. A failure is reported
-/// to `errors` in one line, a command line that is not understood in `clap`'s text. After 1, 2 and 5 nothing was written, after
-/// 3 and 4 a beginning of the output. `does` has all of this, where `clap` says what the words ask for; what is reported to
-/// `errors`, and the text of a help, are tested.
+/// Does what the words ask for, the first of which is the program's own name, and returns the status that the program ends with:
+///
+/// - 0: it was done.
+/// - 1: the text was refused.
+/// - 2: the command line was not understood, the shape or the choice of what is shown was refused, or the drawing is too large.
+/// - 3: out of memory.
+/// - 4: a write failed.
+/// - 5: the threads of `threads` were refused for another cause.
+///
+/// After 1, 2 and 5 nothing was written, after 3 and 4 a beginning of the output. A failure is reported to `errors` in one line, a
+/// command line that is not understood in `clap`'s text. `does` has all of this, where `clap` says what the words ask for; what is
+/// reported to `errors`, and the text of a help, are tested.
 pub fn command<T: Threads + Wait + Sync, R: Source, W: Sink, E: Write>(
     rt: &T,
     alloc: Global,
@@ -70,7 +76,7 @@ pub fn command<T: Threads + Wait + Sync, R: Source, W: Sink, E: Write>(
     }
 }
 
-/// Reports to `errors` in one line why the words of the process could not be had, and answers the status that the program
+/// Reports to `errors` in one line why the words of the process could not be had, and returns the status that the program
 /// ends with: 3 for out of memory, and 2 for a word that is not UTF-8.
 pub fn refuse_words<E: Write>(cause: io::Error, errors: &mut E) -> u8
     ensures memory { error_kind cause ≡ ErrorKind.OutOfMemory → result ≡ 3 }
@@ -209,7 +215,7 @@ fn write_help<W: Sink>(alloc: Global, writer: &mut W, help: &clap::Error) -> Res
     Ok(())
 }
 
-/// Writes why the program failed, and answers the status, which what becomes of the text doesn't change.
+/// Writes why the program failed, and returns the status. A failed write does not change the status.
 fn report<E: Write>(errors: &mut E, failure: &Failure) -> u8
     ensures { result ≡ status_of failure.now }
 {

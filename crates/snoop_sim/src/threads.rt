@@ -20,7 +20,7 @@ use std::thread::Threads;
 
 /// Reads a text of rows to its end, and lets each core do its rows in a thread of its own, in the order of the text, on a shared
 /// machine at reset. Writes the steps that were taken as a text: first the protocol and the shape that they are for, then one step a
-/// line. In which order the threads took them is open.
+/// line. The order in which the threads took them is unspecified.
 ///
 /// After `Write` the writer holds a beginning of the steps. After every other fault, where the text or the threads were refused,
 /// it is as it was.

@@ -15,7 +15,7 @@ pub(crate) struct Marks {
 }
 
 impl Marks {
-    // Marks for so many cores, none of which is set.
+    // Marks for `cores` cores, none of which is set.
     fn new(alloc: Global, cores: u32) -> Result<Marks, NoMemory>
         ensures { IfOk result (HasMarks cores (λ core. false)) }
     {

@@ -1,5 +1,5 @@
 //! The last line of the tables.
-ghost use Rattle.std.specs.Prelude.{◌≡◌, ◌++◌, ◌∷◌, [], codes, length, nat_lt, is_some, IfOk, OnOk, ℕ, if◌then◌else◌};
+ghost use Rattle.std.specs.Prelude.{◌≡◌, ◌++◌, ◌∷◌, [], codes, IfOk, OnOk, if◌then◌else◌};
 ghost use Rattle.std.specs.Fmt.{decimal};
 ghost use Rattle.std.specs.List.{filter, flat_map, range_with_len};
 ghost use Rattle.snoop_states.specs.AtEnd.{end_text, is_open, is_waiting, listed, still_open_text, waiting_text};

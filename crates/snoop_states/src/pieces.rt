@@ -17,7 +17,7 @@ pub(crate) fn push_bytes(out: &mut Vec<u8>, text: &[u8]) -> Result<(), NoMemory>
     }
 }
 
-/// Appends so many blanks.
+/// Appends `count` blanks.
 pub(crate) fn push_blanks(out: &mut Vec<u8>, count: usize) -> Result<(), NoMemory>
     ensures { OnOk result (out.new.items ≡ out.old.items ++ blanks count) }
 {

@@ -14,9 +14,9 @@ use snoop_trace::streams::{Sink, Source};
 use snoop_trace::{Protocol, Shape, Step, WriteFault};
 use std::alloc::Global;
 
-/// Reads a text to its end, takes the steps that come of it in order on a machine at reset, for the protocol and the shape,
-/// and writes a table for each block that a chosen step is of, and then which cores still wait and which blocks have an open
-/// transaction. A step that is refused because it is out of memory ends the simulation.
+/// Reads a text to its end, runs the steps that it gives, in order, on a machine at reset for the protocol and the shape, and
+/// writes a table for each block that a chosen step is of, and then which cores still wait and which blocks have an open
+/// transaction. A step that is refused for lack of memory ends the simulation. Faults are as `SimFault` says.
 pub fn simulate_states_table<R: Source, W: Sink>(
     alloc: Global,
     reader: &mut R,
@@ -45,7 +45,7 @@ pub fn simulate_states_table<R: Source, W: Sink>(
     }
 }
 
-/// Takes the steps on a machine at reset, and writes their tables.
+/// Runs the steps on a machine at reset, and writes their tables.
 fn write_tables<W: Sink>(
     alloc: Global,
     writer: &mut W,

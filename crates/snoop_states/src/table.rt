@@ -81,7 +81,7 @@ fn push_number(
     push_to_the_right(out, widths.number as usize, &text)
 }
 
-// Appends the cells of a row below others, and answers them.
+// Appends the cells of a row below others, and returns them.
 fn push_cells(
     alloc: Global,
     out: &mut Vec<u8>,

@@ -1,6 +1,6 @@
 //! The bands of a drawing.
-ghost use Rattle.std.specs.Prelude.{◌≡◌, ◌++◌, IsTrue, OnOk};
-ghost use Rattle.snoop_svg.specs.Bands.{band_text, bus_band, class_of, core_band, edge, is_clean, marked_band, memory_band, part};
+ghost use Rattle.std.specs.Prelude.{◌≡◌, ◌++◌, OnOk};
+ghost use Rattle.snoop_svg.specs.Bands.{band_text, bus_band, class_of, core_band, edge, is_clean, memory_band, part};
 
 use crate::elements::push_box;
 use snoop_bus::Open;

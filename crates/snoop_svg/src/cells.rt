@@ -142,7 +142,7 @@ pub(crate) fn push_first_cells(out: &mut Vec<u8>, y: u32, cells: &[Cell]) -> Res
     Ok(())
 }
 
-/// Appends the cells of a row below these, and answers them.
+/// Appends the cells of a row below these, and returns them.
 pub(crate) fn push_next_cells(
     out: &mut Vec<u8>,
     alloc: Global,

@@ -71,7 +71,7 @@ fn add(columns: &mut Vec<Column>, column: Column) -> Result<(), NoMemory>
     }
 }
 
-// Adds a lane for each core of a panel that begins at `start`, and answers where the next lane would begin.
+// Adds a lane for each core of a panel that begins at `start`, and returns where the next lane would begin.
 fn add_lanes(
     columns: &mut Vec<Column>,
     sizes: Sizes,
@@ -130,7 +130,7 @@ fn memory_column(sizes: Sizes, block: u32, start: u32, bus_end: u32) -> Column
     }
 }
 
-// Adds the columns of a panel that begins at `start`, and answers where a further panel would begin.
+// Adds the columns of a panel that begins at `start`, and returns where a further panel would begin.
 #[tactic(auto, using(crate::proofs::LayoutLemmas::after_lanes_near))]
 fn add_panel(
     columns: &mut Vec<Column>,

@@ -43,14 +43,14 @@ fn push_tail(out: &mut Vec<u8>, form: Form) -> Result<(), NoMemory>
     }
 }
 
-// Whether so many rows fill a sheet.
+// Whether the last of `place` rows fills its sheet.
 fn is_full(plan: &Plan, place: u64) -> bool
     ensures { result ≡ is_full plan.now place }
 {
     0 < place && place % plan.rows_per_sheet() as u64 == 0
 }
 
-// How many rows the sheets before that of the last of so many rows have.
+// How many rows lie on the sheets before the one that holds the last of `place` rows.
 fn sheet_start(plan: &Plan, place: u64) -> u64
     ensures { result ≡ sheet_start plan.now place }
 {
@@ -58,7 +58,7 @@ fn sheet_start(plan: &Plan, place: u64) -> u64
     last.saturating_sub(last % plan.rows_per_sheet() as u64)
 }
 
-// Appends the heading of the sheet that begins after so many rows.
+// Appends the heading of the sheet that begins after `done` rows.
 fn push_sheet_heading(
     out: &mut Vec<u8>,
     plan: &Plan,
@@ -86,7 +86,7 @@ fn turn_sheet(out: &mut Vec<u8>, plan: &Plan, machine: &Machine, place: u64) -> 
     push_sheet_heading(out, plan, machine, place)
 }
 
-// Appends the same, and the first row, which has these cells.
+// Ends a full sheet, begins the next, and repeats the row above, which has these cells, as its first.
 fn push_next_sheet(
     out: &mut Vec<u8>,
     plan: &Plan,
@@ -102,7 +102,7 @@ fn push_next_sheet(
     push_first_row(out, plan, cells, above)
 }
 
-// Appends that where the sheet is full.
+// Does so where the sheet is full.
 fn push_turn(
     out: &mut Vec<u8>,
     plan: &Plan,
@@ -141,7 +141,7 @@ fn begin_sheets(out: &mut Vec<u8>, plan: &Plan, machine: &Machine) -> Result<(),
     push_sheet_heading(out, plan, machine, 0)
 }
 
-// Appends the end of the sheet of the last of so many rows.
+// Appends the end of the sheet that holds the last of `place` rows.
 fn close_last_sheet(
     out: &mut Vec<u8>,
     plan: &Plan,
@@ -154,7 +154,7 @@ fn close_last_sheet(
     close_sheet(out, machine.protocol(), rows)
 }
 
-// Appends all that stands behind the last of so many rows.
+// Appends all that stands after the last of `place` rows.
 fn end_sheets(out: &mut Vec<u8>, plan: &Plan, machine: &Machine, place: u64) -> Result<(), NoMemory>
     ensures { OnOk result (out.new.items ≡ out.old.items ++ closing plan.now machine.now.situation.protocol place) }
 {
@@ -183,7 +183,7 @@ impl Drawing {
         }
     }
 
-    // Appends the first row, of the machine after so many steps.
+    // Appends the first row, of the machine after `taken` steps.
     fn start(&mut self, out: &mut Vec<u8>, machine: &Machine, taken: u64) -> Result<(), NoMemory>
         ensures plan { self.new.plan ≡ self.old.plan × self.new.place ≡ self.old.place }
         ensures below { OnOk result (StandsBelow self.new (record { number = taken; situation = machine.now.situation })) }

@@ -20,10 +20,7 @@ use snoop_trace::{NoMemory, Op, Step};
 fn is_hit(outcome: Result<Reply, Refused>) -> bool
     ensures { result ≡ is_hit outcome }
 {
-    match outcome {
-        Ok(Reply::Hit(_) | Reply::StoreHit) => true,
-        _ => false,
-    }
+    matches!(outcome, Ok(Reply::Hit(_) | Reply::StoreHit))
 }
 
 fn square(is_done: bool) -> &'static str

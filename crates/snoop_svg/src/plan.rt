@@ -85,7 +85,7 @@ impl Plan {
         ensures { result ≡ width_of self.now }
     {
         let rows = self.replies as u64 + self.sizes.reply as u64;
-        12 + if rows < 788 { 788 } else { rows }
+        12 + rows.max(788)
     }
 
     /// How many rows a sheet has at most.
@@ -100,7 +100,7 @@ impl Plan {
         }
     }
 
-    /// How many rows the sheet has that begins after so many rows.
+    /// How many rows the sheet has that begins after `done` rows.
     pub(crate) fn sheet_rows(&self, done: u64) -> u32
         ensures value { result ≡ sheet_rows self.now done }
         ensures few { result ≤ 20000 }

@@ -29,7 +29,7 @@ use snoop_trace::streams::{push_decimal, push_step, push_text};
 use snoop_trace::{NoMemory, Shape, Step};
 use std::alloc::Global;
 
-/// The y of the row in this place of a sheet, from 0; and where so many rows end.
+/// The y of the row in this place of a sheet, from 0, which is where the first `place` rows end.
 pub(crate) fn row_y(place: u32) -> u32
     requires { place ≤ 20000 }
     ensures value { result ≡ row_y place }
@@ -266,7 +266,7 @@ fn push_first_words(out: &mut Vec<u8>, plan: &Plan, taken: u64) -> Result<(), No
     push_words(out, sizes.records as u64, 77, word.as_bytes(), "t")
 }
 
-/// Appends a first row, which comes after so many steps, with these cells.
+/// Appends a first row, which comes after `taken` steps, with these cells.
 pub(crate) fn push_first_row(
     out: &mut Vec<u8>,
     plan: &Plan,
@@ -444,7 +444,7 @@ fn push_row_end(
     push_text(out, "</a>\n")
 }
 
-/// Appends the row of the step, below one that comes after so many steps and has these cells, and answers its own cells.
+/// Appends the row of the step, below one that comes after `above` steps and has these cells, and returns its own cells.
 pub(crate) fn push_row(
     out: &mut Vec<u8>,
     alloc: Global,
@@ -473,7 +473,7 @@ fn push_legend_below(out: &mut Vec<u8>, protocol: Protocol, rows: u32) -> Result
     push_legend(out, protocol, row_y(rows) + 18)
 }
 
-/// Appends the end of a sheet with so many rows.
+/// Appends the end of a sheet with `rows` rows.
 pub(crate) fn close_sheet(out: &mut Vec<u8>, protocol: Protocol, rows: u32) -> Result<(), NoMemory>
     requires { rows ≤ 20000 }
     ensures { OnOk result (out.new.items ≡ out.old.items ++ sheet_closed protocol rows) }

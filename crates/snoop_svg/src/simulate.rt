@@ -25,12 +25,12 @@ use snoop_trace::streams::{Sink, Source};
 use snoop_trace::{NoMemory, Shape, Step, WriteFault};
 use std::alloc::Global;
 
-/// Reads a text to its end, takes the steps that come of it in order on a machine at reset, for the protocol and the shape,
-/// and draws those that are chosen, as SVG or as a page with SVGs: a row for each, a panel for each block, a column for each
+/// Reads a text to its end, runs the steps that it gives, in order, on a machine at reset for the protocol and the shape, and
+/// draws those that are chosen, as SVG or as a page with SVGs: a row for each, a panel for each block, a column for each
 /// core that asks for the block, the bus and memory. Rows and columns are counted before the first byte is written, for which
-/// the steps are taken once more, and a drawing of more than 20,000 cells, which are the product of the rows and the
-/// columns, one more of each, is refused by `TooLarge`. A step that is refused because it is out of memory ends the
-/// simulation.
+/// the steps are run once more, and a drawing of more than 20,000 cells, which are the product of the rows and the
+/// columns, one more of each, is refused by `TooLarge`. A step that is refused for lack of memory ends the simulation. Faults
+/// are as `DrawFault` and `SimFault` say.
 pub fn simulate_svg<R: Source, W: Sink>(
     alloc: Global,
     reader: &mut R,

@@ -7,7 +7,7 @@ use snoop_draw::{Panel, columns_of};
 /// The most cells of a drawing.
 const MAX_CELLS: u64 = 20_000;
 
-/// Whether a drawing of so many rows with these panels is made.
+/// Whether a drawing of `rows` rows with these panels is small enough to be made.
 pub(crate) fn is_small(rows: u64, panels: &[Panel]) -> bool
     ensures { IsTrue result ↔ IsSmall rows panels.now }
 {

@@ -41,7 +41,7 @@ impl VersionWriter {
     ghost use Rattle.snoop_history.specs.History.{Legal};
     ghost use Rattle.snoop_history.specs.Within.{IsItemWithin};
 
-    /// The writer of the version of no items, for this shape, with `readers` reading places. `NoMemory` where a growth was refused.
+    /// The writer of the version of no items, for this shape, with `readers` reading places. `NoMemory` if out of memory.
     pub fn new(alloc: Global, shape: Shape, readers: usize) -> Result<VersionWriter, NoMemory>
         requires { (0 < readers) × (readers < 2 ^ 32) }
         ensures { IfOk result (λ writer. writer ≡ record { shape = shape; list = []; ready = [] }) }

@@ -22,7 +22,7 @@ use snoop_bus::Open;
 use snoop_history::{Came, Did, Item};
 use snoop_model::{Access, Refused};
 use snoop_rules::{
-    CacheAction, MemAction, MemCell, MemState, Payload, Protocol, Request, arrival,
+    CacheAction, CacheEvent, MemAction, MemCell, MemState, Payload, Protocol, Request,
     arrival_at_memory, cache_cell, mem_cell, takes_payload,
 };
 use snoop_trace::{Block, Kept, Op};
@@ -131,8 +131,10 @@ fn plan_fill<B: Block>(
     requires possible { IsSomeAnd (arrival closing.now.payload) (HasRow protocol (line_or_nothing (option_copied found)).state) }
     ensures { Fills closing.now protocol (line_or_nothing (option_copied found.entry)) (filled_line result.next result.access closing.now.value) result.access result.value }
 {
-    let Some(event) = arrival(closing.payload) else {
-        unreachable!();
+    let event = match closing.payload {
+        Payload::Data => CacheEvent::Data,
+        Payload::DataE => CacheEvent::DataE,
+        Payload::NoData | Payload::NoDataE => unreachable!(),
     };
     let Some(cell) = cache_cell(protocol, state_of(found), event) else {
         unreachable!();
