@@ -1,4 +1,3 @@
-pub mod SeatsInOrder
 pub mod Threading
 pub mod OptionLemmas
 pub mod CommandLineLemmas

@@ -1,5 +1,5 @@
 -- From the threads' answers and the gathered log to the rows.
-use Rattle.std.proofs.Common.{◌≡◌, ℕ, ◌<◌, ◌/◌, ◌==◌, List, [], ◌∷◌, ◌++◌, length, take, All, Option, Some, None, refl, sym, ap, subst, ◌∙◌, arith, inl, inr}
+use Rattle.std.proofs.Common.{◌≡◌, ℕ, ◌<◌, ◌/◌, ◌==◌, List, [], ◌∷◌, ◌++◌, length, take, All, Option, Some, None, refl, sym, ap, subst, ◌∙◌, arith}
 use Rattle.std.specs.{Prelude.{slice_index_or, IsSome, IfErr, MatchResult, OnOk, OnErr, Result, Ok, Err}, Io.KnownBytes.Appends, Result.IsErrAnd}
 use Rattle.std.proofs.lemmas.{Bool.lt-ltb, List.Elements.{All-filter, All-from_get_or, All-get_or}, Option.{get_or_from_slice_get, slice_get_within}}
 use Rattle.snoop_trace.{specs.{Extent.{Extent, IsWithinLimits}, Grammar.{block_at, IsRowWithin}, Text.steps_of}, proofs.WordPlaces.word_there}
@@ -9,11 +9,8 @@ use Rattle.snoop_history.specs.{declared.items.{Did.Did, Item.Item}, History.ans
 use Rattle.snoop_cores.specs.{declared.{fault.{RunFault.RunFault, SeatFault.SeatFault}, stop.Stop.{Stop, TheVariants.Fault}}, Seats.{AreSeats, IsNew, Seating}}
 use Rattle.snoop_cores.specs.declared.fault.RunFault.TheVariants as run
 use Rattle.snoop_cores.specs.declared.fault.SeatFault.TheVariants as seat
-use Rattle.snoop_cores.specs.{Rows.{AnswersRows, Leaves, Grows, FailsOn, IsRefused, IsServed, RanTo, RefusesRows, rows_of_core}, Joined.{IsJoined, IsNotAllSeats, RefusesGather}}
-use Rattle.snoop_cores.specs.declared.fault.GatherFault.{GatherFault}
-use Rattle.snoop_cores.specs.declared.fault.GatherFault.TheVariants as gathering
+use Rattle.snoop_cores.specs.{Rows.{AnswersRows, Leaves, Grows, FailsOn, IsRefused, IsServed, RanTo, RefusesRows, rows_of_core}, Joined.IsJoined}
 use Rattle.snoop_engine.specs.SimulatedRun.{ReadsRows}
-use Rattle.snoop_sim.proofs.SeatsInOrder.{InOrderFrom, one_each}
 use Rattle.snoop_sim.specs.{Threaded.{SimulatesThreads, Threaded}, ThreadsFault.{IsOfThreads, IsOfFirstStop}, declared.fault.ThreadsFault.ThreadsFault}
 use Rattle.snoop_sim.specs.declared.fault.ThreadsFault.TheVariants as threads
 
@@ -49,30 +46,6 @@ threaded protocol shape rows stops old new log steps fresh each same ran none jo
           let told = All-get_or (λ (s : Seating). answers_of log s.core ≡ s.answers) new core no_seat (omega (arith, inside, same)) joined.joins.answered in
           rw (← joined.log_is) (answered_rows shape rows core _ _ log (fresh.1 core no_seat lt) done told);
     }
-
--- seats that were new and have done their rows are one for each core
-all_seats : (shape : Extent) (rows : List Row) (stops : List (Option Stop)) (old new : List Seating) (core : ℕ)
-    → AreSeats shape old → length stops ≡ length old → length new ≡ length old
-    → ((i : ℕ) (d : Seating) → i < length old → RanTo (slice_index_or stops i None) rows (slice_index_or old i d) (slice_index_or new i d))
-    → All (λ (stop : Option Stop). stop ≡ None) stops → ¬ IsNotAllSeats shape.cores new core
-all_seats shape rows stops old new core fresh each same ran none odd =
-    let order : InOrderFrom (λ (seat : Seating). seat.core) 0 new = λ i d below.
-        let inside : i < length old = omega (arith, below, same) in
-        let done = subst (λ (stop : Option Stop). RanTo stop rows (slice_index_or old i d) (slice_index_or new i d))
-        (All-get_or (λ (stop : Option Stop). stop ≡ None) stops i None (omega (arith, inside, each)) none) (ran i d inside) in
-        done.stays.core ∙ (fresh.1 i d (omega (arith, inside, fresh.0))).core_is in
-    elim odd [
-      | inl least ↦ least.1.0 (one_each (λ (seat : Seating). seat.core) 0 core new order (omega arith) (omega (arith, least.0, same, fresh.0)))
-      | inr (first, _) ↦ let is = first.there no_seat in let at = order first.place no_seat first.inside in omega (arith, is, at, first.outside, first.inside, same, fresh.0)
-    ]
-
--- so they are gathered, or refused for another cause
-pub gathered : (protocol : Protocol) (shape : Extent) (rows : List Row) (stops : List (Option Stop)) (old new : List Seating) (fault : GatherFault)
-    → AreSeats shape old → length stops ≡ length old → length new ≡ length old
-    → ((i : ℕ) (d : Seating) → i < length old → RanTo (slice_index_or stops i None) rows (slice_index_or old i d) (slice_index_or new i d))
-    → All (λ (stop : Option Stop). stop ≡ None) stops → RefusesGather protocol shape new fault → IsOfThreads (threads.Gather fault)
-gathered protocol shape rows stops old new (gathering.NotAllSeats core) fresh each same ran none refuses = absurd (all_seats shape rows stops old new core fresh each same ran none refuses)
-gathered protocol shape rows stops old new fault fresh each same ran none refuses = tt
 
 -- a row within the shape lies in a block of it
 row_block : (shape : Extent) (row : Row) → IsRowWithin shape row → block_at shape row.address ≡ Some (row.address / shape.block_bytes)

@@ -4,8 +4,7 @@ use Rattle.std.specs.Prelude.{◌≡◌, ℕ, ⊤, List, take, All, Option, Some
 use Rattle.snoop_cores.specs.declared.fault.RunFault.TheVariants as run
 use Rattle.snoop_cores.specs.declared.{fault.SeatFault.SeatFault, stop.Stop.{Stop, TheVariants.Fault}}
 use Rattle.snoop_cores.specs.declared.fault.SeatFault.TheVariants as seat
-use Rattle.snoop_cores.specs.declared.fault.GatherFault.TheVariants as gathering
-use Rattle.snoop_sim.specs.declared.fault.ThreadsFault.{ThreadsFault, TheVariants.{Text, Write, Run, Seat, Gather}}
+use Rattle.snoop_sim.specs.declared.fault.ThreadsFault.{ThreadsFault, TheVariants.{Text, Write, Run, Seat}}
 
 -- the fault is that of the first seat that stopped, which was refused a row
 pub record IsOfFirstStop (stops : List (Option Stop)) (fault : ThreadsFault) : Type 0 where
@@ -22,7 +21,6 @@ IsOfThreads (Text fault) = ⊥
 IsOfThreads (Run (run.NoSeat core)) = ⊥
 IsOfThreads (Seat seat.NoBlock) = ⊥
 IsOfThreads (Seat (seat.Busy other)) = ⊥
-IsOfThreads (Gather (gathering.NotAllSeats core)) = ⊥
 IsOfThreads (Write fault) = ⊥
 IsOfThreads _ = ⊤
 

@@ -1,7 +1,7 @@
 use Rattle.std.proofs.Common.{rules, ◌≡◌, Ok, sym, subst}
 use Rattle.snoop_trace.specs.Extent.{IsWithinLimits}
-use Rattle.snoop_sim.specs.{ThreadsFault.IsOfThreads, declared.fault.ThreadsFault.TheVariants.{Gather, Run}}
-use Rattle.snoop_sim.proofs.Threading.{begun, first_refused, gathered, named, threaded, turned}
+use Rattle.snoop_sim.specs.{ThreadsFault.IsOfThreads, declared.fault.ThreadsFault.TheVariants.Run}
+use Rattle.snoop_sim.proofs.Threading.{begun, first_refused, named, threaded, turned}
 use Rattle.snoop_sim.proofs.threads.take_seated.Goals as goal
 
 pub returns-clause-ok : goal.returns-clause-ok
@@ -25,12 +25,3 @@ returns-in_err-check_stops-clause-err g c =
     turned c.from_residual-in_err-check_stops.result c.in_err-check_stops.field-0.0 c.from_residual-in_err-check_stops.ensures.1
     (first_refused c.args.shared.now.shape c.args.rows.now c.in_ok-stops.stops.items c.args.seats.now c.run_seats.new.seats c.in_err-check_stops.field-0.0 limits c.requires.seats
     (rw ran at c.run_seats.ensures.stops) c.requires.rows (rw ran at c.run_seats.ensures.ran) (rw c.deref.ensures.value at c.in_err-check_stops.ensures.err))
-
-pub returns-in_err-gathered-clause-err : goal.returns-in_err-gathered-clause-err
-returns-in_err-gathered-clause-err g c =
-    let ran : c.run_seats.result ≡ Ok c.in_ok-stops.stops = (let a = c.map_err.ensures.cases in let b = c.in_ok-stops.was in search rules) in
-    let refused = named c.gather.result c.map_err-2.result Gather c.in_err-gathered.field-0.0 c.map_err-2.ensures.cases c.in_err-gathered.was in
-    turned c.from_residual-in_err-gathered.result c.in_err-gathered.field-0.0 c.from_residual-in_err-gathered.ensures.1
-    (subst IsOfThreads (sym refused.1.1)
-    (gathered c.args.shared.now.protocol c.args.shared.now.shape c.args.rows.now c.in_ok-stops.stops.items c.args.seats.now c.run_seats.new.seats refused.0
-    c.requires.seats (rw ran at c.run_seats.ensures.stops) c.run_seats.ensures.len (rw ran at c.run_seats.ensures.ran) (rw c.deref.ensures.value at c.in_ok-check_stops.ensures.ok) (rw refused.1.0 at c.gather.ensures.err)))
