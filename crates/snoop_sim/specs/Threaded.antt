@@ -32,7 +32,7 @@ pub record BeginsThreaded (protocol : Protocol) (shape : Extent) (rows : List Ro
   pub again : steps_of protocol shape (text_of protocol shape steps) ≡ Ok steps
   pub output : AppendsFront old new (text_of protocol shape steps)
 
--- what was written for the rows that were read: all the steps, or a beginning of them, or nothing, where the threads were refused
+-- what was written for the rows that were read: all the steps, or a beginning of them; where the threads were refused, nothing is said of it here
 abbrev pub Outputs : Protocol → Extent → List Row → Result (Unit {0}) ThreadsFault → Option (List ℕ) → Option (List ℕ) → Type 0
 Outputs protocol shape rows (Ok u) old new = WritesThreaded protocol shape rows old new
 Outputs protocol shape rows (Err (Write fault)) old new = BeginsThreaded protocol shape rows old new

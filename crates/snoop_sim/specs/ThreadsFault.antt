@@ -15,7 +15,7 @@ pub record IsOfFirstStop (stops : List (Option Stop)) (fault : ThreadsFault) : T
   pub before : All (λ stop. stop ≡ None) (take place stops)
   pub is : fault ≡ Seat refused
 
--- a fault of the threads: never one of the text or the writer, nor one that new seats (one for each core) and rows within the shape rule out
+-- a fault of the threads: never one of the text or the writer, nor a row without a seat, a block outside the shape or another operation that is pending, which new seats and rows within the shape rule out
 abbrev pub IsOfThreads : ThreadsFault → Type 0
 IsOfThreads (Text fault) = ⊥
 IsOfThreads (Run (run.NoSeat core)) = ⊥
