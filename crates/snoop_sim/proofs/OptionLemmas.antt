@@ -74,8 +74,7 @@ pub shape_named : (cores blocks bytes words : ℕ) (made : Result Extent ShapeFa
     → (made ≡ Err BadBytes → IsCoreCount cores × IsBlockCount blocks × ¬ IsBlockSize bytes)
     → (made ≡ Err BadWords → IsCoreCount cores × IsBlockCount blocks × IsBlockSize bytes × ¬ IsWordCount words bytes) → IsShape cores blocks bytes words made
 shape_named cores blocks bytes words (Ok shape) ok a b c d =
-    let (core_count, block_count, block_size, word_count) = ok.0 in
-    (ok.1, rw ok.1 (record { cores = core_count; blocks = block_count; block_bytes = block_size; words = word_count }))
+    (ok.1, rw ok.1 (record { cores = ok.0.0; blocks = ok.0.1; block_bytes = ok.0.2; words = ok.0.3 }))
 shape_named cores blocks bytes words (Err BadCores) ok a b c d = a refl
 shape_named cores blocks bytes words (Err BadBlocks) ok a b c d = b refl
 shape_named cores blocks bytes words (Err BadBytes) ok a b c d = c refl
