@@ -99,7 +99,8 @@ kinds.
   if the table's row for it is a hit. A core in a state with such a row for a load may load the
   block, and is a **reader**; one in a state with such a row for a store may store in it, and is a
   **writer**. Otherwise the operation is stalled, which is a refusal, or it misses: the cache issues
-  a request, which waits in the core's queue, and the operation waits until its data comes. Giving up a block in E or M takes a request too, a writeback. A block in S is dropped, which is answered
+  a request, which waits in the core's queue, and the operation waits until its data comes. Giving
+  up a block in E or M takes a request too, a writeback. A block in S is dropped, which is answered
   Gone; in I there is nothing to give up, which is answered Absent, by no row. In the states
   between, an eviction is stalled.
 - **Order**: a waiting request goes on the bus. All controllers see it, one of them sends a message,
