@@ -1,13 +1,13 @@
 #!/usr/bin/env python3
-"""Prints docs/DEFINITIONS.md, or writes it: the words that public contracts speak of, beside those of the coherence theorem.
+"""Prints docs/DEFINITIONS.md, or writes it: the words that public contracts use, apart from those of the coherence theorem.
 
     tools/definitions.py --write
     tools/definitions.py IsJoined Serves
     tools/definitions.py --headline
 
-The second lists these words of any crate with their texts, each after those that it is made of; the third does so for the coherence
-theorem. Both count them with their files and lines. If a file of crates/*/specs has no comment at its head, or a definition none above
-it, these are named, nothing is written and the status is 1.
+The second prints these words of any crate with their texts, each after those that it uses; the third does so for the coherence
+theorem. Both count definitions, lines and files. If a file of crates/*/specs has no comment at its head, or a definition none above
+it, the tool names them, writes nothing and ends with status 1.
 """
 import argparse
 import pathlib
@@ -25,23 +25,22 @@ THEOREM = TOP / "crates" / "snoop_model" / "src" / "laws.rt"
 
 HEAD = """# Definitions
 
-The words that the contracts of public functions speak of, by crate, beside those of the coherence
-theorem, which docs/THEOREM.md has with their texts and with how to read them: what is proved is
-proved of these.
+The words that the contracts of public functions use, by crate. Whatever is proved is proved about
+these definitions. The words of the coherence theorem are in docs/THEOREM.md, with their texts and
+how to read them.
 
-`tools/definitions.py WORD..` shows the text of any word of any crate, after the words that it is
-made of. It reads `crates/*/specs`, where each definition has a comment above it, and each file says
-what it is about and where its rules come from: *the Primer* is *A Primer on Memory Consistency and
-Cache Coherence*, second edition, and *this project's profile* is what docs/PROTOCOL.md and
-docs/TEXTS.md lay down themselves. This page is made of these comments by
-`tools/definitions.py --write`.
+`tools/definitions.py WORD..` shows the text of any word of any crate, after the words that it uses.
+It reads `crates/*/specs`, where each definition has a comment above it, and each file says what it
+is about and where its rules come from: *the Primer* is *A Primer on Memory Consistency and Cache
+Coherence*, second edition, and *this project's profile* is what docs/PROTOCOL.md and docs/TEXTS.md
+define themselves. `tools/definitions.py --write` makes this page from these comments.
 
-Most words say a thing in another way than the code does it. Which request waits is read from a
-core's state, where the code has queues; flat values and counts are computed from the whole history,
-where it has running numbers. Some follow the code closely: the controllers' tables (`cell_of`,
+Most words say a thing differently from the code. Which request waits is read from a core's state,
+where the code has queues; flat values and counts are computed from the whole history, where it has
+running numbers. Some follow the code closely: the controllers' tables (`cell_of`,
 `memory_cell_of`), a line for each row as in docs/PROTOCOL.md; how a record is read, field by field
-(`Grammar.antt`); and how counts grow by one item (`tallied` in `Journal.antt`), where it is proved
-that what grows so is the count of the whole list.
+(`Grammar.antt`); and how counts grow by one item (`tallied` in `Journal.antt`), for which it is
+proved that the result is the count of the whole list.
 
 A core's list of waiting blocks is its *queue*; a *line* is a cache line.
 
@@ -239,7 +238,7 @@ def listed(found):
 
 def main():
     parser = argparse.ArgumentParser(description=__doc__, formatter_class=argparse.RawDescriptionHelpFormatter)
-    parser.add_argument("words", nargs="*", help="show these words and what they are made of, instead of the page")
+    parser.add_argument("words", nargs="*", help="show these words and what they use, instead of the page")
     parser.add_argument("--write", action="store_true", help="write the page instead of printing it")
     parser.add_argument("--headline", action="store_true", help="show what the coherence theorem uses, instead of the page")
     options = parser.parse_args()

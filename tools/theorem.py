@@ -1,11 +1,11 @@
 #!/usr/bin/env python3
-"""Prints docs/THEOREM.md, or writes it: the coherence theorem, with the types and the definitions that it stands on.
+"""Prints docs/THEOREM.md, or writes it: the coherence theorem, with the types and the definitions that it uses.
 
     tools/theorem.py --write
 
-The page is made of the theorem's file, of the other crates/*/specs with their comments, and of the types in crates/*/src. If a
-definition's file is of no subject, or NOTATION doesn't explain a word of the standard library, or explains one that nothing uses,
-these are named, nothing is written and the status is 1.
+The page is made from the theorem's file, the other crates/*/specs with their comments, and the types in crates/*/src. If a
+definition's file belongs to no subject, or NOTATION lacks a word of the standard library that is used, or explains one that is not,
+the tool names these, writes nothing and ends with status 1.
 """
 import argparse
 import re
@@ -47,9 +47,9 @@ NOTATION = [
     ("option_to_list o, unwrap_or o x", "the option's value as a list of at most one; the value, or x if there is none"),
     ("length xs, take n xs", "how many elements; the first n"),
     ("slice_get xs k, slice_index_or xs k x", "the element at place k, counted from 0, if any; the same, or x if there is none"),
-    ("slice_set xs k x", "the list with x at place k, or as it was if it has no such place"),
+    ("slice_set xs k x", "the list with x at place k, unchanged if it has no such place"),
     ("replicate n x, range_with_len a n", "n times x; the n numbers from a on"),
-    ("map f xs, filter p xs, filter_map f xs", "f of each element; those that pass; the values among what f gives"),
+    ("map f xs, filter p xs, filter_map f xs", "f of each element; the elements that pass; the values among the results of f"),
     ("count_by p xs, All P xs, Contains xs x", "how many elements pass; P holds of each; x is one of them"),
     ("IsPermutation xs ys", "ys has the elements of xs, each as often, in any order"),
 ]
@@ -59,107 +59,107 @@ HEAD = r"""# The theorem
 {doc}
 
 The history is in the order in which operations are performed. For a core that does not wait for its
-stores that is not the order of its program: it may load the older value of a word to which it has a
-store waiting. Some definitions of coherence ask that a core's operations on one word keep the order
-of its program; here that is so of cores that wait.
+stores, that is not the order of its program: it may load the old value of a word to which its own
+store still waits. Some definitions of coherence require a core's operations on one word to keep the
+order of its program; here that holds for cores that wait.
 
-This page begins with the machine in words and a run; it says how to read definitions, has the
-theorem, says in outline why it holds and what it leaves out, and then has every type and definition
-that the theorem stands on. The machine is a model; "the code" is that of Snoop, a simulator of it.
+This page begins with the machine in words and an example run. It then explains the notation, gives
+the theorem, says in outline why it holds and what it leaves out, and ends with every type and
+definition that the theorem uses. The machine is a model; "the code" is that of Snoop, a simulator
+of it.
 
 ## The machine
 
-MSI and MESI are protocols for caches that share one bus with memory. A cache has a state of each
-block: M, where its core may read and write the block, S, where it may read it, or I, where it has
-nothing. MESI also has E, which is as M, but clean: memory has the same words. Memory's state of the
-block says what the caches may have:
+MSI and MESI are protocols for caches that share one bus with memory. A cache has a state for each
+block: M, in which its core may read and write the block, S, in which it may read it, or I, in which
+it has nothing. MESI also has E, which is like M but clean: memory has the same words. Memory's
+state of the block says what the caches may have:
 
 | Memory's state | Which cores may read or write the block | Clauses |
 |---|---|---|
 | I (MESI) | none may do either | `readers`, `writers` |
 | S (MESI), IorS (MSI) | none may write it, any number may read it | `writers` |
-| EorM (MESI), M (MSI) | where no transaction of it is open one may write it, and no other may read it | `owned`, `one_writer` |
-| I_D; S_D, IorS_D; EorM_D, M_D | as without the D, while memory waits for a message; in the last two perhaps none may write it any more | the same |
+| EorM (MESI), M (MSI) | if no transaction of it is open, one core may write it, and no other may read it | `owned`, `one_writer` |
+| I_D; S_D, IorS_D; EorM_D, M_D | as without the D, while memory waits for a message; in the last two perhaps no core may write it any more | the same |
 
-While a transaction is open in EorM or M, the data is under way to the next writer: none may write
-the block then, which no clause says, and that core may read its old copy still (SM_D).
+While a transaction is open in EorM or M, the data is under way to the next writer. Then no core may
+write the block, which no clause says, and the requestor may still read its old copy (SM_D).
 docs/PROTOCOL.md lists which of a cache's states may read and write.
 
-Each cache has a controller, and so has memory, with a table: a **row** for each event that it may
-meet in a state. A pair of state and event without a row is an **impossible cell**. The tables are
-those of *A Primer on Memory Consistency and Cache Coherence* (second edition, chapter 7), but for
-E's eviction and memory's states under MESI, which are this project's; docs/PROTOCOL.md has them as
-grids.
+Each cache has a controller, and so has memory. A controller has a table with a **row** for each
+event that it may meet in a state. A pair of state and event without a row is an **impossible
+cell**. The tables are those of *A Primer on Memory Consistency and Cache Coherence* (second
+edition, chapter 7), except E's eviction and memory's states under MESI, which are this project's;
+docs/PROTOCOL.md has all rows.
 
 A machine begins at **reset**, with empty caches and a memory of 0, and takes **steps** of three
 kinds.
 
 - **Ask**: a core asks its cache to load, to store, or to give a block up. A load or store **hits**
-  where the table's row for it is a hit. A core whose state has such a row for a load may load the
-  block, and is a **reader**; one whose state has it for a store may store in it, and is a
-  **writer**. Elsewhere the operation is stalled, which is a refusal, or it misses: the cache issues
-  a request, which waits in the core's queue, and the operation waits until its data comes. A block
-  in E or M is given up by a request too, a writeback. One in S is dropped, which is answered Gone;
-  in I there is none to give up, which is answered Absent, by no row. In the states between, an
-  eviction is stalled.
-- **Order**: a request that waits goes on the bus. All controllers see it, one of them sends a
-  message, and the block has an open **transaction**, whose **requestor** is the core of the
-  request. A block is free where it has none.
-- **Respond**: the message, which is the response to the request, comes to the requestor, to memory
-  or to both, and closes the transaction. The requestor takes that of a GetS or GetM, and no cache
-  takes that of a PutM. Memory takes that of a PutM always, and that of a GetS or GetM where its
-  state ends in D.
+  if the table's row for it is a hit. A core in a state with such a row for a load may load the
+  block, and is a **reader**; one in a state with such a row for a store may store in it, and is a
+  **writer**. Otherwise the operation is stalled, which is a refusal, or it misses: the cache issues
+  a request, which waits in the core's queue, and the operation waits until its data comes. Giving
+  up a block in E or M takes a request too, a writeback. A block in S is dropped, which is answered
+  Gone; in I there is nothing to give up, which is answered Absent, by no row. In the states
+  between, an eviction is stalled.
+- **Order**: a waiting request goes on the bus. All controllers see it, one of them sends a message,
+  and the block now has an open **transaction**, whose **requestor** is the core of the request. A
+  block with no open transaction is free.
+- **Respond**: the message, which is the response to the request, reaches the requestor, memory or
+  both, and closes the transaction. The requestor takes the response to a GetS or GetM; no cache
+  takes that to a PutM. Memory always takes the response to a PutM, and that to a GetS or GetM if
+  its state ends in D.
 
-A step is taken, which is a **move**, with a reply, or refused for a cause; a refused step changes
-nothing. The reply or the cause is its **outcome**.
+A step is taken, which is a **move**, with a reply, or it is refused for a cause. A refused step
+changes nothing. The reply or the cause is the step's **outcome**.
 
 | Word | Is |
 |---|---|
 | GetS, GetM, PutM | the requests: for a copy to read; for one to write; to write the block back and give it up |
 | Data | a payload, which is what a message carries: the block's words |
-| DataE | the same words, sent for a GetS by memory in I, where no core has the block (memory in S sends Data, even if all copies were dropped) |
+| DataE | the same words, sent for a GetS by memory in I, when no core has the block (memory in S sends Data, even if all copies were dropped) |
 | NoData | nothing, since the writeback is stale: the block went to another core before its PutM was ordered |
 | NoDataE | nothing, since the block was clean |
-| IS_AD, IM_D, MI_A and the like | the states between: from I to S, and so on, in AD waiting for the core's own request to be ordered and then for data, in D for data, in A for its request to be ordered; in II_A a PutM waits that another's request has overtaken. In the definitions IS_AD is `IsAd` |
-| a core waits on a block | its request for it is issued and not yet ordered; a queue has the blocks, and the states say for which request |
-| an operation waits | it missed, and the core keeps it until it is **performed**: until its value is read or written, and stands in the history. In IS_D, IM_D and SM_D an operation waits, though its core waits on the block no more |
-| data under way | the words in an open transaction, at Data and DataE |
+| IS_AD, IM_D, MI_A and the like | the states between: from I to S, and so on; in AD the core waits for its own request to be ordered and then for data, in D for data, in A for its request to be ordered; in II_A a PutM waits that another's request has overtaken. In the definitions IS_AD is `IsAd` |
+| a core waits on a block | its request for the block is issued and not yet ordered; a queue has the blocks, and the states say for which request |
+| an operation waits | it missed, and the core keeps it until it is **performed**: until its value is read or written and is in the history. In IS_D, IM_D and SM_D an operation waits, though its core no longer waits on the block |
+| data under way | the words in an open transaction, for Data and DataE |
 
 A **situation** is all that is seen of a machine: its protocol and shape (`Extent`: how many cores
-and blocks it has, and how large a block is); of each block its **picture**; each core's queue; and
-the **log**, the history of what was done, whose items are operations that hit, ordered requests,
-and responses with what they performed. A picture has a line for each core (its state; its copy,
-which is the words that it keeps; the operation that waits, if any), memory's line, and the open
-transaction, if any. Flat memory is what the stores of a history leave in a memory of 0.
+and blocks it has, and how large a block is); for each block its **picture**; each core's queue; and
+the **log**, the history of what was done. The log's items are operations that hit, ordered
+requests, and responses with what they performed. A picture has a line for each core (its state; its
+copy, which is the words that it keeps; the operation that waits, if any), memory's line, and the
+open transaction, if any. Flat memory is what the stores of a history leave in a memory of 0.
 
 What this machine takes as given:
 
 - **Each step happens at once.** At an Order all caches and memory take their rows for the request
-  together; at a Respond the message comes whole, and to all who take it together.
-- **A block has one open transaction at most**, from its Order to its Respond. Other blocks may have
+  together; at a Respond the message arrives whole, and at all who take it together.
+- **A block has at most one open transaction**, from its Order to its Respond. Other blocks may have
   theirs meanwhile. The Primer calls this atomic transactions, and that requests wait before they
-  are ordered non-atomic requests. Between the cores, and between the blocks of one core, requests
-  are ordered in any order: the code takes a core's oldest request, the model any. A core may have
-  misses on many blocks; of one block one operation at most waits at it.
-- **The history is in the order of performance**, at a hit or with the data that came, and not in
-  that of asking. A core that does not wait for its store may load the older value: while its store
+  are ordered non-atomic requests. Requests of different cores, and of one core for different
+  blocks, may be ordered in any order: the code takes a core's oldest request, the model any. A core
+  may have misses on many blocks, but at most one waiting operation on each.
+- **The history is in the order of performance**, at a hit or when the data comes, and not in the
+  order of asking. A core that does not wait for its store may load the old value: while its store
   to a block in S waits, its loads of the block hit as long as the copy lasts (SM_AD, SM_D), and
-  stand in the history before the store; once another core's GetM is ordered first, the copy is gone
+  come before the store in the history. Once another core's GetM is ordered first, the copy is gone
   (IM_AD), and they stall. In MI_A and EI_A loads and stores hit while the PutM waits.
-- **Any step may be refused as out of memory**, with nothing changed: of the simulator's memory,
-  which is no part of the machine.
-- **Numbers have no bounds**, but of a block's words at most 64 can be used. The code has limits for
-  cores, blocks and values too (docs/TEXTS.md).
+- **Any step may be refused as out of memory**, with nothing changed. This is the simulator's
+  memory, which is no part of the machine.
+- **Numbers have no bounds**, except that at most 64 words of a block can be used. The code also has
+  limits for cores, blocks and values (docs/TEXTS.md).
 
 ## One run
 
-Two cores under MSI, and blocks of 64 bytes and one word, as `snoop` has them where no option says
-otherwise: core 0 stores 7 in block 0, then core 1 loads it. An Ask to store is written
-`S,core,address,value`, one to load `L,core,address`, an Order `O,core`, a Respond `R,address`; an
-address is in bytes, so those from 0 to 63 are of block 0. Each line shows block 0 after a step: the
-state and the value in each core, the transaction, memory. A dot says that it is as above; `#1` is
-the place of the request in its core's queue, `C0` is core 0, and memory's value stands in brackets
-where it would not send it.
+Two cores under MSI, and blocks of 64 bytes and one word, the defaults of `snoop`: core 0 stores 7
+in block 0, then core 1 loads it. An Ask to store is written `S,core,address,value`, one to load
+`L,core,address`, an Order `O,core`, a Respond `R,address`. An address is in bytes, so addresses 0
+to 63 are in block 0. Each line shows block 0 after a step: the state and the value in each core,
+the transaction, memory. A dot means the same as above; `#1` is the place of the request in its
+core's queue, `C0` is core 0, and memory's value is in brackets if memory would not send it.
 
 ```console
 $ printf 'S,0,0,7\nO,0\nR,0\nL,1,0\nO,1\nR,0\n' | ./snoop states
@@ -186,26 +186,26 @@ which they are performed.
 ## How to read the definitions
 
 Names of facts (`OneWriter`), of types (`Picture`) and of a type's members (`GetS`) are in
-CamelCase, those of functions (`flat`), of values (`word_places`) and of the clauses of a record
-(`one_writer`) in snake_case. A definition begins with the types of its arguments and of what it is,
-where `Type 0` says that it is a fact or a type. Below stands what it means, case by case, the first
-that fits. In a case a small letter or word fits any value, as `_` does; `One` of `RunBy` and `P` of
-`EveryRun` are such values too: each is a fact about the arguments that follow it.
+CamelCase; those of functions (`flat`), of values (`word_places`) and of the clauses of a record
+(`one_writer`) are in snake_case. A definition begins with the types of its arguments and its
+result; `Type 0` says that it is a fact or a type. Below that is its meaning, case by case; the
+first case that fits counts. In a case a small letter or word fits any value, as `_` does. So do
+`One` of `RunBy` and `P` of `EveryRun`: each is a fact about the arguments that follow it.
 
-Look-ups have a default: outside a machine's shape a core holds nothing (state I), no transaction is
-open, and memory is in IorS with words of 0; the queue of such a core is empty. A block has 64
-places for words; a load or store of a word past them, or past the words of the shape, is refused.
-How many bytes a block has is part of a shape, and no definition looks at it.
+Look-ups have a default. Outside a machine's shape a core holds nothing (state I), no transaction is
+open, memory is in IorS with words of 0, and a core's queue is empty. A block has 64 places for
+words; a load or store of a word past them, or past the words of the shape, is refused. How many
+bytes a block has is part of a shape, but no definition looks at it.
 
-Some words name several things, told apart by where they stand: `Data` is the words of a block, a
-payload and an event, and `DataE`, `NoData` and `NoDataE` are the last two; `I`, `S` and `M` are
-states of caches and of memory; `Load`, `Store` and `Evict` operations and events; `GetS`, `GetM`
-and `PutM` requests and events; `None` no value, no action, and as a sender memory; `Did`, `Sent`,
-`Came`, `Hit` and `Send` several kinds of thing; `Requestor` and `Memory` senders and targets;
-`taken` and `other` are functions, and names of something else; clauses of the theorem and fields of
-other records may have one name; a line is a cache's, memory's or one of a table. Names that differ
-in a capital or an ending are not of one thing: `hits` is a clause, `Hits` a fact, `Hit` an action
-and a reply; `orders` is a clause, `Orders` a fact, `Order` a step.
+Some names mean several things, told apart by context: `Data` is the words of a block, a payload and
+an event, and `DataE`, `NoData` and `NoDataE` are the last two; `I`, `S` and `M` are states of
+caches and of memory; `Load`, `Store` and `Evict` are operations and events; `GetS`, `GetM` and
+`PutM` are requests and events; `None` is no value, no action, and as a sender memory; `Did`,
+`Sent`, `Came`, `Hit` and `Send` are several kinds of thing; `Requestor` and `Memory` are senders
+and targets; `taken` and `other` are functions, and names of something else; clauses of the theorem
+and fields of other records may have the same name; a line is a cache's, memory's or a table's.
+Names that differ in a capital or an ending are different things: `hits` is a clause, `Hits` a fact,
+`Hit` an action and a reply; `orders` is a clause, `Orders` a fact, `Order` a step.
 
 | Written | Means |
 |---|---|
@@ -213,15 +213,15 @@ and a reply; `orders` is a clause, `Orders` a fact, `Order` a step.
 | `A × B`, `A → B`, `¬ A`, `⊥` | between facts: A and B; if A then B; not A; what never holds. Between types: their pairs; the functions from A to B |
 | `(x : T) × P`, `(x : T) → P` | there is an x with P; P for every x. `(x y : T)` has two of one type, and before one arrow there may be several such |
 | `(made : Orders ..) → ..` | the fact has the name `made`, and `made.from` is the `from` that it says exists |
-| `record R .. where`, `data D .. where` | a fact that holds where all its fields do (a field that is no fact, as `done` of `IsSenderLine`, is a value that has to exist), or a type by its fields; a type by its members |
+| `record R .. where`, `data D .. where` | a fact that holds if all its fields do (a field that is no fact, such as `done` of `IsSenderLine`, is a value that has to exist), or a type by its fields; a type by its members |
 | `record s {{ .. }}`, `record {{ .. }}` | s with these fields; a value with all of them |
-| `op.Load`, `state.ImAd`, `mem.IorS`, `mem_action.None`, `Nothing` | a member of a type, behind a short name of the type where need be: `op`, `state`, `event`, `action`, `payload`, `reply` and `item`, and of memory `mem`, `mem_event` and `mem_action` (a capital after the dot; a field has none). What it carries follows it in order, as in `Ask core block word asking`; `Nothing` is a controller's action `None` |
-| `{{A : Type 0}}`, `{{A}}`, `pub`, `abbrev`, `declared.`, `--` | a type that follows from the other arguments; three words that may be passed over; a comment |
+| `op.Load`, `state.ImAd`, `mem.IorS`, `mem_action.None`, `Nothing` | a member of a type, after a short name of the type if need be: `op`, `state`, `event`, `action`, `payload`, `reply` and `item`, and for memory `mem`, `mem_event` and `mem_action` (a member has a capital after the dot, a field has none). What it carries follows it in order, as in `Ask core block word asking`; `Nothing` is a controller's action `None` |
+| `{{A : Type 0}}`, `{{A}}`, `pub`, `abbrev`, `declared.`, `--` | a type that follows from the other arguments; three words that you may skip; a comment |
 {notation}
 
-`∷`, `++`, `×`, `⊎` and `→` read from the right. `f a` and `¬` bind most strongly, then `∷` and
+`∷`, `++`, `×`, `⊎` and `→` associate to the right. `f a` and `¬` bind most strongly, then `∷` and
 `++`, then `≡`, `≢`, `<` and `≤`, then `×` and `⊎`, then `↔`, then `→`; `==` binds more strongly
-than `&&`. `(x : T) ×`, `(x : T) →` and `λ x.` reach to the end of their brackets.
+than `&&`. `(x : T) ×`, `(x : T) →` and `λ x.` extend to the end of their brackets.
 
 ## What is proved
 
@@ -233,114 +233,114 @@ than `&&`. `(x : T) ×`, `(x : T) →` and `λ x.` reach to the end of their bra
 {records}
 ```
 
-The names in it stand further below, those of types under "Types", the others here:
+The names used here are defined below, types under "Types", the others here:
 
 | Part | Names, by file |
 |---|---|
 {index}
 
-The function `coherent` does nothing: what it ensures is the theorem. It is about every list of
-steps put to a machine from reset, in any order, and about every situation to which they may lead;
-the first steps of a run are a run, so it is about each situation on the way too. One more function,
-`the_run_is_coherent`, ensures that a run as the code has it, where each Order is of a core's oldest
-request and memory is ample, is one of these, and so coherent. docs/PROVED.md says of the code
-(`Machine::step` for one step, `run_steps` for a list) that it takes these steps and no others, and
-what is trusted: above all the prover of the Rattle toolchain, in whose language Snoop is written,
-which has checked all of it.
+The function `coherent` does nothing: what it ensures is the theorem. The theorem is about every
+list of steps put to a machine from reset, in any order, and about every situation to which they may
+lead. The first steps of a run are a run, so it is about each situation on the way too. Another
+function, `the_run_is_coherent`, ensures that a run as the code has it, in which each Order is of a
+core's oldest request and memory is ample, is one of these runs, and so coherent. docs/PROVED.md
+says of the code (`Machine::step` for one step, `run_steps` for a list) that it takes these steps
+and no others, and says what is trusted: above all the prover of the Rattle toolchain, in whose
+language Snoop is written, which has checked all of it.
 
-`Orders`, of which `orders` and `by_table` speak, is a move but for the bounds of core and block
+`Orders`, which `orders` and `by_table` mention, is a move without the bounds on core and block
 (`IsWithin`). It needs none: outside the shape no request waits.
 
 | About | Clauses | Why |
 |---|---|---|
 | who may read and write | `one_writer`, `readers`, `writers`, `owned` | below |
 | values | `kept`, `current`, `carried`, `memory`, `clean` | below |
-| the history | `legal`, `logged` | each load that is performed gets its word of flat memory; an Ask beyond the shape is refused |
+| the history | `legal`, `logged` | each load that is performed gets its word of flat memory; an Ask outside the shape is refused |
 | operations | `once`, `told` | what each move adds to the history and takes from a line |
 | | `waiting`, `given_up` | a state says what waits in its line, and whether it keeps words |
 | | `stalls`, `hits`, `gone` | the tables' rows, and how a move answers by them |
 | requests and transactions | `queued`, `awaited`, `opened` | an issue puts its block last, an Order takes it out and opens it, a Respond closes it |
-| that no step is stuck | `moves`, `orders` | in the states that can stand side by side each controller has the row that it needs |
+| that no step is stuck | `moves`, `orders` | in the states that can exist together each controller has the row that it needs |
 | the table of senders | `by_table`, `on_table` | the same; and while a transaction is open nothing moves its memory. The picture before its Order is past, so `on_table` speaks of some picture |
 | sizes, protocol and shape | `shaped`, `stays` | no move changes them |
 
 ## Why it holds
 
-By induction over the steps, of a statement that says more of each block. Memory's state and the
-open transaction decide three things: whether a core **owns** the block, that is, may write it;
-whether other cores may have copies to read; and whether memory is sure to have the words of flat
-memory. docs/COHERENCE.md has this as a table of twelve lines. The statement has three parts. Each
-core's state, by itself, agrees with that table, with whether the core is the owner, and with
-whether it is the requestor. Each copy that may be read, and data under way, has the words of flat
-memory. So has memory where the table says so, and beside a clean copy. All that ties the cores
-together is which of them is the owner. The clauses about reading and writing are read off the first
-part and the table.
+By induction over the steps, with a stronger statement about each block. Memory's state and the open
+transaction decide three things: whether a core **owns** the block, that is, may write it; whether
+other cores may have copies to read; and whether memory is sure to have the words of flat memory.
+docs/COHERENCE.md has this as a table of twelve lines. The statement has three parts. Each core's
+state, by itself, agrees with that table, with whether the core is the owner, and with whether it is
+the requestor. Each copy that may be read, and data under way, has the words of flat memory. So has
+memory if the table says so, or if some copy is clean. Only the owner's number connects the cores.
+The clauses about reading and writing follow from the first part and the table.
 
 So whether a step keeps the statement is a question about the tables: about the protocol, memory's
 state, the request, the payload, the state of the core that asks or whose request it is, and that of
-one other core. These are finitely many cases, whatever the number of cores; the prover has computed
-them all. A word of flat memory changes only by a store: of the owner at a hit, or of a GetM's
-requestor as its data comes; and no other copy may be read then. The argument is in
-docs/COHERENCE.md, step by step.
+one other core. These are finitely many cases, whatever the number of cores, and the prover has
+computed them all. A word of flat memory changes only by a store: of the owner at a hit, or of a
+GetM's requestor when its data comes; and no other copy may be read then. docs/COHERENCE.md has the
+argument step by step.
 
 ## What follows, and what is not said
 
-- **No deadlock**, out of memory aside: an operation that waits has its request in the queue or its
-  transaction open (`waiting`, `queued`, `awaited`); an open transaction can be answered (`moves`),
-  which closes it (`on_table`), and any waiting request of a free block can be ordered (`orders`).
-  The code orders a core's oldest request first; where a transaction is open on its block, that is
-  to be answered before. But nothing is said of time, nor that a request is ever ordered or
-  answered: an operation that is not lost may wait for ever.
-- **Sequential consistency** is no clause, but follows by hand where each core asks for nothing
-  while an operation of its own waits: the history has each core's operations in program order then
-  (`told`, `once`), and is legal. Both are proved of runs for inputs of loads, stores and evictions
-  alone, where the code finds the bus steps (docs/PROVED.md, "Served"). Where cores do not wait,
-  hits keep their order of asking and stand before each earlier miss that still waits; two misses
-  may be performed in either order.
+- **No deadlock**, apart from out of memory: an operation that waits has its request in the queue or
+  its transaction open (`waiting`, `queued`, `awaited`); an open transaction can be answered
+  (`moves`), which closes it (`on_table`), and any waiting request of a free block can be ordered
+  (`orders`). The code orders a core's oldest request first; if a transaction is open on its block,
+  that has to be answered before. But nothing is said about time, nor that a request is ever ordered
+  or answered: an operation that is not lost may wait for ever.
+- **Sequential consistency** is no clause, but follows by hand if each core asks for nothing while
+  an operation of its own waits: then the history has each core's operations in program order
+  (`told`, `once`), and is legal. Both are proved of runs for inputs of only loads, stores and
+  evictions, for which the code finds the bus steps (docs/PROVED.md, "Served"). If cores do not
+  wait, hits keep their order of asking and come before each earlier miss that still waits; two
+  misses may be performed in either order.
 - **Real time** is no clause, but follows by hand too: an operation is performed between its Ask and
-  its answer, a hit at its Ask, a miss at the Respond whose reply has it (`told`, `once`). So where
-  each core waits the history is a linearization.
-- **That a step has one outcome alone**, but for the block of an Order and out of memory, is no
+  its answer, a hit at its Ask, a miss at the Respond whose reply has it (`told`, `once`). So if
+  each core waits, the history is a linearization.
+- **That a step has only one outcome**, apart from the block of an Order and out of memory, is no
   clause; of a run as the code has it `laws::runs_are_one` says so (docs/PROVED.md).
-- **A load or store of an existing word, in a state whose row for it is a hit, does hit**, out of
-  memory aside: each step for which no cause of `Refuses` holds has a move (`moves`), and that is a
-  hit (`hits`, which follows from the moves alone). Where a cause holds, the step is refused; but an
-  Order of a core whose first block has an open transaction may be taken instead, of another block
-  that is free and on which the core waits.
-- `given_up` is about words alone: a core whose PutM is open may have asked for the block anew.
+- **A load or store of an existing word, in a state whose row for it is a hit, does hit**, apart
+  from out of memory: each step for which no cause of `Refuses` holds has a move (`moves`), and that
+  is a hit (`hits`, which follows from the moves alone). If a cause holds, the step is refused; but
+  an Order of a core whose first block has an open transaction may be taken instead, of another free
+  block on which the core waits.
+- `given_up` is about words only: a core whose PutM is open may have asked for the block again.
 
-The definitions say more of each step of a run, which no clause repeats:
+The definitions say more about each step of a run, which no clause repeats:
 
 - whether an eviction is answered Gone, Absent or by a request; which operations stall while their
   core's request waits or is open, and why else a step is refused; to which states caches go (but
-  see `gone`), so how long a copy lasts;
+  see `gone`), and so how long a copy lasts;
 - that a step leaves other blocks as they were, and at an Ask other cores; that an Order opens the
-  transaction of the request that it took, in which order the blocks stand in a queue, and that a
-  PutM that was issued stands there;
-- whether a response performs an operation, and that the requestor and request which it has in the
-  history are those of the open transaction. `told` says that the history has what was replied, that
+  transaction of the request that it took, in which order the blocks are in a queue, and that a PutM
+  that was issued is there;
+- whether a response performs an operation, and that the requestor and request that the history has
+  for it are those of the open transaction. `told` says that the history has what was replied, that
   a response is of the block of its Respond, and that its operation, if it has one, is on that
   block, by the requestor that the history has, and not marked as a hit. Which of that core's
   operations it is, and a load's value, follow from `legal` and from `once`, of this run and of each
   of its beginnings;
-- who takes a message (memory's state then is said by `on_table`). For those who do not take it, it
-  is no event, and so no impossible cell. Of a row that is taken at an Order only the next state and
-  a Send are used, and of memory's row at a Respond only the next state and a Write; the target that
-  a row names is not looked at.
+- who takes a message (`on_table` says memory's state then). For a controller that does not take it,
+  it is no event, and so no impossible cell. Only the next state and a Send are used of a row that
+  is taken at an Order, and only the next state and a Write of memory's row at a Respond; the target
+  that a row names is not looked at.
 
-And no clause says that something is ever reached: a state, as E, or a line of the table of senders.
+And no clause says that something is ever reached: a state, such as E, or a line of the table of
+senders.
 
 ## Types
 
-As the code declares them, in Rust, an `enum` by its members and a `struct` by its fields: `u32` and
-`u64` are numbers, `bool` true or false, `Open<K>` is `Open` of a type K, which is a block's `Data`
-here, and in the definitions all numbers are ℕ. Their comments speak of the code too: a machine is
-the code's there, a text what Snoop reads (docs/TEXTS.md), and a row a load, a store or an eviction
-in a text. A holder of a block is a core that has words of it.
+These are Rust, as the code declares them: an `enum` by its members and a `struct` by its fields.
+`u32` and `u64` are numbers, `bool` true or false, and `Open<K>` is `Open` of a type K, which here
+is a block's `Data`; in the definitions all numbers are ℕ. The comments are about the code: in them
+a machine is the code's, a text is what Snoop reads (docs/TEXTS.md), and a row is a load, a store or
+an eviction in a text. A holder of a block is a core that has words of it.
 
-Each part further below begins with what its file is about, and names the file; of its definitions
-the page has those alone on which the theorem stands. `lines_of` is but a list: that runs go by it
-is what `by_table` and `on_table` say.
+Each later part begins with what its file is about, and names the file; of a file's definitions the
+page has only those that the theorem uses. `lines_of` is only a list: that runs follow it is what
+`by_table` and `on_table` say.
 
 ```rust
 {types}
