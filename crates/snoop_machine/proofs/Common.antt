@@ -32,7 +32,7 @@ pub use Rattle.snoop_machine.specs.declared.{parts.step.Asked.TheVariants.{Absen
 pub use Rattle.snoop_model.proofs.{Invariant.Coherence.{finds_rows, orders_follow_sender_table, sender_within}, Runs.Along.{run_more, seen_along, kept_along}}
 pub use Rattle.snoop_model.proofs.{Invariant.Safety.{is_safe, kept_is_flat, move_keeps_all, reset_keeps}, Lines.{Taking, Taking-more, Taking-past}}
 pub use Rattle.snoop_model.proofs.Lines.{Silent-all, Silent-more, Silent-none, Silent-past, SilentBelow}
-pub use Rattle.snoop_model.proofs.Tables.Rows.{fill-waits, IsProper-fill, IsProper-order, issue-waits, drop-waits, IsProper-issue, IsProper-hit, IsProper-drop}
+pub use Rattle.snoop_model.proofs.Tables.Rows.{fill-waits, IsProper-fill, IsProper-order, issue-waits, IsProper-issue, IsProper-hit, IsProper-drop}
 unfoldable pub use Rattle.snoop_model.specs.Invariant.Fits.{is_owner}
 
 -- a function that gives the same at each place

@@ -3,7 +3,7 @@
 use Rattle.std.specs.Prelude.{◌≡◌, ◌≢◌, ◌↔◌, ◌⊎◌, ◌<◌, ℕ, List, [], All, Some, None, Result, IfSome, IsSome, IsTrue, option_map}
 use Rattle.snoop_trace.specs.{Extent.Extent, Words.IsWord, declared.step.{Op.{Op, TheVariants.Evict}, Step.{Step, TheVariants.Ask}}}
 use Rattle.snoop_trace.specs.declared.protocol.Protocol.{Protocol}
-use Rattle.snoop_rules.specs.{declared.names.{CacheState.{CacheState, TheVariants.{E, EiA}}, Request.{Request, TheVariants.PutM}}, Possible.{MayLoad, MayStore}}
+use Rattle.snoop_rules.specs.{declared.names.{CacheState.{CacheState, TheVariants.{E, EiA}}, Request.{Request, TheVariants.{GetS, PutM}}}, Possible.{MayLoad, MayStore}, Takers.takes_payload}
 use Rattle.snoop_history.specs.History.{flat_words, operations, Legal}
 use Rattle.snoop_model.specs.{declared.replies.{Reply.{Reply, TheVariants.{Gone, Absent}}, Refused.{Refused, TheVariants.Stalled}}, Pictures.InQueue.IsInQueue}
 use Rattle.snoop_model.specs.{Pictures.{Picture.{nothing_held, data_under_way}, OneWriter.{OneWriter, lets_load, lets_store}}, Moves.Move.{IsWithin, Orders, MoveOn, FirstMove}}
@@ -21,8 +21,10 @@ pub record IsCoherent (s : Situation) : Type 0 where
   pub readers : (core block : ℕ) → MayLoad s.protocol (state_of s core block) → IsTrue (lets_load (picture_of s block).memory.state)
   -- and store in it only where that state is M, M_D, EorM or EorM_D
   pub writers : (core block : ℕ) → MayStore s.protocol (state_of s core block) → IsTrue (lets_store (picture_of s block).memory.state)
-  -- where it is M or EorM, and no transaction is open, some core may store in the block; in M_D and EorM_D one is open always
+  -- where it is one of these, and no transaction of the block is open, some core may store in the block
   pub owned : (block : ℕ) → IsTrue (lets_store (picture_of s block).memory.state) → (picture_of s block).transaction ≡ None → (core : ℕ) × MayStore s.protocol (state_of s core block)
+  -- where none is open, memory waits for no message: its state is none of those that end in D
+  pub at_rest : (block : ℕ) → (picture_of s block).transaction ≡ None → ¬ IsTrue (takes_payload GetS (picture_of s block).memory.state)
   -- in the history each load has the value of the last store to its word before it, or 0 where there is none, and each core's operations are numbered in order
   pub legal : Legal s.log
   -- each operation of the history is by a core, of a block and of a word that the machine has

@@ -6,9 +6,9 @@ ghost use Rattle.snoop_model.specs.Runs.TakenOnce.{TakenOnce};
 
 /// Every run from reset is coherent, for every number of cores and blocks, under MSI and MESI.
 ///
-/// `IsCoherentRun` has what that says: each block has one writer alone, or only readers, or neither; in the history each load has
-/// the value of the last store to its word before it, or 0 where there is none; no step is stuck at an impossible cell; no load
-/// or store that was taken is lost or doubled; and each reply is true to the history.
+/// `IsCoherentRun` says what that means: each block has one writer and no other reader, or only readers, or neither; in the history
+/// each load has the value of the last store to its word before it, or 0 where there is none; no step is stuck at an impossible
+/// cell; no load or store that was taken is lost or doubled; and each reply is true to the history.
 #[tactic(auto, using(crate::proofs::Invariant::Safety::every_run_is_coherent))]
 pub fn coherent()
     ensures { EveryRun IsCoherentRun }
@@ -30,7 +30,7 @@ pub fn the_run_is_coherent()
     ensures coherent { TheRunIsCoherent }
 {}
 
-/// Every run goes on: from where some steps have led, any further steps have a run too.
+/// The run of some steps goes on: from where it led, any further steps have a run too.
 ///
 /// So every list of steps has a run from reset, and the run of its first steps is the beginning of one of all of them.
 pub fn runs_go_on()

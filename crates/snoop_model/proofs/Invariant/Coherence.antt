@@ -33,7 +33,7 @@ has_row rows none found row = grind (arith, none, row)
 
 module _ (s : Situation) (g : Invariant s) where
   -- a block outside the shape has nothing
-  outside : (block : ℕ) → s.shape.blocks ≤ block → picture_of s block ≡ nothing_there
+  pub outside : (block : ℕ) → s.shape.blocks ≤ block → picture_of s block ≡ nothing_there
   outside block past = let long = g.shaped.pictures in get_or_past s.pictures block nothing_there (omega arith)
 
   -- what holds of each line of the machine, and of a core that holds nothing, holds of every core's
@@ -83,7 +83,7 @@ module _ (s : Situation) (g : Invariant s) where
   owner_stores block lets free =
       let within : block < s.shape.blocks = grind (arith, outside block, lets) in
       let good = g.blocks block within in
-      let owned : is_some good.owner ≡ true = good.is_owned ∙ (memory_rule s.protocol _ _ good.claims good.is_claims).1.1 lets (rw free refl) in
+      let owned : is_some good.owner ≡ true = good.is_owned ∙ (memory_rule s.protocol _ _ good.claims good.is_claims).1.1.0 lets (rw free refl) in
       let (o, is) = some_of good.owner owned in
       let (row, is_row, hit) = (fit_rule _ _ _ _ _ (good.states o (good.owner_in o is))).0 (grind (arith, is)) in
       (o, (row.next, grind (arith, is_row, hit)))
@@ -92,7 +92,6 @@ module _ (s : Situation) (g : Invariant s) where
   pub opened_within : (block : ℕ) (o : Open) → (picture_of s block).transaction ≡ Some o → block < s.shape.blocks
   opened_within block o is = grind (arith, outside block, is)
 
-  -- a core that sent its message is there
   pub sender_within : (block : ℕ) (o : Open) → (picture_of s block).transaction ≡ Some o → ForSome o.from (λ sender. sender < s.shape.cores)
   sender_within block o is = (g.blocks block (opened_within block o is)).sender_in o is
 

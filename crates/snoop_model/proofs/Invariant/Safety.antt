@@ -1,11 +1,11 @@
 -- What every machine keeps makes it safe, and its steps keep it.
 use Rattle.snoop_model.proofs.Common.{ap, arith, arrival_at_memory, Ask, asked, both_ways, CacheEvent, CacheState, Cell, E, EiA, Evict, Extent, flat, flat_words, Goes, held_by, Hit, I, IfSome, inl, inr, Invariant, is_clean, is_some, IsOpenByTable, IsProper, IsSenderLine, IsSome, IsWellKept, keeps, List, MemCell, MoveOn, None, Option, option_map, Order, Orders, Picture, picture_of, Protocol, PutM, refl, Refused, Reply, Request, reset, Respond, Result, RunBy, same_Some, Situation, Stall, state_of, Step, Store, sym, takes_payload, true, with_line, with_picture, word_at, ℕ, ◌<◌, ◌∙◌, ◌≡◌, ◌≤◌, ◌⊎◌, IsWithin}
 use Rattle.snoop_model.specs.{Coherent.{IsCoherent, IsCoherentRun}, Invariant.MachineKeeps.{AreOnSenderLines, MachineKeeps}, Runs.{Run.EveryRun, Safe.{IsSafe, RowsAreFound}}}
-use Rattle.snoop_model.proofs.Invariant.{Coherence.{data_awaited, each_line, finds_rows, held_within, hit_within, memory_lets_load, memory_lets_store, nobody_owns, opened_within, orders_follow_sender_table, owner_stores, requestor_fits, sender_within}, Runs.{goes_kept, idle_line, move_keeps, nothing_proper, reset_invariant, reset_open, word_flat}}
+use Rattle.snoop_model.proofs.Invariant.{Coherence.{data_awaited, each_line, finds_rows, held_within, hit_within, memory_lets_load, memory_lets_store, nobody_owns, opened_within, outside, orders_follow_sender_table, owner_stores, requestor_fits, sender_within}, Runs.{goes_kept, idle_line, move_keeps, nothing_proper, reset_invariant, reset_open, word_flat}}
 use Rattle.snoop_model.proofs.{Lists.if_some, Once.run_asked_once, Turns.busy_cases}
 use Rattle.snoop_model.proofs.{OneBlock.{AfterMoves.{ask_line, each_picture, in_pictures, respond_here}, Facts.owned_alone}, Queues.{on_kept, starts_well}}
 use Rattle.snoop_model.proofs.{Runs.{Along.kept_along, GoOn.moves_on, Replies.{run_stays, run_tells}}, Steps.order_made}
-use Rattle.snoop_model.proofs.Tables.{OrderTests.{sends_is, settled_so}, Rows.{action_rule, ask_rule, claims_rule, fit_rule, IsProper-drop, no_row}}
+use Rattle.snoop_model.proofs.Tables.{OrderTests.{sends_is, settled_so}, Rows.{action_rule, ask_rule, claims_rule, fit_rule, IsProper-drop, memory_rule, no_row}}
 use Rattle.snoop_rules.specs.declared.names.CacheEvent.TheVariants as event
 
 -- each open transaction is on a line
@@ -73,6 +73,7 @@ is_coherent s g on_lines well_kept = record {
   readers = memory_lets_load s g;
   writers = memory_lets_store s g;
   owned = owner_stores s g;
+  at_rest = λ block free waits. let good = g.blocks block (grind (arith, outside s g block, waits)) in both_ways _ (rw free refl) ((memory_rule s.protocol _ _ good.claims good.is_claims).1.1.1 waits);
   legal = g.legal;
   logged = g.logged;
   kept = λ core block is.

@@ -1,5 +1,5 @@
 -- What holds of every row, of the states, and of the table of claims, found by trying all.
-use Rattle.snoop_model.proofs.Common.{[], all_events, all_events-at, all_memories, all_payloads, all_payloads-at, all_protocols, all_requests, all_requests-at, all_states, all_states-at, and-false, and-true, arith, as_access, asked, awaited_request, Bool, CacheAction, CacheCell, CacheEvent, CacheState, carries_value, Cell, cell_of, claims_of, Drop, Evict, false, FillLoad, FillStore, fits, GetM, GetS, Hit, I, if◌then◌else◌, in_protocol, is_clean, is_load, is_owner, is_put_m, is_sharer, is_some, IsProper, Issue, keeps, kept_on, Line, List, missed_request, moves_to, None, not, Op, Option, option_map_or, other, own, Protocol, PutM, refl, Request, request_for, requests, same, seen_by, Some, Stall, states, Talk, true, wait_fits, waiting_request, ℕ, ◌&&◌, ◌==◌, ◌||◌, ◌≡◌}
+use Rattle.snoop_model.proofs.Common.{[], all_events, all_events-at, all_memories, all_payloads, all_payloads-at, all_protocols, all_requests, all_requests-at, all_states, all_states-at, and-false, and-true, arith, as_access, asked, awaited_request, Bool, CacheAction, CacheCell, CacheEvent, CacheState, carries_value, Cell, cell_of, claims_of, Drop, Evict, false, FillLoad, FillStore, fits, GetM, GetS, Hit, I, if◌then◌else◌, in_protocol, is_clean, is_load, is_owner, is_put_m, is_sharer, is_some, IsProper, Issue, keeps, kept_on, Line, List, missed_request, moves_to, None, not, Op, Option, option_map_or, other, own, Protocol, PutM, refl, Request, request_for, requests, same, seen_by, Some, Stall, states, takes_payload, Talk, true, wait_fits, waiting_request, ℕ, ◌&&◌, ◌==◌, ◌||◌, ◌≡◌}
 use Rattle.snoop_model.proofs.Tables.Tested.{alike, each_bool, each_fitting, each_memory, each_of, each_open, each_option, each_protocol, equal, fails, found, given, holds, provided, Tested, unless, ◌also◌}
 use Rattle.snoop_rules.specs.declared.names.CacheEvent.TheVariants as event
 use Rattle.snoop_model.specs.Pictures.OneWriter.{lets_load, lets_store}
@@ -105,9 +105,6 @@ IsProper-issue p old word asking q n proper row =
 pub hit_keeps : (p : Protocol) (s : CacheState) (e : CacheEvent) (n : CacheState) → Cell p s e Hit n → (keeps s ≡ true) × (is_some (missed_at e) ≡ true)
 hit_keeps p s e n row = (action_rule p s e Hit n row).1.1.1
 
-pub drop-waits : (p : Protocol) (s : CacheState) (e : CacheEvent) (n : CacheState) → Cell p s e Drop n → waiting_request n ≡ waiting_request s
-drop-waits p s e n row = (action_rule p s e Drop n row).1.1.0
-
 pub IsProper-hit : (p : Protocol) (old : Line) (e : CacheEvent) (n : CacheState) (after : List ℕ) → IsProper old → Cell p old.state e Hit n
     → IsProper (record { state = n; kept = Some after; waiting = old.waiting })
 IsProper-hit p old e n after proper row = grind (arith, proper, action_rule p old.state e Hit n row)
@@ -149,12 +146,13 @@ pub claims_rule : every_claims.claim
 unfolding all_protocols all_memories all_states all_requests all_payloads claims_of fits is_owner is_sharer is_clean wait_fits in_protocol same
 claims_rule = every_claims.sound refl
 
--- where memory's state lets no core store, none owns the block; where it lets none load, none keeps words of it either; and where it lets one store and nothing is open, one owns it
+-- where memory's state lets no core store, none owns the block; where it lets none load, none keeps words of it either; where it lets one store and nothing is open, one owns it; and where it waits for a message something is open
 abbrev every_memory : Tested
 every_memory = each_protocol λ p. each_memory λ m. each_talk λ t. given (claims_of p m t) λ st.
     unless (lets_store m) (λ _. fails st.owned)
     also unless (lets_load m) (λ _. fails st.owned also each_open p st.shared t (λ s owns. unless owns (λ _. fails (keeps s))))
     also provided (lets_store m) (λ _. unless (is_some t) (λ _. holds st.owned))
+    also provided (takes_payload GetS m) (λ _. holds (is_some t))
 
 pub memory_rule : every_memory.claim
 unfolding all_protocols all_memories all_states all_requests all_payloads claims_of fits is_owner is_sharer is_clean wait_fits in_protocol same

@@ -5,7 +5,7 @@ use Rattle.snoop_trace.specs.declared.protocol.Protocol.{Protocol}
 use Rattle.snoop_rules.specs.{Possible.{MayLoad, MayStore}, declared.names.MemState.{MemState, TheVariants.{M, MD, I, ID, EorM, EorMD}}}
 use Rattle.snoop_model.specs.Pictures.Picture.{Picture, held_by}
 
--- beside a core that may write, no other may read or write
+-- where a core may write, no other may read or write
 abbrev pub OneWriter : Protocol → Picture → Type 0
 OneWriter protocol picture =
     (core other : ℕ) → MayStore protocol (held_by picture core).state → other ≢ core → (¬ MayLoad protocol (held_by picture other).state) × (¬ MayStore protocol (held_by picture other).state)
