@@ -29,7 +29,7 @@ pub record IsFirstOutside (cores : ℕ) (seats : List Seating) (core : ℕ) : Ty
   pub there : (d : Seating) → (slice_index_or seats place d).core ≡ core
   pub first : (before : ℕ) (d : Seating) → before < place → (slice_index_or seats before d).core < cores
 
--- the least core with no seat or with several; or, where there is none such, the first strange one
+-- the least core with no seat or with several; or, if each core has one, the first core outside the shape that has a seat
 abbrev pub IsNotAllSeats : ℕ → List Seating → ℕ → Type 0
 IsNotAllSeats cores seats core = IsLeastNotSeated cores seats core ⊎ (IsFirstOutside cores seats core × ((each : ℕ) → each < cores → seats_of seats each ≡ 1))
 

@@ -6,11 +6,11 @@ use Rattle.snoop_model.specs.Pictures.Situation.{Situation, reset, state_of}
 use Rattle.snoop_engine.specs.Frames.{Frame, OfAnySteps}
 use Rattle.snoop_draw.specs.{declared.marks.Mark.TheVariants.{Blank, MayWrite}, Events.may, Panels.asks_somewhere, Rows.held_in}
 
--- beside a core that is marked as one that may write, no other has a mark
+-- where a core is marked as one that may write, no other has a mark
 abbrev pub HasOneEdge : Situation → Type 0
 HasOneEdge s = (block core other : ℕ) → may s.protocol (held_in s block core) ≡ MayWrite → other ≢ core → may s.protocol (held_in s block other) ≡ Blank
 
--- in the run of any steps, at reset and after each step, which is what rows show: beside a core that is marked as one that may write, no other has a mark
+-- in the run of any steps, at reset and after each step, which is what rows show: where a core is marked as one that may write, no other has a mark
 abbrev pub RowsHaveOneEdge : Type 0
 RowsHaveOneEdge = OfAnySteps (λ protocol shape steps frames final. HasOneEdge (reset protocol shape) × All (λ frame. HasOneEdge frame.after) frames)
 

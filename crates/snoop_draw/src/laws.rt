@@ -4,7 +4,7 @@ ghost use Rattle.snoop_draw.specs.Laws.{RowsHaveOneEdge, UnaskedHoldNothing};
 
 use snoop_machine::laws::the_run_is_coherent;
 
-/// In each row of a panel at most one core may write, and beside one that may no other may read.
+/// In each row of a panel at most one core may write, and where one may, no other may read.
 pub fn one_edge()
     ensures { RowsHaveOneEdge }
 {

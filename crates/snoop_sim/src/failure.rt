@@ -107,7 +107,7 @@ impl From<AllocError> for Failure {
 }
 
 impl Failure {
-    /// Why the words of the process could not be had: out of memory, or one is not UTF-8.
+    /// Why the words of the process could not be read: out of memory, or one is not UTF-8.
     pub(crate) fn of_words(cause: io::Error) -> Self
         ensures memory { error_kind cause ≡ io_kind.OutOfMemory → result ≡ Failure.Simulation SimFault.NoMemory }
         ensures other { error_kind cause ≢ io_kind.OutOfMemory → result ≡ Failure.NotUtf8 }

@@ -176,7 +176,7 @@ it, the bus and memory, and the step's line. A dot stands for the cell above.
 with its values after it, and the request's place in the queue, from 1. Refused options:"
     serial
     choice
-    faults "L, S, E, O or R" "L and E take 2 numbers, S 3, O and R 1"
+    faults "L, S, E, of steps O or R," "L and E take 2 numbers, S 3, O and R 1"
     heading
     more
 );
@@ -203,7 +203,7 @@ cores together. A stall counts too; a core in I at another core's request is lef
   BadBy      neither --by nor --every, or both
   BadTop     --top comes without --by block
   BadEvery   --every is 0"
-    faults "L, S, E, O or R" "L and E take 2 numbers, S 3, O and R 1"
+    faults "L, S, E, of steps O or R," "L and E take 2 numbers, S 3, O and R 1"
     heading
     more
 );
@@ -241,7 +241,7 @@ end names the marks. A panel for each block makes a line long: --block N draws o
 (docs/DRAWING.md). They have --theme, and --shown N, which keeps the size and leaves
 out the steps behind the N-th. --ascii is for text alone.
 
-A text is refused as by `snoop steps`. Refused options:"
+A text is refused as by `snoop steps`, with --of rows as by `snoop run`. Refused options:"
     serial
     "
   BadChoice  --theme or --shown comes with --as text, or --ascii with another form"

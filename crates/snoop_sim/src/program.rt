@@ -76,7 +76,7 @@ pub fn command<T: Threads + Wait + Sync, R: Source, W: Sink, E: Write>(
     }
 }
 
-/// Reports to `errors` in one line why the words of the process could not be had, and returns the status that the program
+/// Reports to `errors` in one line why the words of the process could not be read, and returns the status that the program
 /// ends with: 3 for out of memory, and 2 for a word that is not UTF-8.
 pub fn refuse_words<E: Write>(cause: io::Error, errors: &mut E) -> u8
     ensures memory { error_kind cause ≡ ErrorKind.OutOfMemory → result ≡ 3 }

@@ -6,11 +6,11 @@ use Rattle.snoop_engine.specs.Frames.OfAnySteps
 use Rattle.snoop_draw.specs.Rows.{held_in}
 use Rattle.snoop_svg.specs.{declared.bands.Band.TheVariants.Bare, Bands.{HasEdge, core_band}, Cells.{class_of_words, is_new}, Looks.Look}
 
--- beside a core whose band has an edge, no other has a band
+-- where a core's band has an edge, no other core has a band
 abbrev pub HasOneEdge : Situation → Type 0
 HasOneEdge s = (block core other : ℕ) → HasEdge (core_band s.protocol (held_in s block core)) → other ≢ core → core_band s.protocol (held_in s block other) ≡ Bare
 
--- in the run of any steps, at reset and after each step, which is what rows show: beside a core whose band has an edge, no other has a band
+-- in the run of any steps, at reset and after each step, which is what rows show: where a core's band has an edge, no other core has a band
 abbrev pub RowsHaveOneEdge : Type 0
 RowsHaveOneEdge = OfAnySteps (λ protocol shape steps frames final. HasOneEdge (reset protocol shape) × All (λ frame. HasOneEdge frame.after) frames)
 

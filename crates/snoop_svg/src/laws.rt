@@ -4,7 +4,7 @@ ghost use Rattle.snoop_svg.specs.Laws.{NewWordsAreBold, RowsHaveOneEdge};
 
 use snoop_draw::laws;
 
-/// In each row of a panel at most one core's band has an edge, and beside it no other core has a band.
+/// In each row of a panel at most one core's band has an edge, and where one has, no other core has a band.
 pub fn one_edge()
     ensures { RowsHaveOneEdge }
 {
