@@ -80,7 +80,7 @@ state of the block says what the caches may have:
 | I (MESI) | none may do either | `readers`, `writers` |
 | S (MESI), IorS (MSI) | none may write it, any number may read it | `writers` |
 | EorM (MESI), M (MSI) | if no transaction of it is open, one core may write it, and no other may read it | `owned`, `one_writer` |
-| I_D; S_D, IorS_D; EorM_D, M_D | as without the D, while memory waits for a message; in the last two perhaps no core may write it any more | the same |
+| I_D; S_D, IorS_D; EorM_D, M_D | as without the D, while memory waits for a message, so a transaction is open; in the last two perhaps no core may write it any more | the same, `at_rest` |
 
 While a transaction is open in EorM or M, the data is under way to the next writer. Then no core may
 write the block, which no clause says, and the requestor may still read its old copy (SM_D).
@@ -254,6 +254,7 @@ language Snoop is written, which has checked all of it.
 | About | Clauses | Why |
 |---|---|---|
 | who may read and write | `one_writer`, `readers`, `writers`, `owned` | below |
+| memory's state | `at_rest` | an Order leads memory to a state in which it waits, and the Respond out of it |
 | values | `kept`, `current`, `carried`, `memory`, `clean` | below |
 | the history | `legal`, `logged` | each load that is performed gets its word of flat memory; an Ask outside the shape is refused |
 | operations | `once`, `told` | what each move adds to the history and takes from a line |
