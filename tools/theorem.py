@@ -59,50 +59,53 @@ HEAD = r"""# The theorem
 {doc}
 
 The history is in the order in which operations are performed. For a core that does not wait for its
-stores, that is not the order of its program: it may load the old value of a word to which its own
-store still waits. Some definitions of coherence require a core's operations on one word to keep the
-order of its program; here that holds for cores that wait.
+operations, that need not be the order of its program: a hit is performed before an earlier miss of
+the same core that still waits, and it may load the old value of a word to which its own store
+waits. Some definitions of coherence require a core's operations on one word to keep the order of
+its program; here that holds for cores that wait.
 
 This page begins with the machine in words and an example run. It then explains the notation, gives
 the theorem, says in outline why it holds and what it leaves out, and ends with every type and
-definition that the theorem uses. The machine is a model; "the code" is that of Snoop, a simulator
-of it.
+definition that the theorem uses. A **clause** is one of the facts that the theorem has, by name.
+The machine is a model; "the code" is that of Snoop, a simulator of it.
 
 ## The machine
 
 MSI and MESI are protocols for caches that share one bus with memory. A cache has a state for each
 block: M, in which its core may read and write the block, S, in which it may read it, or I, in which
 it has nothing. MESI also has E, which is like M but clean: memory has the same words. Memory's
-state of the block says what the caches may have:
+state of the block says what the caches may have. IorS stands for I or S, EorM for E or M; in a
+state that ends in D memory waits for a message. While a request for the block is being answered, it
+has an open **transaction** (below):
 
 | Memory's state | Which cores may read or write the block | Clauses |
 |---|---|---|
 | I (MESI) | none may do either | `readers`, `writers` |
 | S (MESI), IorS (MSI) | none may write it, any number may read it | `writers` |
 | EorM (MESI), M (MSI) | if no transaction of it is open, one core may write it, and no other may read it | `owned`, `one_writer` |
-| I_D; S_D, IorS_D; EorM_D, M_D | as without the D, while memory waits for a message, so a transaction is open; in the last two perhaps no core may write it any more | the same, `at_rest` |
+| I_D; S_D, IorS_D; EorM_D, M_D | the same as without the D, but a transaction is open and memory waits for its message; in EorM_D and M_D the owner may have given the block up already | the same, `at_rest` |
 
 While a transaction is open in EorM or M, the data is under way to the next writer. Then no core may
-write the block, which no clause says, and the requestor may still read its old copy (SM_D).
-docs/PROTOCOL.md lists which of a cache's states may read and write.
+write the block, which no clause says, and the core that asked for it may still read its old copy.
 
 Each cache has a controller, and so has memory. A controller has a table with a **row** for each
 event that it may meet in a state. A pair of state and event without a row is an **impossible
-cell**. The tables are those of *A Primer on Memory Consistency and Cache Coherence* (second
-edition, chapter 7), except E's eviction and memory's states under MESI, which are this project's;
-docs/PROTOCOL.md has all rows.
+cell**, except that of I and an eviction: nothing is asked of the table there. The tables are those
+of *A Primer on Memory Consistency and Cache Coherence* (second edition, chapter 7), except E's
+eviction and memory's states under MESI, which are this project's.
 
 A machine begins at **reset**, with empty caches and a memory of 0, and takes **steps** of three
 kinds.
 
-- **Ask**: a core asks its cache to load, to store, or to give a block up. A load or store **hits**
-  if the table's row for it is a hit. A core in a state with such a row for a load may load the
-  block, and is a **reader**; one in a state with such a row for a store may store in it, and is a
-  **writer**. Otherwise the operation is stalled, which is a refusal, or it misses: the cache issues
-  a request, which waits in the core's queue, and the operation waits until its data comes. Giving
-  up a block in E or M takes a request too, a writeback. A block in S is dropped, which is answered
-  Gone; in I there is nothing to give up, which is answered Absent, by no row. In the states
-  between, an eviction is stalled.
+- **Ask**: a core asks its cache to load, to store, or to give a block up (an eviction). A load or
+  store **hits** if the table's row for it is a hit. A core in a state with such a row for a load
+  may load the block, and is a **reader**; one in a state with such a row for a store may store in
+  it, and is a **writer**. By the tables these are S, SM_AD, SM_D, E, M, EI_A and MI_A for loads,
+  and E, M, EI_A and MI_A for stores. Otherwise the operation is stalled, which is a refusal, or it
+  misses: the cache issues a request, which waits in the core's queue, and the operation waits until
+  its data comes. Giving up a block in E or M takes a request too, a writeback. A block in S is
+  dropped, which is answered Gone; in I there is nothing to give up, which is answered Absent, by no
+  row. In the states between, an eviction is stalled.
 - **Order**: a waiting request goes on the bus. All controllers see it, one of them sends a message,
   and the block now has an open **transaction**, whose **requestor** is the core of the request. A
   block with no open transaction is free.
@@ -112,7 +115,8 @@ kinds.
   its state ends in D.
 
 A step is taken, which is a **move**, with a reply, or it is refused for a cause. A refused step
-changes nothing. The reply or the cause is the step's **outcome**.
+changes nothing. The reply or the cause is the step's **outcome**. "Taken next" means from this
+situation.
 
 | Word | Is |
 |---|---|
@@ -121,7 +125,7 @@ changes nothing. The reply or the cause is the step's **outcome**.
 | DataE | the same words, sent for a GetS by memory in I, when no core has the block (memory in S sends Data, even if all copies were dropped) |
 | NoData | nothing, since the writeback is stale: the block went to another core before its PutM was ordered |
 | NoDataE | nothing, since the block was clean |
-| IS_AD, IM_D, MI_A and the like | the states between: from I to S, and so on; in AD the core waits for its own request to be ordered and then for data, in D for data, in A for its request to be ordered; in II_A a PutM waits that another's request has overtaken. In the definitions IS_AD is `IsAd` |
+| IS_AD, IM_D, MI_A and the like | the states between: from I to S, and so on; in AD the core waits for its own request to be ordered and then for data, in D for data, in A for its request to be ordered; in II_A a PutM waits that another's request has overtaken. In the definitions IS_AD is `IsAd`, and memory's I_D is `ID`, S_D `SD`, M_D `MD`, IorS_D `IorSD`, EorM_D `EorMD` |
 | a core waits on a block | its request for the block is issued and not yet ordered; a queue has the blocks, and the states say for which request |
 | an operation waits | it missed, and the core keeps it until it is **performed**: until its value is read or written and is in the history. In IS_D, IM_D and SM_D an operation waits, though its core no longer waits on the block |
 | data under way | the words in an open transaction, for Data and DataE |
@@ -138,10 +142,10 @@ What this machine takes as given:
 - **Each step happens at once.** At an Order all caches and memory take their rows for the request
   together; at a Respond the message arrives whole, and at all who take it together.
 - **A block has at most one open transaction**, from its Order to its Respond. Other blocks may have
-  theirs meanwhile. The Primer calls this atomic transactions, and that requests wait before they
-  are ordered non-atomic requests. Requests of different cores, and of one core for different
-  blocks, may be ordered in any order: the code takes a core's oldest request, the model any. A core
-  may have misses on many blocks, but at most one waiting operation on each.
+  theirs meanwhile. The Primer calls this *atomic transactions*. It calls it *non-atomic requests*
+  that a request may wait between its issue and its order. Requests of different cores, and of one
+  core for different blocks, may be ordered in any order: the code takes a core's oldest request,
+  the model any. A core may have misses on many blocks, but at most one waiting operation on each.
 - **The history is in the order of performance**, at a hit or when the data comes, and not in the
   order of asking. A core that does not wait for its store may load the old value: while its store
   to a block in S waits, its loads of the block hit as long as the copy lasts (SM_AD, SM_D), and
@@ -154,12 +158,12 @@ What this machine takes as given:
 
 ## One run
 
-Two cores under MSI, and blocks of 64 bytes and one word, the defaults of `snoop`: core 0 stores 7
-in block 0, then core 1 loads it. An Ask to store is written `S,core,address,value`, one to load
-`L,core,address`, an Order `O,core`, a Respond `R,address`. An address is in bytes, so addresses 0
-to 63 are in block 0. Each line shows block 0 after a step: the state and the value in each core,
-the transaction, memory. A dot means the same as above; `#1` is the place of the request in its
-core's queue, `C0` is core 0, and memory's value is in brackets if memory would not send it.
+Two cores under MSI, and blocks of 64 bytes and one word, as `snoop` has them without options: core
+0 stores 7 in block 0, then core 1 loads it. An Ask to store is written `S,core,address,value`, one
+to load `L,core,address`, an Order `O,core`, a Respond `R,address`. An address is in bytes, so
+addresses 0 to 63 are in block 0. Each line shows block 0 after a step: the state and the value in
+each core, the transaction, memory. A dot means the same as above; `#1` is the place of the request
+in its core's queue, `C0` is core 0, and memory's value is in brackets if memory would not send it.
 
 ```console
 $ printf 'S,0,0,7\nO,0\nR,0\nL,1,0\nO,1\nR,0\n' | ./snoop states
@@ -203,7 +207,8 @@ caches and of memory; `Load`, `Store` and `Evict` are operations and events; `Ge
 `PutM` are requests and events; `None` is no value, no action, and as a sender memory; `Did`,
 `Sent`, `Came`, `Hit` and `Send` are several kinds of thing; `Requestor` and `Memory` are senders
 and targets; `taken` and `other` are functions, and names of something else; clauses of the theorem
-and fields of other records may have the same name; a line is a cache's, memory's or a table's.
+and fields of other records may have the same name; a line is a cache's, memory's, a table's or one
+of output.
 Names that differ in a capital or an ending are different things: `hits` is a clause, `Hits` a fact,
 `Hit` an action and a reply; `orders` is a clause, `Orders` a fact, `Order` a step.
 
@@ -213,10 +218,13 @@ Names that differ in a capital or an ending are different things: `hits` is a cl
 | `A × B`, `A → B`, `¬ A`, `⊥` | between facts: A and B; if A then B; not A; what never holds. Between types: their pairs; the functions from A to B |
 | `(x : T) × P`, `(x : T) → P` | there is an x with P; P for every x. `(x y : T)` has two of one type, and before one arrow there may be several such |
 | `(made : Orders ..) → ..` | the fact has the name `made`, and `made.from` is the `from` that it says exists |
-| `record R .. where`, `data D .. where` | a fact that holds if all its fields do (a field that is no fact, such as `done` of `IsSenderLine`, is a value that has to exist), or a type by its fields; a type by its members |
+| `record R .. where` | with fields that are facts: a fact, which holds if all its fields do (a field that is no fact, such as `done` of `IsSenderLine`, is a value that has to exist). With fields that are values, as in `Line`: a type |
+| `data D .. where` | a type by its members; one such as `Other : CacheState → Sender` carries a value of the type before the arrow |
 | `record s {{ .. }}`, `record {{ .. }}` | s with these fields; a value with all of them |
 | `op.Load`, `state.ImAd`, `mem.IorS`, `mem_action.None`, `Nothing` | a member of a type, after a short name of the type if need be: `op`, `state`, `event`, `action`, `payload`, `reply` and `item`, and for memory `mem`, `mem_event` and `mem_action` (a member has a capital after the dot, a field has none). What it carries follows it in order, as in `Ask core block word asking`; `Nothing` is a controller's action `None` |
-| `{{A : Type 0}}`, `{{A}}`, `pub`, `abbrev`, `declared.`, `--` | a type that follows from the other arguments; three words that you may skip; a comment |
+| `{{A : Type 0}}`, `{{A}}` | a type that follows from the other arguments |
+| `declared.Open` | the type `Open` under "Types" |
+| `pub`, `abbrev`, `--` | two words that you may skip; a comment |
 {notation}
 
 `∷`, `++`, `×`, `⊎` and `→` associate to the right. `f a` and `¬` bind most strongly, then `∷` and
@@ -243,7 +251,8 @@ The function `coherent` does nothing: what it ensures is the theorem. The theore
 list of steps put to a machine from reset, in any order, and about every situation to which they may
 lead. The first steps of a run are a run, so it is about each situation on the way too. Another
 function, `the_run_is_coherent`, ensures that a run as the code has it, in which each Order is of a
-core's oldest request and memory is ample, is one of these runs, and so coherent. docs/PROVED.md
+core's oldest request and no step is refused as out of memory, is one of these runs, and so
+coherent. Every list of steps has such a run (`runs_go_on`). docs/PROVED.md
 says of the code (`Machine::step` for one step, `run_steps` for a list) that it takes these steps
 and no others, and says what is trusted: above all the prover of the Rattle toolchain, in whose
 language Snoop is written, which has checked all of it.
@@ -254,15 +263,15 @@ language Snoop is written, which has checked all of it.
 | About | Clauses | Why |
 |---|---|---|
 | who may read and write | `one_writer`, `readers`, `writers`, `owned` | below |
-| memory's state | `at_rest` | an Order leads memory to a state in which it waits, and the Respond out of it |
+| memory's state | `at_rest` | only an Order leads memory to a state in which it waits, and its Respond leads out of it |
 | values | `kept`, `current`, `carried`, `memory`, `clean` | below |
 | the history | `legal`, `logged` | each load that is performed gets its word of flat memory; an Ask outside the shape is refused |
 | operations | `once`, `told` | what each move adds to the history and takes from a line |
-| | `waiting`, `given_up` | a state says what waits in its line, and whether it keeps words |
-| | `stalls`, `hits`, `gone` | the tables' rows, and how a move answers by them |
+| | `waiting`, `given_up` | a state says what waits in its line, and whether it keeps words; which states a requestor may be in |
+| | `stalls`, `hits`, `gone` | the tables' rows, and how a move answers by them, with `awaited`, `waiting` and `kept` |
 | requests and transactions | `queued`, `awaited`, `opened` | an issue puts its block last, an Order takes it out and opens it, a Respond closes it |
-| that no step is stuck | `moves`, `orders` | in the states that can exist together each controller has the row that it needs |
-| the table of senders | `by_table`, `on_table` | the same; and while a transaction is open nothing moves its memory. The picture before its Order is past, so `on_table` speaks of some picture |
+| that no step is stuck | `moves`, `orders` | in the states that can occur together each controller has the row that it needs |
+| the table of senders | `by_table`, `on_table` | as above; and memory's state of the block stays while its transaction is open. A situation does not record the picture before the Order, so `on_table` only says that some picture fits |
 | sizes, protocol and shape | `shaped`, `stays` | no move changes them |
 
 ## Why it holds
@@ -270,11 +279,12 @@ language Snoop is written, which has checked all of it.
 By induction over the steps, with a stronger statement about each block. Memory's state and the open
 transaction decide three things: whether a core **owns** the block, that is, may write it; whether
 other cores may have copies to read; and whether memory is sure to have the words of flat memory.
-docs/COHERENCE.md has this as a table of twelve lines. The statement has three parts. Each core's
-state, by itself, agrees with that table, with whether the core is the owner, and with whether it is
-the requestor. Each copy that may be read, and data under way, has the words of flat memory. So has
-memory if the table says so, or if some copy is clean. Only the owner's number connects the cores.
-The clauses about reading and writing follow from the first part and the table.
+docs/COHERENCE.md has this as a table of twelve lines. The statement has three parts: (1) each
+core's state, by itself, agrees with that table, given whether the core is the owner and whether it
+is the requestor; (2) each copy that may be read, and data under way, has the words of flat memory;
+(3) so has memory if the table says so, or if some copy is clean. Beside the open transaction only
+the owner's number connects the cores. The clauses about reading and writing follow from the first
+part and the table.
 
 So whether a step keeps the statement is a question about the tables: about the protocol, memory's
 state, the request, the payload, the state of the core that asks or whose request it is, and that of
@@ -293,20 +303,24 @@ argument step by step.
   or answered: an operation that is not lost may wait for ever.
 - **Sequential consistency** is no clause, but follows by hand if each core asks for nothing while
   an operation of its own waits: then the history has each core's operations in program order
-  (`told`, `once`), and is legal. Both are proved of runs for inputs of only loads, stores and
-  evictions, for which the code finds the bus steps (docs/PROVED.md, "Served"). If cores do not
-  wait, hits keep their order of asking and come before each earlier miss that still waits; two
-  misses may be performed in either order.
-- **Real time** is no clause, but follows by hand too: an operation is performed between its Ask and
-  its answer, a hit at its Ask, a miss at the Respond whose reply has it (`told`, `once`). So if
-  each core waits, the history is a linearization.
-- **That a step has only one outcome**, apart from the block of an Order and out of memory, is no
-  clause; of a run as the code has it `laws::runs_are_one` says so (docs/PROVED.md).
+  (`told`, `once`), which is the order of its Asks that were taken, and is legal. Program order and
+  legality are proved of the runs that the code makes when its input has only loads, stores and
+  evictions and it chooses the bus steps itself (docs/PROVED.md, "Served"). If cores do not wait,
+  hits keep their order of asking and come before each earlier miss that still waits; two misses may
+  be performed in either order.
+- **Real time** is no clause, but follows by hand too: a hit is performed at its Ask, a miss at the
+  Respond whose reply has it, so each between its Ask and the reply that has its value (`told`,
+  `once`). So if each core waits, the history is a linearization: an order that agrees with that of
+  operations which do not overlap in time.
+- **That a step has only one outcome**, apart from out of memory and from Orders (of which block, or
+  `BusTaken`), is no clause; of a run as the code has it `laws::runs_are_one` says so
+  (docs/PROVED.md).
 - **A load or store of an existing word, in a state whose row for it is a hit, does hit**, apart
-  from out of memory: each step for which no cause of `Refuses` holds has a move (`moves`), and that
-  is a hit (`hits`, which follows from the moves alone). If a cause holds, the step is refused; but
-  an Order of a core whose first block has an open transaction may be taken instead, of another free
-  block on which the core waits.
+  from out of memory: no cause of `Refuses` holds of it, so by `Goes` it is taken, and by `hits`,
+  which follows from the moves alone, that is a hit. If a cause holds, the step is refused; but an
+  Order of a core whose first block has an open transaction may be taken instead, of another block,
+  which is free and on which the core waits. Any step may also be refused as out of memory, whatever
+  other cause holds.
 - `given_up` is about words only: a core whose PutM is open may have asked for the block again.
 
 The definitions say more about each step of a run, which no clause repeats:
@@ -320,13 +334,13 @@ The definitions say more about each step of a run, which no clause repeats:
 - whether a response performs an operation, and that the requestor and request that the history has
   for it are those of the open transaction. `told` says that the history has what was replied, that
   a response is of the block of its Respond, and that its operation, if it has one, is on that
-  block, by the requestor that the history has, and not marked as a hit. Which of that core's
-  operations it is, and a load's value, follow from `legal` and from `once`, of this run and of each
-  of its beginnings;
-- who takes a message (`on_table` says memory's state then). For a controller that does not take it,
-  it is no event, and so no impossible cell. Only the next state and a Send are used of a row that
-  is taken at an Order, and only the next state and a Write of memory's row at a Respond; the target
-  that a row names is not looked at.
+  block, by the requestor that the history has, and not marked as a hit. `told` does not say which
+  of that core's operations it is, nor a load's value: the first follows from `once`, before the
+  step and after it, the second from `legal`;
+- who takes a message (`on_table` says memory's state then); a controller that does not take it
+  needs no row for it. Only the next state and a Send are used of a row that is taken at an Order,
+  and only the next state and a Write of memory's row at a Respond; the target that a row names is
+  not looked at.
 
 And no clause says that something is ever reached: a state, such as E, or a line of the table of
 senders.
@@ -339,9 +353,9 @@ is a block's `Data`; in the definitions all numbers are ℕ. The comments are ab
 a machine is the code's, a text is what Snoop reads (docs/TEXTS.md), and a row is a load, a store or
 an eviction in a text. A holder of a block is a core that has words of it.
 
-Each later part begins with what its file is about, and names the file; of a file's definitions the
-page has only those that the theorem uses. `lines_of` is only a list: that runs follow it is what
-`by_table` and `on_table` say.
+Each later part begins with what its file is about, and names the file. A file may have more: of its
+definitions the page has only those that the theorem uses. `lines_of` is only a list: that runs
+follow it is what `by_table` and `on_table` say.
 
 ```rust
 {types}
