@@ -2,7 +2,7 @@
 -- Source: "A Primer on Memory Consistency and Cache Coherence", 2nd edition: the single-writer-multiple-reader invariant.
 use Rattle.std.specs.Prelude.{◌≡◌, ◌≢◌, ◌↔◌, ℕ, List, All, codes, Some}
 use Rattle.snoop_model.specs.Pictures.Situation.{Situation, reset}
-use Rattle.snoop_engine.specs.Frames.OfAnySteps
+use Rattle.snoop_engine.specs.Frames.{OfAnySteps}
 use Rattle.snoop_draw.specs.Rows.{held_in}
 use Rattle.snoop_svg.specs.{declared.bands.Band.TheVariants.Bare, Bands.{HasEdge, core_band}, Cells.{class_of_words, is_new}, Looks.Look}
 
