@@ -58,11 +58,12 @@ HEAD = r"""# The theorem
 
 {doc}
 
-The history is in the order in which operations are performed. For a core that does not wait for its
-operations, that need not be the order of its program: a hit is performed before an earlier miss of
-the same core that still waits, and it may load the old value of a word to which its own store
-waits. Some definitions of coherence require a core's operations on one word to keep the order of
-its program; here that holds for cores that wait.
+The **history** has the loads and stores in the order in which they are performed. A core **waits
+for its operations** if it asks for nothing while one of its own is under way. For a core that does
+not, the history need not have the order of its program: a hit is performed before an earlier miss
+of the same core, and it may load the old value of a word to which its own store is under way. Some
+definitions of coherence require a core's operations on one word to keep the order of its program;
+here that holds for cores that wait for their operations, and is not a clause: it follows by hand.
 
 This page begins with the machine in words and an example run. It then explains the notation, gives
 the theorem, says in outline why it holds and what it leaves out, and ends with every type and
@@ -76,14 +77,15 @@ block: M, in which its core may read and write the block, S, in which it may rea
 it has nothing. MESI also has E, which is like M but clean: memory has the same words. Memory's
 state of the block says what the caches may have. IorS stands for I or S, EorM for E or M; in a
 state that ends in D memory waits for a message. While a request for the block is being answered, it
-has an open **transaction** (below):
+has an open **transaction** (below). A core that may write the block **owns** it.
 
 | Memory's state | Which cores may read or write the block | Clauses |
 |---|---|---|
 | I (MESI) | none may do either | `readers`, `writers` |
 | S (MESI), IorS (MSI) | none may write it, any number may read it | `writers` |
 | EorM (MESI), M (MSI) | if no transaction of it is open, one core may write it, and no other may read it | `owned`, `one_writer` |
-| I_D; S_D, IorS_D; EorM_D, M_D | the same as without the D, but a transaction is open and memory waits for its message; in EorM_D and M_D the owner may have given the block up already | the same, `at_rest` |
+| I_D; S_D, IorS_D | the same as in I; in S and IorS; but a transaction is open and memory waits for its message | the same, `at_rest` |
+| EorM_D, M_D | a PutM is open and memory waits for its message. If the PutM is stale, one core may write the block, and no other may read it; if it is the owner's, the owner has given the block up, and none may do either (the second no clause says) | `one_writer`, `at_rest` |
 
 While a transaction is open in EorM or M, the data is under way to the next writer. Then no core may
 write the block, which no clause says, and the core that asked for it may still read its old copy.
@@ -125,7 +127,7 @@ situation.
 | DataE | the same words, sent for a GetS by memory in I, when no core has the block (memory in S sends Data, even if all copies were dropped) |
 | NoData | nothing, since the writeback is stale: the block went to another core before its PutM was ordered |
 | NoDataE | nothing, since the block was clean |
-| IS_AD, IM_D, MI_A and the like | the states between: from I to S, and so on; in AD the core waits for its own request to be ordered and then for data, in D for data, in A for its request to be ordered; in II_A a PutM waits that another's request has overtaken. In the definitions IS_AD is `IsAd`, and memory's I_D is `ID`, S_D `SD`, M_D `MD`, IorS_D `IorSD`, EorM_D `EorMD` |
+| IS_AD, IM_D, MI_A and the like | the **states between**: from I to S, and so on; in AD the core waits for its own request to be ordered and then for data, in D for data, in A for its request to be ordered; in II_A a PutM waits that another's request has overtaken. In the definitions IS_AD is `IsAd`, and memory's I_D is `ID`, S_D `SD`, M_D `MD`, IorS_D `IorSD`, EorM_D `EorMD` |
 | a core waits on a block | its request for the block is issued and not yet ordered; a queue has the blocks, and the states say for which request |
 | an operation waits | it missed, and the core keeps it until it is **performed**: until its value is read or written and is in the history. In IS_D, IM_D and SM_D an operation waits, though its core no longer waits on the block |
 | data under way | the words in an open transaction, for Data and DataE |
@@ -204,13 +206,15 @@ bytes a block has is part of a shape, but no definition looks at it.
 Some names mean several things, told apart by context: `Data` is the words of a block, a payload and
 an event, and `DataE`, `NoData` and `NoDataE` are the last two; `I`, `S` and `M` are states of
 caches and of memory; `Load`, `Store` and `Evict` are operations and events; `GetS`, `GetM` and
-`PutM` are requests and events; `None` is no value, no action, and as a sender memory; `Did`,
-`Sent`, `Came`, `Hit` and `Send` are several kinds of thing; `Requestor` and `Memory` are senders
-and targets; `taken` and `other` are functions, and names of something else; clauses of the theorem
-and fields of other records may have the same name; a line is a cache's, memory's, a table's or one
-of output.
-Names that differ in a capital or an ending are different things: `hits` is a clause, `Hits` a fact,
-`Hit` an action and a reply; `orders` is a clause, `Orders` a fact, `Order` a step.
+`PutM` are requests and events; an operation is a load, a store or an eviction, but in the history
+only the first two; a value is that of a word, or the words of a block; a row is a controller's, but
+in comments of Rust also a load, store or eviction in a text; `None` is no value, no action, and as
+a sender memory; `Did`, `Sent`, `Came`, `Hit` and `Send` are several kinds of thing; `Requestor` and
+`Memory` are senders and targets; `taken` and `other` are functions, and names of something else;
+clauses of the theorem and fields of other records may have the same name; a line is a cache's,
+memory's, a table's or one of output. Names that differ in a capital or an ending are different
+things: `hits` is a clause, `Hits` a fact, `Hit` an action and a reply; `orders` is a clause,
+`Orders` a fact, `Order` a step.
 
 | Written | Means |
 |---|---|
@@ -252,10 +256,12 @@ list of steps put to a machine from reset, in any order, and about every situati
 lead. The first steps of a run are a run, so it is about each situation on the way too. Another
 function, `the_run_is_coherent`, ensures that a run as the code has it, in which each Order is of a
 core's oldest request and no step is refused as out of memory, is one of these runs, and so
-coherent. Every list of steps has such a run (`runs_go_on`). docs/PROVED.md
-says of the code (`Machine::step` for one step, `run_steps` for a list) that it takes these steps
-and no others, and says what is trusted: above all the prover of the Rattle toolchain, in whose
-language Snoop is written, which has checked all of it.
+coherent. Every list of steps has such a run (`runs_go_on`). That the code does as the model says is
+not on this page: docs/PROVED.md has it, with the clauses of the functions named here. By them each
+step that the code takes or refuses is one of these (`Machine::step` for one step, `run_steps` for a
+list); of Orders it takes only those of a core's oldest request. PROVED also says what is trusted:
+above all the prover of the Rattle toolchain, in whose language Snoop is written, which has checked
+all of it.
 
 `Orders`, which `orders` and `by_table` mention, is a move without the bounds on core and block
 (`IsWithin`). It needs none: outside the shape no request waits.
@@ -268,7 +274,8 @@ language Snoop is written, which has checked all of it.
 | the history | `legal`, `logged` | each load that is performed gets its word of flat memory; an Ask outside the shape is refused |
 | operations | `once`, `told` | what each move adds to the history and takes from a line |
 | | `waiting`, `given_up` | a state says what waits in its line, and whether it keeps words; which states a requestor may be in |
-| | `stalls`, `hits`, `gone` | the tables' rows, and how a move answers by them, with `awaited`, `waiting` and `kept` |
+| | `stalls`, `gone` | the tables' rows, and how a move answers by them, with `awaited`, `waiting` and `kept` |
+| | `hits` | how a move answers, alone |
 | requests and transactions | `queued`, `awaited`, `opened` | an issue puts its block last, an Order takes it out and opens it, a Respond closes it |
 | that no step is stuck | `moves`, `orders` | in the states that can occur together each controller has the row that it needs |
 | the table of senders | `by_table`, `on_table` | as above; and memory's state of the block stays while its transaction is open. A situation does not record the picture before the Order, so `on_table` only says that some picture fits |
@@ -277,14 +284,13 @@ language Snoop is written, which has checked all of it.
 ## Why it holds
 
 By induction over the steps, with a stronger statement about each block. Memory's state and the open
-transaction decide three things: whether a core **owns** the block, that is, may write it; whether
-other cores may have copies to read; and whether memory is sure to have the words of flat memory.
-docs/COHERENCE.md has this as a table of twelve lines. The statement has three parts: (1) each
-core's state, by itself, agrees with that table, given whether the core is the owner and whether it
-is the requestor; (2) each copy that may be read, and data under way, has the words of flat memory;
-(3) so has memory if the table says so, or if some copy is clean. Beside the open transaction only
-the owner's number connects the cores. The clauses about reading and writing follow from the first
-part and the table.
+transaction decide three things: whether a core owns the block; whether other cores may have copies
+to read; and whether memory is sure to have the words of flat memory. docs/COHERENCE.md has this as
+a table of twelve lines. The statement has three parts: (1) each core's state, by itself, agrees
+with that table, given whether the core is the owner and whether it is the requestor; (2) each copy
+that may be read, and data under way, has the words of flat memory; (3) so has memory if the table
+says so, or if some copy is clean. Beside the open transaction only the owner's number connects the
+cores. The clauses about reading and writing follow from the first part and the table.
 
 So whether a step keeps the statement is a question about the tables: about the protocol, memory's
 state, the request, the payload, the state of the core that asks or whose request it is, and that of
@@ -301,26 +307,26 @@ argument step by step.
   (`orders`). The code orders a core's oldest request first; if a transaction is open on its block,
   that has to be answered before. But nothing is said about time, nor that a request is ever ordered
   or answered: an operation that is not lost may wait for ever.
-- **Sequential consistency** is no clause, but follows by hand if each core asks for nothing while
-  an operation of its own waits: then the history has each core's operations in program order
-  (`told`, `once`), which is the order of its Asks that were taken, and is legal. Program order and
-  legality are proved of the runs that the code makes when its input has only loads, stores and
-  evictions and it chooses the bus steps itself (docs/PROVED.md, "Served"). If cores do not wait,
-  hits keep their order of asking and come before each earlier miss that still waits; two misses may
-  be performed in either order.
+- **Sequential consistency** is no clause, but follows by hand if each core waits for its
+  operations: then the history has each core's operations in program order (`told`, `once`), which
+  is the order of its Asks that were taken, and is legal. Program order and legality are proved of
+  the runs that the code makes when its input has only loads, stores and evictions and it chooses
+  the Orders and Responds itself (docs/PROVED.md, "Served"). If cores do not wait for their
+  operations, hits keep their order of asking and come before each earlier miss that still waits;
+  two misses may be performed in either order.
 - **Real time** is no clause, but follows by hand too: a hit is performed at its Ask, a miss at the
   Respond whose reply has it, so each between its Ask and the reply that has its value (`told`,
-  `once`). So if each core waits, the history is a linearization: an order that agrees with that of
-  operations which do not overlap in time.
+  `once`). So if each core waits for its operations, the history is a linearization: an order that
+  agrees with that of operations which do not overlap in time.
 - **That a step has only one outcome**, apart from out of memory and from Orders (of which block, or
-  `BusTaken`), is no clause; of a run as the code has it `laws::runs_are_one` says so
+  the cause `BusTaken`), is no clause; of a run as the code has it `laws::runs_are_one` says so
   (docs/PROVED.md).
 - **A load or store of an existing word, in a state whose row for it is a hit, does hit**, apart
-  from out of memory: no cause of `Refuses` holds of it, so by `Goes` it is taken, and by `hits`,
-  which follows from the moves alone, that is a hit. If a cause holds, the step is refused; but an
-  Order of a core whose first block has an open transaction may be taken instead, of another block,
-  which is free and on which the core waits. Any step may also be refused as out of memory, whatever
-  other cause holds.
+  from out of memory: no cause of `Refuses` holds of it, so by `Goes` (under "Runs") it is taken,
+  and by `hits`, which follows from the moves alone, that is a hit. If a cause holds, the step is
+  refused; but an Order of a core whose first block has an open transaction may be taken instead, of
+  another block, which is free and on which the core waits. Any step may also be refused as out of
+  memory, whatever other cause holds.
 - `given_up` is about words only: a core whose PutM is open may have asked for the block again.
 
 The definitions say more about each step of a run, which no clause repeats:
@@ -350,12 +356,13 @@ senders.
 These are Rust, as the code declares them: an `enum` by its members and a `struct` by its fields.
 `u32` and `u64` are numbers, `bool` true or false, and `Open<K>` is `Open` of a type K, which here
 is a block's `Data`; in the definitions all numbers are ℕ. The comments are about the code: in them
-a machine is the code's, a text is what Snoop reads (docs/TEXTS.md), and a row is a load, a store or
-an eviction in a text. A holder of a block is a core that has words of it.
+a machine is the code's, a text is what Snoop reads (docs/TEXTS.md), and a row is a controller's, or
+a load, a store or an eviction in a text. A holder of a block is a core that has words of it. Of the
+causes of `Refused`, `NoMemory` may come whatever other cause holds.
 
 Each later part begins with what its file is about, and names the file. A file may have more: of its
-definitions the page has only those that the theorem uses. `lines_of` is only a list: that runs
-follow it is what `by_table` and `on_table` say.
+definitions the page has only those that the theorem uses, and a first line may speak of others.
+`lines_of` is only a list: that runs follow it is what `by_table` and `on_table` say.
 
 ```rust
 {types}
