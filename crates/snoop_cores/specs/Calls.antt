@@ -52,7 +52,7 @@ abbrev pub Fails : SeatFault → Work → Seating → Seating → Type 0
 Fails NoBlock work s t = (¬ IsHere s.shape work) × (t ≡ s)
 Fails (Busy other) work s t = (s.strange ≡ None) × (s.pending ≡ Some other) × (other ≢ work) × (t ≡ s)
 Fails NoMemory work s t = MayBegin work s × AddsNoAnswer s t × (t.pending ≡ Some work) × (t.strange ≡ None) × (t.seen ≡ s.seen)
-Fails (Stranger did) work s t = ((s.strange ≡ Some did) × (t ≡ s)) ⊎ (MayBegin work s × AddsNoAnswer s t × (t.strange ≡ Some did) × IsStranger did work (answers_of t.seen s.core) s.answers)
+Fails (Stranger did) work s t = ((s.strange ≡ Some did) × (t ≡ s)) ⊎ (MayBegin work s × AddsNoAnswer s t × (t.pending ≡ Some work) × (t.strange ≡ Some did) × IsStranger did work (answers_of t.seen s.core) s.answers)
 
 -- the fault that is answered before any turn
 pub record RefusedAtOnce (work : Work) (s : Seating) (answered : SeatFault → Type 0) : Type 0 where

@@ -119,18 +119,18 @@ raises_one whose a seen rows =
     subst (Raises seen found (a ∷ []) rows) same (raises_all seen found (a ∷ []) rows)
 
 -- the count of what the core does to others
-abbrev pub other : Happening → Count
-other (happening.Item entry) = count.Supplied
-other (happening.Line step outcome line why) = count.Invalidates
+abbrev pub done_to_others : Happening → Count
+done_to_others (happening.Item entry) = count.Supplied
+done_to_others (happening.Line step outcome line why) = count.Invalidates
 
 -- the rows after something has happened
 abbrev pub all_raised : Subjects → Happening → List Counters → List Counters
-all_raised whose seen rows = raised_by whose (other seen) seen (own_raised whose seen rows)
+all_raised whose seen rows = raised_by whose (done_to_others seen) seen (own_raised whose seen rows)
 
 -- so each count that counts it has counted it once, for whom it counts it
 abbrev after_tried : Subjects → Happening → ℕ → ℕ → Count → ℕ
 after_tried whose seen s n c =
-    up seen c (is_it (subject_of whose (other seen) seen) s) (fold (up seen c (is_it (subject_of whose count.Lines seen) s)) n (tried seen)) (other seen)
+    up seen c (is_it (subject_of whose (done_to_others seen) seen) s) (fold (up seen c (is_it (subject_of whose count.Lines seen) s)) n (tried seen)) (done_to_others seen)
 
 all_tried : (seen : Happening) (whose : Subjects) (s n : ℕ)
     → map (after_tried whose seen s n) all_counts ≡ map (λ c. counted n (is_counted whose s c seen)) all_counts
@@ -158,7 +158,7 @@ pub counted_more : (whose : Subjects) (many : ℕ) (all : List Happening) (seen 
 counted_more whose many all seen old before =
     let rows : List Counters = old.rows in
     let own = raises_all seen (subject_of old.subjects count.Lines seen) (tried seen) rows in
-    let last = raises_one old.subjects (other seen) seen (own_raised old.subjects seen rows) in
+    let last = raises_one old.subjects (done_to_others seen) seen (own_raised old.subjects seen rows) in
     let same = last.many ∙ own.many in
     let first = λ (s : ℕ) (there : s < length rows). own.each s there (before.counted.long s there) in
     let both = λ (s : ℕ) (there : s < length rows). last.each s (omega (arith, there, own.many)) (first s there).long in
@@ -171,7 +171,7 @@ counted_more whose many all seen old before =
             let there' : s < length rows = omega (arith, same) in
             let n : ℕ = counter_in (row_at rows s) c in
             (both s there').done c
-            ∙ ap (λ (k : ℕ). up seen c (is_it (subject_of old.subjects (other seen) seen) s) k (other seen)) ((first s there').done c)
+            ∙ ap (λ (k : ℕ). up seen c (is_it (subject_of old.subjects (done_to_others seen) seen) s) k (done_to_others seen)) ((first s there').done c)
             ∙ same_at (after_tried old.subjects seen s n) (λ a. counted n (is_counted old.subjects s a seen)) all_counts (number c) c (at_place c) (all_tried seen old.subjects s n)
             ∙ (λ i. counted (before.counted.counted s c there' i) (is_counted (before.subjects i) s c seen))
             ∙ counted_capped (times_counted whose all s c) (is_counted whose s c seen) ∙ ap capped (sym (one_more (is_counted whose s c) all seen));
