@@ -67,8 +67,9 @@ here that holds for cores that wait for their operations, and is not a clause: i
 
 This page begins with the machine in words and an example run. It then explains the notation, gives
 the theorem, says in outline why it holds and what it leaves out, and ends with every type and
-definition that the theorem uses. A **clause** is one of the facts that the theorem has, by name.
-The machine is a model; "the code" is that of Snoop, a simulator of it.
+definition that the theorem uses. A **fact** is a statement, which may hold or not; a **clause** is
+one of the facts that the theorem has, by name. The machine is a model; "the code" is that of Snoop,
+a simulator of it.
 
 ## The machine
 
