@@ -86,7 +86,7 @@ has an open **transaction** (below). A core that may write the block **owns** it
 | S (MESI), IorS (MSI) | none may write it, any number may read it | `writers` |
 | EorM (MESI), M (MSI) | if no transaction of it is open, one core may write it, and no other may read it | `owned`, `one_writer` |
 | I_D; S_D, IorS_D | the same as in I; in S and IorS; but a transaction is open and memory waits for its message | the same, `at_rest` |
-| EorM_D, M_D | a PutM is open and memory waits for its message. If the PutM is stale, one core may write the block, and no other may read it; if it is the owner's, the owner has given the block up, and none may do either (the second no clause says) | `one_writer`, `at_rest` |
+| EorM_D, M_D | a PutM is open and memory waits for its message. If the PutM is stale, one core may write the block, and no other may read it; if it is the owner's, the owner has given the block up, and none may do either. The clauses only say that at most one core may write it, and that no other may read it then | `one_writer`, `at_rest` |
 
 While a transaction is open in EorM or M, the data is under way to the next writer. Then no core may
 write the block, which no clause says, and the core that asked for it may still read its old copy.
