@@ -59,11 +59,12 @@ HEAD = r"""# The theorem
 {doc}
 
 The **history** has the loads and stores in the order in which they are performed. A core **waits
-for its operations** if it asks for nothing while one of its own is under way. For a core that does
-not, the history need not have the order of its program: a hit is performed before an earlier miss
-of the same core, and it may load the old value of a word to which its own store is under way. Some
-definitions of coherence require a core's operations on one word to keep the order of its program;
-here that holds for cores that wait for their operations, and is not a clause: it follows by hand.
+for its operations** if it asks for nothing while a load or store of its own is not performed yet.
+For a core that does not, the history need not have the order of its program: a hit is performed
+before an earlier miss of the same core, and it may load the old value of a word that its own
+earlier store has yet to write. Some definitions of coherence require a core's operations on one
+word to keep the order of its program; here that holds for cores that wait for their operations, and
+is not a clause: it follows by hand.
 
 This page begins with the machine in words and an example run. It then explains the notation, gives
 the theorem, says in outline why it holds and what it leaves out, and ends with every type and
@@ -85,8 +86,9 @@ has an open **transaction** (below). A core that may write the block **owns** it
 | I (MESI) | none may do either | `readers`, `writers` |
 | S (MESI), IorS (MSI) | none may write it, any number may read it | `writers` |
 | EorM (MESI), M (MSI) | if no transaction of it is open, one core may write it, and no other may read it | `owned`, `one_writer` |
-| I_D; S_D, IorS_D | the same as in I; in S and IorS; but a transaction is open and memory waits for its message | the same, `at_rest` |
-| EorM_D, M_D | a PutM is open and memory waits for its message. If the PutM is stale, one core may write the block, and no other may read it; if it is the owner's, the owner has given the block up, and none may do either. The clauses only say that at most one core may write it, and that no other may read it then | `one_writer`, `at_rest` |
+| I_D | as in I, but a transaction is open and memory waits for its message | the same, `at_rest` |
+| S_D, IorS_D | as in S and IorS, but a transaction is open and memory waits for its message | the same, `at_rest` |
+| EorM_D, M_D | memory waits for the message of a writeback (a PutM, below). If that core still owned the block, it has given it up, and no core may read or write it. If the block had gone to another core before, that one may write it, and no other may read it. The clauses only say that at most one core may write it, and that no other may read it then | `one_writer`, `at_rest`, `on_table` |
 
 While a transaction is open in EorM or M, the data is under way to the next writer. Then no core may
 write the block, which no clause says, and the core that asked for it may still read its old copy.
@@ -104,11 +106,11 @@ kinds.
   store **hits** if the table's row for it is a hit. A core in a state with such a row for a load
   may load the block, and is a **reader**; one in a state with such a row for a store may store in
   it, and is a **writer**. By the tables these are S, SM_AD, SM_D, E, M, EI_A and MI_A for loads,
-  and E, M, EI_A and MI_A for stores. Otherwise the operation is stalled, which is a refusal, or it
-  misses: the cache issues a request, which waits in the core's queue, and the operation waits until
-  its data comes. Giving up a block in E or M takes a request too, a writeback. A block in S is
-  dropped, which is answered Gone; in I there is nothing to give up, which is answered Absent, by no
-  row. In the states between, an eviction is stalled.
+  and E, M, EI_A and MI_A for stores. Otherwise the operation is stalled, which is a refusal (so is
+  any outside the machine's shape), or it misses: the cache issues a request, which waits in the
+  core's queue, and the operation waits until its data comes. Giving up a block in E or M takes a
+  request too, a writeback. A block in S is dropped, which is answered Gone; in I there is nothing
+  to give up, which is answered Absent, by no row. In the states between, an eviction is stalled.
 - **Order**: a waiting request goes on the bus. All controllers see it, one of them sends a message,
   and the block now has an open **transaction**, whose **requestor** is the core of the request. A
   block with no open transaction is free.
@@ -135,10 +137,11 @@ situation.
 
 A **situation** is all that is seen of a machine: its protocol and shape (`Extent`: how many cores
 and blocks it has, and how large a block is); for each block its **picture**; each core's queue; and
-the **log**, the history of what was done. The log's items are operations that hit, ordered
-requests, and responses with what they performed. A picture has a line for each core (its state; its
-copy, which is the words that it keeps; the operation that waits, if any), memory's line, and the
-open transaction, if any. Flat memory is what the stores of a history leave in a memory of 0.
+the **log**, which has the history, and what was ordered and answered. The log's items are
+operations that hit, ordered requests, and responses with what they performed. A picture has a line
+for each core (its state; its copy, which is the words that it keeps; the operation that waits, if
+any), memory's line, and the open transaction, if any. Flat memory is what the stores of a history
+leave in a memory of 0.
 
 What this machine takes as given:
 
@@ -165,8 +168,8 @@ Two cores under MSI, and blocks of 64 bytes and one word, as `snoop` has them wi
 0 stores 7 in block 0, then core 1 loads it. An Ask to store is written `S,core,address,value`, one
 to load `L,core,address`, an Order `O,core`, a Respond `R,address`. An address is in bytes, so
 addresses 0 to 63 are in block 0. Each line shows block 0 after a step: the state and the value in
-each core, the transaction, memory. A dot means the same as above; `#1` is the place of the request
-in its core's queue, `C0` is core 0, and memory's value is in brackets if memory would not send it.
+each core, the transaction, memory. A dot means the same as above; `#1` is the first place in its
+core's queue, `C0` is core 0, and memory's value is in brackets if memory would not send it.
 
 ```console
 $ printf 'S,0,0,7\nO,0\nR,0\nL,1,0\nO,1\nR,0\n' | ./snoop states
@@ -208,14 +211,15 @@ Some names mean several things, told apart by context: `Data` is the words of a 
 an event, and `DataE`, `NoData` and `NoDataE` are the last two; `I`, `S` and `M` are states of
 caches and of memory; `Load`, `Store` and `Evict` are operations and events; `GetS`, `GetM` and
 `PutM` are requests and events; an operation is a load, a store or an eviction, but in the history
-only the first two; a value is that of a word, or the words of a block; a row is a controller's, but
-in comments of Rust also a load, store or eviction in a text; `None` is no value, no action, and as
-a sender memory; `Did`, `Sent`, `Came`, `Hit` and `Send` are several kinds of thing; `Requestor` and
-`Memory` are senders and targets; `taken` and `other` are functions, and names of something else;
-clauses of the theorem and fields of other records may have the same name; a line is a cache's,
-memory's, a table's or one of output. Names that differ in a capital or an ending are different
-things: `hits` is a clause, `Hits` a fact, `Hit` an action and a reply; `orders` is a clause,
-`Orders` a fact, `Order` a step.
+only the first two; a value is that of a word, or the words of a block; a row is a controller's, in
+comments of Rust also a load, store or eviction in a text, and a field of `IsShaped`; the history is
+the loads and stores, or the whole log; `None` is no value, no action, and as a sender memory;
+`Did`, `Sent`, `Came`, `Hit` and `Send` are several kinds of thing; `Requestor` and `Memory` are
+senders and targets; `taken` and `other` are functions, and names of something else; clauses of the
+theorem and fields of other records may have the same name; a line is a cache's, memory's, a table's
+or one of output. Names that differ in a capital or an ending are different things: `hits` is a
+clause, `Hits` a fact, `Hit` an action and a reply; `orders` is a clause, `Orders` a fact, `Order` a
+step.
 
 | Written | Means |
 |---|---|
@@ -277,7 +281,7 @@ all of it.
 | | `waiting`, `given_up` | a state says what waits in its line, and whether it keeps words; which states a requestor may be in |
 | | `stalls`, `gone` | the tables' rows, and how a move answers by them, with `awaited`, `waiting` and `kept` |
 | | `hits` | how a move answers, alone |
-| requests and transactions | `queued`, `awaited`, `opened` | an issue puts its block last, an Order takes it out and opens it, a Respond closes it |
+| requests and transactions | `queued`, `awaited`, `opened` | an issue puts its block last, an Order takes the block out and opens a transaction of it, a Respond closes that |
 | that no step is stuck | `moves`, `orders` | in the states that can occur together each controller has the row that it needs |
 | the table of senders | `by_table`, `on_table` | as above; and memory's state of the block stays while its transaction is open. A situation does not record the picture before the Order, so `on_table` only says that some picture fits |
 | sizes, protocol and shape | `shaped`, `stays` | no move changes them |
@@ -290,14 +294,16 @@ to read; and whether memory is sure to have the words of flat memory. docs/COHER
 a table of twelve lines. The statement has three parts: (1) each core's state, by itself, agrees
 with that table, given whether the core is the owner and whether it is the requestor; (2) each copy
 that may be read, and data under way, has the words of flat memory; (3) so has memory if the table
-says so, or if some copy is clean. Beside the open transaction only the owner's number connects the
-cores. The clauses about reading and writing follow from the first part and the table.
+says so, or if a core has the block in E or EI_A. Beside the open transaction only the owner's
+number connects the cores. The clauses about reading and writing follow from the first part and the
+table.
 
-So whether a step keeps the statement is a question about the tables: about the protocol, memory's
+So whether a step keeps the first part is a question about the tables: about the protocol, memory's
 state, the request, the payload, the state of the core that asks or whose request it is, and that of
 one other core. These are finitely many cases, whatever the number of cores, and the prover has
-computed them all. A word of flat memory changes only by a store: of the owner at a hit, or of a
-GetM's requestor when its data comes; and no other copy may be read then. docs/COHERENCE.md has the
+computed them all. As for the other two: a word of flat memory changes only by a store, of the owner
+at a hit, or of a GetM's requestor when its data comes. After it no other copy may be read, no data
+is under way, and the table does not claim that memory has the words. docs/COHERENCE.md has the
 argument step by step.
 
 ## What follows, and what is not said
@@ -316,7 +322,7 @@ argument step by step.
   operations, hits keep their order of asking and come before each earlier miss that still waits;
   two misses may be performed in either order.
 - **Real time** is no clause, but follows by hand too: a hit is performed at its Ask, a miss at the
-  Respond whose reply has it, so each between its Ask and the reply that has its value (`told`,
+  Respond whose reply has it, so each between its Ask and the reply that tells of it (`told`,
   `once`). So if each core waits for its operations, the history is a linearization: an order that
   agrees with that of operations which do not overlap in time.
 - **That a step has only one outcome**, apart from out of memory and from Orders (of which block, or
