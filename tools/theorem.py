@@ -322,9 +322,9 @@ argument step by step.
   operations, hits keep their order of asking and come before each earlier miss that still waits;
   two misses may be performed in either order.
 - **Real time** is no clause, but follows by hand too: a hit is performed at its Ask, a miss at the
-  Respond whose reply has it, so each between its Ask and the reply that tells of it (`told`,
-  `once`). So if each core waits for its operations, the history is a linearization: an order that
-  agrees with that of operations which do not overlap in time.
+  Respond whose reply has it, so each between its Ask and its last reply (`told`, `once`). So if
+  each core waits for its operations, the history is a linearization: an order that agrees with that
+  of operations which do not overlap in time.
 - **That a step has only one outcome**, apart from out of memory and from Orders (of which block, or
   the cause `BusTaken`), is no clause; of a run as the code has it `laws::runs_are_one` says so
   (docs/PROVED.md).
