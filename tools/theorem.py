@@ -88,7 +88,7 @@ has an open **transaction** (below). A core that may write the block **owns** it
 | EorM (MESI), M (MSI) | if no transaction of it is open, one core may write it, and no other may read it | `owned`, `one_writer` |
 | I_D | as in I, but a transaction is open and memory waits for its message | the same, `at_rest` |
 | S_D, IorS_D | as in S and IorS, but a transaction is open and memory waits for its message | the same, `at_rest` |
-| EorM_D, M_D | memory waits for the message of a writeback (a PutM, below). If that core still owned the block, it has given it up, and no core may read or write it. If the block had gone to another core before, that one may write it, and no other may read it. The clauses only say that at most one core may write it, and that no other may read it then | `one_writer`, `at_rest`, `on_table` |
+| EorM_D, M_D | memory waits for the message of a writeback (a PutM, below). If that core still owned the block, it has given it up, and no core may read or write it. If the block had gone to another core before, that one may write it, and no other may read it. Of who may do so, the clauses only say that at most one core may write it, and that no other may read it then | `one_writer`, `at_rest`, `on_table` |
 
 While a transaction is open in EorM or M, the data is under way to the next writer. Then no core may
 write the block, which no clause says, and the core that asked for it may still read its old copy.
