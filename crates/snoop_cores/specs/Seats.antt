@@ -26,7 +26,7 @@ pub record Watching : Type 0 where
   pub shape : Extent
   pub seen : List Item
 
--- a version was read: its list is legal, and begins with what was seen before
+-- what is seen now, as after a version was read: a legal list that begins with what was seen before
 pub record SeesOn (before after : List Item) : Type 0 where
   pub legal : Legal after
   pub begins : StartsWith after before

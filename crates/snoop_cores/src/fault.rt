@@ -56,7 +56,7 @@ pub enum GatherFault {
     /// Out of memory.
     #[error("NoMemory")]
     NoMemory,
-    /// The least core with no seat or with two; where there is none such, the first seat's core that is outside the shape.
+    /// The least core with no seat or with several; where there is none such, the first seat's core that is outside the shape.
     #[error("NotAllSeats")]
     NotAllSeats { core: u32 },
 }

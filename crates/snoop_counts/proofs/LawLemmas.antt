@@ -4,7 +4,7 @@ use Rattle.std.proofs.lemmas.List.Elements.{All-contains, All-contains_itself, A
 use Rattle.std.proofs.lemmas.List.{Folds.{fold-map, fold_stays}, Sums.{length-filter, sum_by_from}}
 use Rattle.std.{proofs.lemmas.{Grind.common_steps, Nat.{mul-add-lt, mul-le, same_from_place}, Option.gets}, specs.{List.sum_by, Option.ForSome}}
 use Rattle.std.specs.Prelude.{Err, IsSomeAnd, nat_lt, option_to_list, slice_get}
-use Rattle.snoop_trace.specs.{Extent.IsWithinLimits, Words.IsWord, declared.step.Op.Op}
+use Rattle.snoop_trace.specs.{Extent.IsWithinLimits, Words.{IsWord, place_of}, declared.step.Op.Op}
 use Rattle.snoop_rules.specs.declared.names.{CacheAction.CacheAction, CacheEvent.TheVariants.OtherGetM, Payload.{Payload}}
 use Rattle.snoop_history.specs.{Totals.{how_many, performed, totals_of}, Within.{block_of, IsItemWithin}}
 use Rattle.snoop_model.proofs.{OneBlock.AfterMoves.by_request, Queues.keeps_well, Runs.GoOn.{IsSteady, reset_steady, steady_on}}
@@ -13,7 +13,7 @@ use Rattle.snoop_engine.proofs.Common.{All-append, All-cons, arrival, Ask, Cache
 use Rattle.snoop_engine.{proofs.{RangeLemmas.filter_range, TakenLemmas.goes_alike, TrueLines.lines_fit}, specs.{Frames.FramesFrom, TrueLines.FitsStep}}
 use Rattle.snoop_counts.proofs.Common.{[], ℕ, ◌&&◌, ◌*◌, ◌++◌, ◌+◌, ◌<◌, ◌==◌, ◌||◌, ◌∙◌, ◌∷◌, ◌≡◌, ◌≤◌, All, All-head, All-nil, All-tail, ap, append-nil, append_assoc, arith, Blocks, Bool, Cause, cause_of, cond, Core, Cores, Count, counts, Did, false, filter, filter-append, flat_map, Frame, get_or, Happening, happenings, if◌then◌else◌, inl, inr, is_counted, length, length-append, lines_of_step, List, map, nat_tests, None, not, Ok, operation_in, Option, option_map_or, range_with_len, refl, Refused, Reply, Result, Situation, Some, Step, Subjects, suc, sym, Taken, times_counted, true, Words}
 use Rattle.snoop_counts.{proofs.{LastLemmas.seen_cut, TallyLemmas.{IsOfItems, no_cause, no_line, not_refused}}, specs.Causes.item_of}
-use Rattle.snoop_counts.specs.Counted.{core_counted, counts_cause, counts_item, has_row, is_invalidation, is_it, is_miss, named_place, own_core, own_word, place_of_word, requestor_of, response_sender, subject_of}
+use Rattle.snoop_counts.specs.Counted.{core_counted, counts_cause, counts_item, has_row, is_invalidation, is_it, is_miss, named_place, own_core, own_word, requestor_of, response_sender, subject_of}
 use Rattle.snoop_counts.specs.{Happenings.{seen_after, seen_in}, Laws.{CausesAreAll, HasSumsOfWords, HasTotals, PartsAddUp, SuffersWhatIsDone, sum_of, sum_of_words, sums_of}}
 use Rattle.snoop_counts.specs.declared.count.Count.TheVariants as count
 use Rattle.snoop_counts.specs.declared.count.Happening.TheVariants as happening
@@ -271,7 +271,7 @@ same_place a b words x y in_x in_y = grind (arith, nat_tests, same_from_place a 
 module _ (cores blocks words b : ℕ) (few : words * blocks ≤ 2 ^ 32) (test : Did → Bool) where
   -- of the words of a block one has the operation, if the block has it
   did_ones : (did : Did) → (did.core < cores) × (did.block < blocks) × (did.word < words)
-      → sum_by (λ w. once (test did && is_it (named_place (place_of_word words did.block did.word)) (place_of_word words b w))) (range_with_len 0 words)
+      → sum_by (λ w. once (test did && is_it (named_place (place_of words did.block did.word)) (place_of words b w))) (range_with_len 0 words)
       ≡ once (test did && did.block == b)
   did_ones did within =
       let place : ℕ = did.block * words + did.word in
@@ -283,7 +283,7 @@ module _ (cores blocks words b : ℕ) (few : words * blocks ≤ 2 ^ 32) (test : 
       ∙ ones words (test did && did.block == b) (Some did.word) (λ _. within.2)
 
   performed_ones : (entry : Item) → IsItemWithin cores blocks words entry → IsOfOneBlock entry
-      → sum_by (λ w. once (performed test entry && is_it (own_word words (happening.Item entry)) (place_of_word words b w))) (range_with_len 0 words) ≡ once (performed test entry && block_of entry == b)
+      → sum_by (λ w. once (performed test entry && is_it (own_word words (happening.Item entry)) (place_of words b w))) (range_with_len 0 words) ≡ once (performed test entry && block_of entry == b)
   performed_ones (item.Did did) within one = did_ones did (within.operation did refl)
   performed_ones (item.Came came (Some did)) within one = rw (← one) (did_ones did (within.operation did refl))
   performed_ones entry within one = sum_zero (range_with_len 0 words)
@@ -402,7 +402,7 @@ module _ (protocol : Protocol) (shape : Extent) (frames : List Frame) (final : S
       → sum_of_words shape (happenings frames) b c ≡ times_counted Blocks (happenings frames) b c
   words_sum limits c test is items b =
       let few : shape.words * shape.blocks ≤ 2 ^ 32 = omega (arith, mul-le shape.words shape.blocks 64 65536 limits.words.1 limits.blocks.1) in
-      let of_word : ℕ → Happening → Bool = λ w. is_counted (Words shape.words) (place_of_word shape.words b w) c in
+      let of_word : ℕ → Happening → Bool = λ w. is_counted (Words shape.words) (place_of shape.words b w) c in
       let numbers : List ℕ = range_with_len 0 shape.words in
       sum_kept of_word (is_counted Blocks b c) numbers (happenings frames)
       (all_seen (IsOnce of_word (is_counted Blocks b c) numbers) [] frames

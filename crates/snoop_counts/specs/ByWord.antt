@@ -1,10 +1,10 @@
 -- The counts of each word of the blocks that cores share, as a text of fields.
 -- Source: the fields and their form are this project's profile.
 use Rattle.std.specs.{Prelude.{ℕ, Bool, List, [], ◌∷◌, ◌++◌, codes, nat_lt, if◌then◌else◌}, Fmt.decimal, List.{flat_map, range_with_len}}
-use Rattle.snoop_trace.specs.{Extent.Extent, Output.word_address}
+use Rattle.snoop_trace.specs.{Extent.Extent, Output.word_address, Words.place_of}
 use Rattle.snoop_model.specs.Pictures.Situation.{Situation}
 use Rattle.snoop_engine.specs.Frames.{Frame}
-use Rattle.snoop_counts.specs.{CoreTable.count_fields, Counted.{counted_of, place_of_word}, Happenings.happenings, Sharers.{sharers, sharing_fields}, declared.count.Count.Count}
+use Rattle.snoop_counts.specs.{CoreTable.count_fields, Counted.counted_of, Happenings.happenings, Sharers.{sharers, sharing_fields}, declared.count.Count.Count}
 use Rattle.snoop_counts.specs.declared.count.Count.TheVariants as count
 use Rattle.snoop_counts.specs.declared.count.{Happening.Happening, Subjects.TheVariants.{Blocks, Words}}
 
@@ -19,7 +19,7 @@ word_counts = count.Loads ∷ count.LoadHits ∷ count.Stores ∷ count.StoreHit
 -- the line of a word, with how many cores performed an operation on it
 abbrev pub word_line : Extent → List Happening → ℕ → ℕ → List ℕ
 word_line shape seen block word =
-    let place = place_of_word shape.words block word in
+    let place = place_of shape.words block word in
     decimal block ++ codes "," ++ decimal word ++ codes "," ++ decimal (word_address shape block word) ++ sharing_fields (Words shape.words) count.Operations shape.cores seen place
     ++ count_fields word_counts (counted_of (Words shape.words) seen place) ++ codes "\n"
 

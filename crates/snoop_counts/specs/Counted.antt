@@ -1,8 +1,8 @@
 -- What is counted of a run: the items, the rows and the refused steps of each count.
 -- Source: "A Primer on Memory Consistency and Cache Coherence", 2nd edition, chapter 7, whose rows they are; which of them are counted together is this project's profile.
-use Rattle.std.specs.Prelude.{ℕ, ◌+◌, ◌*◌, ◌^◌, ◌==◌, ◌&&◌, ◌||◌, Bool, true, false, not, is_some, is_none, List, filter, length, nat_lt, Option, Some, None, Result, Ok, Err, if◌then◌else◌}
+use Rattle.std.specs.Prelude.{ℕ, ◌^◌, ◌==◌, ◌&&◌, ◌||◌, Bool, true, false, not, is_some, is_none, List, filter, length, nat_lt, Option, Some, None, Result, Ok, Err, if◌then◌else◌}
 use Rattle.std.specs.Option.{option_map_or}
-use Rattle.snoop_trace.specs.declared.step.Step.TheVariants.{Order}
+use Rattle.snoop_trace.specs.{Words.place_of, declared.step.Step.TheVariants.{Order}}
 use Rattle.snoop_rules.specs.declared.names.{CacheEvent.{CacheEvent, TheVariants.{Evict, OwnGetM, OtherGetS, OtherGetM, Data, DataE}}, CacheState.CacheState}
 use Rattle.snoop_rules.specs.declared.names.CacheState.TheVariants.{IsD, ImD, S, SmAd, E, M, EiA, MiA}
 use Rattle.snoop_history.specs.{declared.items.{Came.Came, Item.Item}, History.operation_of, Within.{block_of, core_of}}
@@ -195,17 +195,13 @@ abbrev pub own_block : Happening → Option ℕ
 own_block (happening.Item entry) = Some (block_of entry)
 own_block (happening.Line step outcome line why) = block_named line
 
--- the place of a word of a block among all words, where a block has so many
-abbrev pub place_of_word : ℕ → ℕ → ℕ → ℕ
-place_of_word words block word = block * words + word
-
 -- a place that a number of 32 bits can name
 abbrev pub named_place : ℕ → Option ℕ
 named_place place = if nat_lt place (2 ^ 32) then Some place else None
 
 -- the place of the word of the operation that an item performs
 abbrev pub own_word : ℕ → Happening → Option ℕ
-own_word words (happening.Item entry) = option_map_or (λ did. named_place (place_of_word words did.block did.word)) (operation_of entry) None
+own_word words (happening.Item entry) = option_map_or (λ did. named_place (place_of words did.block did.word)) (operation_of entry) None
 own_word words (happening.Line step outcome line why) = None
 
 -- the core whose Order the line is of

@@ -1,10 +1,10 @@
 -- What holds of all tables of counts.
 -- Source: this project's profile.
 use Rattle.std.specs.{Prelude.{◌≡◌, ℕ, ◌+◌, List, ◌++◌}, List.{range_with_len, sum_by}}
-use Rattle.snoop_trace.specs.Extent.{Extent, IsWithinLimits}
+use Rattle.snoop_trace.specs.{Extent.{Extent, IsWithinLimits}, Words.place_of}
 use Rattle.snoop_history.specs.{Totals.totals_of, declared.items.{Item.Item, Totals.Totals}}
 use Rattle.snoop_engine.specs.Frames.{Frame, OfAnySteps}
-use Rattle.snoop_counts.specs.{Counted.{place_of_word, times_counted}, Happenings.{happenings, seen_after}, declared.count.{Count.Count, Happening.Happening}}
+use Rattle.snoop_counts.specs.{Counted.times_counted, Happenings.{happenings, seen_after}, declared.count.{Count.Count, Happening.Happening}}
 use Rattle.snoop_counts.specs.declared.count.Count.TheVariants as count
 use Rattle.snoop_counts.specs.declared.count.Subjects.{Subjects, TheVariants.{Blocks, Cores, Machine, Words}}
 
@@ -40,7 +40,7 @@ pub record HasTotals (shape : Extent) (frames : List Frame) (items : List Item) 
 abbrev pub SumsAreTotals : Type 0
 SumsAreTotals = OfAnySteps (λ protocol shape steps frames final. HasTotals shape frames final.log)
 
--- of every core, block and word, and of the machine, the misses are those of the four causes
+-- of every core and block, and of the machine, the misses are those of the four causes; of a word none are counted
 abbrev pub CausesAreAll : Type 0
 CausesAreAll =
     (frames : List Frame) (whose : Subjects) (subject : ℕ) → let seen = happenings frames in
@@ -64,7 +64,7 @@ DoneIsSuffered = OfAnySteps (λ protocol shape steps frames final. SuffersWhatIs
 
 -- the sum of a count over the words of a block
 abbrev pub sum_of_words : Extent → List Happening → ℕ → Count → ℕ
-sum_of_words shape seen block counted = sum_by (λ word. times_counted (Words shape.words) seen (place_of_word shape.words block word) counted) (range_with_len 0 shape.words)
+sum_of_words shape seen block counted = sum_by (λ word. times_counted (Words shape.words) seen (place_of shape.words block word) counted) (range_with_len 0 shape.words)
 
 -- over the words of a block, the counts of the words have the sums that the block has
 pub record HasSumsOfWords (shape : Extent) (seen : List Happening) (block : ℕ) : Type 0 where

@@ -2,7 +2,7 @@
 //! for what they ensure.
 ghost use Rattle.snoop_counts.specs.Laws.{CausesAreAll, DoneIsSuffered, PartsAddUp, SumsAreTotals, WordsAddUp};
 
-/// Of each core, block and word, and of the machine, `misses` is the sum of `cold`, `given_up`, `true_sharing` and
+/// Of each core and block, and of the machine, `misses` is the sum of `cold`, `given_up`, `true_sharing` and
 /// `false_sharing`.
 #[tactic(auto, using(crate::proofs::LawLemmas::causes_are_all))]
 pub fn causes()

@@ -2,8 +2,8 @@
 ghost use Rattle.std.specs.Prelude.{◌≡◌, ◌<◌, ◌*◌, ◌++◌, List, OnOk};
 ghost use Rattle.std.specs.List.{flat_map, range_with_len};
 ghost use Rattle.snoop_trace.specs.Output.{word_address};
+ghost use Rattle.snoop_trace.specs.Words.{place_of};
 ghost use Rattle.snoop_counts.specs.ByWord.{word_line, word_lines, word_table};
-ghost use Rattle.snoop_counts.specs.Counted.{place_of_word};
 ghost use Rattle.snoop_counts.specs.WordTally.{CountsWords};
 ghost use Rattle.snoop_counts.specs.declared.count.Happening.{Happening};
 
@@ -25,7 +25,7 @@ static WORD_COUNTS: [Count; 4] = [
 // The place of a word among all words.
 fn place_of_word(shape: Shape, block: u32, word: u32) -> u32
     requires within { (block < shape.blocks) × (word < shape.words) }
-    ensures value { result ≡ place_of_word shape.words block word }
+    ensures value { result ≡ place_of shape.words block word }
     ensures there { result < shape.blocks * shape.words }
 {
     shape.within_limits();

@@ -2,7 +2,7 @@
 -- Source: this project's profile.
 use Rattle.std.specs.Prelude.{ℕ, ◌==◌, ◌&&◌, Bool, true, false, List, ◌∷◌, Option, Some, None, Result, Ok, Err, nat_lt, if◌then◌else◌}
 use Rattle.snoop_trace.specs.declared.{step.Step.{Step, TheVariants.{Ask, Order, Respond}}, protocol.Protocol.Protocol}
-use Rattle.snoop_rules.specs.{Cell.cell_of, declared.names.{CacheAction.{CacheAction, TheVariants.Hit}, CacheCell.CacheCell, CacheState.CacheState}}
+use Rattle.snoop_rules.specs.{Cell.{cell_of, is_hit}, declared.names.{CacheCell.CacheCell, CacheState.CacheState}}
 use Rattle.snoop_rules.specs.declared.names.CacheEvent.TheVariants.{Load, Store}
 use Rattle.snoop_rules.specs.declared.names.CacheState.TheVariants as state
 use Rattle.snoop_model.specs.declared.replies.{Reply.Reply, Refused.Refused}
@@ -50,19 +50,14 @@ abbrev pub names_memory : ℕ → Taken → Bool
 names_memory block (line.Memory of event before) = of == block
 names_memory block _ = false
 
--- what is done is a hit
-abbrev pub is_hit_action : CacheAction → Bool
-is_hit_action Hit = true
-is_hit_action _ = false
-
--- the row is a hit
-abbrev pub is_hit : Option CacheCell → Bool
-is_hit None = false
-is_hit (Some row) = is_hit_action row.action
+-- there is a row, and it is a hit
+abbrev pub is_hit_row : Option CacheCell → Bool
+is_hit_row None = false
+is_hit_row (Some row) = is_hit row.action
 
 -- what a core in this state may do with the block: store, or at least load, where that is a hit
 abbrev pub may : Protocol → CacheState → Mark
-may protocol held = if is_hit (cell_of protocol held Store) then sign.MayWrite else (if is_hit (cell_of protocol held Load) then sign.MayRead else sign.Blank)
+may protocol held = if is_hit_row (cell_of protocol held Store) then sign.MayWrite else (if is_hit_row (cell_of protocol held Load) then sign.MayRead else sign.Blank)
 
 -- what a core in this state waits for
 abbrev pub awaits : CacheState → Mark

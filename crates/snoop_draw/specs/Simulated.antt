@@ -16,12 +16,16 @@ IsDrawable shape choice steps = IsSmall choice (length steps) (panels_for shape 
 abbrev pub drawing : Protocol → Extent → Charset → Chosen → List Frame → Situation → List ℕ
 drawing protocol shape charset choice frames final = drawing_text protocol shape charset choice frames
 
+-- the drawing was small enough, and the writer got a beginning of it
+abbrev pub BeginsToDraw : Protocol → Extent → Charset → Chosen → List Step → Option (List ℕ) → Option (List ℕ) → Type 0
+BeginsToDraw protocol shape charset choice steps old new = IsDrawable shape choice steps × BeginsToShow protocol shape (drawing protocol shape charset choice) steps old new
+
 -- the steps were drawn, or a beginning of that; or they were too many
 abbrev pub DrawsSteps : Protocol → Extent → Charset → Chosen → List Step → Result (Unit {0}) DrawFault → Option (List ℕ) → Option (List ℕ) → Type 0
 DrawsSteps protocol shape charset choice steps (Ok u) old new = IsDrawable shape choice steps × ShowsRun protocol shape (drawing protocol shape charset choice) steps old new
 DrawsSteps protocol shape charset choice steps (Err TooLarge) old new = (¬ IsDrawable shape choice steps) × (new ≡ old)
-DrawsSteps protocol shape charset choice steps (Err (Simulation NoMemory)) old new = (new ≡ old) ⊎ BeginsToShow protocol shape (drawing protocol shape charset choice) steps old new
-DrawsSteps protocol shape charset choice steps (Err (Simulation Write)) old new = IsDrawable shape choice steps × BeginsToShow protocol shape (drawing protocol shape charset choice) steps old new
+DrawsSteps protocol shape charset choice steps (Err (Simulation NoMemory)) old new = (new ≡ old) ⊎ BeginsToDraw protocol shape charset choice steps old new
+DrawsSteps protocol shape charset choice steps (Err (Simulation Write)) old new = BeginsToDraw protocol shape charset choice steps old new
 DrawsSteps protocol shape charset choice steps (Err (Simulation (Text fault))) old new = ⊥
 
 -- the whole text was read and what came of it drawn, or a beginning of that; or the text was refused

@@ -57,12 +57,12 @@ does_nothing I OtherGetM = true
 does_nothing I OtherPutM = true
 does_nothing _ _ = false
 
--- a pair's line, where it has a row that does something
+-- a pair's line, where it has a row; none for a core in I at another's request
 abbrev pub cache_count_at : Protocol → (CacheState → CacheEvent → ℕ) → CacheState → CacheEvent → List ℕ
 cache_count_at protocol counts state event =
     if does_nothing state event then [] else option_map_or (λ cell. cache_count state event cell (counts state event)) (cell_of protocol state event) []
 
--- the same of memory's table
+-- a pair's line in memory's table, where it has a row
 abbrev pub memory_count_at : Protocol → (MemState → MemEvent → ℕ) → MemState → MemEvent → List ℕ
 memory_count_at protocol counts state event = option_map_or (λ cell. memory_count state event cell (counts state event)) (memory_cell_of protocol state event) []
 

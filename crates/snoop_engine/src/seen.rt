@@ -16,6 +16,6 @@ pub struct Seen<'a> {
     pub block: Option<u32>,
     /// What the machine answered.
     pub outcome: Result<Reply, Refused>,
-    /// The rows of the tables that the controllers take at the step, or what a refusal names.
+    /// The rows of the tables that the controllers take at the step, or what a refusal or an eviction in I names.
     pub lines: &'a [Taken],
 }

@@ -8,8 +8,9 @@ use Rattle.snoop_history.{proofs.Common.{common_steps, range_with_len, slice_get
 use Rattle.std.proofs.{Math.Nat.{div-add-mod, mul_comm}, lemmas.Nat.{div-mul-add, mod-mul-add, mul-le}}
 use Rattle.std.proofs.lemmas.List.FromFn.{fill_by_all, length-map-range_with_len, get_or-map-range_with_len}
 use Rattle.std.proofs.lemmas.List.Elements.{filter-append, filter_map-append, All-head, All-tail}
+use Rattle.snoop_trace.specs.Words.{place_of}
 use Rattle.snoop_history.specs.Within.{IsItemWithin, is_within, inside}
-use Rattle.snoop_history.specs.Board.{Tables, for_each_below, board_of, operation_within, noted, absorbed, place_of}
+use Rattle.snoop_history.specs.Board.{Tables, for_each_below, board_of, operation_within, noted, absorbed}
 use Rattle.snoop_history.proofs.Pushed.{operations-one, capped_totals-push, last_or-append}
 
 -- a table in which one entry is set

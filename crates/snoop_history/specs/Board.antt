@@ -1,6 +1,7 @@
 -- What a board shows: the tables of the items that it has absorbed.
 -- Source: this project's profile.
-use Rattle.std.specs.{Prelude.{ℕ, ◌+◌, ◌*◌, ◌/◌, ◌%◌, true, List, length, map, Option, Some, None, slice_index, slice_set, if◌then◌else◌}, List.range_with_len}
+use Rattle.std.specs.{Prelude.{ℕ, ◌*◌, ◌/◌, ◌%◌, true, List, length, map, Option, Some, None, slice_index, slice_set, if◌then◌else◌}, List.range_with_len}
+use Rattle.snoop_trace.specs.Words.{place_of}
 use Rattle.snoop_history.specs.{declared.items.{Did.Did, Item.Item, Totals.Totals}, History.{operation_of, next_number, flat, last_of}}
 use Rattle.snoop_history.specs.{Within.{is_within, inside}, Journal.{counted, tallied}, Totals.{totals_of, capped, capped_totals}}
 
@@ -16,10 +17,6 @@ pub record Tables : Type 0 where
 -- one entry for each number below n
 abbrev pub for_each_below : {A : Type 0} → ℕ → (ℕ → A) → List A
 for_each_below n entry = map entry (range_with_len 0 n)
-
--- where the value of a block's word stands
-abbrev pub place_of : ℕ → ℕ → ℕ → ℕ
-place_of words block word = block * words + word
 
 -- the board of a list: flat memory, counts and last operations of the items within the shape, and the counts of all
 abbrev pub board_of : ℕ → ℕ → ℕ → List Item → Tables

@@ -3,11 +3,12 @@ ghost use Rattle.std.specs.Prelude.{◌≡◌, ℕ, All, ◌&&◌, List, [], ◌
 ghost use Rattle.std.specs.List.{list_any};
 ghost use Rattle.std.specs.Option.{ForSome};
 ghost use Rattle.indexmap.specs.IndexSet.{insert_key};
+ghost use Rattle.snoop_trace.specs.Words.{place_of};
 ghost use Rattle.snoop_history.specs.declared.items.Item.{Item};
 ghost use Rattle.snoop_history.specs.History.{next_number, flat, last_of, operation_of};
 ghost use Rattle.snoop_history.specs.Within.{block_of, inside};
 ghost use Rattle.snoop_history.specs.Totals.{totals_of, capped, capped_totals, touched};
-ghost use Rattle.snoop_history.specs.Board.{Tables, board_of, absorbed, place_of};
+ghost use Rattle.snoop_history.specs.Board.{Tables, board_of, absorbed};
 ghost use Rattle.snoop_history.specs.Mentions.{Mentions};
 
 use crate::items::{Did, Item, Totals};

@@ -29,6 +29,6 @@ lines_from s line (byte ∷ rest) =
 abbrev pub record_lines : List ℕ → List ℕ
 record_lines bytes = lines_from st.StartRecord 1 (strip_bom bytes)
 
--- the line on which record n begins; 0 where there is no such record
+-- the line on which record n begins, where the first is record 1; 0 where there are fewer records
 abbrev pub line_of : List ℕ → ℕ → ℕ
 line_of lines n = slice_index_or lines (n - 1) 0

@@ -22,13 +22,13 @@ pub use Rattle.snoop_model.specs.{Pictures.Situation.{IsHead, Situation, nothing
 pub use Rattle.snoop_model.{proofs.Lists.{each_set, if_some, replicated}, specs.declared.{access.Access.Access, replies.{Refused.Refused, Reply.Reply}}}
 pub use Rattle.snoop_model.specs.declared.replies.Refused.TheVariants.{BusTaken, NoBlock, NoCore, NoMemory, NoTransaction, NothingWaiting, Stalled}
 pub use Rattle.snoop_machine.specs.{AnyParts.stand, Following.{AddsLines, LosesLines}, Holding.{HoldsOn, MovesToI, NeedsLine}, Memory.{MemTables, memory_line}}
-pub use Rattle.snoop_machine.specs.Cache.{Contents, KeepsMapRoom, WritesEntry, blocks_of, changed, filled_line, gone, line_in, line_or_nothing, lines_held, no_cache, words_after}
+pub use Rattle.snoop_machine.specs.Cache.{Contents, KeepsMapRoom, WritesEntry, blocks_of, changed, filled_line, gone, line_in, line_or_nothing, lines_held, no_cache}
 pub use Rattle.snoop_machine.specs.{Holders.{AreHolders, HaveFollowed, HaveMoved, StandsAs, concerns, no_holders}, Runs.{Answers, AnswersSafely, HasRun}}
 pub use Rattle.snoop_machine.specs.Lines.{AreLines, Held, KeepsMapsRoom, LinesGo, MayMoveTo, WritesLine, WritesRow, held, held_by_block, is_among, line_at, row_of, with_line_at}
 pub use Rattle.snoop_machine.specs.PartsView.{Fields, IsSized, IsSound, IsWhole, WaitsAs, fields, pictures_of, queues_of, requests_for, shown_line_room, shown_line_rooms, standing}
 pub use Rattle.snoop_machine.specs.Plan.{HasRoom, HasRoomToAsk, IsClosing, IsPlan, IsPlanFor, entry_of, entry_of_ask, planned_step, room_for, room_for_ask}
 pub use Rattle.snoop_machine.specs.{Prepared.{IsFull, IsPrepared, places, room_to}, Standing.{KeepsRoom, Standing, line_count}, declared.parts.step.Plan.Plan}
-pub use Rattle.snoop_machine.specs.declared.{parts.step.Asked.TheVariants.{Absent, Drop, Issue, Hit}, cache.LineChange.TheVariants.Wait, lines.Holders.Holders}
+pub use Rattle.snoop_machine.specs.declared.{parts.step.Asked.TheVariants.{Absent, Drop, Issue, Hit}, lines.{LineChange.TheVariants.Wait, Holders.Holders}}
 pub use Rattle.snoop_model.proofs.{Invariant.Coherence.{finds_rows, orders_follow_sender_table, sender_within}, Runs.Along.{run_more, seen_along, kept_along}}
 pub use Rattle.snoop_model.proofs.{Invariant.Safety.{is_safe, kept_is_flat, move_keeps_all, reset_keeps}, Lines.{Taking, Taking-more, Taking-past}}
 pub use Rattle.snoop_model.proofs.Lines.{Silent-all, Silent-more, Silent-none, Silent-past, SilentBelow}

@@ -8,7 +8,7 @@ use Rattle.snoop_rules.specs.declared.names.CacheState.TheVariants as state
 use Rattle.snoop_rules.specs.declared.names.CacheAction.TheVariants as action
 use Rattle.snoop_model.specs.{Pictures.Lines.Line, Moves.Move.Hits}
 use Rattle.snoop_machine.specs.{Cache.changed, declared.parts.step.Asked.{Asked, TheVariants.{Absent, Hit, Issue, Drop}}}
-use Rattle.snoop_machine.specs.declared.cache.LineChange.TheVariants as change
+use Rattle.snoop_machine.specs.declared.lines.LineChange.TheVariants as change
 
 -- a line after the hit of an operation on this word
 abbrev pub after_hit : CacheState → ℕ → Op → Line → Line

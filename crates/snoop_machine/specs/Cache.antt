@@ -1,12 +1,11 @@
 -- The lines of one core, as its map keeps them.
 -- Source: this project's profile.
-use Rattle.std.specs.Prelude.{◌≡◌, ℕ, ◌+◌, ◌-◌, ◌<◌, ◌≤◌, Bool, true, false, if◌then◌else◌, List, [], Option, Some, None, ⊤, length, unwrap_or, option_map, nat_eq, map, slice_set}
+use Rattle.std.specs.Prelude.{◌≡◌, ℕ, ◌+◌, ◌-◌, ◌<◌, ◌≤◌, Bool, true, false, if◌then◌else◌, List, [], Option, Some, None, ⊤, length, unwrap_or, option_map, nat_eq, map}
 use Rattle.std.specs.Map.{lookup, keys_of}
 use Rattle.snoop_model.specs.{Pictures.{Lines.Line, Picture.{nothing_held, kept_on}}, declared.access.Access.Access, Moves.Move.as_access}
-use Rattle.snoop_trace.specs.{Words.Data, declared.step.Op.Op}
-use Rattle.snoop_trace.specs.declared.step.Op.TheVariants as op
+use Rattle.snoop_trace.specs.Words.{Data, words_after}
 use Rattle.snoop_rules.specs.declared.names.CacheState.{CacheState, TheVariants.I}
-use Rattle.snoop_machine.specs.declared.cache.LineChange.{LineChange, TheVariants.{Hit, Wait}}
+use Rattle.snoop_machine.specs.declared.lines.LineChange.{LineChange, TheVariants.{Hit, Wait}}
 
 -- the entries of a core's map, by block, and for how many more there is room
 pub record Contents : Type 0 where
@@ -36,11 +35,6 @@ blocks_of cache = keys_of cache.entries
 -- what each core holds of a block
 abbrev pub lines_held : List Contents → ℕ → List Line
 lines_held caches block = map (λ cache. line_in cache block) caches
-
--- the words after an operation on one of them: a store writes it
-abbrev pub words_after : ℕ → Op → Data → Data
-words_after word (op.Store value) words = slice_set words word value
-words_after word _ words = words
 
 -- what is kept after a change: a hit is performed on it
 abbrev pub kept_after : CacheState → LineChange → Option Data → Option Data

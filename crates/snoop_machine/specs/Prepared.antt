@@ -16,7 +16,7 @@ places before core = min (slice_index before.request_rooms core) (slice_index be
 abbrev pub room_to_issue : Standing → ℕ → ℕ → ℕ
 room_to_issue before core block = if has_line before core block then slice_index before.request_rooms core else places before core
 
--- for how many more Asks of the core for the block by this action there is room: a hit adds an item, an issue adds a request, and no other adds any
+-- for how many more Asks of the core for the block by this action there is room: a hit adds an item, an issue adds a request; for one that adds none 1 stands, as there is always room
 abbrev pub room_to : CacheAction → Standing → ℕ → ℕ → ℕ
 room_to Hit before core block = before.room
 room_to (Issue request) before core block = room_to_issue before core block

@@ -1,7 +1,6 @@
 //! The machine: caches, memory and bus, and its steps.
 #![tactic(auto)]
 
-mod cache;
 mod lines;
 mod machine;
 mod parts;

@@ -16,8 +16,7 @@ mod order;
 mod respond;
 mod step;
 
-use crate::cache::Entry;
-use crate::lines::Lines;
+use crate::lines::{Entry, Lines};
 use snoop_blocks::BlockTable;
 use snoop_bus::{Bus, Open};
 use snoop_history::{Did, Log};

@@ -12,7 +12,7 @@ pub use Rattle.std.proofs.lemmas.Option.{cond_some, none-some, same_Some, IfSome
 pub use Rattle.snoop_trace.specs.{Extent.Extent, declared.{protocol.Protocol.Protocol, step.{Op.{Op, TheVariants.{Evict, Load, Store}}, Step.{Step, TheVariants.{Ask, Order, Respond}}}}}
 pub use Rattle.snoop_rules.specs.declared.names.{CacheState.CacheState, CacheEvent.CacheEvent, CacheAction.CacheAction, CacheCell.CacheCell, MemState.MemState}
 pub use Rattle.snoop_rules.specs.declared.names.{MemEvent.MemEvent, MemAction.MemAction, MemCell.MemCell, Request.Request, Payload.Payload, Target.Target}
-pub use Rattle.snoop_rules.specs.{declared.names.Request.TheVariants.{GetM, GetS, PutM}, Cell.{Cell, cell_of}, MemoryCell.{MemoryCell, memory_cell_of}}
+pub use Rattle.snoop_rules.specs.{declared.names.Request.TheVariants.{GetM, GetS, PutM}, Cell.{Cell, cell_of, is_hit}, MemoryCell.{MemoryCell, memory_cell_of}}
 pub use Rattle.snoop_rules.specs.Takers.{arrival, arrival_at_memory, asked, at_memory, carries_value, other, own, seen_by, takes_payload}
 pub use Rattle.snoop_rules.specs.{Waits.waiting_request, WhoSends.{Memory, Other, Requestor, Sender, lines_of, sender_of}}
 pub use Rattle.snoop_history.specs.{Totals.{is_get_m, is_put_m}, declared.items.{Did.Did, Item.Item}}
@@ -30,7 +30,7 @@ pub use Rattle.snoop_model.specs.Runs.Once.{Once, OnceMore, accesses_in, asked_a
 pub use Rattle.snoop_model.specs.Runs.{Owed.{IsLast, IsOwed}, Run.{FirstRunFrom, Goes, GoesFirst, RunBy, TakenGoesOn}}
 pub use Rattle.snoop_model.specs.{Turns.Serving.{IsServing, has_transaction}, declared.replies.Reply.TheVariants.{Absent, Gone, Issued}}
 pub use Rattle.snoop_model.specs.Turns.TurnLaws.{KeepsWell, NeverRefused, Pays, ServesOn, StartsWell, TurnLaws}
-pub use Rattle.snoop_trace.specs.Words.{Data, HasWord, IsWord, word_at, word_places, zero_words}
+pub use Rattle.snoop_trace.specs.Words.{Data, HasWord, IsWord, word_at, word_places, words_after, zero_words}
 pub use Rattle.snoop_history.proofs.Pushed.{last_or-append, none_from_not_some, of_core, operations-push}
 unfoldable pub use Rattle.snoop_rules.proofs.Every.{all_events, all_memories, all_payloads, all_protocols, all_requests, all_states}
 pub use Rattle.snoop_rules.proofs.Every.{all_events-at, all_memories-at, all_payloads-at, all_protocols-at, all_requests-at, all_states-at}

@@ -1,6 +1,6 @@
 -- What a step comes to, computed: what it is answered, and where it leads. Where a table has no row, which no run meets, the state stays.
 use Rattle.std.specs.Bool.{Decides}
-use Rattle.snoop_model.proofs.Common.{[], Access, after_order, ap, arith, arrival, arrival_at_memory, ArrivesFor, as_access, Ask, asked, at_memory, Bool, BusTaken, CacheAction, CacheCell, CacheState, came_of, CanOrder, cases_Bool, Cell, cell_of, Data, Did, Drop, Err, Evict, Extent, false, fill_by_all, FillsRequestor, FirstMove, free_picture, get_or-map-range_with_len, GoesFirst, HasWord, held_at, held_by, Hit, Hits, if◌then◌else◌, inl, inr, Invariant, is_load, is_put_m, is_some, IsOnlySender, IsProper, Issue, IsWithin, Item, le-ltb, length, length-map-range_with_len, Line, List, lt-ltb, ltb, ltb-false, ltb-true, map, MemLine, memory_cell_of, moves_to, next_did, NoBlock, NoCore, None, none-some, none_from_not_some, nothing_held, NothingWaiting, NoTransaction, Ok, Op, Open, Option, option_map_or, option_to_list, Order, Orders, Payload, Picture, picture_of, Protocol, PutM, queue_of, queues_after, range_with_len, StandsFirst, refl, Refused, Refuses, Reply, Request, Respond, Responds, Result, seen_by, Situation, slice_get, slice_set, Some, Stall, Stalled, state_of, Step, Store, suc, sym, Takes, takes_payload, true, unwrap_or, value_sent, waiting_request, with_line, with_picture, word_at, word_places, written, zero, zero_words, ℕ, ◌&&◌, ◌++◌, ◌<◌, ◌∙◌, ◌∷◌, ◌≡◌, ◌≤◌}
+use Rattle.snoop_model.proofs.Common.{[], Access, after_order, ap, arith, arrival, arrival_at_memory, ArrivesFor, as_access, Ask, asked, at_memory, Bool, BusTaken, CacheAction, CacheCell, CacheState, came_of, CanOrder, cases_Bool, Cell, cell_of, Data, Did, Drop, Err, Evict, Extent, false, fill_by_all, FillsRequestor, FirstMove, free_picture, get_or-map-range_with_len, GoesFirst, HasWord, held_at, held_by, Hit, Hits, if◌then◌else◌, inl, inr, Invariant, is_load, is_put_m, is_some, IsOnlySender, IsProper, Issue, IsWithin, Item, le-ltb, length, length-map-range_with_len, Line, List, lt-ltb, ltb, ltb-false, ltb-true, map, MemLine, memory_cell_of, moves_to, next_did, NoBlock, NoCore, None, none-some, none_from_not_some, nothing_held, NothingWaiting, NoTransaction, Ok, Op, Open, Option, option_map_or, option_to_list, Order, Orders, Payload, Picture, picture_of, Protocol, PutM, queue_of, queues_after, range_with_len, StandsFirst, refl, Refused, Refuses, Reply, Request, Respond, Responds, Result, seen_by, Situation, slice_get, slice_set, Some, Stall, Stalled, state_of, Step, Store, suc, sym, Takes, takes_payload, true, unwrap_or, value_sent, waiting_request, with_line, with_picture, word_at, word_places, words_after, written, zero, zero_words, ℕ, ◌&&◌, ◌++◌, ◌<◌, ◌∙◌, ◌∷◌, ◌≡◌, ◌≤◌}
 use Rattle.snoop_model.proofs.{Invariant.Coherence.{finds_rows, idle_evict, orders_follow_sender_table, waits_within}, Lines.{IsBelow, sends_below}}
 use Rattle.snoop_model.proofs.{OneBlock.{AfterMoves.changed, RespondStep.{answered, close}}, Queues.{AreQueued, first_waits, none_waits}}
 use Rattle.snoop_model.proofs.Tables.{OrderTests.{data_rule, payload_from, row_for, sends_is, sends_row, settled_row, settled_so}, Rows.{action_rule, ask_rule, hit_keeps, is_idle_evict, serving-asked, some_of}}
@@ -13,14 +13,10 @@ use Rattle.snoop_model.specs.declared.replies.Reply.TheVariants as reply
 abbrev pub Next : Type 0
 Next = Result Reply Refused × Situation
 
--- the value that an operation on a word loads or stores, and the block's words after it
+-- the value that an operation on a word loads or stores
 abbrev pub value_of : ℕ → Op → Data → ℕ
 value_of word (Store stored) before = stored
 value_of word _ before = word_at before word
-
-abbrev pub words_after : ℕ → Op → Data → Data
-words_after word (Store stored) before = slice_set before word stored
-words_after word _ before = before
 
 -- the operation may be of this word
 abbrev pub has_word : Extent → ℕ → Op → Bool

@@ -1,7 +1,7 @@
 -- The cache table: a line for each row, and none where a pair of state and event is impossible.
 -- Source: "A Primer on Memory Consistency and Cache Coherence", 2nd edition, chapter 7 (MSI and MESI, non-atomic requests, atomic transactions).
 -- The eviction from E, with EI_A and NoDataE, is this project's profile.
-use Rattle.std.specs.Prelude.{◌≡◌, Option, Some, None}
+use Rattle.std.specs.Prelude.{◌≡◌, Bool, true, false, Option, Some, None}
 use Rattle.snoop_trace.specs.declared.protocol.Protocol.{Protocol, TheVariants.Mesi}
 use Rattle.snoop_rules.specs.declared.names.CacheState.{CacheState, TheVariants.{I, IsAd, IsD, ImAd, ImD, S, SmAd, SmD, E, M, EiA, MiA, IiA}}
 use Rattle.snoop_rules.specs.declared.names.{CacheEvent.CacheEvent, CacheAction.CacheAction, CacheCell.CacheCell, Request.TheVariants.{GetS, GetM, PutM}}
@@ -95,3 +95,8 @@ cell_of _ _ _ = None
 -- in this state the event is met by this action, and this state is next
 abbrev pub Cell : Protocol → CacheState → CacheEvent → CacheAction → CacheState → Type 0
 Cell protocol state event action next = cell_of protocol state event ≡ Some (record { action = action; next = next })
+
+-- the operation is performed at once
+abbrev pub is_hit : CacheAction → Bool
+is_hit Hit = true
+is_hit _ = false

@@ -40,7 +40,7 @@ status_of_lint lint.Read = 1
 status_of_lint lint.NoMemory = 3
 status_of_lint lint.Write = 4
 
--- 2 for the command line or the shape
+-- 2 for the command line, the shape, a choice of what is shown, or a drawing that is too large; else that of the fault
 abbrev pub status_of : Failure → ℕ
 status_of (CommandLine error) = 2
 status_of NoCommand = 2

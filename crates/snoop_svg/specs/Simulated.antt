@@ -27,13 +27,16 @@ abbrev pub IsPlanned : Protocol → Extent → Chosen → Paper → List Step �
 IsPlanned protocol shape choice paper steps None = IsUndrawable protocol shape choice steps
 IsPlanned protocol shape choice paper steps (Some plan) = IsPlanOf protocol shape choice paper steps plan
 
+-- the drawing was small enough, and the writer got a beginning of it
+abbrev pub BeginsToDraw : Protocol → Extent → Chosen → Paper → List Step → Option (List ℕ) → Option (List ℕ) → Type 0
+BeginsToDraw protocol shape choice paper steps old new = IsDrawable protocol shape choice steps × BeginsToShow protocol shape (drawing_text protocol shape choice paper) steps old new
+
 -- the steps were drawn, or a beginning of that; or their drawing would be too large
 abbrev pub DrawsSteps : Protocol → Extent → Chosen → Paper → List Step → Result (Unit {0}) DrawFault → Option (List ℕ) → Option (List ℕ) → Type 0
 DrawsSteps protocol shape choice paper steps (Ok u) old new = IsDrawable protocol shape choice steps × ShowsRun protocol shape (drawing_text protocol shape choice paper) steps old new
 DrawsSteps protocol shape choice paper steps (Err TooLarge) old new = IsUndrawable protocol shape choice steps × (new ≡ old)
-DrawsSteps protocol shape choice paper steps (Err (Simulation NoMemory)) old new = (new ≡ old) ⊎ BeginsToShow protocol shape (drawing_text protocol shape choice paper) steps old new
-DrawsSteps protocol shape choice paper steps (Err (Simulation Write)) old new =
-    IsDrawable protocol shape choice steps × BeginsToShow protocol shape (drawing_text protocol shape choice paper) steps old new
+DrawsSteps protocol shape choice paper steps (Err (Simulation NoMemory)) old new = (new ≡ old) ⊎ BeginsToDraw protocol shape choice paper steps old new
+DrawsSteps protocol shape choice paper steps (Err (Simulation Write)) old new = BeginsToDraw protocol shape choice paper steps old new
 DrawsSteps protocol shape choice paper steps (Err (Simulation (Text fault))) old new = ⊥
 
 -- the whole text was read and what came of it drawn, or a beginning of that; or the text was refused

@@ -1,6 +1,6 @@
 -- The words of a block.
 -- Source: this project's profile.
-use Rattle.std.{specs.Prelude.{◌≡◌, ◌<◌, ◌≤◌, ◌-◌, ◌++◌, ⊤, ℕ, List, length, replicate, slice_index_or, take}, proofs.Math.Seq.take-append_seam}
+use Rattle.std.{specs.Prelude.{◌≡◌, ◌<◌, ◌≤◌, ◌+◌, ◌-◌, ◌*◌, ◌++◌, ⊤, ℕ, List, length, replicate, slice_index_or, slice_set, take}, proofs.Math.Seq.take-append_seam}
 use Rattle.snoop_trace.specs.{Extent.Extent, declared.step.Op.Op}
 use Rattle.snoop_trace.specs.declared.step.Op.TheVariants as op
 
@@ -31,6 +31,15 @@ padded n values = values ++ replicate (word_places - n) 0
 -- the words that a block has, of its values
 pub taken-padded : (n : ℕ) (values : List ℕ) → length values ≡ n → take n (padded n values) ≡ values
 taken-padded n values long = rw (← long) (take-append_seam values (replicate (word_places - length values) 0))
+
+-- the place of a block's word among the words of all blocks, where a block has so many
+abbrev pub place_of : ℕ → ℕ → ℕ → ℕ
+place_of words block word = block * words + word
+
+-- the words after an operation on one of them: a store writes it
+abbrev pub words_after : ℕ → Op → Data → Data
+words_after word (op.Store value) words = slice_set words word value
+words_after word _ words = words
 
 -- a word that blocks of the shape have: below their number of words, and one of the places for words
 abbrev pub IsWord : Extent → ℕ → Type 0

@@ -25,7 +25,7 @@ IsOfShape reader shape = (reader.cores ≡ shape.cores) × (reader.blocks ≡ sh
 abbrev pub StartsWith : {A : Type 0} → List A → List A → Type 0
 StartsWith {A} list first = (rest : List A) × (list ≡ first ++ rest)
 
--- the reader has entered a version: its list is legal, begins with what was seen before, and is of the same shape
+-- what is seen now, as after a version was entered: a legal list that begins with what was seen before, of the same shape
 pub record Enters (s t : Viewing) : Type 0 where
   pub legal : Legal t.seen
   pub begins : StartsWith t.seen s.seen

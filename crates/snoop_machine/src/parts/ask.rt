@@ -19,7 +19,7 @@ ghost use Rattle.snoop_model.specs.declared.replies.Refused.{Refused};
 
 use super::Parts;
 use super::step::{Asked, Plan};
-use crate::cache::{LineChange, state_of};
+use crate::lines::{LineChange, state_of};
 use snoop_history::Item;
 use snoop_model::{Access, Refused, Reply};
 use snoop_rules::{CacheAction, CacheState, cache_cell, event_asked};

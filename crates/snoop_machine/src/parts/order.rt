@@ -22,8 +22,7 @@ ghost use Rattle.snoop_machine.specs.Memory.{memory_line};
 
 use super::step::Plan;
 use super::{Memory, Parts};
-use crate::cache::words_of;
-use crate::lines::Lines;
+use crate::lines::{Lines, words_of};
 use snoop_history::{Item, Sent};
 use snoop_model::Refused;
 use snoop_rules::{

@@ -17,7 +17,7 @@ ghost use Rattle.snoop_model.specs.Moves.LookUps.{HasRow, HasMemRow};
 
 use super::Parts;
 use super::step::{Filled, Plan};
-use crate::cache::{Entry, state_of, waiting_of};
+use crate::lines::{Entry, state_of, waiting_of};
 use snoop_bus::Open;
 use snoop_history::{Came, Did, Item};
 use snoop_model::{Access, Refused};

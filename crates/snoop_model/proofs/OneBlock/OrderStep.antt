@@ -60,7 +60,9 @@ module _ {p : Protocol} {flat : List ℕ} {before : Picture} {good : BlockInvari
       ]
 
   pub sends : (from : Option ℕ) → IsBelow (length before.caches) from → (sends_so (payload_from p before c q from) (is_it meant from) sent (on_line from) (has_words from)).claim
-  sends None below = rw (l.is_memory, of_choice (λ x. not (is_some x)) (is_put_m q) (Some c) good.owner, good.is_owned) l.ends.1.1.1.1.0
+  sends None below =
+      let (_, (_, (_, (_, (by_memory, _))))) = l.ends in
+      rw (l.is_memory, of_choice (λ x. not (is_some x)) (is_put_m q) (Some c) good.owner, good.is_owned) by_memory
   sends (Some d) below = (each_row d below).4
 
   pub sends_if_meant : (from : Option ℕ) → IsBelow (length before.caches) from → is_it meant from ≡ true → Sends p before c q from sent
@@ -84,6 +86,7 @@ order_keeps s core block q new flat good in_row o =
     let after : Picture = o.next in
     let l = look good o.ready.1 core q in_row o.ready.0 in
     let (from_meant, is_sent, words) = sender_told l o.from o.payload o.sent.sends in
+    let (_, (_, (_, (was_fresh, _)))) = l.ends in
     let opened : Open = record { core = core; request = q; block = block; payload = o.payload; value = value_sent before o.from o.payload; from = o.from } in
     let opened_is : (x : Open) → after.transaction ≡ Some x → opened ≡ x = λ x is_x. same_Some _ _ (sym o.opened ∙ is_x) in
     let is_memory : after.memory.state ≡ l.memory.next = o.memory.2 ∙ ap (λ (m : MemCell). m.next) (same_Some _ _ (sym o.memory.1 ∙ l.is_memory)) in
@@ -104,7 +107,7 @@ order_keeps s core block q new flat good in_row o =
       states = λ d d_in. rw o.opened (line_after d d_in).fit;
       kept = λ d d_in. (line_after d d_in).kept;
       clean = λ d d_in h. o.value ∙ (line_after d d_in).clean h;
-      fresh = λ h. o.value ∙ elim (or_cases good.claims.fresh _ (l.ends.1.1.1.0 h)) [ inl is ↦ good.fresh is | inr is ↦ good.clean core in_row is ];
+      fresh = λ h. o.value ∙ elim (or_cases good.claims.fresh _ (was_fresh h)) [ inl is ↦ good.fresh is | inr is ↦ good.clean core in_row is ];
       carried = λ x is_x. rw (← opened_is x is_x) words;
       proper = λ d d_in. (line_after d d_in).proper;
       requestor_in = λ x is_x. rw (← opened_is x is_x) in_row;

@@ -23,7 +23,8 @@ pub answered : {p : Protocol} {n : ℕ} {flat : List ℕ} {before : Picture} {go
     → is_put_m o.request ≡ false
     → (row : CacheCell) × (row_for p (held_by before o.core).state (arrival o.payload) ≡ Some row) × (answer_claims p o.request good.claims found.next (owns good.owner o.core) row).claim
 answered {p} {n} {flat} {before} {good} {o} found get =
-    found.tests.1.1.1.1.1.0 get _ _ (rw (found.opened, eq-eqb o.core o.core refl) at (good.states o.core (good.requestor_in o found.opened)))
+    let (_, (_, (_, (_, (_, (has_row, _)))))) = found.tests in
+    has_row get _ _ (rw (found.opened, eq-eqb o.core o.core refl) at (good.states o.core (good.requestor_in o found.opened)))
 
 -- a Respond of a picture that keeps its invariant
 module _ (s : Situation) (block : ℕ) (o : Open) (did : Option Did) (new : Situation) (r : Responds s block o did new) (n : ℕ) (flat : List ℕ) (g : BlockInvariant s.protocol n flat (picture_of s block)) (in_row : o.core < length (picture_of s block).caches) where
@@ -48,7 +49,8 @@ module _ (s : Situation) (block : ℕ) (o : Open) (did : Option Did) (new : Situ
   -- memory is written with the block's words, or has them where it had
   memory_flat : (writes r.memory.act ≡ false → before.memory.value ≡ flat) → r.next.memory.value ≡ flat
   memory_flat stays =
-      let new : writes r.memory.act ≡ true → o.value ≡ flat = λ w. g.carried o r.opened (found.tests.1.1.1.0 (rw memory_is w)) in
+      let (_, (_, (_, (comes, _)))) = found.tests in
+      let new : writes r.memory.act ≡ true → o.value ≡ flat = λ w. g.carried o r.opened (comes (rw memory_is w)) in
       grind (arith, r.memory.value, new, stays)
 
   -- a core that is not answered keeps its line, which fits then, if the block's words change only at a GetM
@@ -74,7 +76,8 @@ module _ (s : Situation) (block : ℕ) (o : Open) (did : Option Did) (new : Situ
         kept = λ d d_in. (lines d d_in).kept;
         clean = λ d d_in. (lines d d_in).clean;
         fresh = λ h.
-            let (get_s, from) = found.tests.1.1.1.1.0 h in
+            let (_, (_, (_, (_, (was_fresh, _))))) = found.tests in
+            let (get_s, from) = was_fresh h in
             memory_flat (λ w. g.fresh (from (rw memory_is w))) ∙ sym (same get_s);
         carried = λ x is_x carries. cc (r.closed, is_x);
         requestor_in = λ x is_x. cc (r.closed, is_x);
@@ -88,6 +91,7 @@ module _ (s : Situation) (block : ℕ) (o : Open) (did : Option Did) (new : Situ
   respond_get get f =
       let c = o.core in
       let (row, is_row, (fit, (clean, performs))) = answered found get in
+      let (_, (_, (_, (_, (_, (_, (others, _))))))) = found.tests in
       let row_is : row ≡ f.fills.row = same_Some _ _ (sym is_row ∙ rw f.fills.arrives f.fills.is_row) in
       let words : (f.fills.after ≡ flat_after flat did) × IsLawful flat did × (is_get_m o.request ≡ false → flat_after flat did ≡ flat) =
       grind (arith, f.logged, g.carried o r.opened (found.tests.0 get), f.fills.fill, f.fills.performed, rw row_is at performs) in
@@ -100,7 +104,7 @@ module _ (s : Situation) (block : ℕ) (o : Open) (did : Option Did) (new : Situ
         closed (flat_after flat did) words.2 (simp f.held (each_set before.caches c f.line nothing_held
             (λ d x. d < n → LineFits p found.next.shared (owns (cond gained (Some c) g.owner) d) None (flat_after flat did) r.next.memory.value x) in_row (λ c_in. filled)
             (λ d apart d_in. rw (of_choice (λ x. owns x d) gained (Some c) g.owner, ne_eqb d c apart) (stays (flat_after flat did) words.2 d d_in
-            (found.tests.1.1.1.1.1.1.0 get _ _ (rw (r.opened, ne_eqb d c apart) at (g.states d d_in))))))),
+            (others get _ _ (rw (r.opened, ne_eqb d c apart) at (g.states d d_in))))))),
         words.1,
       )
 
@@ -109,9 +113,10 @@ module _ (s : Situation) (block : ℕ) (o : Open) (did : Option Did) (new : Situ
   respond_keeps = elim (by_request o.request r.requestor) [
     | inl (is_put, same, none) ↦
         let put = ap is_put_m is_put in
+        let (_, (_, (_, (_, (_, (_, (_, stay))))))) = found.tests in
         let no_gain : gained ≡ false = found.tests.1.1.0 put in
         let lines = λ (d : ℕ) (d_in : d < n). stays flat (λ h. refl) d d_in
-        (of_open p _ (Some o) (stays_so p o.request g.claims found.next) (found.tests.1.1.1.1.1.1.1 put) d _ _ (rw r.opened at (g.states d d_in))) in
+        (of_open p _ (Some o) (stays_so p o.request g.claims found.next) (stay put) d _ _ (rw r.opened at (g.states d d_in))) in
         rw none (closed flat (λ h. refl) (λ d d_in. simp same (rw no_gain (rw no_gain at (lines d d_in)))), tt)
     | inr (get, f) ↦ respond_get get f
   ]

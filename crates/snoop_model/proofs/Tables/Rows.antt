@@ -1,5 +1,5 @@
 -- What holds of every row, of the states, and of the table of claims, found by trying all.
-use Rattle.snoop_model.proofs.Common.{[], all_events, all_events-at, all_memories, all_payloads, all_payloads-at, all_protocols, all_requests, all_requests-at, all_states, all_states-at, and-false, and-true, arith, as_access, asked, awaited_request, Bool, CacheAction, CacheCell, CacheEvent, CacheState, carries_value, Cell, cell_of, claims_of, Drop, Evict, false, FillLoad, FillStore, fits, GetM, GetS, Hit, I, if◌then◌else◌, in_protocol, is_clean, is_load, is_owner, is_put_m, is_sharer, is_some, IsProper, Issue, keeps, kept_on, Line, List, missed_request, moves_to, None, not, Op, Option, option_map_or, other, own, Protocol, PutM, refl, Request, request_for, requests, same, seen_by, Some, Stall, states, takes_payload, Talk, true, wait_fits, waiting_request, ℕ, ◌&&◌, ◌==◌, ◌||◌, ◌≡◌}
+use Rattle.snoop_model.proofs.Common.{[], all_events, all_events-at, all_memories, all_payloads, all_payloads-at, all_protocols, all_requests, all_requests-at, all_states, all_states-at, and-false, and-true, arith, as_access, asked, awaited_request, Bool, CacheAction, CacheCell, CacheEvent, CacheState, carries_value, Cell, cell_of, claims_of, Drop, Evict, false, FillLoad, FillStore, fits, GetM, GetS, Hit, I, if◌then◌else◌, in_protocol, is_clean, is_hit, is_load, is_owner, is_put_m, is_sharer, is_some, IsProper, Issue, keeps, kept_on, Line, List, missed_request, moves_to, None, not, Op, Option, option_map_or, other, own, Protocol, PutM, refl, Request, request_for, requests, same, seen_by, Some, Stall, states, takes_payload, Talk, true, wait_fits, waiting_request, ℕ, ◌&&◌, ◌==◌, ◌||◌, ◌≡◌}
 use Rattle.snoop_model.proofs.Tables.Tested.{alike, each_bool, each_fitting, each_memory, each_of, each_open, each_option, each_protocol, equal, fails, found, given, holds, provided, Tested, unless, ◌also◌}
 use Rattle.snoop_rules.specs.declared.names.CacheEvent.TheVariants as event
 use Rattle.snoop_model.specs.Pictures.OneWriter.{lets_load, lets_store}
@@ -157,10 +157,6 @@ every_memory = each_protocol λ p. each_memory λ m. each_talk λ t. given (clai
 pub memory_rule : every_memory.claim
 unfolding all_protocols all_memories all_states all_requests all_payloads claims_of fits is_owner is_sharer is_clean wait_fits in_protocol same
 memory_rule = every_memory.sound refl
-
-abbrev pub is_hit : CacheAction → Bool
-is_hit Hit = true
-is_hit _ = false
 
 abbrev pub is_store : CacheEvent → Bool
 is_store event.Store = true

@@ -22,8 +22,9 @@ returns-in-Ok-show_steps-clause-does g c =
 
 pub returns-in-Err-NoMemory-clause-does : goal.returns-in-Err-NoMemory-clause-does
 returns-in-Err-NoMemory-clause-does g c =
-    let made = rw (c.in-Ok-widths_for.ensures, rw c.block.ensures at c.in-Ok.ensures) at c.new-drawing.ensures in
-    inr (begun_so (whole_text made) c.in-Err-NoMemory.ensures.front)
+    let panels = rw c.block.ensures at c.in-Ok.ensures in
+    let made = rw (c.in-Ok-widths_for.ensures, panels) at c.new-drawing.ensures in
+    inr (rw (c.deref.ensures.value, panels) at (c.if-not-is_small.ensures.0 refl), begun_so (whole_text made) c.in-Err-NoMemory.ensures.front)
 
 pub returns-clause-does : goal.returns-clause-does
 returns-clause-does g c =

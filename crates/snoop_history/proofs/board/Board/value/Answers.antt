@@ -1,5 +1,6 @@
 use Rattle.std.{proofs.{Common.{◌≡◌, ◌∙◌, ◌&&◌, None, Some, ap, subst}, lemmas.Bool.lt-ltb}, specs.Prelude.{slice_index, nat_lt, if◌then◌else◌}}
-use Rattle.snoop_history.{specs.{Board.{Tables, place_of}, History.flat, Within.inside}, proofs.Boards.value-read}
+use Rattle.snoop_trace.specs.Words.{place_of}
+use Rattle.snoop_history.{specs.{Board.Tables, History.flat, Within.inside}, proofs.Boards.value-read}
 use Rattle.snoop_history.proofs.board.Board.value.Goals as goal
 
 pub returns-then-word-self-clause-board : goal.returns-then-word-self-clause-board

@@ -4,8 +4,7 @@ use Rattle.snoop_machine.proofs.parts.Parts.prepare.Goals as goal
 pub returns-in_err-make_room-clause-refused : goal.returns-in_err-make_room-clause-refused
 returns-in_err-make_room-clause-refused g c =
     let p = err_from_is_err_and c.from_residual.result c.from_residual.ensures.1 in
-    let found = c.in-Ok.ensures.found in
-    rw (p.1, p.2) (rw found.0 at (plan-allowed c.args.self.now.situation c.in-Ok.plan found.1), c.in_err-make_room.ensures.refused)
+    rw (p.1, p.2) (rw c.in-Ok.ensures.found.0 at (plan-allowed c.args.self.now.situation c.in-Ok.plan c.in-Ok.ensures.found.1), c.in_err-make_room.ensures.refused)
 
 pub returns-in_err-make_room-clause-full : goal.returns-in_err-make_room-clause-full
 returns-in_err-make_room-clause-full g c = λ e. IsFull-plan c.args.self.now c.args.step c.in-Ok.plan c.in-Ok.ensures.found c.in_err-make_room.ensures.full

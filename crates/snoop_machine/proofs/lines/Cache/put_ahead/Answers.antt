@@ -1,6 +1,6 @@
 use Rattle.snoop_machine.proofs.Common.{ℕ, [], ◌∷◌, Result, IsOk, OnOk, nat_eq, map-append, Line, nothing_held, arith}
 use Rattle.indexmap.proofs.CallerLemmas.{insert_entry-new}
-use Rattle.snoop_machine.proofs.cache.Cache.put_ahead.Goals as goal
+use Rattle.snoop_machine.proofs.lines.Cache.put_ahead.Goals as goal
 
 -- what holds on success holds of a success
 on_ok : {A B : Type 0} {P : Type 0} (r : Result A B) → OnOk r P → IsOk r → P
