@@ -105,9 +105,8 @@ impl Recorder {
         let Ok(reply) = self.machine.step(step) else {
             unreachable!()
         };
-        self.machine.log().kept();
         self.steps.push_reserved(step);
-        self.writer.publish(rt);
+        publish(rt, &self.machine, &self.steps, &mut self.writer);
         Ok(reply)
     }
 
@@ -148,4 +147,17 @@ fn ready(writer: &mut VersionWriter, item: Option<Item>) -> Result<(), NoMemory>
         Some(item) => writer.prepare(item),
         None => Ok(()),
     }
+}
+
+/// Publishes the item that is ready, if there is one; the published list is then the machine's log. The steps are there for the
+/// contract.
+fn publish<R: Wait>(rt: &R, machine: &Machine, steps: &[Step], writer: &mut VersionWriter)
+    requires shape { writer.old.shape ≡ machine.now.situation.shape }
+    requires recorded { IsRecorded (record { situation = machine.now.situation; steps = steps.now; published = writer.old.list ++ writer.old.ready }) }
+    ensures published { writer.new ≡ record writer.old { list = writer.old.list ++ writer.old.ready; ready = [] } }
+    ensures recorded { IsRecorded (record { situation = machine.now.situation; steps = steps.now; published = writer.new.list }) }
+{
+    machine.coherent();
+    machine.log().kept();
+    writer.publish(rt);
 }

@@ -44,7 +44,7 @@ pub own_shown : (own : Own) (core : ℕ) (v w : Viewing) (answers : List Did) (c
     → Enters v w → core < v.cores → StartsWith (answers_of v.seen core) answers
     → count ≡ (if nat_lt core w.cores then Some (capped (next_number w.seen core)) else None)
     → last ≡ (if nat_lt core w.cores then last_of w.seen core else None)
-    → Judged own count last (length answers) → Shows own core answers w.seen
+    → Judged own count last (length answers) → Shows own core answers w
 own_shown own core v w answers count last e lt b counted lasts judged =
     let within = lt-ltb core w.cores (omega (arith, lt, e.shape.0)) in
     by_case own (rw (rw within at counted, rw within at lasts) at judged)
@@ -55,11 +55,11 @@ own_shown own core v w answers count last e lt b counted lasts judged =
     begins : StartsWith all answers
     begins = begins_on core w.seen v.seen answers e.begins b
 
-    by_case : (own : Own) → Judged own (Some (capped (length all))) (last_of w.seen core) (length answers) → Shows own core answers w.seen
+    by_case : (own : Own) → Judged own (Some (capped (length all))) (last_of w.seen core) (length answers) → Shows own core answers w
     by_case Unseen j = tt
-    by_case Same j = (begins_whole all answers begins (omega (arith, same_Some _ _ j.0, j.1)), e.legal)
-    by_case (More did) j = (one_more all answers did begins (omega (arith, same_Some _ _ j.0, j.2)) j.1, e.legal)
-    by_case (Strange did) j = (j.2, omega (arith, front_fits all answers begins.0 begins.1, same_Some _ _ j.1, j.3, j.4, j.5))
+    by_case Same j = (begins_whole all answers begins (omega (arith, same_Some _ _ j.0, j.1)), e.history)
+    by_case (More did) j = (one_more all answers did begins (omega (arith, same_Some _ _ j.0, j.2)) j.1, e.history)
+    by_case (Strange did) j = (j.2, omega (arith, front_fits all answers begins.0 begins.1, same_Some _ _ j.1, j.3, j.4, j.5), e.history)
 
 -- one operation more that does not do the work is a stranger's
 pub stranger_more : (did : Did) (work : Work) (dids answers : List Did) → ¬ Does did work → dids ≡ answers ++ did ∷ [] → IsStranger did work dids answers

@@ -1,6 +1,6 @@
 -- Rows: dealt to the lists of their cores, and what a seat has done of them.
-use Rattle.std.proofs.Common.{◌≡◌, ℕ, ◌+◌, ◌<◌, List, [], ◌∷◌, ◌++◌, length, take, Some, get_or, refl, sym, ap, ◌∙◌, arith, append-nil, inl, inr, filter, Option, append_assoc, None}
-use Rattle.snoop_cores.proofs.Common.{AnswersRows, AreDealt, block_at, cases_eq, common_steps, Did, DoesRow, eq-eqb, Extent, Fails, FailsOn, filter-append, filter_more, gets, Grows, is_answered, IsSettled, Leaves, map-append, MayDo, MayDoFirst, ne_eqb, Ran, RanDealt, RanTo, Row, rows_of_core, Seating, slice_get, slice_get-get_or, slice_get_cases, slice_set, take_more, Vec, Work}
+use Rattle.std.proofs.Common.{◌≡◌, ℕ, ◌+◌, ◌<◌, List, [], ◌∷◌, ◌++◌, length, take, Some, get_or, refl, sym, ap, subst, ◌∙◌, arith, append-nil, inl, inr, filter, Option, append_assoc, None}
+use Rattle.snoop_cores.proofs.Common.{AnswersRows, AreDealt, block_at, cases_eq, common_steps, Completes, Did, DoesRow, eq-eqb, Extent, Fails, FailsOn, filter-append, filter_more, gets, Grows, is_answered, IsSettled, Leaves, map-append, MayDo, MayBegin, MayDoFirst, ne_eqb, Op, Ran, RanDealt, RanTo, Row, rows_of_core, Seating, slice_get, slice_get-get_or, slice_get_cases, slice_set, take_more, Vec, Work, word_asked, work_on}
 use Rattle.std.specs.{Borrow.Bor, declared.alloc.Global.Global, List.AllZip}
 use Rattle.snoop_trace.specs.declared.step.Op.TheVariants.{Load}
 use Rattle.snoop_cores.{specs.declared.{stop.Stop.{Stop, TheVariants.{Late, Fault}}, fault.SeatFault.SeatFault}, proofs.Beginnings.starts_on}
@@ -30,6 +30,13 @@ ran_to rows dealt s t are lt ran = elim (slice_get_cases dealt s.core).1 [
   | inl own ↦ rw (are s.core own.0 own.2) at (ran own.0 own.2)
   | inr past ↦ absurd (omega (arith, lt, past.0))
 ]
+
+-- a row whose operation is over, and whose answers are these
+pub row_over : {row : Row} {op : Op} {block word : ℕ} {dids : List Did} {s t : Seating} → row.op ≡ op → block_at s.shape row.address ≡ Some block → word ≡ word_asked s.shape row.address op
+    → Completes (record { block = block; word = word; op = op }) dids s t → AnswersRows s.shape (row ∷ []) dids → Grows (row ∷ []) s t
+row_over {row} {op} {block} {word} {dids} {s} {t} same at is over answers =
+    let work : record { block = block; word = word; op = op } ≡ work_on s.shape block row = λ i. record { block = block; word = (is ∙ ap (word_asked s.shape row.address) (sym same)) i; op = sym same i } in
+    record { began = (block, at, subst (λ (w : Work). MayBegin w s) work over.began); stays = over.stays; added = (dids, over.answers, answers); leaves = over.settled }
 
 -- a row that stands where none does
 abbrev pub no_row : Row

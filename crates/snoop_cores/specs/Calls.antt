@@ -2,9 +2,9 @@
 -- Source: this project's profile.
 use Rattle.std.specs.Prelude.{◌≡◌, ◌≢◌, ◌⊎◌, ◌<◌, List, [], ◌∷◌, ◌++◌, map, Some, None}
 use Rattle.snoop_trace.specs.{Words.HasWord, Extent.Extent, declared.step.Work.Work}
-use Rattle.snoop_history.specs.{declared.items.Did.Did, History.{Legal, answers_of, last_or}}
+use Rattle.snoop_history.specs.{declared.items.Did.Did, History.{answers_of, last_or}}
 use Rattle.snoop_bench.specs.Works.{Does}
-use Rattle.snoop_versions.specs.Readings.{StartsWith}
+use Rattle.snoop_versions.specs.Readings.{IsHistoryFor, StartsWith}
 use Rattle.snoop_cores.specs.{declared.fault.SeatFault.{SeatFault, TheVariants.{NoBlock, NoMemory, Busy, Stranger}}, Seats.Seating}
 
 -- the shape has the work's block and its word
@@ -22,9 +22,13 @@ pub record MayBegin (work : Work) (s : Seating) : Type 0 where
   pub strange : s.strange ≡ None
   pub pending : (s.pending ≡ None) ⊎ (s.pending ≡ Some work)
 
--- nothing is pending or reported, and what was seen is legal and has the core's operations exactly as the seat was answered them
+-- what the seat has seen is the history of a machine of its shape
+abbrev pub HasSeenHistory : Seating → Type 0
+HasSeenHistory s = IsHistoryFor s.shape s.seen
+
+-- nothing is pending or reported, and what was seen is a machine's history and has the core's operations exactly as the seat was answered them
 pub record IsSettled (s : Seating) : Type 0 where
-  pub legal : Legal s.seen
+  pub history : HasSeenHistory s
   pub shown : answers_of s.seen s.core ≡ s.answers
   pub pending : s.pending ≡ None
   pub strange : s.strange ≡ None
@@ -52,7 +56,7 @@ abbrev pub Fails : SeatFault → Work → Seating → Seating → Type 0
 Fails NoBlock work s t = (¬ IsHere s.shape work) × (t ≡ s)
 Fails (Busy other) work s t = (s.strange ≡ None) × (s.pending ≡ Some other) × (other ≢ work) × (t ≡ s)
 Fails NoMemory work s t = MayBegin work s × AddsNoAnswer s t × (t.pending ≡ Some work) × (t.strange ≡ None) × (t.seen ≡ s.seen)
-Fails (Stranger did) work s t = ((s.strange ≡ Some did) × (t ≡ s)) ⊎ (MayBegin work s × AddsNoAnswer s t × (t.pending ≡ Some work) × (t.strange ≡ Some did) × IsStranger did work (answers_of t.seen s.core) s.answers)
+Fails (Stranger did) work s t = ((s.strange ≡ Some did) × (t ≡ s)) ⊎ (MayBegin work s × AddsNoAnswer s t × (t.pending ≡ Some work) × (t.strange ≡ Some did) × IsStranger did work (answers_of t.seen s.core) s.answers × HasSeenHistory t)
 
 -- the fault that is answered before any turn
 pub record RefusedAtOnce (work : Work) (s : Seating) (answered : SeatFault → Type 0) : Type 0 where

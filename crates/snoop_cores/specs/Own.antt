@@ -3,10 +3,10 @@
 use Rattle.std.specs.Prelude.{◌≡◌, ◌≢◌, ℕ, ◌+◌, ◌-◌, ◌^◌, ◌<◌, List, [], ◌∷◌, ◌++◌, length, Option, Some, ⊤}
 use Rattle.snoop_trace.specs.declared.step.Op.{Op}
 use Rattle.snoop_trace.specs.declared.step.Op.TheVariants as op
-use Rattle.snoop_history.specs.{declared.items.{Did.Did, Item.Item}, History.{Legal, answers_of, last_of}}
+use Rattle.snoop_history.specs.{declared.items.Did.Did, History.{answers_of, last_of}}
 use Rattle.snoop_bench.specs.declared.work.Turn.{Turn}
 use Rattle.snoop_bench.specs.declared.work.Turn.TheVariants as turn
-use Rattle.snoop_versions.specs.Readings.{Viewing, StartsWith}
+use Rattle.snoop_versions.specs.Readings.{SeesHistory, StartsWith, Viewing}
 use Rattle.snoop_cores.specs.declared.own.Own.{Own, TheVariants.{Unseen, Same, More, Strange}}
 
 -- the largest count that a `u64` holds: it says only that there are so many or more
@@ -18,12 +18,12 @@ pub record GoesOn (before after : Viewing) : Type 0 where
   pub begins : StartsWith after.seen before.seen
   pub shape : (after.cores ≡ before.cores) × (after.blocks ≡ before.blocks) × (after.words ≡ before.words)
 
--- the version shows the answers alone; or one operation more, which is this one; or more than one, of which this one is the last
-abbrev pub Shows : Own → ℕ → List Did → List Item → Type 0
-Shows Unseen core answers seen = ⊤
-Shows Same core answers seen = (answers_of seen core ≡ answers) × Legal seen
-Shows (More did) core answers seen = (answers_of seen core ≡ answers ++ did ∷ []) × Legal seen
-Shows (Strange did) core answers seen = (last_of seen core ≡ Some did) × (length answers + 1 < length (answers_of seen core))
+-- what is seen is a machine's history, with the answers alone; or with one operation more, which is this one; or with several more, of which this one is the last
+abbrev pub Shows : Own → ℕ → List Did → Viewing → Type 0
+Shows Unseen core answers v = ⊤
+Shows Same core answers v = (answers_of v.seen core ≡ answers) × SeesHistory v
+Shows (More did) core answers v = (answers_of v.seen core ≡ answers ++ did ∷ []) × SeesHistory v
+Shows (Strange did) core answers v = (last_of v.seen core ≡ Some did) × (length answers + 1 < length (answers_of v.seen core)) × SeesHistory v
 
 -- what is judged from the count of the core's operations, the last of them, and the number of answers
 abbrev pub Judged : Own → Option ℕ → Option Did → ℕ → Type 0

@@ -2,8 +2,8 @@
 -- Source: this project's profile.
 use Rattle.std.specs.Prelude.{◌≡◌, ℕ, ◌<◌, List, [], length, All, Option, None, slice_index_or}
 use Rattle.snoop_trace.specs.{Extent.Extent, declared.{protocol.Protocol.Protocol, step.Work.Work}}
-use Rattle.snoop_history.specs.{declared.items.{Did.Did, Item.Item}, History.Legal}
-use Rattle.snoop_versions.specs.Readings.{StartsWith}
+use Rattle.snoop_history.specs.declared.items.{Did.Did, Item.Item}
+use Rattle.snoop_versions.specs.Readings.{IsHistoryFor, StartsWith}
 use Rattle.snoop_cores.specs.declared.stop.Stop.{Stop}
 
 -- the machine that is shared: its protocol and its shape
@@ -26,9 +26,9 @@ pub record Watching : Type 0 where
   pub shape : Extent
   pub seen : List Item
 
--- what is seen now, as after a version was read: a legal list that begins with what was seen before
-pub record SeesOn (before after : List Item) : Type 0 where
-  pub legal : Legal after
+-- what is seen now, as after a version was read: the history of a machine of this shape, which begins with what was seen before
+pub record SeesOn (shape : Extent) (before after : List Item) : Type 0 where
+  pub history : IsHistoryFor shape after
   pub begins : StartsWith after before
 
 -- a seat that has done nothing

@@ -15,7 +15,7 @@ use snoop_machine::laws::taken_once;
 use snoop_machine::turns_are_served;
 use snoop_trace::{NoMemory, Protocol, Shape, Step};
 use std::alloc::Global;
-use std::sync::Wait;
+use std::sync::{MutexGuard, Wait};
 
 /// A log that joins what the seats were answered, and the steps that made it from reset, with the protocol and the shape that they
 /// are for.
@@ -49,7 +49,9 @@ pub fn gather<R: Wait>(
     }
     let bench = shared.lock(rt);
     bench.kept();
-    join(alloc, &bench, seats)
+    let joined = join(alloc, &bench, seats);
+    MutexGuard::unlock(bench);
+    joined
 }
 
 // Joins what the bench holds with the seats' answers.

@@ -1,9 +1,9 @@
 //! What a version shows of a core's operations, beside those that its seat was answered.
 ghost use Rattle.std.specs.Prelude.{◌≡◌, ◌<◌, ◌++◌, ◌∷◌, [], IfOk, IfErr, OnOk, IsTrue};
 ghost use Rattle.snoop_trace.specs.declared.step.Op.TheVariants as op;
-ghost use Rattle.snoop_history.specs.History.{answers_of, Legal};
+ghost use Rattle.snoop_history.specs.History.{answers_of};
 ghost use Rattle.snoop_bench.specs.Works.{Does};
-ghost use Rattle.snoop_versions.specs.Readings.{StartsWith};
+ghost use Rattle.snoop_versions.specs.Readings.{SeesHistory, StartsWith};
 ghost use Rattle.snoop_cores.specs.Own.{GoesOn, Shows, Judged};
 ghost use Rattle.snoop_cores.specs.Calls.{IsStranger};
 
@@ -31,7 +31,7 @@ fn look(reader: &mut VersionReader, core: u32, answers: &[Did]) -> Own
     requires begins { StartsWith (answers_of reader.old.seen core) answers.now }
     ensures goes_on { GoesOn reader.old reader.new }
     ensures begins { StartsWith (answers_of reader.new.seen core) answers.now }
-    ensures shows { Shows result core answers.now reader.new.seen }
+    ensures shows { Shows result core answers.now reader.new }
 {
     match reader.own(core) {
         Some((count, last)) => judge(count, last, answers.len() as u64),
@@ -84,8 +84,8 @@ pub(crate) fn find_own<R: Wait>(
     requires begins { StartsWith (answers_of reader.old.seen core) answers.now }
     ensures goes_on { GoesOn reader.old reader.new }
     ensures begins { StartsWith (answers_of reader.new.seen core) answers.now }
-    ensures ok { IfOk result (λ did. (answers_of reader.new.seen core ≡ answers.now ++ did ∷ []) × Legal reader.new.seen × Does did work) }
-    ensures err { IfErr result (λ did. IsStranger did work (answers_of reader.new.seen core) answers.now) }
+    ensures ok { IfOk result (λ did. (answers_of reader.new.seen core ≡ answers.now ++ did ∷ []) × SeesHistory reader.new × Does did work) }
+    ensures err { IfErr result (λ did. IsStranger did work (answers_of reader.new.seen core) answers.now × SeesHistory reader.new) }
 {
     for _ in rt.forever() {
         match look(reader, core, answers) {
@@ -111,8 +111,8 @@ pub(crate) fn find_same<R: Wait>(
     requires evicts { work.op ≡ op.Evict }
     ensures goes_on { GoesOn reader.old reader.new }
     ensures begins { StartsWith (answers_of reader.new.seen core) answers.now }
-    ensures ok { OnOk result ((answers_of reader.new.seen core ≡ answers.now) × Legal reader.new.seen) }
-    ensures err { IfErr result (λ did. IsStranger did work (answers_of reader.new.seen core) answers.now) }
+    ensures ok { OnOk result ((answers_of reader.new.seen core ≡ answers.now) × SeesHistory reader.new) }
+    ensures err { IfErr result (λ did. IsStranger did work (answers_of reader.new.seen core) answers.now × SeesHistory reader.new) }
 {
     for _ in rt.forever() {
         match look(reader, core, answers) {

@@ -29,7 +29,7 @@ use std::sync::Wait;
 /// The right to a core's operations: a share of the lock, and a reader of the published versions.
 ///
 /// An operation takes turns under the lock until it is over. What a seat then reports it has read in a published version, whose
-/// history is legal and has the core's operations exactly as the seat was answered them. It is not `Drop`: end it by `end`.
+/// history is that of a machine of this shape and has the core's operations exactly as the seat was answered them. It is not `Drop`: end it by `end`.
 pub struct Seat {
     core: u32,
     share: Share,
@@ -175,7 +175,7 @@ impl Seat {
     /// `NoBlock` where the block or the word is outside the shape; `NoVersion` where there is none to enter.
     pub fn value(&mut self, block: u32, word: u32) -> Result<u64, ViewFault>
         ensures value { IfOk result (λ value. value ≡ flat self.new.seen block word) }
-        ensures sees { OnOk result (SeesOn self.old.seen self.new.seen) }
+        ensures sees { OnOk result (SeesOn self.new.shape self.old.seen self.new.seen) }
         ensures outside { (result ≡ Err NoBlock) ↔ ((self.old.shape.blocks ≤ block) ⊎ (self.old.shape.words ≤ word)) }
         ensures own { StartsWith (answers_of self.new.seen self.new.core) self.new.answers }
         ensures same { self.new ≡ record self.old { seen = self.new.seen } }
@@ -189,7 +189,7 @@ impl Seat {
     /// `NoVersion` where there is none to enter.
     pub fn totals(&mut self) -> Result<Totals, ViewFault>
         ensures totals { IfOk result (λ totals. totals ≡ capped_totals (totals_of self.new.seen)) }
-        ensures sees { OnOk result (SeesOn self.old.seen self.new.seen) }
+        ensures sees { OnOk result (SeesOn self.new.shape self.old.seen self.new.seen) }
         ensures own { StartsWith (answers_of self.new.seen self.new.core) self.new.answers }
         ensures same { self.new ≡ record self.old { seen = self.new.seen } }
         ensures err { IfErr result (λ fault. (fault ≡ NoVersion) × (self.new ≡ self.old)) }

@@ -62,7 +62,8 @@ impl Share {
         self.shape
     }
 
-    /// Takes the lock, again and again until the bench under it is of this protocol and shape.
+    /// Takes the lock, again and again until the bench under it is of this protocol and shape. End the guard by `unlock`: what it
+    /// guards is not `Drop`.
     pub(crate) fn lock<R: Wait>(&self, rt: &R) -> MutexGuard<'_, Bench>
         ensures protocol { (mutex_guard_value result).situation.protocol ≡ self.now.protocol }
         ensures shape { (mutex_guard_value result).situation.shape ≡ self.now.shape }
@@ -72,6 +73,7 @@ impl Share {
             if bench.protocol() == self.protocol && bench.shape() == self.shape {
                 return bench;
             }
+            MutexGuard::unlock(bench);
         }
         unreachable!()
     }
@@ -81,7 +83,9 @@ impl Share {
         ensures { IfOk result (λ turn. EndsWork work.op turn) }
     {
         for _ in rt.forever() {
-            let turn = self.lock(rt).advance(rt, core, work);
+            let mut bench = self.lock(rt);
+            let turn = bench.advance(rt, core, work);
+            MutexGuard::unlock(bench);
             match turn {
                 Ok(Turn::Going) => {}
                 Ok(turn) => return Ok(turn),

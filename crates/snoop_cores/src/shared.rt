@@ -171,7 +171,7 @@ impl Shared {
         self.share.shape()
     }
 
-    /// Takes the lock.
+    /// Takes the lock. End the guard by `unlock`.
     pub(crate) fn lock<R: Wait>(&self, rt: &R) -> MutexGuard<'_, Bench>
         ensures protocol { (mutex_guard_value result).situation.protocol ≡ self.now.protocol }
         ensures shape { (mutex_guard_value result).situation.shape ≡ self.now.shape }

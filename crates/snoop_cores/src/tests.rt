@@ -3,6 +3,7 @@
 use crate::{GatherFault, SeatFault, Shared, Turn, Work, end_seats, end_watches, gather};
 use snoop_rules::Protocol;
 use snoop_trace::{Op, Shape};
+use std::sync::MutexGuard;
 use std::test::Fail;
 
 #[test]
@@ -24,7 +25,7 @@ fn readings_while_the_lock_is_held(rt: HostRuntime) -> Result<(), Fail> {
         .get_mut(0)
         .map(|seat| (seat.totals().is_ok(), seat.value(0, 0)));
     let asked = held.advance(&rt, 0, store);
-    drop(held);
+    MutexGuard::unlock(held);
     let pending = gather(&rt, rt.alloc(), &shared, seats.as_slice()).err();
     let mut held = shared.lock(&rt);
     let turns = [
@@ -32,7 +33,7 @@ fn readings_while_the_lock_is_held(rt: HostRuntime) -> Result<(), Fail> {
         held.advance(&rt, 0, store),
         held.advance(&rt, 0, store),
     ];
-    drop(held);
+    MutexGuard::unlock(held);
     // The seat did not make that store. Its own load is core 0's second operation.
     let strange = seats.get_mut(0).map(|seat| (
         seat.load(&rt, 0, 0),

@@ -2,6 +2,7 @@
 ghost use Rattle.std.specs.Prelude.{◌≡◌, ◌≤◌, ◌⊎◌, ◌↔◌, Err, IfOk, IfErr, OnOk, OnErr};
 ghost use Rattle.snoop_history.specs.History.{flat};
 ghost use Rattle.snoop_history.specs.Totals.{capped_totals, totals_of};
+ghost use Rattle.snoop_versions.specs.Readings.{IsOfShape};
 ghost use Rattle.snoop_cores.specs.Seats.{SeesOn};
 ghost use Rattle.snoop_cores.specs.declared.fault.ViewFault.TheVariants.{NoBlock, NoVersion};
 
@@ -22,20 +23,20 @@ pub struct Watch {
 }
 
 impl Model for Watch {
-    ghost use Rattle.std.specs.Prelude.{◌≡◌};
+    ghost use Rattle.snoop_versions.specs.Readings.{IsOfShape};
     ghost use Rattle.snoop_cores.specs.Seats.{Watching};
 
     ghost Value = { Watching };
 
     ghost view = { λ w. record { shape = w.share.shape; seen = w.reader.seen } };
 
-    ghost invariant = { λ w. (w.reader.blocks ≡ w.share.shape.blocks) × (w.reader.words ≡ w.share.shape.words) };
+    ghost invariant = { λ w. IsOfShape w.reader w.share.shape };
 }
 
 impl Watch {
     // A watch with its share of the lock.
     pub(crate) fn new(share: Share, reader: VersionReader) -> Watch
-        requires { (reader.blocks ≡ share.shape.blocks) × (reader.words ≡ share.shape.words) }
+        requires { IsOfShape reader share.shape }
         ensures { result.shape ≡ share.shape }
     {
         Watch { share, reader }
@@ -45,7 +46,7 @@ impl Watch {
     /// `NoVersion` where there is none to enter.
     pub fn value(&mut self, block: u32, word: u32) -> Result<u64, ViewFault>
         ensures value { IfOk result (λ value. value ≡ flat self.new.seen block word) }
-        ensures sees { OnOk result (SeesOn self.old.seen self.new.seen) }
+        ensures sees { OnOk result (SeesOn self.new.shape self.old.seen self.new.seen) }
         ensures outside { (result ≡ Err NoBlock) ↔ ((self.old.shape.blocks ≤ block) ⊎ (self.old.shape.words ≤ word)) }
         ensures same { self.new ≡ record self.old { seen = self.new.seen } }
         ensures err { OnErr result (self.new ≡ self.old) }
@@ -56,7 +57,7 @@ impl Watch {
     /// The counts of one published version. `NoVersion` where there is none to enter.
     pub fn totals(&mut self) -> Result<Totals, ViewFault>
         ensures totals { IfOk result (λ totals. totals ≡ capped_totals (totals_of self.new.seen)) }
-        ensures sees { OnOk result (SeesOn self.old.seen self.new.seen) }
+        ensures sees { OnOk result (SeesOn self.new.shape self.old.seen self.new.seen) }
         ensures same { self.new ≡ record self.old { seen = self.new.seen } }
         ensures err { IfErr result (λ fault. (fault ≡ NoVersion) × (self.new ≡ self.old)) }
     {

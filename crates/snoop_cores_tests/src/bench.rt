@@ -1,2 +1,2 @@
-mod memory;
+pub(crate) mod memory;
 mod turns;

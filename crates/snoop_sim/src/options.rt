@@ -2,7 +2,7 @@
 ghost use Rattle.std.specs.Prelude.{◌≡◌, ◌≢◌, ◌^◌, [], IfErr, IfOk, Ok, false, is_some, map, string_bytes, true};
 ghost use Rattle.clap.specs.Words.{App, app_of, first_of, found_of, one_of, rows_of};
 ghost use Rattle.snoop_sim.specs.Asked.{AsksFor, BeginsNothing, HasNoTask, IsTaskOf};
-ghost use Rattle.snoop_sim.specs.CommandLine.{Describes, DescribesOption, IsCounts, IsDraw, IsGroupings, IsKinds, IsLayouts, IsLint, IsLocal, IsProtocols, IsRun, IsSimulation, IsSnoop, IsStates, IsSteps, IsTable, IsThemes, IsThreads, IsView, Names, choice_rules, flag_rule, form_rule, grouping_rule, kind_rule, layout_rule, number_rule, optional_rule, protocol_rule, theme_rule, with_rules};
+ghost use Rattle.snoop_sim.specs.CommandLine.{Describes, DescribesOption, IsCounts, IsDraw, IsKinds, IsLint, IsLocal, IsProtocols, IsRun, IsSimulation, IsSnoop, IsStates, IsSteps, IsTable, IsThreads, IsView, Names, choice_rules, flag_rule, form_rule, kind_rule, number_rule, optional_rule, protocol_rule, with_rules};
 ghost use Rattle.snoop_sim.specs.Options.{IsChoiceOf, HasNoGrouping, HasNoNamed, HasNoSteps, IsGroupingOf, IsInputOf, IsNamed, IsPaperOf, IsSteps as IsStepsOf, IsNumberOf, IsReadAs, IsShapeOf, MisplacesPaper, MisplacesSerial, asks_ascii, asks_serial, charset_named, form_named, kind_named, layout_named, protocol_named, says, theme_named, which_named};
 
 use crate::failure::Failure;
@@ -221,7 +221,12 @@ fn counts<'a>(alloc: Global) -> Result<Command<'a>, AllocError>
         "Read steps or rows; write counts by row of the tables, core, block, word or steps",
         help::COUNTS,
     )?
-    .arg(groupings(alloc))?
+    .arg(optional(
+        alloc,
+        "by",
+        ValueParser::Names(GROUPINGS.as_slice()),
+        "What each line counts",
+    ))?
     .arg(optional(
         alloc,
         "top",
@@ -265,6 +270,12 @@ fn draw<'a>(alloc: Global) -> Result<Command<'a>, AllocError>
         help::DRAW,
     )?;
     let ascii = flag(alloc, "ascii", "For text: draw with ASCII characters alone");
+    let theme = optional(
+        alloc,
+        "theme",
+        ValueParser::Names(THEMES.as_slice()),
+        "Colours for svg and html",
+    );
     let shown = optional(
         alloc,
         "shown",
@@ -276,7 +287,7 @@ fn draw<'a>(alloc: Global) -> Result<Command<'a>, AllocError>
         plain
             .arg(forms(alloc, DRAWINGS.as_slice()))?
             .arg(ascii)?
-            .arg(themes(alloc))?
+            .arg(theme)?
             .arg(shown)?,
     )
 }
@@ -357,26 +368,31 @@ fn simulation<'a>(
 fn table<'a>(alloc: Global) -> Result<Command<'a>, AllocError>
     ensures { IfOk result (λ command. IsLocal command × IsTable (app_of command)) }
 {
-    let which = Arg::new(alloc, "which")
-        .long("which")
-        .help("Whose table it is")
-        .value_parser(ValueParser::Names(TABLES.as_slice()))
-        .default_value("cache");
+    let which = optional(
+        alloc,
+        "which",
+        ValueParser::Names(TABLES.as_slice()),
+        "Whose table it is",
+    );
+    let layout = optional(
+        alloc,
+        "as",
+        ValueParser::Names(LAYOUTS.as_slice()),
+        "The layout",
+    );
     Command::new(alloc, "table")
         .about("Write a controller's table: state, event, action and next state")
         .after_help(help::TABLE)
         .arg(protocol(alloc))?
-        .arg(which)?
-        .arg(layouts(alloc))
+        .arg(which.default_value("cache"))?
+        .arg(layout.default_value("rows"))
 }
 
 fn protocol<'a>(alloc: Global) -> Arg<'a>
     ensures { (protocols : Names) × IsProtocols protocols × DescribesOption result (protocol_rule protocols) }
 {
-    Arg::new(alloc, "protocol")
-        .long("protocol")
-        .help("The protocol")
-        .value_parser(ValueParser::Names(PROTOCOLS.as_slice()))
+    let names = ValueParser::Names(PROTOCOLS.as_slice());
+    optional(alloc, "protocol", names, "The protocol")
         .ignore_case(true)
         .default_value("msi")
 }
@@ -390,55 +406,18 @@ fn flag<'a>(alloc: Global, name: &'a str, help: &'a str) -> Arg<'a>
         .action(ArgAction::SetTrue)
 }
 
-fn groupings<'a>(alloc: Global) -> Arg<'a>
-    ensures { (groupings : Names) × IsGroupings groupings × DescribesOption result (grouping_rule groupings) }
-{
-    Arg::new(alloc, "by")
-        .long("by")
-        .help("What each line counts")
-        .value_parser(ValueParser::Names(GROUPINGS.as_slice()))
-}
-
 /// The form of the output, a text if it is not given.
 fn forms<'a>(alloc: Global, names: &'a [&'a str]) -> Arg<'a>
     ensures { DescribesOption result (form_rule names.entry) }
 {
-    Arg::new(alloc, "as")
-        .long("as")
-        .help("The form")
-        .value_parser(ValueParser::Names(names))
-        .default_value("text")
+    optional(alloc, "as", ValueParser::Names(names), "The form").default_value("text")
 }
 
 fn kinds<'a>(alloc: Global) -> Arg<'a>
     ensures { (kinds : Names) × IsKinds kinds × DescribesOption result (kind_rule kinds) }
 {
-    Arg::new(alloc, "of")
-        .long("of")
-        .help("The kind of text")
-        .value_parser(ValueParser::Names(KINDS.as_slice()))
-        .default_value("steps")
-}
-
-/// How a table is written, by rows if it is not given.
-fn layouts<'a>(alloc: Global) -> Arg<'a>
-    ensures { (layouts : Names) × IsLayouts layouts × DescribesOption result (layout_rule layouts) }
-{
-    Arg::new(alloc, "as")
-        .long("as")
-        .help("The layout")
-        .value_parser(ValueParser::Names(LAYOUTS.as_slice()))
-        .default_value("rows")
-}
-
-/// The colours of a drawing, the reader's own if they are not given.
-fn themes<'a>(alloc: Global) -> Arg<'a>
-    ensures { (themes : Names) × IsThemes themes × DescribesOption result (theme_rule themes) }
-{
-    Arg::new(alloc, "theme")
-        .long("theme")
-        .help("Colours for svg and html")
-        .value_parser(ValueParser::Names(THEMES.as_slice()))
+    let names = ValueParser::Names(KINDS.as_slice());
+    optional(alloc, "of", names, "The kind of text").default_value("steps")
 }
 
 /// An option that may be left out.
@@ -454,11 +433,7 @@ fn optional<'a>(alloc: Global, name: &'a str, values: ValueParser<'a>, help: &'a
 fn number<'a>(alloc: Global, name: &'a str, default: &'a str, help: &'a str) -> Arg<'a>
     ensures { DescribesOption result (number_rule name.entry.now default.entry.now) }
 {
-    Arg::new(alloc, name)
-        .long(name)
-        .help(help)
-        .value_parser(value_parser!(u32))
-        .default_value(default)
+    optional(alloc, name, value_parser!(u32), help).default_value(default)
 }
 
 /// The protocol that was named, in either case.

@@ -1,12 +1,14 @@
 -- Publishing and entering keep the rule of the versions, and a writer has at most one item ready.
 use Rattle.std.proofs.Common.{◌≡◌, ◌≢◌, ℕ, ◌<◌, ◌≤◌, List, [], ◌∷◌, ◌++◌, length, fold, map, Some, None, inl, inr, true, false, true≢false, refl, sym, ap, ◌∙◌, ⊎_elim, append-nil, append_assoc, arith}
-use Rattle.snoop_versions.proofs.Common.{absorbed_board, Adds, All, Enters, Err, Fits, grown, IsOk, IsPublishing, IsWriting, Item, Kept, MatchResult, newcomer, newest_of, Ok, Result, same_shape, Sees, Version, version_of, View, viewing}
-use Rattle.std.proofs.lemmas.{Bool.cases_Bool, List.map-append}
+use Rattle.snoop_versions.proofs.Common.{absorbed_board, Adds, All, Enters, Err, Fits, grown, IsHistory, IsOk, IsPublishing, IsWriting, Item, Kept, MatchResult, newcomer, newest_of, Ok, Result, same_shape, Sees, Version, version_of, View, viewing}
+use Rattle.std.proofs.lemmas.{Bool.cases_Bool, List.{map-append, Elements.All-nil}}
 use mathlib.Core.Option.{some}
 use lib.ListN.{get_elem?, set}
 use Rattle.left_right.specs.Register.{Admits, TurnsAt, Turns}
 use Rattle.atomic_table.proofs.Lists.{at_set, at_snoc}
-use Rattle.snoop_history.{specs.{History.{Legal, last_or}, Within.IsItemWithin}, proofs.Pushed.last_or-append}
+use Rattle.snoop_trace.specs.{Extent.Extent, Output.IsReadableStep, declared.protocol.Protocol.TheVariants.Msi}
+use Rattle.snoop_model.specs.Pictures.Situation.{reset}
+use Rattle.snoop_history.{specs.{History.last_or, Within.IsItemWithin}, proofs.Pushed.last_or-append}
 
 -- the last of a list that has grown by one
 pub last-push : {A : Type 0} (list : List A) (entry : A) → last_or None (map Some (list ++ entry ∷ [])) ≡ Some entry
@@ -29,21 +31,20 @@ newcomer_fits cores blocks words list writer handle = record { begins = (list, r
 -- the rule holds of more views, if each fits
 kept_on : {x : Version} {views after : List View} (k : Kept x views)
     → ((handle : ℕ) (v : View) → get_elem? after handle ≡ some v → Fits k.cores k.blocks k.words k.list k.writer handle v) → Kept x after
-kept_on k each = record {
-  cores = k.cores;
-  blocks = k.blocks;
-  words = k.words;
-  list = k.list;
-  writer = k.writer;
-  version = k.version;
-  legal = k.legal;
-  within = k.within;
-  each = each;
-}
+kept_on k each =
+    record { cores = k.cores; blocks = k.blocks; words = k.words; list = k.list; writer = k.writer; version = k.version; history = k.history; within = k.within; each = each }
 
 pub admits : Admits Kept newcomer
 admits x views k = kept_on k (λ handle v there.
     ⊎_elim (k.each handle v) (λ same. rw (← same) (newcomer_fits k.cores k.blocks k.words k.list k.writer handle)) (at_snoc views newcomer v handle there))
+
+-- before the first item the history is that of a machine at reset
+pub opens : (shape : Extent) (x : Version) → x ≡ version_of shape.cores shape.blocks shape.words [] → Kept x (newcomer ∷ [])
+opens shape x is =
+    let history : IsHistory shape.cores shape.blocks shape.words [] =
+    record { legal = λ k entry at. cc; protocol = Msi; shape = shape; size = (refl, refl, refl); steps = []; readable = All-nil (IsReadableStep shape); at = reset Msi shape; taken = ([], refl); logged = refl } in
+    let within = All-nil (IsItemWithin shape.cores shape.blocks shape.words) in
+    admits x [] (record { cores = shape.cores; blocks = shape.blocks; words = shape.words; list = []; writer = 0; version = is; history = history; within = within; each = λ handle v there. cc })
 
 -- what holds of each view after one is set
 each_set : (F : ℕ → View → Type 0) (views : List View) (handle : ℕ) (w : View) → F handle w
@@ -59,12 +60,12 @@ sees handle v x views k at =
     let was = k.each handle v at in (
       w,
       kept_on k (each_set (Fits k.cores k.blocks k.words k.list k.writer) views handle w fits (λ other u apart. k.each other u)),
-      record { used = refl; version = k.version; legal = k.legal; within = k.within; begins = was.begins; shape = λ e. let s = was.shape e in (sym s.0, sym s.1, sym s.2) },
+      record { used = refl; version = k.version; history = k.history; within = k.within; begins = was.begins; shape = λ e. let s = was.shape e in (sym s.0, sym s.1, sym s.2) },
     )
 
 -- what a reader then knows
 pub enters : {v w : View} {x y : Version} → v.used ≡ true → Sees v x y w → Enters (viewing v) (viewing w)
-enters used s = record { legal = s.legal; begins = s.begins; shape = s.shape used }
+enters used s = record { history = s.history; begins = s.begins; shape = s.shape used }
 
 -- the writer's list is the published one, and nobody else writes
 written : (handle : ℕ) (v : View) (x : Version) (c b d : ℕ) {views : List View} (k : Kept x views) → x ≡ version_of c b d v.seen → IsWriting v → get_elem? views handle ≡ some v
@@ -78,8 +79,8 @@ written handle v x c b d k shown is at = elim (cases_Bool v.writes) [
       (none ∙ sym (is e), λ other u apart there w. ((k.each other u there).writes w).2 (ap newest_of none))
 ]
 
-pub adds : (handle : ℕ) (v : View) (x next : Version) (c b d : ℕ) (entry : Item) → x ≡ version_of c b d v.seen → IsWriting v → Legal (v.seen ++ entry ∷ []) → All (IsItemWithin c b d) (v.seen ++ entry ∷ []) → next ≡ grown x entry → TurnsAt Kept handle v x next Adds
-adds handle v x next c b d entry shown is legal within grows views k at =
+pub adds : (handle : ℕ) (v : View) (x next : Version) (c b d : ℕ) (entry : Item) → x ≡ version_of c b d v.seen → IsWriting v → IsHistory c b d (v.seen ++ entry ∷ []) → All (IsItemWithin c b d) (v.seen ++ entry ∷ []) → next ≡ grown x entry → TurnsAt Kept handle v x next Adds
+adds handle v x next c b d entry shown is history within grows views k at =
     let (same, no_other) = written handle v x c b d k shown is at in
     let shape = same_shape c b d k.cores k.blocks k.words v.seen k.list (ap (λ (y : Version). y.board) (sym shown ∙ k.version)) in
     let list = k.list ++ entry ∷ [] in
@@ -93,7 +94,7 @@ adds handle v x next c b d entry shown is legal within grows views k at =
         list = list;
         writer = handle;
         version = grows ∙ ap (λ (y : Version). grown y entry) k.version ∙ sym (version_of-push k.cores k.blocks k.words k.list entry);
-        legal = rw (← same) at legal;
+        history = rw (shape.0, shape.1, shape.2, ← same) at history;
         within = rw (shape.0, shape.1, shape.2, ← same) at within;
         each = each_set (Fits k.cores k.blocks k.words list handle) views handle w fits (λ other u apart there.
             let (rest, begins) = (k.each other u there).begins in

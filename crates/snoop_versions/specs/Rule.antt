@@ -3,8 +3,8 @@
 use Rattle.std.specs.Prelude.{◌≡◌, ◌≢◌, ℕ, ◌≤◌, List, [], ◌++◌, All, length, map, Option, Some, None, option_to_list, true, false}
 use mathlib.Core.Option.{some}
 use lib.ListN.{get_elem?}
-use Rattle.snoop_history.specs.{declared.items.Item.Item, History.{Legal, last_or}, Within.IsItemWithin, Board.{board_of, absorbed}}
-use Rattle.snoop_versions.specs.{declared.{version.Version.Version, rule.View.View}, Readings.{StartsWith, Viewing}}
+use Rattle.snoop_history.specs.{declared.items.Item.Item, History.last_or, Within.IsItemWithin, Board.{board_of, absorbed}}
+use Rattle.snoop_versions.specs.{declared.{version.Version.Version, rule.View.View}, Readings.{IsHistory, StartsWith, Viewing}}
 
 -- the last item of a list, if any
 abbrev pub newest_of : List Item → Option Item
@@ -28,7 +28,7 @@ pub record Fits (cores blocks words : ℕ) (list : List Item) (writer : ℕ) (ha
   pub shape : v.used ≡ true → (v.cores ≡ cores) × (v.blocks ≡ blocks) × (v.words ≡ words)
   pub writes : v.writes ≡ true → (handle ≡ writer) × (v.seen ≡ list) × (newest_of list ≢ None)
 
--- one legal list within one shape, whose version is published, and which begins with what each handle has seen
+-- one machine's history, within its shape, whose version is published, and which begins with what each handle has seen
 pub record Kept (x : Version) (views : List View) : Type 0 where
   pub cores : ℕ
   pub blocks : ℕ
@@ -36,7 +36,7 @@ pub record Kept (x : Version) (views : List View) : Type 0 where
   pub list : List Item
   pub writer : ℕ
   pub version : x ≡ version_of cores blocks words list
-  pub legal : Legal list
+  pub history : IsHistory cores blocks words list
   pub within : All (IsItemWithin cores blocks words) list
   pub each : (handle : ℕ) (v : View) → get_elem? views handle ≡ some v → Fits cores blocks words list writer handle v
 
@@ -44,11 +44,11 @@ pub record Kept (x : Version) (views : List View) : Type 0 where
 abbrev pub Adds : View → Version → Version → View → Type 0
 Adds v x y w = (w.writes ≡ true) × (w.seen ≡ v.seen ++ option_to_list y.newest)
 
--- what is seen is legal, lies within the shape, begins with what was seen before, and has this version
+-- what is seen is a machine's history, lies within the shape, begins with what was seen before, and has this version
 pub record Sees (v : View) (x y : Version) (w : View) : Type 0 where
   pub used : w.used ≡ true
   pub version : y ≡ version_of w.cores w.blocks w.words w.seen
-  pub legal : Legal w.seen
+  pub history : IsHistory w.cores w.blocks w.words w.seen
   pub within : All (IsItemWithin w.cores w.blocks w.words) w.seen
   pub begins : StartsWith w.seen v.seen
   pub shape : v.used ≡ true → (w.cores ≡ v.cores) × (w.blocks ≡ v.blocks) × (w.words ≡ v.words)

@@ -2,9 +2,9 @@
 #![tactic(auto, using(crate::proofs::Versions::sees))]
 
 ghost use Rattle.std.specs.Prelude.{◌≡◌, ◌&&◌, Some, None, IfSome, IfNone, IsTrue, true, if◌then◌else◌, nat_lt};
-ghost use Rattle.snoop_history.specs.History.{Legal, next_number, flat, last_of};
+ghost use Rattle.snoop_history.specs.History.{next_number, flat, last_of};
 ghost use Rattle.snoop_history.specs.Totals.{totals_of, capped, capped_totals};
-ghost use Rattle.snoop_versions.specs.Readings.{Enters};
+ghost use Rattle.snoop_versions.specs.Readings.{Enters, IsHistoryFor};
 ghost use Rattle.snoop_versions.specs.Knows.{knows};
 ghost use Rattle.snoop_versions.specs.Rule.{viewing};
 
@@ -16,7 +16,7 @@ use snoop_trace::Shape;
 pub(crate) fn enter_shape(reader: RuledReader, shape: Shape) -> (RuledReader, bool)
     ensures used { IsTrue result.1 → (knows result.0.place).used ≡ true }
     ensures shape { IsTrue result.1 → ((knows result.0.place).cores ≡ shape.cores) × ((knows result.0.place).blocks ≡ shape.blocks) × ((knows result.0.place).words ≡ shape.words) }
-    ensures legal { IsTrue result.1 → Legal (knows result.0.place).seen }
+    ensures history { IsTrue result.1 → IsHistoryFor shape (knows result.0.place).seen }
 {
     match reader.enter_as::<SeesList>() {
         Ok(reading) => {

@@ -25,8 +25,7 @@ impl Model for Readers {
 
 impl Readers {
     ghost use Rattle.std.specs.Prelude.{◌≡◌, ◌&&◌, IfSome};
-    ghost use Rattle.snoop_history.specs.History.{Legal};
-    ghost use Rattle.snoop_versions.specs.Readings.{IsOfShape};
+    ghost use Rattle.snoop_versions.specs.Readings.{IsHistoryFor, IsOfShape};
 
     // What makes readers of the versions of this shape.
     pub(crate) fn over(shape: Shape, factory: RuledFactory) -> Readers
@@ -39,7 +38,7 @@ impl Readers {
     #[tactic(auto, using(crate::proofs::Versions::admits))]
     pub fn reader(&self) -> Option<VersionReader>
         ensures shape { IfSome result (λ reader. IsOfShape reader self.now) }
-        ensures legal { IfSome result (λ reader. Legal reader.seen) }
+        ensures history { IfSome result (λ reader. IsHistoryFor self.now reader.seen) }
     {
         let reader = self.factory.reader().ok()?;
         let (reader, fits) = enter_shape(reader, self.shape);

@@ -19,7 +19,7 @@ pub(crate) struct View {
     pub(crate) seen: LinkedList<Item>,
 }
 
-/// There is one legal list within one shape, whose version is published. What each handle has seen is a
+/// There is one list, the history of a machine of one shape, whose version is published. What each handle has seen is a
 /// beginning of it.
 pub(crate) struct Published;
 

@@ -10,19 +10,16 @@ use snoop_history::{Board, Item};
 use snoop_trace::{NoMemory, Shape};
 use std::alloc::Global;
 use std::marker::Model;
-use std::mem::ManuallyDrop;
 use std::sync::Wait;
 
 /// The writer of the versions that readers see. It is not `Drop`: end it by `end`. It may lie under a lock.
 pub struct VersionWriter {
     shape: Shape,
-    // A guard of a lock needs a way to drop what it guards, and a writer has none.
-    writer: ManuallyDrop<RuledWriter>,
+    writer: RuledWriter,
 }
 
 impl Model for VersionWriter {
     ghost use Rattle.std.specs.Prelude.{drop};
-    ghost use Rattle.std.specs.Mem.{manually_drop_value};
     ghost use Rattle.snoop_versions.specs.Readings.{Publishing};
 
     ghost Value = { Publishing };
@@ -30,18 +27,19 @@ impl Model for VersionWriter {
     ghost use Rattle.snoop_versions.specs.Knows.{knows};
     ghost use Rattle.snoop_versions.specs.Rule.{IsPublishing};
 
-    ghost view = { λ w. record { shape = w.shape; list = (knows (manually_drop_value w.writer).desk.place).seen; ready = drop (manually_drop_value w.writer).behind (manually_drop_value w.writer).log.items } };
+    ghost view = { λ w. record { shape = w.shape; list = (knows w.writer.desk.place).seen; ready = drop w.writer.behind w.writer.log.items } };
 
-    ghost invariant = { λ w. IsPublishing w.shape.cores w.shape.blocks w.shape.words (knows (manually_drop_value w.writer).desk.place) (manually_drop_value w.writer).desk.shown.value (drop (manually_drop_value w.writer).behind (manually_drop_value w.writer).log.items) };
+    ghost invariant = { λ w. IsPublishing w.shape.cores w.shape.blocks w.shape.words (knows w.writer.desk.place) w.writer.desk.shown.value (drop w.writer.behind w.writer.log.items) };
 }
 
 impl VersionWriter {
     ghost use Rattle.std.specs.Prelude.{◌≡◌, ◌<◌, ◌^◌, [], ◌∷◌, ◌++◌, All, IfOk, OnOk, OnErr};
     ghost use Rattle.snoop_history.specs.Board.{board_of};
-    ghost use Rattle.snoop_history.specs.History.{Legal};
     ghost use Rattle.snoop_history.specs.Within.{IsItemWithin};
+    ghost use Rattle.snoop_versions.specs.Readings.{IsHistoryFor};
 
     /// The writer of the version of no items, for this shape, with `readers` reading places. `NoMemory` if out of memory.
+    #[tactic(auto, using(crate::proofs::Versions::opens))]
     pub fn new(alloc: Global, shape: Shape, readers: usize) -> Result<VersionWriter, NoMemory>
         requires { (0 < readers) × (readers < 2 ^ 32) }
         ensures { IfOk result (λ writer. writer ≡ record { shape = shape; list = []; ready = [] }) }
@@ -49,8 +47,6 @@ impl VersionWriter {
         let first = Version::new(alloc, shape)?;
         let second = Version::new(alloc, shape)?;
         let writer = RuledWriter::new(alloc, first, second, readers)?;
-        // SAFETY: whoever has the writer of versions ends it, by `end`.
-        let writer = unsafe { ManuallyDrop::new_unchecked(writer) };
         Ok(VersionWriter { shape, writer })
     }
 
@@ -73,12 +69,12 @@ impl VersionWriter {
     /// Shows readers the item that is ready. It waits for those that still read the version before the last. With nothing
     /// ready it does nothing. It takes no memory.
     pub fn publish<R: Wait>(&mut self, rt: &R)
-        requires legal { Legal (self.old.list ++ self.old.ready) }
+        requires history { IsHistoryFor self.old.shape (self.old.list ++ self.old.ready) }
         requires within { All (IsItemWithin self.old.shape.cores self.old.shape.blocks self.old.shape.words) (self.old.list ++ self.old.ready) }
         ensures { self.new ≡ record self.old { list = self.old.list ++ self.old.ready; ready = [] } }
     {
         if self.writer.has_pending_operations() {
-            replace_with(&mut *self.writer, rt, publish);
+            replace_with(&mut self.writer, rt, publish);
         }
     }
 
@@ -88,7 +84,7 @@ impl VersionWriter {
         ensures { result ≡ board_of self.shape.cores self.shape.blocks self.shape.words self.list }
     {
         let VersionWriter { shape: _, writer } = self;
-        let last = Box::into_inner(ManuallyDrop::into_inner(writer).take(rt));
+        let last = Box::into_inner(writer.take(rt));
         last.board
     }
 }

@@ -1,21 +1,21 @@
 //! Out of memory: the test passes with any one growth refused. tools/refusals.py refuses each in turn.
 
 use crate::bench::turns::store;
-use snoop_cores::{AdvanceFault, Bench, Turn};
+use snoop_cores::{AdvanceFault, Bench, Turn, Work};
 use snoop_rules::Protocol;
 use snoop_trace::Shape;
 use std::sync::Wait;
 use std::test::Fail;
 
-// Core 0's next turn of its store of 5, taken again where it was out of memory; `None` where that changed something, or it fails
+// The core's next turn of its work, taken again where it was out of memory; `None` where that changed something, or it fails
 // otherwise.
-fn turn<R: Wait>(rt: &R, bench: &mut Bench) -> Option<Turn> {
-    let before = (bench.steps().len(), bench.log().len(), bench.work(0));
-    match bench.advance(rt, 0, store(5)) {
+pub(crate) fn turn<R: Wait>(rt: &R, bench: &mut Bench, core: u32, work: Work) -> Option<Turn> {
+    let before = (bench.steps().len(), bench.log().len(), bench.work(core));
+    match bench.advance(rt, core, work) {
         Ok(turn) => Some(turn),
         Err(AdvanceFault::NoMemory)
-            if (bench.steps().len(), bench.log().len(), bench.work(0)) == before => bench
-            .advance(rt, 0, store(5))
+            if (bench.steps().len(), bench.log().len(), bench.work(core)) == before => bench
+            .advance(rt, core, work)
             .ok(),
         Err(_) => None,
     }
@@ -30,9 +30,9 @@ fn a_turn_out_of_memory_is_taken_again(rt: HostRuntime) -> Result<(), Fail> {
         Err(_) => Bench::new(alloc, Protocol::Msi, shape, 1)?,
     };
     let turns = [
-        turn(&rt, &mut bench),
-        turn(&rt, &mut bench),
-        turn(&rt, &mut bench),
+        turn(&rt, &mut bench, 0, store(5)),
+        turn(&rt, &mut bench, 0, store(5)),
+        turn(&rt, &mut bench, 0, store(5)),
     ];
     let left = (
         bench.steps().len(),

@@ -1,89 +1,26 @@
 //! Out of memory: the test passes with any one growth refused. tools/refusals.py refuses each in turn.
-ghost use Rattle.std.specs.Prelude.{◌≡◌, [], IfOk, IsTrue};
-ghost use Rattle.std.specs.Option.{ForSome};
-ghost use Rattle.snoop_history.specs.History.{Legal, operation_of, flat};
 
-use snoop_history::{Did, Item, Log, Sent, Totals};
-use snoop_rules::Request;
-use snoop_trace::{NoMemory, Shape};
-use snoop_versions::{VersionReader, VersionWriter};
-use std::alloc::Global;
+use crate::bench::memory::turn;
+use snoop_cores::{Bench, Turn, Work};
+use snoop_history::{Did, Totals};
+use snoop_rules::Protocol;
+use snoop_trace::{Op, Shape};
+use snoop_versions::VersionReader;
 use std::sync::Wait;
 use std::test::Fail;
 
-// Core 0 asks for block 1.
-const SENT: Item = Item::Sent(Sent {
-    core: 0,
-    request: Request::GetM,
-    block: 1,
-});
-
-// Core 0 stores 7 in block 1.
-const STORED: Did = Did {
-    core: 0,
-    number: 0,
-    block: 1,
-    word: 0,
-    load: false,
-    value: 7,
-    hit: true,
-};
-
-// Core 1 loads it.
-const LOADED: Did = Did {
-    core: 1,
-    number: 0,
-    block: 1,
-    word: 0,
-    load: true,
-    value: 7,
-    hit: true,
-};
-
-// Whether a load has the value of flat memory.
-fn is_current(log: &Log, item: Item) -> bool
-    ensures { IsTrue result → ForSome (operation_of item) (λ did. IsTrue did.load → did.value ≡ flat log.now.items did.block did.word) }
-{
-    match item.did() {
-        Some(did) => !did.load || log.flat(did.block, did.word) == Some(did.value),
-        None => true,
-    }
-}
-
-// Adds an item to the history, and publishes it.
-fn add<R: Wait>(rt: &R, log: &mut Log, writer: &mut VersionWriter, item: Item) -> bool
-    requires shape { (writer.old.shape.cores ≡ log.old.cores) × (writer.old.shape.blocks ≡ log.old.blocks) × (writer.old.shape.words ≡ log.old.words) }
-    requires list { (writer.old.list ≡ log.old.items) × (writer.old.ready ≡ []) }
-    requires legal { Legal log.old.items }
-    ensures shape { (writer.new.shape.cores ≡ log.new.cores) × (writer.new.shape.blocks ≡ log.new.blocks) × (writer.new.shape.words ≡ log.new.words) }
-    ensures list { (writer.new.list ≡ log.new.items) × (writer.new.ready ≡ []) }
-    ensures legal { Legal log.new.items }
-{
-    if log.reserve().is_err() {
-        return false;
-    }
-    if !log.takes(item) || !is_current(log, item) {
-        return false;
-    }
-    let Ok(()) = writer.prepare(item) else {
-        return false;
+// Three turns of the core: so many an operation on block 1 takes that misses.
+fn miss<R: Wait>(rt: &R, bench: &mut Bench, core: u32, op: Op) -> [Option<Turn>; 3] {
+    let work = Work {
+        block: 1,
+        word: 0,
+        op,
     };
-    log.push(item);
-    log.kept();
-    writer.publish(rt);
-    true
-}
-
-// Publishes the item, again where a growth was refused.
-fn add_at_last<R: Wait>(rt: &R, log: &mut Log, writer: &mut VersionWriter, item: Item) -> bool
-    requires shape { (writer.old.shape.cores ≡ log.old.cores) × (writer.old.shape.blocks ≡ log.old.blocks) × (writer.old.shape.words ≡ log.old.words) }
-    requires list { (writer.old.list ≡ log.old.items) × (writer.old.ready ≡ []) }
-    requires legal { Legal log.old.items }
-    ensures shape { (writer.new.shape.cores ≡ log.new.cores) × (writer.new.shape.blocks ≡ log.new.blocks) × (writer.new.shape.words ≡ log.new.words) }
-    ensures list { (writer.new.list ≡ log.new.items) × (writer.new.ready ≡ []) }
-    ensures legal { Legal log.new.items }
-{
-    add(rt, log, writer, item) || add(rt, log, writer, item)
+    [
+        turn(rt, bench, core, work),
+        turn(rt, bench, core, work),
+        turn(rt, bench, core, work),
+    ]
 }
 
 // What a reader takes: the value of block 1, the totals, and what core 1 has done.
@@ -93,56 +30,59 @@ fn readings(
     Some((reader.value(1, 0)?, reader.totals()?, reader.own(1)))
 }
 
-fn log_at_last(alloc: Global, shape: Shape) -> Result<Log, NoMemory>
-    ensures { IfOk result (λ log. (log.cores ≡ shape.cores) × (log.blocks ≡ shape.blocks) × (log.words ≡ shape.words) × (log.items ≡ [])) }
-{
-    match Log::new(alloc, shape) {
-        Ok(log) => Ok(log),
-        Err(_) => Log::new(alloc, shape),
-    }
-}
-
-fn writer_at_last(alloc: Global, shape: Shape) -> Result<VersionWriter, NoMemory>
-    ensures { IfOk result (λ writer. writer ≡ record { shape = shape; list = []; ready = [] }) }
-{
-    match VersionWriter::new(alloc, shape, 1) {
-        Ok(writer) => Ok(writer),
-        Err(_) => VersionWriter::new(alloc, shape, 1),
-    }
-}
-
 #[test]
 fn an_item_out_of_memory_is_published_later(rt: HostRuntime) -> Result<(), Fail> {
     let alloc = rt.alloc();
     let shape = Shape::new(2, 4, 64)?;
-    let mut log = log_at_last(alloc, shape)?;
-    let mut writer = writer_at_last(alloc, shape)?;
-    let mut reader = writer
+    let mut bench = match Bench::new(alloc, Protocol::Msi, shape, 1) {
+        Ok(bench) => bench,
+        Err(_) => Bench::new(alloc, Protocol::Msi, shape, 1)?,
+    };
+    let mut reader = bench
         .readers()
         .ok()
         .and_then(|readers| readers.reader().or_else(|| readers.reader()));
     let at_first = reader.as_mut().and_then(readings);
-    let added = (
-        add_at_last(&rt, &mut log, &mut writer, SENT),
-        add_at_last(&rt, &mut log, &mut writer, Item::Did(STORED)),
-        add_at_last(&rt, &mut log, &mut writer, Item::Did(LOADED)),
+    let stored = miss(&rt, &mut bench, 0, Op::Store(7));
+    let between = reader.as_mut().and_then(readings);
+    let loaded = miss(&rt, &mut bench, 1, Op::Load);
+    let at_last = reader.as_mut().and_then(readings);
+    bench.end(&rt);
+    let going = Some(Turn::Going);
+    assert_eq!(rt;
+        (stored, loaded),
+        (
+            [going, going, Some(Turn::Stored)],
+            [going, going, Some(Turn::Loaded(7))]
+        )
     );
-    let seen = reader.as_mut().and_then(readings);
-    writer.end(&rt);
-    let totals = Totals {
-        loads: 1,
-        load_hits: 1,
+    let one_store = Totals {
         stores: 1,
-        store_hits: 1,
         get_m: 1,
+        from_memory: 1,
         ..Totals::default()
     };
-    assert_eq!(rt; added, (true, true, true));
+    let and_a_load = Totals {
+        loads: 1,
+        get_s: 1,
+        from_caches: 1,
+        ..one_store
+    };
+    let did = Did {
+        core: 1,
+        number: 0,
+        block: 1,
+        word: 0,
+        load: true,
+        value: 7,
+        hit: false,
+    };
     assert_eq!(rt;
-        (at_first, seen),
+        (at_first, between, at_last),
         (
             Some((Some(0), Totals::default(), Some((Some(0), None)))),
-            Some((Some(7), totals, Some((Some(1), Some(LOADED))))),
+            Some((Some(7), one_store, Some((Some(0), None)))),
+            Some((Some(7), and_a_load, Some((Some(1), Some(did))))),
         )
     );
     Ok(())

@@ -21,6 +21,6 @@ pub returns-clause-err : goal.returns-clause-err
 returns-clause-err g c =
     let protocol = ap (λ (b : Locked). b.situation.protocol) c.deref-2.ensures ∙ c.lock-bench.ensures.protocol in
     let shape = ap (λ (b : Locked). b.situation.shape) c.deref-2.ensures ∙ c.lock-bench.ensures.shape in
-    refuses c.args.shared.now.protocol c.args.shared.now.shape c.args.seats.now c.deref-2.result.now c.join.result
+    refuses c.args.shared.now.protocol c.args.shared.now.shape c.args.seats.now c.deref-2.result.now c.join-joined.result
     (rw (c.cores.ensures.value, c.shape.ensures) at c.in_default.ensures.none)
-    (record { kept = subst IsKept (c.deref.ensures ∙ sym c.deref-2.ensures) c.kept.ensures.kept; protocol_is = protocol; shape_is = shape }) c.join.ensures.err
+    (record { kept = subst IsKept (c.deref.ensures ∙ sym c.deref-2.ensures) c.kept.ensures.kept; protocol_is = protocol; shape_is = shape }) c.join-joined.ensures.err

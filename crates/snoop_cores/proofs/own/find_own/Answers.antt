@@ -3,4 +3,5 @@ use Rattle.snoop_cores.proofs.own.find_own.Goals as goal
 
 pub returns-in-More-2-clause-err : goal.returns-in-More-2-clause-err
 returns-in-More-2-clause-err g c =
-    stranger_more c.in-More.did c.args.work (answers_of c.look.new.reader.seen c.args.core) c.args.answers.now (λ does. true≢false (sym (c.if-does.ensures.whole does))) c.in-More.ensures.shows.0
+    let more = c.in-More.ensures.shows in
+    (stranger_more c.in-More.did c.args.work (answers_of c.look.new.reader.seen c.args.core) c.args.answers.now (λ does. true≢false (sym (c.if-does.ensures.whole does))) more.0, more.1)

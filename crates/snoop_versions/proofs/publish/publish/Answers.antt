@@ -4,9 +4,9 @@ use Rattle.snoop_versions.proofs.publish.publish.Goals as goal
 pub publish_as-requires : goal.publish_as-requires
 publish_as-requires g c next is =
     let w = c.args.writer in
-    let (cores, blocks, words, p, within) = c.requires.publishing in
+    let (cores, blocks, words, p, history, within) = c.requires.publishing in
     let (entry, one) = one_ready (drop w.behind w.log.items) c.requires.one p.few in
-    adds w.desk.place.id (knows w.desk.place) w.desk.shown.value next cores blocks words entry p.shown p.writing (rw one at c.requires.legal) (rw one at within) (rw one at is)
+    adds w.desk.place.id (knows w.desk.place) w.desk.shown.value next cores blocks words entry p.shown p.writing (rw one at history) (rw one at within) (rw one at is)
 
 pub returns : goal.returns
 returns g c =

@@ -1,6 +1,5 @@
 use Rattle.std.proofs.Common.{◌∙◌, rules, sym, ap, subst, ◌≡◌, ◌++◌, List}
 use Rattle.snoop_bench.proofs.Common.{All-push, IsReadableStep, IsRecorded, Item, option_to_list, Recording, Reply, Situation, Step, TakesAndPublishes}
-use Rattle.snoop_versions.specs.Readings.{Publishing}
 use Rattle.snoop_model.proofs.Runs.GoOn.{taken_goes_on}
 use Rattle.snoop_bench.proofs.recorder.Recorder.take.Goals as goal
 
@@ -15,23 +14,17 @@ recorded_on {p} {q} {step} {answer} r took within stays = record {
       ∙ sym took.logged;
 }
 
-pub invariant_of-self-2 : goal.invariant_of-self-2
-invariant_of-self-2 g c =
+pub publish-requires-clause-recorded : goal.publish-requires-clause-recorded
+publish-requires-clause-recorded g c =
     let p : Recording = record { situation = c.self.inside.machine.situation; steps = c.self.inside.steps.items; published = c.self.inside.writer.list } in
-    let q : Recording = record { situation = c.step.new.self.situation; steps = c.push_reserved.new.self.items; published = c.publish.new.self.list } in
+    let q : Recording = record { situation = c.step.new.self.situation; steps = c.deref.result.now; published = c.ready.new.writer.list ++ c.ready.new.writer.ready } in
     let taken = c.in-Ok-step.ensures.taken in
     let adds = c.in-Ok-prepared.ensures.ok.adds c.in-Ok-step.reply c.step.new.self.situation taken in
     let took : TakesAndPublishes c.args.step c.in-Ok-step.reply p q =
     record { item = c.in-Ok-prepared.item; move = rw c.prepared.ensures.unchanged at taken; logged = rw c.prepared.ensures.unchanged at adds; steps = search rules; published = search rules } in
     let protocol = c.step.ensures.stays.0 ∙ ap (λ (x : Situation). x.protocol) c.prepared.ensures.unchanged in
-    let shape = c.step.ensures.stays.1 ∙ ap (λ (x : Situation). x.shape) c.prepared.ensures.unchanged in
     let within = subst (λ (r : Recording). IsReadableStep r.situation.shape c.args.step) (sym c.self.view_is) c.requires.within in
-    record {
-      recorded = recorded_on c.self.invariant.recorded took within (protocol, shape);
-      ready = search rules;
-      shape = ap (λ (w : Publishing). w.shape) c.publish.ensures
-          ∙ ap (λ (w : Publishing). w.shape) c.in-Ok-ready.ensures.ok ∙ c.self.invariant.shape ∙ sym shape;
-    }
+    recorded_on c.self.invariant.recorded took within (protocol, c.step.ensures.stays.1 ∙ ap (λ (x : Situation). x.shape) c.prepared.ensures.unchanged)
 
 pub returns-clause-takes : goal.returns-clause-takes
 returns-clause-takes g c =

@@ -4,5 +4,5 @@ use Rattle.snoop_versions.proofs.writer.VersionWriter.end.Goals as goal
 -- the board of what was taken, which is that of the published list
 pub returns : goal.returns
 returns g c =
-    let taken = c.into_inner-last.ensures ∙ c.take.ensures ∙ ap (λ w. w.desk.shown.value) c.into_inner.ensures in
+    let taken = c.into_inner-last.ensures ∙ c.take.ensures in
     rw (sym c.self.view_is) (ap (λ (v : Version). v.board) (taken ∙ c.self.invariant.shown))
