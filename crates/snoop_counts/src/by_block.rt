@@ -17,7 +17,7 @@ use snoop_trace::{NoMemory, Shape};
 use std::alloc::Global;
 
 /// The table of the counts of all blocks that a line names, or of the `top` with the most ordered requests.
-#[derive(Clone, Copy, Debug)]
+#[derive(Clone, Copy)]
 struct ByBlock {
     top: Option<u32>,
 }

@@ -18,7 +18,7 @@ use snoop_trace::{NoMemory, Shape};
 use std::alloc::Global;
 
 /// The table of the counts of each core.
-#[derive(Clone, Copy, Debug)]
+#[derive(Clone, Copy)]
 struct ByCore;
 
 impl Table<Tally> for ByCore {

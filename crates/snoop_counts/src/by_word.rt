@@ -17,7 +17,7 @@ use snoop_trace::{NoMemory, Shape};
 use std::alloc::Global;
 
 /// The table of the counts of each word.
-#[derive(Clone, Copy, Debug)]
+#[derive(Clone, Copy)]
 struct ByWord;
 
 impl Table<WordTally> for ByWord {

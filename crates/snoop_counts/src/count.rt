@@ -5,7 +5,7 @@ use snoop_machine::{Refused, Reply};
 use snoop_trace::Step;
 
 /// A count of a core or a block, in the order of the fields.
-#[derive(Clone, Copy, Debug)]
+#[derive(Clone, Copy)]
 pub(crate) enum Count {
     /// Loads that were performed.
     Loads,
@@ -72,7 +72,7 @@ pub(crate) enum Count {
 }
 
 /// Why a core had no copy at a miss: how its last one went.
-#[derive(Clone, Copy, Debug)]
+#[derive(Clone, Copy)]
 pub(crate) enum Cause {
     /// There was none.
     Cold,
@@ -85,7 +85,7 @@ pub(crate) enum Cause {
 }
 
 /// What is counted: an item of the history, or a line of a step with what was answered to the step; a miss has a cause.
-#[derive(Clone, Copy, Debug)]
+#[derive(Clone, Copy)]
 pub(crate) enum Happening {
     Item(Item),
     Line {
@@ -97,7 +97,7 @@ pub(crate) enum Happening {
 }
 
 /// What there is a row of counters for.
-#[derive(Clone, Copy, Debug)]
+#[derive(Clone, Copy)]
 pub(crate) enum Subjects {
     Cores,
     Blocks,

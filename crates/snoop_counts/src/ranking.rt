@@ -10,7 +10,7 @@ use crate::tally::Counters;
 use snoop_trace::NoMemory;
 
 /// A block, and how many requests for it were ordered.
-#[derive(Clone, Copy, Debug)]
+#[derive(Clone, Copy)]
 pub(crate) struct Ranked {
     pub(crate) block: u32,
     pub(crate) requests: u64,

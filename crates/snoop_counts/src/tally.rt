@@ -19,7 +19,7 @@ use snoop_trace::NoMemory;
 use std::alloc::Global;
 
 /// A counter for each count.
-#[derive(Clone, Copy, Debug)]
+#[derive(Clone, Copy)]
 pub(crate) struct Counters {
     counters: [u64; 31],
 }

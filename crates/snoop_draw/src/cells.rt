@@ -8,7 +8,7 @@ use snoop_trace::NoMemory;
 use snoop_trace::streams::push_text;
 
 /// How a drawing looks: its characters, and how wide its columns are.
-#[derive(Clone, Copy, Debug)]
+#[derive(Clone, Copy)]
 pub(crate) struct Style {
     pub(crate) charset: Charset,
     pub(crate) widths: Widths,
@@ -16,7 +16,7 @@ pub(crate) struct Style {
 
 /// What stands around the words of a core: the mark to their left, the rail to their right, the wire that runs through
 /// the cell, and the one that runs on from its rail.
-#[derive(Clone, Copy, Debug)]
+#[derive(Clone, Copy)]
 pub(crate) struct Cell {
     pub(crate) mark: Mark,
     pub(crate) rail: Mark,
@@ -25,7 +25,7 @@ pub(crate) struct Cell {
 }
 
 /// Which way a message goes between the bus and memory.
-#[derive(Clone, Copy, Debug)]
+#[derive(Clone, Copy)]
 pub(crate) enum Link {
     Nothing,
     FromMemory,

@@ -21,7 +21,7 @@ use std::alloc::Global;
 use std::marker::Model;
 
 /// A drawing: how it looks, which panels it has, and which steps are drawn.
-#[derive(Debug, Drop)]
+#[derive(Drop)]
 pub(crate) struct Drawing {
     alloc: Global,
     style: Style,

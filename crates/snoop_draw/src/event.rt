@@ -10,7 +10,7 @@ use snoop_rules::{CacheState, Protocol, may_load, may_store};
 use snoop_trace::Step;
 
 /// What happens in a panel.
-#[derive(Clone, Copy, Debug)]
+#[derive(Clone, Copy)]
 pub(crate) enum Event {
     /// Nothing yet: everything is shown as it stands.
     Before,

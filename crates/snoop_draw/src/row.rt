@@ -20,7 +20,7 @@ use std::alloc::Global;
 
 /// What a line shows in the panel of a block: what happens there, the core whose message lies in the open transaction, and
 /// the rows that the controllers take.
-#[derive(Clone, Copy, Debug)]
+#[derive(Clone, Copy)]
 pub(crate) struct Moment<'a> {
     pub(crate) block: u32,
     pub(crate) event: Event,

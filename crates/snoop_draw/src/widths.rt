@@ -9,7 +9,7 @@ use snoop_trace::{NoMemory, Shape, Step};
 use std::alloc::Global;
 
 /// The widths of the words of the columns, in characters.
-#[derive(Clone, Copy, Debug)]
+#[derive(Clone, Copy)]
 pub(crate) struct Widths {
     pub(crate) number: usize,
     pub(crate) core: usize,

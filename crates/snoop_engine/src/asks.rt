@@ -12,7 +12,7 @@ use std::alloc::Global;
 use std::marker::Model;
 
 /// What rows of the largest shape or a smaller one ask for, in their order, which is taken from the front.
-#[derive(Debug, Drop)]
+#[derive(Drop)]
 pub(crate) struct AskQueue {
     steps: StepQueue,
 }

@@ -21,7 +21,7 @@ use std::collections::VecDeque;
 use std::marker::Model;
 
 /// A machine whose cores do their rows one at a time, each turn by the turn rule.
-#[derive(Debug, Drop)]
+#[derive(Drop)]
 pub(crate) struct Driver {
     machine: Machine,
     lanes: Vec<Lane>,

@@ -12,7 +12,7 @@ use std::alloc::Global;
 use std::marker::Model;
 
 /// What one core has to do: its rows that are left, and the work under way.
-#[derive(Debug, Drop)]
+#[derive(Drop)]
 pub(crate) struct Lane {
     rows: AskQueue,
     work: Option<Work>,

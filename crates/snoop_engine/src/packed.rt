@@ -13,7 +13,7 @@ use std::collections::VecDeque;
 use std::marker::Model;
 
 /// What a step is, without its data. What a core asks is of its block's first word, or of another one.
-#[derive(Clone, Copy, Debug)]
+#[derive(Clone, Copy)]
 pub(crate) enum Kind {
     Load,
     Store,
@@ -27,7 +27,7 @@ pub(crate) enum Kind {
 
 /// A step of the largest shape or a smaller one, without its word and the value that it stores, in fewer bytes than a
 /// `Step`. A field that its kind does not need is arbitrary.
-#[derive(Clone, Copy, Debug)]
+#[derive(Clone, Copy)]
 pub(crate) struct Head {
     block: u16,
     core: u8,
@@ -75,7 +75,7 @@ impl Head {
 }
 
 /// Steps in their order, of the largest shape or a smaller one, which are taken from the front.
-#[derive(Debug, Drop)]
+#[derive(Drop)]
 pub(crate) struct StepQueue {
     heads: VecDeque<Head>,
     // The words of those among them that are not of a first word.

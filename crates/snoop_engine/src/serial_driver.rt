@@ -17,7 +17,7 @@ use std::alloc::Global;
 use std::marker::Model;
 
 /// A machine that serves rows one after another, each whole before the next one is asked.
-#[derive(Debug, Drop)]
+#[derive(Drop)]
 pub(crate) struct SerialDriver<'a> {
     machine: Machine,
     rows: &'a [Row],

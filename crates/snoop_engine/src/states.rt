@@ -54,7 +54,7 @@ pub fn simulate_states<R: Source, W: Sink>(
 }
 
 /// The view of a run as its states: the names of the fields, and then the lines of each step that is shown.
-#[derive(Debug, Drop)]
+#[derive(Drop)]
 struct States {
     choice: Choice,
     // The fields of the step itself, which stand in each of its lines.

@@ -9,7 +9,7 @@ use snoop_rules::{CacheEvent, CacheState, MemEvent, MemState};
 
 /// How often each row was taken: a counter for each pair of state and event, of the cache table and
 /// then of the memory tables.
-#[derive(Clone, Copy, Debug)]
+#[derive(Clone, Copy)]
 pub(crate) struct Tally {
     counters: [u64; 203],
 }

@@ -19,7 +19,7 @@ use std::alloc::{AllocError, Global};
 use std::num::NonZeroU64;
 
 /// What the command line asks for: the help, a table, or what is made of a text for a protocol and a shape.
-#[derive(Debug, Drop)]
+#[derive(Drop)]
 pub(crate) enum Task {
     Help(Error),
     Table(Protocol, Which, Layout),
@@ -44,7 +44,7 @@ pub(crate) enum Task {
 }
 
 /// How a table is written.
-#[derive(Clone, Copy, Debug, PartialEq, Eq)]
+#[derive(Clone, Copy, PartialEq, Eq)]
 pub(crate) enum Layout {
     /// A line for each of its rows.
     Rows,
@@ -53,7 +53,7 @@ pub(crate) enum Layout {
 }
 
 /// What each line of counts is of.
-#[derive(Clone, Copy, Debug, PartialEq, Eq)]
+#[derive(Clone, Copy, PartialEq, Eq)]
 pub(crate) enum Grouping {
     Row,
     Core,

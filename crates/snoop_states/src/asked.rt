@@ -9,7 +9,7 @@ use snoop_trace::{NoMemory, Shape, Step};
 use std::alloc::Global;
 
 /// A mark for each core, set where it asks for the block.
-#[derive(Debug, Drop)]
+#[derive(Drop)]
 pub(crate) struct Marks {
     pub(crate) cores: Vec<bool>,
 }

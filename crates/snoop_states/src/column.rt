@@ -9,7 +9,7 @@ use snoop_trace::streams::push_text;
 use std::alloc::Global;
 
 /// A column: a core, the bus, or memory.
-#[derive(Clone, Copy, Debug)]
+#[derive(Clone, Copy)]
 pub(crate) enum Column {
     Core(u32),
     Bus,

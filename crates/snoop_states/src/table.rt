@@ -25,14 +25,14 @@ use snoop_trace::{NoMemory, Step};
 use std::alloc::Global;
 
 /// A column of a table, and the text that stands above its next row there.
-#[derive(Debug, Drop)]
+#[derive(Drop)]
 pub(crate) struct Cell {
     pub(crate) column: Column,
     pub(crate) text: Vec<u8>,
 }
 
 /// The rows of a block's table so far, and whether one of them is of a step.
-#[derive(Debug, Drop)]
+#[derive(Drop)]
 pub(crate) struct Table {
     pub(crate) cells: Vec<Cell>,
     pub(crate) rows: Vec<u8>,

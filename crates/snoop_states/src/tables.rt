@@ -25,7 +25,7 @@ use snoop_trace::{NoMemory, Shape, Step};
 use std::alloc::Global;
 
 /// The tables of a run: what they show and how wide they are, which cores ask for which blocks, and the tables as far as the steps go.
-#[derive(Debug, Drop)]
+#[derive(Drop)]
 pub(crate) struct Tables {
     alloc: Global,
     choice: Choice,

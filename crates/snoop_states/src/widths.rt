@@ -6,7 +6,7 @@ use snoop_engine::{count_digits, most_stored};
 use snoop_trace::{Shape, Step};
 
 /// Room for the values of a block's words, each with a blank before it, and for the number of a step.
-#[derive(Clone, Copy, Debug)]
+#[derive(Clone, Copy)]
 pub(crate) struct Widths {
     pub(crate) values: u16,
     pub(crate) number: u16,

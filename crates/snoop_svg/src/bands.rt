@@ -10,7 +10,7 @@ use snoop_rules::{CacheState, MemState, Protocol};
 use snoop_trace::NoMemory;
 
 /// What a band says of its column.
-#[derive(Clone, Copy, Debug)]
+#[derive(Clone, Copy)]
 pub(crate) enum Band {
     /// Nothing.
     Bare,

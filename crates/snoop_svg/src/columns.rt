@@ -9,7 +9,7 @@ use snoop_trace::NoMemory;
 use std::alloc::Global;
 
 /// What a column shows: what a core has of a block, or the bus, or memory.
-#[derive(Clone, Copy, Debug)]
+#[derive(Clone, Copy)]
 pub(crate) enum Subject {
     Core { block: u32, core: u32 },
     Bus { block: u32 },
@@ -17,7 +17,7 @@ pub(crate) enum Subject {
 }
 
 /// A column: what it shows, where its panel begins, and where it begins and ends itself.
-#[derive(Clone, Copy, Debug)]
+#[derive(Clone, Copy)]
 pub(crate) struct Column {
     pub(crate) subject: Subject,
     pub(crate) start: u32,

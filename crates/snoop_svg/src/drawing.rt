@@ -16,7 +16,7 @@ use snoop_trace::NoMemory;
 use std::alloc::Global;
 
 /// A drawing: its plan, how many rows it has, and the row above the next one: after how many steps it comes, and its cells.
-#[derive(Debug, Drop)]
+#[derive(Drop)]
 pub(crate) struct Drawing {
     alloc: Global,
     plan: Plan,

@@ -11,7 +11,7 @@ use std::alloc::Global;
 use std::marker::Model;
 
 /// What the rail of a column says.
-#[derive(Clone, Copy, Debug)]
+#[derive(Clone, Copy)]
 pub(crate) enum Rail {
     /// Nothing.
     Free,
@@ -22,7 +22,7 @@ pub(crate) enum Rail {
 }
 
 /// What a column shows: its band, its rail and its words.
-#[derive(Debug, Drop)]
+#[derive(Drop)]
 pub(crate) struct Look {
     band: Band,
     rail: Rail,
@@ -94,7 +94,7 @@ pub(crate) fn look_at(alloc: Global, machine: &Machine, subject: Subject) -> Res
 }
 
 /// A column, and what it shows.
-#[derive(Debug, Drop)]
+#[derive(Drop)]
 pub(crate) struct Cell {
     column: Column,
     look: Look,

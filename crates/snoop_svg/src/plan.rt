@@ -11,7 +11,7 @@ use std::marker::Model;
 
 /// What all sheets of a drawing share: its sizes and columns, where replies begin, which steps are drawn and how many, and
 /// what it is written for.
-#[derive(Debug, Drop)]
+#[derive(Drop)]
 pub(crate) struct Plan {
     sizes: Sizes,
     columns: Vec<Column>,

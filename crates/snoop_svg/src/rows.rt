@@ -10,7 +10,7 @@ use snoop_trace::{NoMemory, Shape, Step};
 use std::alloc::Global;
 
 /// A view that writes one byte for each step that is drawn.
-#[derive(Debug, Drop)]
+#[derive(Drop)]
 struct Rows {
     choice: Choice,
 }

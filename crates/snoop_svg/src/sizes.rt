@@ -8,7 +8,7 @@ use snoop_trace::{Shape, Step};
 
 /// The sizes of a drawing, in pixels: where the numbers of steps end, their records and the panels begin, how wide a
 /// lane, a bus, memory and a reply are.
-#[derive(Clone, Copy, Debug)]
+#[derive(Clone, Copy)]
 pub(crate) struct Sizes {
     pub(crate) numbers: u32,
     pub(crate) records: u32,
