@@ -1,14 +1,20 @@
-use Rattle.snoop_bench.proofs.{Common.{ap, case_of, is_some, Locked, refl, Some, state_of, sym, true, waiting_request, well_kept_in, ◌∙◌, ◌≡◌}, Outcomes.{finished_turn, served_turn}}
+use Rattle.snoop_bench.proofs.{Common.{ap, case_of, is_some, Locked, refl, Situation, Some, state_of, Step, sym, true, turn_of, waiting_request, Work, well_kept_in, ◌∙◌, ◌≡◌}, Outcomes.{finished_turn, served_turn}}
+use Rattle.std.proofs.Common.{ℕ, Option}
 use Rattle.snoop_bench.proofs.Turning.{at_case, Facing, facing, finished, IsCase, never, serving_step, stepped, turn_within}
 use Rattle.snoop_bench.proofs.bench.Bench.go_on.{Given.Over, Goals.After-recorded}
 use Rattle.snoop_bench.proofs.bench.Bench.go_on.Goals as goal
+
+-- the step of the turn, as a machine in the same situation found it
+found_by : {s m : Situation} (core : ℕ) (work : Work) {found : Option Step} {step : Step} → m ≡ s → found ≡ turn_of m core work.block work.word work.op true
+    → found ≡ Some step → turn_of s core work.block work.word work.op true ≡ Some step
+found_by core work same found is = rw (← same) (sym found ∙ is)
 
 module _ (g : Over) (c : After-recorded g) where
   faces : Facing c.self.inside.recorder.situation c.self.inside.works.items c.args.core c.args.work (Some c.in-Some.step)
   faces =
       let same = c.machine-machine.ensures ∙ ap (λ (l : Locked). l.situation) c.self.view_is in
       facing c.self.view_is c.args.core c.args.work c.self.invariant (well_kept_in _ c.recorded.ensures.safe) c.requires.inside c.requires.its
-      (rw same at (sym c.turn_step.ensures ∙ c.in-Some.is))
+      (found_by c.args.core c.args.work same c.turn_step.ensures c.in-Some.is)
 
   waits : c.waits_on-waits.result ≡ is_some (waiting_request (state_of c.self.inside.recorder.situation c.args.core c.args.work.block))
   waits = (rw c.machine-machine.ensures at c.waits_on-waits.ensures.inside) faces.inside.0 faces.inside.1
