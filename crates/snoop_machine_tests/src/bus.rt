@@ -76,6 +76,7 @@ fn start_all(bus: &mut Bus) -> [bool; 3]
 fn is_finished_once(bus: &mut Bus) -> bool
     requires queues { length bus.old.queues ≡ 2 }
     ensures queues { length bus.new.queues ≡ length bus.old.queues }
+    ensures transactions { length bus.new.transactions ≡ length bus.old.transactions }
 {
     bus.finish(3) == Some(opened())
         && bus.finish(3).is_none()
@@ -102,7 +103,7 @@ fn go_through(bus: &mut Bus) -> Result<(), Fail>
     }
     issue(bus, 1, Request::GetM, 0)?;
     if bus.head(1) != Some((Request::GetM, 0)) || bus.head(2).is_some() {
-        return Err(Fail::from("room"));
+        return Err(Fail::from("one more request"));
     }
     Ok(())
 }
