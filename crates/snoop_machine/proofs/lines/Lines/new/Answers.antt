@@ -29,7 +29,7 @@ holders_are g c = c.in_ok-holders.ensures ∙ ap (λ (n : ℕ). replicate n c.em
 
 pub loop-preserved : goal.loop-preserved
 loop-preserved g c = (
-  rw c.push_reserved.ensures.items (empty-push _ c.loop.invariant.0 _ c.new.ensures),
+  rw c.push_reserved.ensures.items (empty-push _ c.loop.invariant.0 _ c.new.ensures.empty),
   grind (arith, common_steps),
   grind (arith, common_steps),
 )
