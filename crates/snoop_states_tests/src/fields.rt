@@ -91,57 +91,61 @@ fn writes(
 /// Some steps, one block, and no step at all.
 #[test]
 fn choices(rt: HostRuntime) -> Result<(), Fail> {
-    assert!(rt; writes(rt.alloc(), STEPS, Input::Steps, None, 3, 6, SOME_STEPS)?);
-    assert!(rt;
-        writes(
-            rt.alloc(),
-            STEPS,
-            Input::Steps,
-            Some(1),
-            1,
-            u64::MAX,
-            ONE_BLOCK
-        )?
-    );
-    assert!(rt;
-        writes(
-            rt.alloc(),
-            STEPS,
-            Input::Steps,
-            Some(3),
-            1,
-            u64::MAX,
-            NO_STEP
-        )?
-    );
-    assert!(rt; writes(rt.alloc(), STEPS, Input::Steps, None, 8, 9, NO_STEP)?);
+    if !writes(rt.alloc(), STEPS, Input::Steps, None, 3, 6, SOME_STEPS)? {
+        return Err(Fail::from("the fields of some steps"));
+    }
+    if !writes(
+        rt.alloc(),
+        STEPS,
+        Input::Steps,
+        Some(1),
+        1,
+        u64::MAX,
+        ONE_BLOCK,
+    )? {
+        return Err(Fail::from("the fields of one block"));
+    }
+    if !writes(
+        rt.alloc(),
+        STEPS,
+        Input::Steps,
+        Some(3),
+        1,
+        u64::MAX,
+        NO_STEP,
+    )? {
+        return Err(Fail::from("the fields of a block that no step is about"));
+    }
+    if !writes(rt.alloc(), STEPS, Input::Steps, None, 8, 9, NO_STEP)? {
+        return Err(Fail::from("the fields of no step"));
+    }
     Ok(())
 }
 
 /// The fields of rows, which are those of the steps that serve them.
 #[test]
 fn rows(rt: HostRuntime) -> Result<(), Fail> {
-    assert!(rt;
-        writes(
-            rt.alloc(),
-            ROWS,
-            Input::Rows,
-            None,
-            1,
-            u64::MAX,
-            SIDE_BY_SIDE
-        )?
-    );
-    assert!(rt;
-        writes(
-            rt.alloc(),
-            ROWS,
-            Input::SerialRows,
-            None,
-            1,
-            u64::MAX,
-            ONE_AFTER_ANOTHER
-        )?
-    );
+    if !writes(
+        rt.alloc(),
+        ROWS,
+        Input::Rows,
+        None,
+        1,
+        u64::MAX,
+        SIDE_BY_SIDE,
+    )? {
+        return Err(Fail::from("the fields of rows side by side"));
+    }
+    if !writes(
+        rt.alloc(),
+        ROWS,
+        Input::SerialRows,
+        None,
+        1,
+        u64::MAX,
+        ONE_AFTER_ANOTHER,
+    )? {
+        return Err(Fail::from("the fields of rows one after another"));
+    }
     Ok(())
 }

@@ -156,8 +156,12 @@ fn an_upgrade_race(rt: HostRuntime) -> Result<(), Fail> {
     let shape = Shape::new(2, 4, 64)?;
     let all = Choice::new(shape, None, 1, u64::MAX)?;
     let one = Choice::new(shape, None, 12, 12)?;
-    assert!(rt; writes(rt.alloc(), RACE, Input::Steps, all, RACE_TABLE)?);
-    assert!(rt; writes(rt.alloc(), RACE, Input::Steps, one, CUT_TABLE)?);
+    if !writes(rt.alloc(), RACE, Input::Steps, all, RACE_TABLE)? {
+        return Err(Fail::from("the whole table"));
+    }
+    if !writes(rt.alloc(), RACE, Input::Steps, one, CUT_TABLE)? {
+        return Err(Fail::from("the table of the twelfth step"));
+    }
     Ok(())
 }
 
@@ -166,20 +170,22 @@ fn an_upgrade_race(rt: HostRuntime) -> Result<(), Fail> {
 fn several_blocks(rt: HostRuntime) -> Result<(), Fail> {
     let shape = Shape::new(2, 4, 64)?;
     let second = Choice::new(shape, Some(1), 1, 100)?;
-    assert!(rt; writes(rt.alloc(), QUEUE, Input::Steps, second, QUEUE_TABLE)?);
+    if !writes(rt.alloc(), QUEUE, Input::Steps, second, QUEUE_TABLE)? {
+        return Err(Fail::from("the table of the second block"));
+    }
     let shape = Shape::with_words(2, 4, 64, 2)?;
     let all = Choice::new(shape, None, 1, u64::MAX)?;
-    assert!(rt;
-        are_tables(
-            rt.alloc(),
-            LEFT,
-            Protocol::Mesi,
-            shape,
-            Input::Steps,
-            all,
-            LEFT_TABLES
-        )?
-    );
+    if !are_tables(
+        rt.alloc(),
+        LEFT,
+        Protocol::Mesi,
+        shape,
+        Input::Steps,
+        all,
+        LEFT_TABLES,
+    )? {
+        return Err(Fail::from("the tables of both blocks"));
+    }
     Ok(())
 }
 
@@ -188,8 +194,12 @@ fn several_blocks(rt: HostRuntime) -> Result<(), Fail> {
 fn rows(rt: HostRuntime) -> Result<(), Fail> {
     let shape = Shape::new(2, 4, 64)?;
     let all = Choice::new(shape, None, 1, u64::MAX)?;
-    assert!(rt; writes(rt.alloc(), ROWS, Input::Rows, all, ROWS_TABLE)?);
-    assert!(rt; writes(rt.alloc(), ROWS, Input::SerialRows, all, SERIAL_TABLE)?);
+    if !writes(rt.alloc(), ROWS, Input::Rows, all, ROWS_TABLE)? {
+        return Err(Fail::from("the table of rows side by side"));
+    }
+    if !writes(rt.alloc(), ROWS, Input::SerialRows, all, SERIAL_TABLE)? {
+        return Err(Fail::from("the table of rows one after another"));
+    }
     Ok(())
 }
 
@@ -198,14 +208,35 @@ fn rows(rt: HostRuntime) -> Result<(), Fail> {
 fn choices(rt: HostRuntime) -> Result<(), Fail> {
     let shape = Shape::new(2, 4, 64)?;
     let choice = Choice::new(shape, Some(3), 2, 5)?;
-    assert!(rt; choice.block() == Some(3) && choice.from() == 2 && choice.to() == 5);
-    assert!(rt;
-        choice.has_block(3) && !choice.has_block(2) && choice.has_number(5) && !choice.has_number(6)
-    );
-    assert!(rt; choice.has_step(Some(3), 2) && !choice.has_step(Some(3), 1));
-    assert!(rt; !choice.has_step(Some(2), 2) && !choice.has_step(None, 2));
-    assert!(rt; Choice::new(shape, Some(4), 0, 5) == Err(ChoiceFault::BadBlock));
-    assert!(rt; Choice::new(shape, None, 0, 5) == Err(ChoiceFault::BadRange));
-    assert!(rt; Choice::new(shape, None, 6, 5) == Err(ChoiceFault::BadRange));
+    if choice.block() != Some(3) {
+        return Err(Fail::from("its block"));
+    }
+    if choice.from() != 2 {
+        return Err(Fail::from("its first number"));
+    }
+    if choice.to() != 5 {
+        return Err(Fail::from("its last number"));
+    }
+    if !choice.has_block(3) || choice.has_block(2) {
+        return Err(Fail::from("which blocks it has"));
+    }
+    if !choice.has_number(5) || choice.has_number(6) {
+        return Err(Fail::from("which numbers it has"));
+    }
+    if !choice.has_step(Some(3), 2) || choice.has_step(Some(3), 1) {
+        return Err(Fail::from("which steps of its block it has"));
+    }
+    if choice.has_step(Some(2), 2) || choice.has_step(None, 2) {
+        return Err(Fail::from("which steps of other blocks it has"));
+    }
+    if Choice::new(shape, Some(4), 0, 5) != Err(ChoiceFault::BadBlock) {
+        return Err(Fail::from("a block outside the shape"));
+    }
+    if Choice::new(shape, None, 0, 5) != Err(ChoiceFault::BadRange) {
+        return Err(Fail::from("a range from 0"));
+    }
+    if Choice::new(shape, None, 6, 5) != Err(ChoiceFault::BadRange) {
+        return Err(Fail::from("a range that ends before it begins"));
+    }
     Ok(())
 }
