@@ -158,7 +158,7 @@ impl Engine {
 }
 
 /// How a simulation ends.
-#[derive(Clone, Copy, Debug, PartialEq, Eq)]
+#[derive(Clone, Copy, PartialEq, Eq)]
 pub enum Ended {
     Done,
     Text(TextFault),

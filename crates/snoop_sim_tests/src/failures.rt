@@ -80,7 +80,9 @@ fn readers_that_fail(rt: HostRuntime) -> Result<(), Fail> {
                     fault: Fault::Refuses,
                 };
                 let ended = trial.ends(&rt, rt.alloc())?;
-                assert_eq!(rt; ended, Ended::Text(TextFault::Read), "{trial:?}");
+                if ended != Ended::Text(TextFault::Read) {
+                    return Err(Fail::from("how a simulation ends where its reader fails"));
+                }
             }
         }
     }
@@ -98,8 +100,12 @@ fn a_fault_before_a_failing_read_is_named(rt: HostRuntime) -> Result<(), Fail> {
         });
         let mut written = Vec::new(rt.alloc());
         let ended = engine.simulate(&rt, rt.alloc(), &mut reader, &mut written, Protocol::Msi)?;
-        assert_eq!(rt; ended, Ended::Text(TextFault::BadKind(2)), "{engine:?}");
-        assert!(rt; written.is_empty());
+        if ended != Ended::Text(TextFault::BadKind(2)) {
+            return Err(Fail::from("the fault that is named"));
+        }
+        if !written.is_empty() {
+            return Err(Fail::from("something is written"));
+        }
     }
     Ok(())
 }
@@ -165,7 +171,12 @@ fn writers_that_fail(rt: HostRuntime) -> Result<(), Fail> {
                 ..trial
             }
             .calls_needed(&rt, rt.alloc())?;
-            assert!(rt; single == engine.output().len() && large > 0, "{trial:?}");
+            if single != engine.output().len() {
+                return Err(Fail::from("the calls of a writer of single bytes"));
+            }
+            if large == 0 {
+                return Err(Fail::from("the calls of a writer of many bytes"));
+            }
         }
     }
     Ok(())

@@ -16,8 +16,15 @@ fn refused_words(rt: HostRuntime) -> Result<(), Fail> {
     ] {
         let mut errors = FailingWriter::new(rt.alloc(), calls, 100, Fault::Refuses);
         let answered = refuse_words(io::Error::from(kind), &mut errors);
-        let is_reported = errors.held.as_slice() == reported.as_bytes() && errors.calls_after == 0;
-        assert!(rt; answered == status && is_reported, "{reported}");
+        if answered != status {
+            return Err(Fail::from("the status of refused words"));
+        }
+        if errors.held.as_slice() != reported.as_bytes() {
+            return Err(Fail::from("what is reported of refused words"));
+        }
+        if errors.calls_after != 0 {
+            return Err(Fail::from("a standard error that failed is asked again"));
+        }
     }
     Ok(())
 }
