@@ -43,23 +43,29 @@ fn readings_while_the_lock_is_held(rt: HostRuntime) -> Result<(), Fail> {
     end_seats(&rt, seats);
     end_watches(&rt, watches);
     shared.end(&rt);
-    assert_eq!(rt;
-        (watched, seated),
-        (Some((true, Ok(0))), Some((true, Ok(0))))
-    );
-    assert_eq!(rt;
-        (turns, pending),
-        (
-            [Ok(Turn::Going), Ok(Turn::Going), Ok(Turn::Stored)],
-            Some(GatherFault::Pending { core: 0 }),
-        )
-    );
+    if watched != Some((true, Ok(0))) {
+        return Err(Fail::from("the watch's readings"));
+    }
+    if seated != Some((true, Ok(0))) {
+        return Err(Fail::from("the seat's readings"));
+    }
+    if turns != [Ok(Turn::Going), Ok(Turn::Going), Ok(Turn::Stored)] {
+        return Err(Fail::from("the turns of the store"));
+    }
+    if pending != Some(GatherFault::Pending { core: 0 }) {
+        return Err(Fail::from("the refusal of a pending store"));
+    }
     let Some((Err(SeatFault::Stranger(did)), again, outside)) = strange else {
         return Err(Fail::from("no stranger"));
     };
-    assert_eq!(rt;
-        (did.number, again, outside),
-        (1, Err(SeatFault::Stranger(did)), Err(SeatFault::NoBlock))
-    );
+    if did.number != 1 {
+        return Err(Fail::from("the stranger's number"));
+    }
+    if again != Err(SeatFault::Stranger(did)) {
+        return Err(Fail::from("the call after a stranger"));
+    }
+    if outside != Err(SeatFault::NoBlock) {
+        return Err(Fail::from("a block outside the shape"));
+    }
     Ok(())
 }

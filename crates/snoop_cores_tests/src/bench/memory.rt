@@ -34,13 +34,20 @@ fn a_turn_out_of_memory_is_taken_again(rt: HostRuntime) -> Result<(), Fail> {
         turn(&rt, &mut bench, 0, store(5)),
         turn(&rt, &mut bench, 0, store(5)),
     ];
-    let left = (
-        bench.steps().len(),
-        bench.log().len(),
-        bench.log().flat(0, 0),
-    );
+    let (steps, items) = (bench.steps().len(), bench.log().len());
+    let value = bench.log().flat(0, 0);
     bench.end(&rt);
-    let expected = [Some(Turn::Going), Some(Turn::Going), Some(Turn::Stored)];
-    assert_eq!(rt; (turns, left), (expected, (3, 2, Some(5))));
+    if turns != [Some(Turn::Going), Some(Turn::Going), Some(Turn::Stored)] {
+        return Err(Fail::from("the turns of the store"));
+    }
+    if steps != 3 {
+        return Err(Fail::from("how many steps"));
+    }
+    if items != 2 {
+        return Err(Fail::from("how many items of the log"));
+    }
+    if value != Some(5) {
+        return Err(Fail::from("the value that is left"));
+    }
     Ok(())
 }

@@ -37,7 +37,8 @@ fn a_turn_closes_the_work_of_another_core(rt: HostRuntime) -> Result<(), Fail> {
         bench.advance(&rt, 2, store(1)),
         bench.advance(&rt, 0, outside),
     ];
-    let left = (bench.work(0), bench.work(1), bench.steps().len());
+    let left = (bench.work(0), bench.work(1));
+    let steps = bench.steps().len();
     bench.end(&rt);
     let expected = [
         Ok(Turn::Going),
@@ -49,7 +50,15 @@ fn a_turn_closes_the_work_of_another_core(rt: HostRuntime) -> Result<(), Fail> {
         Err(AdvanceFault::NoCore),
         Err(AdvanceFault::NoBlock),
     ];
-    assert_eq!(rt; (turns, left), (expected, (None, Some(store(2)), 4)));
+    if turns != expected {
+        return Err(Fail::from("the turns of one bench"));
+    }
+    if left != (None, Some(store(2))) {
+        return Err(Fail::from("the work that is left"));
+    }
+    if steps != 4 {
+        return Err(Fail::from("how many steps"));
+    }
     Ok(())
 }
 
@@ -84,15 +93,20 @@ fn the_word_of_an_eviction_is_not_looked_at(rt: HostRuntime) -> Result<(), Fail>
         word: 0,
         op: Op::Evict,
     };
-    assert_eq!(rt;
-        (stored, begun, under_way, evicted, asked),
-        (
-            [Ok(Turn::Going), Ok(Turn::Going), Ok(Turn::Stored)],
-            Ok(Turn::Going),
-            Some(evict(0)),
-            [Ok(Turn::Going), Ok(Turn::Evicted(Evicted::Put))],
-            Some(expected),
-        )
-    );
+    if stored != [Ok(Turn::Going), Ok(Turn::Going), Ok(Turn::Stored)] {
+        return Err(Fail::from("the turns of the store"));
+    }
+    if begun != Ok(Turn::Going) {
+        return Err(Fail::from("the eviction's first turn"));
+    }
+    if under_way != Some(evict(0)) {
+        return Err(Fail::from("the work under way"));
+    }
+    if evicted != [Ok(Turn::Going), Ok(Turn::Evicted(Evicted::Put))] {
+        return Err(Fail::from("the eviction's other turns"));
+    }
+    if asked != Some(expected) {
+        return Err(Fail::from("the step that asks for the eviction"));
+    }
     Ok(())
 }

@@ -59,11 +59,15 @@ fn each_core_waits_for_the_other(rt: HostRuntime) -> Result<(), Fail> {
             counts: [2, 2, 2, 0, 0, 2, 0, 2, 0, 0, 0, 0],
             values: [Some(5), None, Some(6)],
         };
-        assert_eq!(rt;
-            (ran && answered, shown),
-            (true, Some(expected)),
-            "core {held} is held"
-        );
+        if !ran {
+            return Err(Fail::from("a seat stopped"));
+        }
+        if !answered {
+            return Err(Fail::from("what the seats were answered"));
+        }
+        if shown != Some(expected) {
+            return Err(Fail::from("what gathers"));
+        }
     }
     Ok(())
 }
@@ -96,9 +100,14 @@ fn a_late_gate_stops_cores_at_their_rows(rt: HostRuntime) -> Result<(), Fail> {
     };
     let late = Some(Stop::Late(1));
     let [loads, _, stores, ..] = shown.counts;
-    assert_eq!(rt;
-        (stops.as_slice(), loads, stores),
-        ([late, late, None].as_slice(), 2, 1)
-    );
+    if stops.as_slice() != [late, late, None].as_slice() {
+        return Err(Fail::from("where the cores stopped"));
+    }
+    if loads != 2 {
+        return Err(Fail::from("how many loads"));
+    }
+    if stores != 1 {
+        return Err(Fail::from("how many stores"));
+    }
     Ok(())
 }

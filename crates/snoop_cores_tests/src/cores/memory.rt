@@ -191,20 +191,30 @@ fn a_pending_store_is_handed_over_once(rt: HostRuntime) -> Result<(), Fail> {
     let first = handed_over(&scene, &rt, rt.alloc());
     let second = handed_over(&scene, &rt, rt.alloc());
     scene.end(&rt);
-    assert_eq!(rt;
-        (stored, loaded),
-        (Some(Ok(Turn::Stored)), Some(Ok(Turn::Loaded(5))))
-    );
-    assert_eq!(rt; (own, value), (Some(Ok(5)), Some(Ok(5))));
-    assert_eq!(rt;
-        (before, after),
-        (
-            Some([0, 0, 1, 0, 0, 1, 0, 1, 0, 0, 0, 0]),
-            Some([1, 0, 1, 0, 1, 1, 0, 1, 1, 0, 0, 0]),
-        )
-    );
-    let handed = Some((true, true, 1));
-    assert_eq!(rt; (first, second), (handed, handed));
+    if stored != Some(Ok(Turn::Stored)) {
+        return Err(Fail::from("the store's answer"));
+    }
+    if loaded != Some(Ok(Turn::Loaded(5))) {
+        return Err(Fail::from("the load's answer"));
+    }
+    if own != Some(Ok(5)) {
+        return Err(Fail::from("the seat's own value"));
+    }
+    if value != Some(Ok(5)) {
+        return Err(Fail::from("the watch's value"));
+    }
+    if before != Some([0, 0, 1, 0, 0, 1, 0, 1, 0, 0, 0, 0]) {
+        return Err(Fail::from("the counts after the store"));
+    }
+    if after != Some([1, 0, 1, 0, 1, 1, 0, 1, 1, 0, 0, 0]) {
+        return Err(Fail::from("the counts after the load"));
+    }
+    if first != Some((true, true, 1)) {
+        return Err(Fail::from("the first gathering"));
+    }
+    if second != Some((true, true, 1)) {
+        return Err(Fail::from("the second gathering"));
+    }
     Ok(())
 }
 
@@ -275,12 +285,18 @@ fn another_store_ends_an_open_transaction(rt: HostRuntime) -> Result<(), Fail> {
         };
         let ended = ends_in(&scene, &rt, rt.alloc(), count, orders);
         scene.end(&rt);
-        assert_eq!(rt;
-            (loaded, stored, other),
-            (true, Some(Ok(Turn::Stored)), Some(Ok(Turn::Stored))),
-            "after {count} loads"
-        );
-        assert_eq!(rt; ended, Some((true, 1, 1)), "after {count} loads");
+        if !loaded {
+            return Err(Fail::from("the loads that come first"));
+        }
+        if stored != Some(Ok(Turn::Stored)) {
+            return Err(Fail::from("core 0's store"));
+        }
+        if other != Some(Ok(Turn::Stored)) {
+            return Err(Fail::from("core 1's store"));
+        }
+        if ended != Some((true, 1, 1)) {
+            return Err(Fail::from("the gathering"));
+        }
     }
     Ok(())
 }
@@ -384,6 +400,11 @@ fn rows_go_on_where_they_stopped(rt: HostRuntime) -> Result<(), Fail> {
     let ran = run_rows(&mut scene, &rt, rt.alloc(), rows);
     let asked = asked(&scene, &rt, rt.alloc(), rows);
     scene.end(&rt);
-    assert_eq!(rt; (ran, asked), (true, Some((true, 3, 3))));
+    if !ran {
+        return Err(Fail::from("a row that was not performed"));
+    }
+    if asked != Some((true, 3, 3)) {
+        return Err(Fail::from("the gathering"));
+    }
     Ok(())
 }

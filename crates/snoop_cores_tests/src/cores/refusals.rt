@@ -17,10 +17,12 @@ fn a_row_outside_the_shape(rt: HostRuntime) -> Result<(), Fail> {
     let fault = scene.run(&rt, rt.alloc(), rows.as_slice(), &Free).err();
     let shown = scene.shown(&rt, rt.alloc());
     scene.end(&rt);
-    assert_eq!(rt;
-        (fault, shown.map(|shown| shown.steps)),
-        (Some(RunFault::NoSeat { core: 0 }), Some(0))
-    );
+    if fault != Some(RunFault::NoSeat { core: 0 }) {
+        return Err(Fail::from("the fault of the row"));
+    }
+    if shown.map(|shown| shown.steps) != Some(0) {
+        return Err(Fail::from("how many steps"));
+    }
     Ok(())
 }
 
@@ -45,15 +47,21 @@ fn seats_that_do_not_gather(rt: HostRuntime) -> Result<(), Fail> {
     let all = scene.shown(&rt, rt.alloc()).is_some();
     scene.end(&rt);
     other.end(&rt);
-    assert_eq!(rt; (stored, all), (Some(Ok(Turn::Stored)), true));
-    assert_eq!(rt;
-        [none, alone, others],
-        [
-            Some(GatherFault::NotAllSeats { core: 0 }),
-            Some(GatherFault::NotAllSeats { core: 1 }),
-            Some(GatherFault::Mismatch { core: 0, place: 0 }),
-        ]
-    );
+    if stored != Some(Ok(Turn::Stored)) {
+        return Err(Fail::from("the store of the other machine"));
+    }
+    if !all {
+        return Err(Fail::from("the gathering of all seats"));
+    }
+    if none != Some(GatherFault::NotAllSeats { core: 0 }) {
+        return Err(Fail::from("the refusal of no seat"));
+    }
+    if alone != Some(GatherFault::NotAllSeats { core: 1 }) {
+        return Err(Fail::from("the refusal of one seat"));
+    }
+    if others != Some(GatherFault::Mismatch { core: 0, place: 0 }) {
+        return Err(Fail::from("the refusal of the other machine's seats"));
+    }
     Ok(())
 }
 
@@ -75,7 +83,12 @@ fn places_for_seats_and_watches(rt: HostRuntime) -> Result<(), Fail> {
         }
         Err(fault) => Some(fault),
     };
-    assert_eq!(rt; (most, fault), ((256, 1), Some(MakeFault::NoPlace)));
+    if most != (256, 1) {
+        return Err(Fail::from("how many seats and watches"));
+    }
+    if fault != Some(MakeFault::NoPlace) {
+        return Err(Fail::from("the refusal of too many watches"));
+    }
     Ok(())
 }
 
@@ -104,10 +117,11 @@ fn faults_of_calls_are_shown_by_their_names(rt: HostRuntime) -> Result<(), Fail>
         AdvanceFault::NoMemory
     )
     .map_err(|_| Fail::from("memory"))?;
-    assert_eq!(rt;
-        shown.as_str(),
-        "NoBlock NoMemory Busy Stranger NoBlock NoVersion NoCore NoBlock Other NoMemory"
-    );
+    if shown.as_str()
+        != "NoBlock NoMemory Busy Stranger NoBlock NoVersion NoCore NoBlock Other NoMemory"
+    {
+        return Err(Fail::from("the names of the faults"));
+    }
     Ok(())
 }
 
@@ -126,9 +140,10 @@ fn faults_of_all_seats_are_shown_by_their_names(rt: HostRuntime) -> Result<(), F
         Late
     )
     .map_err(|_| Fail::from("memory"))?;
-    assert_eq!(rt;
-        shown.as_str(),
-        "NoMemory NoPlace NoSeat NoMemory Mismatch Pending NoMemory NotAllSeats Late"
-    );
+    if shown.as_str()
+        != "NoMemory NoPlace NoSeat NoMemory Mismatch Pending NoMemory NotAllSeats Late"
+    {
+        return Err(Fail::from("the names of the faults"));
+    }
     Ok(())
 }

@@ -184,7 +184,7 @@ impl Scene {
 }
 
 /// What a gathering shows: how many steps, the counts, and the values of words 0 and 1 of block 0 and of word 0 of block 1.
-#[derive(Clone, Copy, Debug, PartialEq, Eq)]
+#[derive(Clone, Copy, PartialEq, Eq)]
 pub(super) struct Shown {
     pub steps: usize,
     pub counts: [u64; 12],

@@ -9,7 +9,6 @@ use snoop_machine::{Machine, run_steps};
 use snoop_rules::Protocol;
 use snoop_trace::{Op, Row, Shape, write_steps};
 use std::alloc::Global;
-use std::process::Abort;
 use std::sync::Wait;
 use std::sync::atomic::{AtomicU64, Ordering};
 use std::test::Fail;
@@ -112,7 +111,7 @@ fn ends_with_report(
 }
 
 /// A storm under each protocol.
-fn storm<R: Threads + Wait + Sync + Abort>(
+fn storm<R: Threads + Wait + Sync>(
     rt: &R,
     alloc: Global,
     cores: u32,
@@ -122,16 +121,22 @@ fn storm<R: Threads + Wait + Sync + Abort>(
     for protocol in [Protocol::Msi, Protocol::Mesi] {
         let shape = Shape::new(cores, 4, 64)?;
         let gathered = perform(rt, alloc, protocol, cores, rows, in_step)?;
-        assert!(rt; ends_with_report(alloc, protocol, shape, &gathered)?);
+        if !ends_with_report(alloc, protocol, shape, &gathered)? {
+            return Err(Fail::from("the report of the gathered log"));
+        }
         let steps = gathered.steps.as_slice();
         let mut fresh = Machine::reset(alloc, protocol, shape)?;
         let taken = run_steps(&mut fresh, steps);
-        assert!(rt;
-            taken == steps.len() && fresh.log().equals(&gathered.log),
-            "of {cores} cores"
-        );
+        if taken != steps.len() {
+            return Err(Fail::from("a step that a fresh machine does not take"));
+        }
+        if !fresh.log().equals(&gathered.log) {
+            return Err(Fail::from("the log of a fresh machine"));
+        }
         for core in 0..cores {
-            assert!(rt; ask_rows(steps, rows, core), "core {core} of {cores}");
+            if !ask_rows(steps, rows, core) {
+                return Err(Fail::from("the rows that a core asks for"));
+            }
         }
     }
     Ok(())

@@ -43,15 +43,18 @@ fn two_seats_store_to_two_words_of_a_block(rt: HostRuntime) -> Result<(), Fail> 
         Some(Err(SeatFault::NoBlock)),
     ];
     let outside = Some(Err(ViewFault::NoBlock));
-    assert_eq!(rt; answers, expected);
-    assert_eq!(rt;
-        (watched, seated),
-        ([Some(Ok(7)), Some(Ok(9)), outside], [Some(Ok(9)), outside])
-    );
-    assert_eq!(rt;
-        shown.map(|shown| shown.values),
-        Some([Some(7), Some(9), Some(0)])
-    );
+    if answers != expected {
+        return Err(Fail::from("the seats' answers"));
+    }
+    if watched != [Some(Ok(7)), Some(Ok(9)), outside] {
+        return Err(Fail::from("what the watch reads"));
+    }
+    if seated != [Some(Ok(9)), outside] {
+        return Err(Fail::from("what a seat reads"));
+    }
+    if shown.map(|shown| shown.values) != Some([Some(7), Some(9), Some(0)]) {
+        return Err(Fail::from("the values that gather"));
+    }
     Ok(())
 }
 
@@ -64,6 +67,11 @@ fn a_work_of_a_word_that_there_is_not(rt: HostRuntime) -> Result<(), Fail> {
     ];
     let steps = bench.steps().len();
     bench.end(&rt);
-    assert_eq!(rt; (turns, steps), ([Some(AdvanceFault::NoBlock), None], 1));
+    if turns != [Some(AdvanceFault::NoBlock), None] {
+        return Err(Fail::from("the turns of one bench"));
+    }
+    if steps != 1 {
+        return Err(Fail::from("how many steps"));
+    }
     Ok(())
 }

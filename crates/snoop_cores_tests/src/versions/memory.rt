@@ -49,13 +49,12 @@ fn an_item_out_of_memory_is_published_later(rt: HostRuntime) -> Result<(), Fail>
     let at_last = reader.as_mut().and_then(readings);
     bench.end(&rt);
     let going = Some(Turn::Going);
-    assert_eq!(rt;
-        (stored, loaded),
-        (
-            [going, going, Some(Turn::Stored)],
-            [going, going, Some(Turn::Loaded(7))]
-        )
-    );
+    if stored != [going, going, Some(Turn::Stored)] {
+        return Err(Fail::from("the turns of the store"));
+    }
+    if loaded != [going, going, Some(Turn::Loaded(7))] {
+        return Err(Fail::from("the turns of the load"));
+    }
     let one_store = Totals {
         stores: 1,
         get_m: 1,
@@ -77,13 +76,14 @@ fn an_item_out_of_memory_is_published_later(rt: HostRuntime) -> Result<(), Fail>
         value: 7,
         hit: false,
     };
-    assert_eq!(rt;
-        (at_first, between, at_last),
-        (
-            Some((Some(0), Totals::default(), Some((Some(0), None)))),
-            Some((Some(7), one_store, Some((Some(0), None)))),
-            Some((Some(7), and_a_load, Some((Some(1), Some(did))))),
-        )
-    );
+    if at_first != Some((Some(0), Totals::default(), Some((Some(0), None)))) {
+        return Err(Fail::from("what is read at first"));
+    }
+    if between != Some((Some(7), one_store, Some((Some(0), None)))) {
+        return Err(Fail::from("what is read after the store"));
+    }
+    if at_last != Some((Some(7), and_a_load, Some((Some(1), Some(did))))) {
+        return Err(Fail::from("what is read after the load"));
+    }
     Ok(())
 }

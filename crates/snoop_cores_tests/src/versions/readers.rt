@@ -17,9 +17,14 @@ fn no_version_to_read(rt: HostRuntime) -> Result<(), Fail> {
     let read = reader.as_mut().map(|reader| reader.value(1, 0));
     writer.end(&rt);
     let ended = reader.as_mut().map(|reader| (reader.value(1, 0), reader.totals(), reader.own(1)));
-    assert_eq!(rt;
-        (full, read, ended),
-        (true, Some(Some(Some(0))), Some((None, None, None)))
-    );
+    if !full {
+        return Err(Fail::from("more readers than one"));
+    }
+    if read != Some(Some(Some(0))) {
+        return Err(Fail::from("the value at first"));
+    }
+    if ended != Some((None, None, None)) {
+        return Err(Fail::from("a reading after the end"));
+    }
     Ok(())
 }
