@@ -2,11 +2,9 @@
 
 mod append;
 pub(crate) mod entries;
-mod sink;
-mod source;
+mod source_and_sink;
 
 pub use crate::text::{gather_asked, gather_steps};
 pub use append::{push_byte, push_decimal, push_step, push_text};
 pub use entries::Entries;
-pub use sink::{AnyWriter, CHUNK, Sink, spill, write_whole};
-pub use source::{AnyReader, Source};
+pub use source_and_sink::{AnyReader, AnyWriter, CHUNK, Sink, Source, spill, write_whole};

@@ -1,17 +1,108 @@
-//! Writers that know whether they can fail, and how a text is written to them.
+//! Readers and writers that know whether they can fail, and how a text is written.
 //!
-//! Two clauses say when a call that writes answers `Write`. `blamed`, for a writer of which it is
-//! known that no write had failed: exactly where one fails, and none is tried again.
-//! `never_blamed`, for a writer whose contract rules failure out: never. `std::io::Write` has no
-//! words for either, so `Sink` adds them.
+//! Two clauses say when a call answers `Read` or `Write`. `blamed`, for a reader or a writer of
+//! which it is known that no read or write had failed: exactly where one fails, and no write is
+//! tried again. `never_blamed`, for one whose contract rules failure out: never. `std::io::Read`
+//! and `std::io::Write` have no words for either, so `Source` and `Sink` add them.
 ghost use Rattle.std.specs.Prelude.{◌≡◌, ◌<◌, ◌≤◌, [], Bool, true, false, Option, Some, None, Err, IsOk, IsErr, IfOk, OnOk, OnErr, IfErr, length};
-ghost use Rattle.std.specs.Io.{WritesAtMost};
-ghost use Rattle.std.specs.Io.KnownBytes.{Appends, WriteAppends};
+ghost use Rattle.std.specs.Io.{ReadsAtMost, WritesAtMost};
+ghost use Rattle.std.specs.Io.KnownBytes.{Appends, ReadConsumes, WriteAppends};
+ghost use Rattle.snoop_trace.specs.Text.{BlamesReader};
 ghost use Rattle.snoop_trace.specs.Output.{AppendsFront, BlamesWriter, Spills};
 
 use crate::fault::WriteFault;
 use std::io;
-use std::io::{ErrorKind, Write};
+use std::io::{ErrorKind, Read, Write};
+
+/// A reader, whether its contract rules failure out, and whether a read of it has failed.
+///
+/// A slice of bytes cannot fail. For any other reader, put it in `AnyReader`.
+pub trait Source: Read {
+    // Its reads never fail.
+    ghost never_fails: { Bool };
+
+    // Whether a read has failed so far, where that is known.
+    ghost failed: { Self → Option Bool };
+
+    /// What `read` does: it takes bytes from the front of what is left, and 0 of them at its end
+    /// alone.
+    fn pull(&mut self, buf: &mut [u8]) -> io::Result<usize>
+        ensures bound { ReadsAtMost result buf.new }
+        ensures bytes { ReadConsumes (Self.remaining self.old) (Self.remaining self.new) result buf.new }
+        ensures sure { never_fails ≡ true → IsOk result }
+        ensures noted { BlamesReader (failed self.old) (failed self.new) (IsErr result) };
+}
+
+impl Source for &[u8] {
+    ghost never_fails = { true };
+
+    ghost failed = { λ _. Some false };
+
+    fn pull(&mut self, buf: &mut [u8]) -> io::Result<usize> {
+        self.read(buf)
+    }
+}
+
+impl<R: Source> Source for &mut R {
+    ghost never_fails = { R.never_fails };
+
+    ghost failed = { λ r. R.failed r.now };
+
+    fn pull(&mut self, buf: &mut [u8]) -> io::Result<usize> {
+        Source::pull(&mut **self, buf)
+    }
+}
+
+/// Any reader, of which it is not known whether it can fail: a file, a pipe, standard input. It
+/// notes whether a read has failed.
+#[derive(Drop)]
+pub struct AnyReader<R> {
+    pub inner: R,
+    pub failed: bool,
+}
+
+impl<R: Read> AnyReader<R> {
+    pub fn new(inner: R) -> Self
+        ensures inner { result.inner ≡ inner }
+        ensures failed { result.failed ≡ false }
+    {
+        AnyReader {
+            inner,
+            failed: false,
+        }
+    }
+}
+
+impl<R: Read> Read for AnyReader<R> {
+    ghost remaining = { λ r. R.remaining r.inner };
+
+    fn read(&mut self, buf: &mut [u8]) -> io::Result<usize>
+        ensures bound { ReadsAtMost result buf.new }
+        ensures bytes { ReadConsumes (R.remaining self.old.inner) (R.remaining self.new.inner) result buf.new }
+        ensures noted { BlamesReader (Some self.old.failed) (Some self.new.failed) (IsErr result) }
+        ensures stays { self.old.failed ≡ true → self.new.failed ≡ true }
+    {
+        self.pull(buf)
+    }
+}
+
+impl<R: Read> Source for AnyReader<R> {
+    ghost never_fails = { false };
+
+    ghost failed = { λ r. Some r.failed };
+
+    fn pull(&mut self, buf: &mut [u8]) -> io::Result<usize>
+        ensures bound { ReadsAtMost result buf.new }
+        ensures bytes { ReadConsumes (R.remaining self.old.inner) (R.remaining self.new.inner) result buf.new }
+        ensures sure { false ≡ true → IsOk result }
+        ensures noted { BlamesReader (Some self.old.failed) (Some self.new.failed) (IsErr result) }
+        ensures stays { self.old.failed ≡ true → self.new.failed ≡ true }
+    {
+        let read = self.inner.read(buf);
+        self.failed |= read.is_err();
+        read
+    }
+}
 
 /// A writer, whether its contract rules failure out, and whether a write to it has failed.
 ///
@@ -94,12 +185,7 @@ impl<W: Write> Write for AnyWriter<W> {
         ensures noted { BlamesWriter (Some self.old.failed) (Some self.new.failed) (IsErr result) }
         ensures stays { self.old.failed ≡ true → self.new.failed ≡ true }
     {
-        let written = match self.inner.write(buf) {
-            Ok(0) if !buf.is_empty() => Err(io::Error::from(ErrorKind::WriteZero)),
-            written => written,
-        };
-        self.failed |= written.is_err();
-        written
+        self.put(buf)
     }
 
     fn flush(&mut self) -> io::Result<()> {
@@ -120,7 +206,12 @@ impl<W: Write> Sink for AnyWriter<W> {
         ensures noted { BlamesWriter (Some self.old.failed) (Some self.new.failed) (IsErr result) }
         ensures stays { self.old.failed ≡ true → self.new.failed ≡ true }
     {
-        self.write(buf)
+        let written = match self.inner.write(buf) {
+            Ok(0) if !buf.is_empty() => Err(io::Error::from(ErrorKind::WriteZero)),
+            written => written,
+        };
+        self.failed |= written.is_err();
+        written
     }
 }
 

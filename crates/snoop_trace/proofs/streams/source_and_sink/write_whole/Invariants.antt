@@ -1,5 +1,5 @@
 use Rattle.std.{proofs.Common.{◌≡◌, ◌≤◌, length, take, Some, false, ◌-◌}, specs.Io.KnownBytes.Appends}
-use Rattle.snoop_trace.proofs.streams.sink.write_whole.Given as goal
+use Rattle.snoop_trace.proofs.streams.source_and_sink.write_whole.Given as goal
 
 -- the front was written, and no write has failed
 abbrev pub invariant-loop-at : goal.invariant-loop-at

@@ -1,6 +1,6 @@
 use Rattle.std.proofs.Common.{length, drop, arith, ◌≤◌}
 use Rattle.snoop_trace.proofs.{Common.{length-drop, slice-end}, OutputLemmas.{stopped, took_more}}
-use Rattle.snoop_trace.proofs.streams.sink.write_whole.Goals as goal
+use Rattle.snoop_trace.proofs.streams.source_and_sink.write_whole.Goals as goal
 
 pub loop-at-preserved : goal.loop-at-preserved
 loop-at-preserved g c =
