@@ -219,7 +219,8 @@ impl Shape {
     pub fn word_address(&self, block: u32, word: u32) -> u64
         ensures { result ≡ word_address self.now block word }
     {
-        self.address_of(block) + word as u64 * (self.block_bytes() / self.words()) as u64
+        block as u64 * self.block_bytes as u64
+            + word as u64 * (self.block_bytes / self.words) as u64
     }
 }
 
