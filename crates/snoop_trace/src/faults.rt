@@ -1,12 +1,11 @@
-//! Why one record of a text is refused, and what its fields are.
+//! Why one record of a text is refused.
 ghost use Rattle.std.specs.Prelude.{◌≡◌};
 ghost use Rattle.csv.specs.Records.{fields_of};
 ghost use Rattle.snoop_trace.specs.Faults as spec;
-ghost use Rattle.snoop_trace.specs.Grammar.{letter_of, number};
 
 use crate::fault::TextFault;
 use crate::protocol::Protocol;
-use crate::record::{Entry, Heading, letter_of, number};
+use crate::record::{Entry, Heading};
 use crate::shape::Shape;
 use crate::step::{Row, Step};
 use csv::ByteRecord;
@@ -33,18 +32,4 @@ pub fn row_fault(shape: Shape, n: u64, fields: &ByteRecord) -> Option<TextFault>
     ensures { result ≡ spec.row_fault shape n (fields_of fields.now) }
 {
     Row::from_record(shape, n, fields).err()
-}
-
-/// The letter of a record's kind: its first field, where that is one byte.
-pub fn kind_of(fields: &ByteRecord) -> Option<u8>
-    ensures { result ≡ letter_of (fields_of fields.now) }
-{
-    letter_of(fields)
-}
-
-/// The number that a field says: decimal digits, or `0x` and hexadecimal digits, of a value up to 2^64 - 1; None where it says none.
-pub fn number_of(field: &[u8]) -> Option<u64>
-    ensures { result ≡ number field.now }
-{
-    number(field)
 }

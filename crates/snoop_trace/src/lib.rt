@@ -13,9 +13,10 @@ mod text;
 mod words;
 
 pub use fault::{NoMemory, TextFault, WriteFault};
-pub use faults::{kind_of, number_of, row_fault, step_fault};
+pub use faults::{row_fault, step_fault};
 pub use output::write_steps;
 pub use protocol::Protocol;
+pub use record::{kind_of, number_of};
 pub use shape::{Shape, ShapeFault};
 pub use step::{Asked, Op, Row, Step, Work};
 pub use text::{read_rows, read_steps};

@@ -38,7 +38,7 @@ impl Entry for Step {
     #[tactic(auto, using(std::proofs::lemmas::Bool::Decides::nat_tests, crate::proofs::WordPlaces::asked_within), unfolding(crate::specs::Grammar::step_in, crate::specs::Grammar::ask))]
     #[inline(always)]
     fn from_record(shape: Shape, n: u64, fields: &ByteRecord) -> Result<Self, TextFault> {
-        match letter_of(fields).ok_or(TextFault::BadKind(n))? {
+        match kind_of(fields).ok_or(TextFault::BadKind(n))? {
             b'O' => order(shape, n, fields),
             b'R' => respond(shape, n, fields),
             letter => {
@@ -65,7 +65,7 @@ impl Entry for Row {
     #[tactic(auto, using(std::proofs::lemmas::Bool::Decides::nat_tests), unfolding(crate::specs::Grammar::row_in))]
     #[inline(always)]
     fn from_record(shape: Shape, n: u64, fields: &ByteRecord) -> Result<Self, TextFault> {
-        let letter = letter_of(fields).ok_or(TextFault::BadKind(n))?;
+        let letter = kind_of(fields).ok_or(TextFault::BadKind(n))?;
         let row = row_by_letter(shape, n, letter, fields)?;
         shape.block_of(row.address).ok_or(TextFault::NoBlock(n))?;
         Ok(row)
@@ -80,7 +80,7 @@ impl Entry for Asked {
     #[tactic(auto, using(std::proofs::lemmas::Bool::Decides::nat_tests, crate::proofs::AskedLemmas::asked_by), unfolding(crate::specs::Asked::asked_in, crate::specs::Grammar::row_in))]
     #[inline(always)]
     fn from_record(shape: Shape, n: u64, fields: &ByteRecord) -> Result<Self, TextFault> {
-        let letter = letter_of(fields).ok_or(TextFault::BadKind(n))?;
+        let letter = kind_of(fields).ok_or(TextFault::BadKind(n))?;
         let row = row_by_letter(shape, n, letter, fields)?;
         let block = shape.block_of(row.address).ok_or(TextFault::NoBlock(n))?;
         let work = Work {
@@ -110,7 +110,7 @@ impl Heading {
     pub(crate) fn is_heading(n: u64, fields: &ByteRecord) -> bool
         ensures { result ≡ ((n == 1) && heading.is_heading (fields_of fields.now)) }
     {
-        n == 1 && letter_of(fields) == Some(b'V')
+        n == 1 && kind_of(fields) == Some(b'V')
     }
 
     // What record n says, which is a heading.
@@ -167,7 +167,7 @@ impl Heading {
 fn number_in(n: u64, field: &[u8]) -> Result<u64, TextFault>
     ensures { result ≡ spec.number_in n field.now }
 {
-    number(field).ok_or(TextFault::BadNumber(n))
+    number_of(field).ok_or(TextFault::BadNumber(n))
 }
 
 fn core_in(shape: Shape, n: u64, core: u64) -> Result<u32, TextFault>
@@ -283,9 +283,9 @@ fn respond(shape: Shape, n: u64, fields: &ByteRecord) -> Result<Step, TextFault>
     Ok(Step::Respond { block })
 }
 
-/// The kind, where it is one letter.
+/// The letter of a record's kind: its first field, where that is one byte.
 #[tactic(auto, using(crate::proofs::FieldLemmas::no_letter, crate::proofs::FieldLemmas::the_letter, crate::proofs::FieldLemmas::other_letter))]
-pub(crate) fn letter_of(fields: &ByteRecord) -> Option<u8>
+pub fn kind_of(fields: &ByteRecord) -> Option<u8>
     ensures { result ≡ spec.letter_of (fields_of fields.now) }
 {
     match fields.get(0)? {
@@ -378,10 +378,10 @@ fn decimal(digits: &[u8]) -> Option<u64>
     Some(value)
 }
 
-/// The value of a field that is a number.
+/// The number that a field says: decimal digits, or `0x` and hexadecimal digits, of a value up to 2^64 - 1; None where it says none.
 #[inline(always)]
 #[tactic(auto, using(crate::proofs::NumeralLemmas::after_mark), unfolding(crate::specs::Grammar::number))]
-pub(crate) fn number(field: &[u8]) -> Option<u64>
+pub fn number_of(field: &[u8]) -> Option<u64>
     ensures { result ≡ spec.number field.now }
 {
     if field.starts_with(b"0x") {
