@@ -40,7 +40,7 @@ pub use counts::simulate_counts;
 pub use fault::SimFault;
 pub use gather::read_input;
 pub use input::Input;
-pub use lines::{push_line, push_numbered, push_outcome};
+pub use lines::{push_line, push_outcome};
 pub use run::simulate_run;
 pub use seen::Seen;
 pub use serial::simulate_serial;

@@ -3,7 +3,6 @@
 //! The words of a reply up to its first number are one literal, its state, request or payload with them, so that they are
 //! appended in one piece.
 ghost use Rattle.std.specs.Prelude.{◌≡◌, ◌++◌, codes, OnOk};
-ghost use Rattle.std.specs.Fmt.{decimal};
 ghost use Rattle.snoop_rules.specs.Names.{payload_name, state_name};
 ghost use Rattle.snoop_model.specs.declared.replies.Reply.TheVariants.{Came};
 ghost use Rattle.snoop_model.specs.Texts.{reply_text};
@@ -12,16 +11,8 @@ ghost use Rattle.snoop_engine.specs.Line.{line_text, outcome_text};
 use snoop_history::Did;
 use snoop_machine::{Refused, Reply};
 use snoop_rules::{CacheState, Payload, Request};
-use snoop_trace::streams::{push_decimal, push_step, push_text};
+use snoop_trace::streams::{push_numbered, push_step, push_text};
 use snoop_trace::{NoMemory, Shape, Step};
-
-/// Appends a text and then a number. After `NoMemory` the contents of `out` are unspecified.
-pub fn push_numbered(out: &mut Vec<u8>, text: &str, number: u64) -> Result<(), NoMemory>
-    ensures ok { OnOk result (out.new.items ≡ out.old.items ++ (text.now ++ decimal number)) }
-{
-    push_text(out, text)?;
-    push_decimal(out, number)
-}
 
 fn from_memory(payload: Payload) -> &'static str
     ensures { result.now ≡ payload_name payload ++ codes " from memory" }

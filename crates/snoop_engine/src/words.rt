@@ -5,13 +5,12 @@ ghost use Rattle.snoop_rules.specs.Names.{memory_state_name};
 ghost use Rattle.snoop_engine.specs.States.{memory_text};
 ghost use Rattle.snoop_engine.specs.Words.{answers, capitals, carried_words, core_words, data_words, kept_words, memory_state_words, memory_words, message_words, place_words, spaced, state_words};
 
-use crate::lines::push_numbered;
 use crate::taken::{memory_at, state_at};
 use crate::taken_text::{kept_at, push_memory_values};
 use snoop_bus::Open;
 use snoop_machine::Machine;
 use snoop_rules::{CacheState, MemState, Payload, Protocol, carries_value};
-use snoop_trace::streams::push_text;
+use snoop_trace::streams::{push_numbered, push_text};
 use snoop_trace::{NoMemory, Words};
 use std::io::Write;
 

@@ -1,6 +1,5 @@
 //! The report of a history.
 ghost use Rattle.std.specs.Prelude.{◌≡◌, ◌≢◌, ◌<◌, ◌++◌, map, true, OnOk, OnErr, Err};
-ghost use Rattle.std.specs.Fmt.{decimal};
 ghost use Rattle.std.specs.Io.KnownBytes.{Appends};
 ghost use Rattle.std.specs.List.{range_with_len};
 ghost use Rattle.snoop_trace.specs.Output.{AppendsFront, BlamesWriter};
@@ -9,34 +8,26 @@ ghost use Rattle.snoop_history.specs.Report.{totals_text, block_text, report_of}
 
 use crate::items::Totals;
 use crate::log::Log;
-use snoop_trace::streams::{Sink, push_byte, push_decimal, push_text, write_whole};
+use snoop_trace::streams::{Sink, push_byte, push_numbered, push_text, write_whole};
 use snoop_trace::{NoMemory, WriteFault};
 use std::alloc::Global;
-
-// Appends a name and a count.
-fn push_count(out: &mut Vec<u8>, name: &str, count: u64) -> Result<(), NoMemory>
-    ensures { OnOk result (out.new.items ≡ out.old.items ++ (name.now ++ decimal count)) }
-{
-    push_text(out, name)?;
-    push_decimal(out, count)
-}
 
 // Appends the five lines of totals.
 fn push_totals(out: &mut Vec<u8>, t: Totals) -> Result<(), NoMemory>
     ensures { OnOk result (out.new.items ≡ out.old.items ++ totals_text t) }
 {
-    push_count(out, "loads ", t.loads)?;
-    push_count(out, " hits ", t.load_hits)?;
-    push_count(out, "\nstores ", t.stores)?;
-    push_count(out, " hits ", t.store_hits)?;
-    push_count(out, "\nGetS ", t.get_s)?;
-    push_count(out, " GetM ", t.get_m)?;
-    push_count(out, " PutM ", t.put_m)?;
-    push_count(out, "\nfrom memory ", t.from_memory)?;
-    push_count(out, " from caches ", t.from_caches)?;
-    push_count(out, "\nwritebacks ", t.writebacks)?;
-    push_count(out, " clean ", t.clean)?;
-    push_count(out, " stale ", t.stale)?;
+    push_numbered(out, "loads ", t.loads)?;
+    push_numbered(out, " hits ", t.load_hits)?;
+    push_numbered(out, "\nstores ", t.stores)?;
+    push_numbered(out, " hits ", t.store_hits)?;
+    push_numbered(out, "\nGetS ", t.get_s)?;
+    push_numbered(out, " GetM ", t.get_m)?;
+    push_numbered(out, " PutM ", t.put_m)?;
+    push_numbered(out, "\nfrom memory ", t.from_memory)?;
+    push_numbered(out, " from caches ", t.from_caches)?;
+    push_numbered(out, "\nwritebacks ", t.writebacks)?;
+    push_numbered(out, " clean ", t.clean)?;
+    push_numbered(out, " stale ", t.stale)?;
     push_byte(out, b'\n')
 }
 
@@ -45,10 +36,10 @@ fn push_block(out: &mut Vec<u8>, log: &Log, block: u32) -> Result<(), NoMemory>
     requires { block < log.now.blocks }
     ensures { OnOk result (out.new.items ≡ out.old.items ++ block_text block (map (flat log.now.items block) (range_with_len 0 log.now.words))) }
 {
-    push_count(out, "block ", block as u64)?;
+    push_numbered(out, "block ", block as u64)?;
     push_text(out, " value")?;
     for word in 0..log.words() {
-        push_count(out, " ", log.flat(block, word).unwrap())?;
+        push_numbered(out, " ", log.flat(block, word).unwrap())?;
     }
     push_byte(out, b'\n')
 }

@@ -12,7 +12,7 @@ shown_byte byte =
     else 92 ∷ 120 ∷ digit_char (byte / 16) ∷ digit_char (byte % 16) ∷ []
 
 -- a text, and then a number
-unfoldable pub labelled : List ℕ → ℕ → List ℕ
+abbrev pub labelled : List ℕ → ℕ → List ℕ
 labelled text number = text ++ decimal number
 
 -- a number and what it counts, with an s unless it is 1

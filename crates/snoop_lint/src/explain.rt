@@ -8,9 +8,9 @@ ghost use Rattle.snoop_lint.specs.Findings.{heads};
 use crate::fields::{address_named, core_named, field, is_number, letter, number_at};
 use crate::form::Form;
 use crate::hints::{begins_record, fields_hint, kind_hint, number_hint, or_else};
-use crate::shown::{push_labelled, push_shown};
+use crate::shown::push_shown;
 use csv::ByteRecord;
-use snoop_trace::streams::push_text;
+use snoop_trace::streams::{push_numbered, push_text};
 use snoop_trace::{NoMemory, Protocol, Shape, TextFault, kind_of};
 
 /// Appends the line of a faulty record, which begins on this line of the text.
@@ -28,8 +28,8 @@ pub(crate) fn push_finding(
     ensures { OnOk result (out.new.items ≡ out.old.items
         ++ spec.finding_line form protocol shape line (record { number = n; fields = fields_of fields.now; fault = fault })) }
 {
-    push_labelled(out, "record ", n)?;
-    push_labelled(out, ", line ", line)?;
+    push_numbered(out, "record ", n)?;
+    push_numbered(out, ", line ", line)?;
     push_text(out, ": ")?;
     push_text(out, word(fault))?;
     push_text(out, ": ")?;
@@ -141,7 +141,7 @@ fn push_bad_fields(out: &mut Vec<u8>, fields: &ByteRecord) -> Result<(), NoMemor
 {
     let kind = letter(fields);
     push_text(out, field_names(kind))?;
-    push_labelled(out, ", and this record has ", fields.len() as u64)?;
+    push_numbered(out, ", and this record has ", fields.len() as u64)?;
     push_text(out, or_else(fields_hint(fields), count_hint(kind, fields)))
 }
 
@@ -280,9 +280,9 @@ fn push_no_number(out: &mut Vec<u8>, name: &str, field: &[u8]) -> Result<(), NoM
 fn push_no_core(out: &mut Vec<u8>, shape: Shape, core: u64) -> Result<(), NoMemory>
     ensures { OnOk result (out.new.items ≡ out.old.items ++ spec.no_core shape core) }
 {
-    push_labelled(out, "core ", core)?;
-    push_labelled(out, " is not there: --cores ", shape.cores() as u64)?;
-    push_labelled(out, " has cores 0 to ", (shape.cores() - 1) as u64)?;
+    push_numbered(out, "core ", core)?;
+    push_numbered(out, " is not there: --cores ", shape.cores() as u64)?;
+    push_numbered(out, " has cores 0 to ", (shape.cores() - 1) as u64)?;
     push_more_cores(out, core)
 }
 
@@ -291,7 +291,7 @@ fn push_more_cores(out: &mut Vec<u8>, core: u64) -> Result<(), NoMemory>
     ensures { OnOk result (out.new.items ≡ out.old.items ++ spec.more_cores core) }
 {
     if core < 256 {
-        push_labelled(out, "; --cores ", core + 1)?;
+        push_numbered(out, "; --cores ", core + 1)?;
         push_text(out, " has it")
     } else {
         push_text(out, "; no machine has more than 256 cores")
@@ -302,7 +302,7 @@ fn push_more_cores(out: &mut Vec<u8>, core: u64) -> Result<(), NoMemory>
 fn push_no_block(out: &mut Vec<u8>, shape: Shape, address: u64) -> Result<(), NoMemory>
     ensures { OnOk result (out.new.items ≡ out.old.items ++ spec.no_block shape address) }
 {
-    push_labelled(out, "address ", address)?;
+    push_numbered(out, "address ", address)?;
     push_text(out, " is outside ")?;
     push_memory(out, shape)?;
     push_more_blocks(out, address / shape.block_bytes() as u64)
@@ -313,9 +313,9 @@ fn push_memory(out: &mut Vec<u8>, shape: Shape) -> Result<(), NoMemory>
     ensures { OnOk result (out.new.items ≡ out.old.items ++ spec.memory shape) }
 {
     let bytes = shape.blocks() as u64 * shape.block_bytes() as u64;
-    push_labelled(out, "the memory of ", shape.blocks() as u64)?;
-    push_labelled(out, " blocks of ", shape.block_bytes() as u64)?;
-    push_labelled(out, " bytes (0 to ", bytes.saturating_sub(1))?;
+    push_numbered(out, "the memory of ", shape.blocks() as u64)?;
+    push_numbered(out, " blocks of ", shape.block_bytes() as u64)?;
+    push_numbered(out, " bytes (0 to ", bytes.saturating_sub(1))?;
     push_text(out, ")")
 }
 
@@ -324,7 +324,7 @@ fn push_more_blocks(out: &mut Vec<u8>, block: u64) -> Result<(), NoMemory>
     ensures { OnOk result (out.new.items ≡ out.old.items ++ spec.more_blocks block) }
 {
     if block < 65536 {
-        push_labelled(out, "; --blocks ", block + 1)?;
+        push_numbered(out, "; --blocks ", block + 1)?;
         push_text(out, " has room for it")
     } else {
         push_text(
@@ -338,7 +338,7 @@ fn push_more_blocks(out: &mut Vec<u8>, block: u64) -> Result<(), NoMemory>
 fn push_bad_version(out: &mut Vec<u8>, fields: &ByteRecord) -> Result<(), NoMemory>
     ensures { OnOk result (out.new.items ≡ out.old.items ++ spec.bad_version (fields_of fields.now)) }
 {
-    push_labelled(out, "version ", number_at(fields, 1))?;
+    push_numbered(out, "version ", number_at(fields, 1))?;
     push_text(out, " is not known; it has to be 2")
 }
 
@@ -385,10 +385,10 @@ fn push_options(
 {
     push_text(out, text)?;
     push_bytes(out, protocol)?;
-    push_labelled(out, " --cores ", cores)?;
-    push_labelled(out, " --blocks ", blocks)?;
-    push_labelled(out, " --block-bytes ", bytes)?;
-    push_labelled(out, " --words ", words)
+    push_numbered(out, " --cores ", cores)?;
+    push_numbered(out, " --blocks ", blocks)?;
+    push_numbered(out, " --block-bytes ", bytes)?;
+    push_numbered(out, " --words ", words)
 }
 
 fn push_bytes(out: &mut Vec<u8>, bytes: &[u8]) -> Result<(), NoMemory>

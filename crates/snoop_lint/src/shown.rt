@@ -95,12 +95,3 @@ pub(crate) fn push_counted(out: &mut Vec<u8>, count: u64, thing: &str) -> Result
     push_text(out, thing)?;
     push_text(out, if count == 1 { "" } else { "s" })
 }
-
-/// Appends a text, and then a number.
-#[tactic(auto, unfolding(crate::specs::Shown::labelled))]
-pub(crate) fn push_labelled(out: &mut Vec<u8>, text: &str, number: u64) -> Result<(), NoMemory>
-    ensures { OnOk result (out.new.items ≡ out.old.items ++ spec.labelled text.now number) }
-{
-    push_text(out, text)?;
-    push_decimal(out, number)
-}

@@ -3,10 +3,10 @@ ghost use Rattle.std.specs.Prelude.{◌≡◌, ◌<◌, ◌++◌, true, OnOk};
 ghost use Rattle.snoop_lint.specs.Summary as spec;
 
 use crate::form::Form;
-use crate::shown::{push_counted, push_labelled};
+use crate::shown::push_counted;
 use crate::tally::Tally;
 use snoop_trace::NoMemory;
-use snoop_trace::streams::push_text;
+use snoop_trace::streams::{push_numbered, push_text};
 
 /// Appends what is said of a whole text, by what was counted in it.
 #[tactic(auto, unfolding(crate::specs::Summary::summary))]
@@ -50,7 +50,7 @@ fn push_shown_count(out: &mut Vec<u8>, most: u64, faults: u64) -> Result<(), NoM
     ensures { OnOk result (out.new.items ≡ out.old.items ++ spec.shown_count most faults) }
 {
     if most < faults {
-        push_labelled(out, ", ", most)?;
+        push_numbered(out, ", ", most)?;
         push_text(out, " shown")
     } else {
         Ok(())
@@ -62,8 +62,8 @@ fn push_needs_line(out: &mut Vec<u8>, tally: Tally) -> Result<(), NoMemory>
     ensures { OnOk result (out.new.items ≡ out.old.items ++ spec.needs_line tally) }
 {
     if can_be_taken(tally) {
-        push_labelled(out, "needs --cores ", tally.core + 1)?;
-        push_labelled(out, " --blocks ", tally.block + 1)?;
+        push_numbered(out, "needs --cores ", tally.core + 1)?;
+        push_numbered(out, " --blocks ", tally.block + 1)?;
         push_text(out, "\n")
     } else {
         Ok(())

@@ -4,10 +4,9 @@ ghost use Rattle.std.specs.Fmt.{decimal};
 ghost use Rattle.std.specs.List.{filter, flat_map, range_with_len};
 ghost use Rattle.snoop_states.specs.AtEnd.{end_text, is_open, is_waiting, listed, still_open_text, waiting_text};
 
-use snoop_engine::push_numbered;
 use snoop_machine::Machine;
 use snoop_trace::NoMemory;
-use snoop_trace::streams::push_text;
+use snoop_trace::streams::{push_numbered, push_text};
 use std::alloc::Global;
 
 // Whether a request of the core waits.

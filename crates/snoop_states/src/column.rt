@@ -3,9 +3,8 @@ ghost use Rattle.std.specs.Prelude.{◌≡◌, IfOk};
 ghost use Rattle.snoop_states.specs.Columns.{column_name, width_of};
 
 use crate::widths::Widths;
-use snoop_engine::push_numbered;
 use snoop_trace::NoMemory;
-use snoop_trace::streams::push_text;
+use snoop_trace::streams::{push_numbered, push_text};
 use std::alloc::Global;
 
 /// A column: a core, the bus, or memory.

@@ -4,9 +4,9 @@ ghost use Rattle.std.specs.Fmt.{decimal};
 ghost use Rattle.snoop_trace.specs.Output.{address_of};
 ghost use Rattle.snoop_states.specs.Tables.{heading_text};
 
-use snoop_engine::{capitals, push_numbered};
+use snoop_engine::capitals;
 use snoop_machine::Machine;
-use snoop_trace::streams::push_text;
+use snoop_trace::streams::{push_numbered, push_text};
 use snoop_trace::{NoMemory, Shape};
 
 // The last byte of a block.

@@ -52,6 +52,14 @@ pub fn push_decimal(out: &mut Vec<u8>, number: u64) -> Result<(), NoMemory>
     push_digits(out, number)
 }
 
+/// Appends a text and then a number, in decimal digits. After `NoMemory` nothing is said of what stands there.
+pub fn push_numbered(out: &mut Vec<u8>, text: &str, number: u64) -> Result<(), NoMemory>
+    ensures ok { OnOk result (out.new.items ≡ out.old.items ++ (text.now ++ decimal number)) }
+{
+    push_text(out, text)?;
+    push_decimal(out, number)
+}
+
 // The most bytes of a `Back`.
 const ROOM: usize = 64;
 

@@ -8,5 +8,5 @@ loop-word-preserved c =
     let word = c.loop-word.word in
     let values = flat log.items c.args.block in
     let value : c.unwrap.result ≡ values word = grind (arith, nat_tests) in
-    rw (c.in_ok-push_count-2.ensures, c.loop-word.invariant, value, map-range_with_len_more values 0 word word (omega arith))
+    rw (c.in_ok-push_numbered-2.ensures.ok, c.loop-word.invariant, value, map-range_with_len_more values 0 word word (omega arith))
     (simp (flat_map-append, append_assoc, append-nil))

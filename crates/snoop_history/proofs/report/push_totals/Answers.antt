@@ -17,7 +17,7 @@ lines_joined t old loads a b c d e f g h i j k l end = rw (end, l, k, j, i, h, g
 pub returns : goal.returns
 returns c =
     on_ok_weaker c.push_byte.result (lines_joined c.args.t c.args.out.now.items (codes "loads ")
-    c.in_ok-push_count.ensures c.in_ok-push_count-2.ensures c.in_ok-push_count-3.ensures c.in_ok-push_count-4.ensures c.in_ok-push_count-5.ensures
-    c.in_ok-push_count-6.ensures c.in_ok-push_count-7.ensures c.in_ok-push_count-8.ensures c.in_ok-push_count-9.ensures
-    c.in_ok-push_count-10.ensures c.in_ok-push_count-11.ensures c.in_ok-push_count-12.ensures)
+    c.in_ok-push_numbered.ensures.ok c.in_ok-push_numbered-2.ensures.ok c.in_ok-push_numbered-3.ensures.ok c.in_ok-push_numbered-4.ensures.ok c.in_ok-push_numbered-5.ensures.ok
+    c.in_ok-push_numbered-6.ensures.ok c.in_ok-push_numbered-7.ensures.ok c.in_ok-push_numbered-8.ensures.ok c.in_ok-push_numbered-9.ensures.ok
+    c.in_ok-push_numbered-10.ensures.ok c.in_ok-push_numbered-11.ensures.ok c.in_ok-push_numbered-12.ensures.ok)
     c.push_byte.ensures.ok

@@ -5,11 +5,11 @@ use Rattle.snoop_lint.proofs.explain.push_options.Goals as goal
 pub returns : goal.returns
 unfolding options
 returns c =
-    IfOk-equal _ _ _ _ c.push_labelled-4.ensures
+    IfOk-equal _ _ _ _ c.push_numbered-4.ensures.ok
     (rw (
-      c.in_ok-push_labelled-3.ensures,
-      c.in_ok-push_labelled-2.ensures,
-      c.in_ok-push_labelled.ensures,
+      c.in_ok-push_numbered-3.ensures.ok,
+      c.in_ok-push_numbered-2.ensures.ok,
+      c.in_ok-push_numbered.ensures.ok,
       c.in_ok-push_bytes.ensures,
       c.in_ok-push_text.ensures.ok,
     ) (simp append_assoc))
