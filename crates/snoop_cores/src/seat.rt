@@ -29,7 +29,9 @@ use std::sync::Wait;
 /// The right to a core's operations: a share of the lock, and a reader of the published versions.
 ///
 /// An operation takes turns under the lock until it is over. What a seat then reports it has read in a published version, whose
-/// history is that of a machine of this shape and has the core's operations exactly as the seat was answered them. It is not `Drop`: end it by `end`.
+/// history is that of a machine of this shape and has the core's operations exactly as the seat was answered them.
+///
+/// It is not `Drop`: end it by `end`.
 pub struct Seat {
     core: u32,
     share: Share,

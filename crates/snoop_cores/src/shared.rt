@@ -171,8 +171,11 @@ impl Shared {
         self.share.shape()
     }
 
-    /// Takes the lock. End the guard by `unlock`.
-    pub(crate) fn lock<R: Wait>(&self, rt: &R) -> MutexGuard<'_, Bench>
+    /// Takes the lock, for a look at the machine between two turns: its log, its steps, each core's work. End the guard by `unlock`:
+    /// what it guards is not `Drop`.
+    ///
+    /// A turn that is taken by hand here is none of a seat's, and the core's seat meets it as a stranger's.
+    pub fn lock<R: Wait>(&self, rt: &R) -> MutexGuard<'_, Bench>
         ensures protocol { (mutex_guard_value result).situation.protocol ≡ self.now.protocol }
         ensures shape { (mutex_guard_value result).situation.shape ≡ self.now.shape }
     {

@@ -1,6 +1,7 @@
 mod gates;
 mod getters;
 mod grain;
+mod locked;
 mod memory;
 mod readings;
 mod refusals;

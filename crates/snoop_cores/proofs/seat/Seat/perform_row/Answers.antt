@@ -1,5 +1,5 @@
 use Rattle.std.proofs.Common.{rules, refl, ◌≡◌, ◌∷◌, [], Some}
-use Rattle.snoop_trace.specs.{Grammar.{block_at, word_asked}, declared.step.Op.TheVariants.{Load, Store, Evict}}
+use Rattle.snoop_trace.specs.{Grammar.{block_at, word_asked}, declared.step.Op.TheVariants.{Load, Store}}
 use Rattle.snoop_cores.proofs.{Common.AnswersRows, Performed.row_over}
 use Rattle.snoop_cores.proofs.seat.Seat.perform_row.Goals as goal
 
