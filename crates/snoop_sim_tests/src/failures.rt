@@ -81,7 +81,7 @@ fn readers_that_fail(rt: HostRuntime) -> Result<(), Fail> {
                 };
                 let ended = trial.ends(&rt, rt.alloc())?;
                 if ended != Ended::Text(TextFault::Read) {
-                    return Err(Fail::from("how a simulation ends where its reader fails"));
+                    Err(trial)?
                 }
             }
         }
@@ -171,11 +171,8 @@ fn writers_that_fail(rt: HostRuntime) -> Result<(), Fail> {
                 ..trial
             }
             .calls_needed(&rt, rt.alloc())?;
-            if single != engine.output().len() {
-                return Err(Fail::from("the calls of a writer of single bytes"));
-            }
-            if large == 0 {
-                return Err(Fail::from("the calls of a writer of many bytes"));
+            if single != engine.output().len() || large == 0 {
+                Err(trial)?
             }
         }
     }
