@@ -90,8 +90,8 @@ impl Share {
                 Ok(Turn::Going) => {}
                 Ok(turn) => return Ok(turn),
                 Err(AdvanceFault::NoMemory) => return Err(NoMemory),
-                // The seat has checked the core and the block. Another work of the core ends by the turns of whoever began it:
-                // until then this tries again.
+                // The seat has checked the core and the block. Another work of the core ends by its own turns, so this tries
+                // again.
                 Err(AdvanceFault::NoCore | AdvanceFault::NoBlock | AdvanceFault::Other(_)) => {}
             }
         }

@@ -171,12 +171,8 @@ impl Shared {
         self.share.shape()
     }
 
-    /// Takes the lock, for a look at the machine between two turns: its log, its steps, each core's work. End the guard by `unlock`:
-    /// what it guards is not `Drop`. Until then no turn is taken, and a call by this thread that takes the lock does not return.
-    ///
-    /// Turns may be taken by hand, but they are no seat's. A load or store that ends so is `Stranger` to the core's seat and
-    /// `Mismatch` to `gather`. A work that is left under way is `Pending` to `gather`, and the core's seat waits with any other.
-    pub fn lock<R: Wait>(&self, rt: &R) -> MutexGuard<'_, Bench>
+    /// Takes the lock. End the guard by `unlock`.
+    pub(crate) fn lock<R: Wait>(&self, rt: &R) -> MutexGuard<'_, Bench>
         ensures protocol { (mutex_guard_value result).situation.protocol ≡ self.now.protocol }
         ensures shape { (mutex_guard_value result).situation.shape ≡ self.now.shape }
     {

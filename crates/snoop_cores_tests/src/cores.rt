@@ -1,7 +1,6 @@
 mod gates;
 mod getters;
 mod grain;
-mod locked;
 mod memory;
 mod readings;
 mod refusals;

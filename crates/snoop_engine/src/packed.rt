@@ -74,7 +74,7 @@ impl Head {
     }
 }
 
-/// The word of a step of this kind: the first of these, which is taken away, or 0.
+/// The word of a step of this kind: the first of `words`, which is taken away, or 0 if none of them is its own.
 #[inline(always)]
 fn take_word(words: &mut VecDeque<u8>, kind: Kind) -> u32
     requires { worded_by kind ≤ length words.old.items }

@@ -4,10 +4,10 @@ use Rattle.csv.specs.Records.{field_at}
 use Rattle.snoop_trace.specs.{Grammar.{letter_of, one_of, three_of, two_of}, Heading.{five_of, version_field}}
 pub use Rattle.csv.proofs.RecordFacts.{field-there as field_there}
 
-pub one_at : (fs : List (List ℕ)) → length fs ≡ 2 → field_at fs 1 ≡ one_of fs
+pub one_at : (fs : List (List ℕ)) (a : List ℕ) → length fs ≡ 2 → Some a ≡ field_at fs 1 → Some a ≡ one_of fs
 unfolding field_at
-one_at (k ∷ a ∷ []) h = refl
-one_at _ h = absurd (omega arith)
+one_at (k ∷ x ∷ []) a h p = p
+one_at _ a h p = absurd (omega arith)
 
 pub two_at : (fs : List (List ℕ)) (a b : List ℕ) → length fs ≡ 3 → Some a ≡ field_at fs 1 → Some b ≡ field_at fs 2 → Some (a, b) ≡ two_of fs
 unfolding field_at

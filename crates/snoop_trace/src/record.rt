@@ -300,7 +300,7 @@ fn one_of(fields: &ByteRecord) -> Option<&[u8]>
     ensures { option_map (λ f. f.now) result ≡ spec.one_of (fields_of fields.now) }
 {
     if fields.len() == 2 {
-        fields.get(1)
+        Some(field(fields, 1))
     } else {
         None
     }

@@ -219,6 +219,7 @@ impl Shape {
     pub fn word_address(&self, block: u32, word: u32) -> u64
         ensures { result ≡ word_address self.now block word }
     {
+        // The block's address by the fields too: a call of `address_of` costs more to prove.
         let word_bytes = self.block_bytes / self.words;
         block as u64 * self.block_bytes as u64 + word as u64 * word_bytes as u64
     }

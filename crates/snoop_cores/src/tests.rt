@@ -1,6 +1,6 @@
-//! What only the lock itself shows.
+//! What only the lock itself shows; the other tests stand in the crate `snoop_cores_tests`.
 
-use snoop_cores::{GatherFault, SeatFault, Shared, Turn, Work, end_seats, end_watches, gather};
+use crate::{GatherFault, SeatFault, Shared, Turn, Work, end_seats, end_watches, gather};
 use snoop_rules::Protocol;
 use snoop_trace::{Op, Shape};
 use std::sync::MutexGuard;
