@@ -1,48 +1,20 @@
 -- What the options of a command are read as.
-use Rattle.std.{proofs.Common.{◌≡◌, ◌∙◌, ◌^◌, ap, sym, refl, ℕ, Bool, true, false, List, Option, Some, None, map, codes}, specs.Option.option_map}
-use Rattle.std.specs.{Prelude.{Result, Ok, Err, is_some}, Char.to_ascii_lowercase, Str.{bytes_eq, Parse.ParsesUnsigned}, Result.OkIff}
-use Rattle.std.proofs.lemmas.{Bool.false_from_ne_true, Slice.Eq.bytes_eq-Decides}
-use Rattle.clap.specs.{Words.{ReadsOne, first_of, first_value, one_of, one_text, rows_of}, declared.parser.matches.Found.Found}
+use Rattle.std.{proofs.Common.{◌≡◌, ◌∙◌, ◌^◌, ap, sym, refl, ℕ, Bool, false, List, Option, Some, None}, specs.Option.option_map}
+use Rattle.std.specs.{Prelude.{Result, Ok, Err, is_some}, Str.Parse.ParsesUnsigned, Result.OkIff}
+use Rattle.clap.specs.{Words.{ReadsOne, first_of, first_value, one_of, one_text, rows_of, same_text}, declared.parser.matches.Found.Found}
 use Rattle.clap.proofs.WalkLemmas.{first_value-rows, one_text-rows}
-use Rattle.snoop_trace.specs.{declared.protocol.Protocol.TheVariants.{Msi, Mesi}, Extent.{Extent, IsBlockCount, IsBlockSize, IsCoreCount, IsWordCount}}
+use Rattle.snoop_trace.specs.Extent.{Extent, IsBlockCount, IsBlockSize, IsCoreCount, IsWordCount}
 use Rattle.snoop_trace.specs.declared.shape.ShapeFault.{ShapeFault, TheVariants.{BadCores, BadBlocks, BadBytes, BadWords}}
-use Rattle.snoop_sim.specs.Options.{IsReadAs, IsShape, protocol_named, says}
-
--- a text that is compared with another is found equal where it is equal
-equal : (a b : List ℕ) → a ≡ b → bytes_eq a b ≡ true
-equal a b e = (bytes_eq-Decides a b).1 e
-
--- and else unequal
-unequal : (a b : List ℕ) → (a ≡ b → ⊥) → bytes_eq a b ≡ false
-unequal a b ne = false_from_ne_true (bytes_eq a b) (λ is. ne ((bytes_eq-Decides a b).0 is))
-
--- MESI was named
-pub mesi_named : (f : Found) (name : List ℕ) → first_value f (codes "protocol") ≡ Some name
-    → map to_ascii_lowercase name ≡ map to_ascii_lowercase (codes "mesi") → Mesi ≡ protocol_named (rows_of f)
-mesi_named f name given same =
-    let lower = equal _ _ same in
-    let of_rows = sym (first_value-rows f (codes "protocol")) ∙ given in
-    rw (of_rows, lower) refl
-
--- another text was named
-pub mesi_not_named : (f : Found) (name : List ℕ) → first_value f (codes "protocol") ≡ Some name
-    → (map to_ascii_lowercase name ≡ map to_ascii_lowercase (codes "mesi") → ⊥) → Msi ≡ protocol_named (rows_of f)
-mesi_not_named f name given other =
-    let lower = unequal _ _ other in
-    let of_rows = sym (first_value-rows f (codes "protocol")) ∙ given in
-    rw (of_rows, lower) refl
-
--- no protocol was named
-pub no_protocol_named : (f : Found) → first_value f (codes "protocol") ≡ None → Msi ≡ protocol_named (rows_of f)
-no_protocol_named f given = rw (sym (first_value-rows f (codes "protocol")) ∙ given) refl
+use Rattle.snoop_sim.specs.Options.{IsReadAs, IsShape, says}
 
 -- the option has a value, which is compared
-pub said : (f : Found) (name value text : List ℕ) (same : Bool) → first_value f name ≡ Some text → same ≡ bytes_eq text value → same ≡ says false name value (rows_of f)
-said f name value text same given is = rw (sym (first_value-rows f name) ∙ given) is
+pub said : (ignore_case : Bool) (f : Found) (name value text : List ℕ) (same : Bool) → first_value f name ≡ Some text → same ≡ same_text ignore_case text value
+    → same ≡ says ignore_case name value (rows_of f)
+said ignore_case f name value text same given is = rw (sym (first_value-rows f name) ∙ given) is
 
 -- it has none
-pub unsaid : (f : Found) (name value : List ℕ) → first_value f name ≡ None → false ≡ says false name value (rows_of f)
-unsaid f name value given = rw (sym (first_value-rows f name) ∙ given) refl
+pub unsaid : (ignore_case : Bool) (f : Found) (name value : List ℕ) → first_value f name ≡ None → false ≡ says ignore_case name value (rows_of f)
+unsaid ignore_case f name value given = rw (sym (first_value-rows f name) ∙ given) refl
 
 -- an option is given where a value of it is read
 pub given : {A : Type 0} (f : Found) (name : List ℕ) (text : A → List ℕ) (read : Option A) → option_map text read ≡ first_value f name

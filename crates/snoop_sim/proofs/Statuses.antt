@@ -12,7 +12,7 @@ use Rattle.snoop_engine.specs.declared.fault.SimFault.{SimFault}
 use Rattle.snoop_engine.specs.declared.fault.SimFault.TheVariants as sim
 use Rattle.snoop_draw.specs.declared.fault.DrawFault.TheVariants as draw
 use Rattle.snoop_lint.specs.declared.fault.LintFault.TheVariants as lint
-use Rattle.snoop_sim.specs.declared.{fault.ThreadsFault.ThreadsFault, failure.Failure.{Failure, TheVariants.{CommandLine, Simulation, Threads, Lint, Drawing}}}
+use Rattle.snoop_sim.specs.declared.{fault.ThreadsFault.ThreadsFault, failure.Failure.{Failure, TheVariants.{CommandLine, Simulation, Threads, Lint, Drawing, NoCommand}}}
 use Rattle.snoop_sim.specs.declared.fault.ThreadsFault.TheVariants as threads
 use Rattle.snoop_sim.specs.{Asked.{BeginsNothing, HasNoTask}, Performed.IsFailedRead, Status.{status_of, status_of_fault, status_of_threads}}
 
@@ -37,33 +37,23 @@ status_known (Lint lint.Read) = omega arith
 status_known (Drawing (draw.Simulation fault)) = fault_known fault
 status_known _ = omega arith
 
--- a reader that is not blamed has not failed
-not_blamed : (before after : Option Bool) → BlamesReader before after ⊥ → before ≡ Some false → after ≡ Some true → ⊥
-not_blamed before after blames old new = let none : after ≡ Some false = (blames old).1 (λ never. never) in cc
-
--- where a read has failed in the call, the status is 1
-pub failed_read_status : (failure : Failure) (before after : Option Bool) → BlamesReader before after (IsFailedRead (Err failure))
-    → before ≡ Some false → after ≡ Some true → status_of failure ≡ 1
-failed_read_status (Simulation (sim.Text text.Read)) before after blames old new = refl
-failed_read_status (Threads (threads.Text text.Read)) before after blames old new = refl
-failed_read_status (Lint lint.Read) before after blames old new = refl
-failed_read_status (Drawing (draw.Simulation (sim.Text text.Read))) before after blames old new = refl
-failed_read_status failure before after blames old new = absurd (not_blamed before after blames old new)
-
 -- a failed read has the status 1
-read_status : (failure : Failure) → IsFailedRead (Err failure) → status_of failure ≡ 1
+read_status : (failure : Failure) → (¬ IsFailedRead (Err failure) → ⊥) → status_of failure ≡ 1
 read_status (Simulation (sim.Text text.Read)) failed = refl
 read_status (Threads (threads.Text text.Read)) failed = refl
 read_status (Lint lint.Read) failed = refl
 read_status (Drawing (draw.Simulation (sim.Text text.Read))) failed = refl
-read_status failure failed = absurd failed
+read_status failure failed = absurd (failed (λ is. is))
+
+-- so where a read has failed in the call, the status is 1
+pub failed_read_status : (failure : Failure) (before after : Option Bool) → BlamesReader before after (IsFailedRead (Err failure))
+    → before ≡ Some false → after ≡ Some true → status_of failure ≡ 1
+failed_read_status failure before after blames old new = read_status failure (λ never. let none : after ≡ Some false = (blames old).1 never in cc)
 
 -- where a command has no task, it is 2
 no_task_status : (command : Option (Text × List Row)) (failure : Failure) → HasNoTask command failure → status_of failure ≡ 2
-no_task_status None (Simulation fault) has = absurd has
-no_task_status None (Threads fault) has = absurd has
-no_task_status None (Lint fault) has = absurd has
-no_task_status None (Drawing fault) has = absurd has
+no_task_status None NoCommand has = refl
+no_task_status None failure has = absurd has
 no_task_status (Some command) (Simulation fault) has = absurd has.1.2
 no_task_status (Some command) (Threads fault) has = absurd has.1.2
 no_task_status (Some command) (Lint fault) has = absurd has.1.2
@@ -80,4 +70,4 @@ refused_status words failure (app, snoop, (well, has)) =
 -- and no read has failed
 pub refused_unread : (words : List Text) (failure : Failure) → BeginsNothing words failure → ¬ IsFailedRead (Err failure)
 refused_unread words failure refuses failed =
-    let one = read_status failure failed in let two = (refused_status words failure refuses).0 in omega (arith, one, two)
+    let one = read_status failure (λ never. never failed) in let two = (refused_status words failure refuses).0 in omega (arith, one, two)
