@@ -78,8 +78,9 @@ MSI and MESI are protocols for caches that share one bus with memory. A cache ha
 block: M, in which its core may read and write the block, S, in which it may read it, or I, in which
 it has nothing. MESI also has E, which is like M but clean: memory has the same words. Memory's
 state of the block says what the caches may have. IorS stands for I or S, EorM for E or M; in a
-state that ends in D memory waits for a message. While a request for the block is being answered, it
-has an open **transaction** (below). A core that may write the block **owns** it.
+state that ends in D memory waits for a message. While a request for the block is being answered,
+the request is open: the block has an open **transaction** (below). A core that may write the block
+**owns** it.
 
 | Memory's state | Which cores may read or write the block | Clauses |
 |---|---|---|
@@ -88,10 +89,11 @@ has an open **transaction** (below). A core that may write the block **owns** it
 | EorM (MESI), M (MSI) | if no transaction of it is open, one core may write it, and no other may read it | `owned`, `one_writer` |
 | I_D | as in I, but a transaction is open and memory waits for its message | the same, `at_rest` |
 | S_D, IorS_D | as in S and IorS, but a transaction is open and memory waits for its message | the same, `at_rest` |
-| EorM_D, M_D | memory waits for the message of a writeback (a PutM, below). If that core still owned the block, it has given it up, and no core may read or write it. If the block had gone to another core before, that one may write it, and no other may read it. Of who may do so, the clauses only say that at most one core may write it, and that no other may read it then | `one_writer`, `at_rest`, `on_table` |
+| EorM_D, M_D | memory waits for the message of a writeback (a PutM, below). If that core still owned the block, it has given it up, and no core may read or write it. If the block had gone to another core before, that one may write it, and no other may read it. No one clause says more of this than that at most one core may write it, and that no other may read it then | `one_writer`, `at_rest`, `on_table` |
 
-While a transaction is open in EorM or M, the data is under way to the next writer. Then no core may
-write the block, which no clause says, and the core that asked for it may still read its old copy.
+While a transaction is open in EorM or M, the data is under way to the next writer. Then the core
+that asked for it may still read its old copy, and no core may write the block: no clause says so,
+but a store would hit (`moves`, `hits`) and leave the data under way old, against `carried`.
 
 Each cache has a controller, and so has memory. A controller has a table with a **row** for each
 event that it may meet in a state. A pair of state and event without a row is an **impossible
@@ -108,12 +110,13 @@ kinds.
   it, and is a **writer**. By the tables these are S, SM_AD, SM_D, E, M, EI_A and MI_A for loads,
   and E, M, EI_A and MI_A for stores. Otherwise the operation is stalled, which is a refusal (so is
   any outside the machine's shape), or it misses: the cache issues a request, which waits in the
-  core's queue, and the operation waits until its data comes. Giving up a block in E or M takes a
-  request too, a writeback. A block in S is dropped, which is answered Gone; in I there is nothing
-  to give up, which is answered Absent, by no row. In the states between, an eviction is stalled.
-- **Order**: a waiting request goes on the bus. All controllers see it, one of them sends a message,
-  and the block now has an open **transaction**, whose **requestor** is the core of the request. A
-  block with no open transaction is free.
+  core's queue, behind the older ones, and the operation waits until its data comes. Giving up a
+  block in E or M takes a request too, a writeback. A block in S is dropped, which is answered Gone;
+  in I there is nothing to give up, which is answered Absent, by no row. In the states between, an
+  eviction is stalled.
+- **Order**: a waiting request of a block that is **free**, which has no open transaction, goes on
+  the bus. All controllers see it, one of them sends a message, and the block now has an open
+  **transaction**, whose **requestor** is the core of the request.
 - **Respond**: the message, which is the response to the request, reaches the requestor, memory or
   both, and closes the transaction. The requestor takes the response to a GetS or GetM; no cache
   takes that to a PutM. Memory always takes the response to a PutM, and that to a GetS or GetM if
@@ -214,16 +217,17 @@ caches and of memory; `Load`, `Store` and `Evict` are operations and events; `Ge
 only the first two; a value is that of a word, or the words of a block; a row is a controller's, in
 comments of Rust also a load, store or eviction in a text, and a field of `IsShaped`; the history is
 the loads and stores, or the whole log; `None` is no value, no action, and as a sender memory;
-`Did`, `Sent`, `Came`, `Hit` and `Send` are several kinds of thing; `Requestor` and `Memory` are
-senders and targets; `taken` and `other` are functions, and names of something else; clauses of the
-theorem and fields of other records may have the same name; a line is a cache's, memory's, a table's
-or one of output. Names that differ in a capital or an ending are different things: `hits` is a
-clause, `Hits` a fact, `Hit` an action and a reply; `orders` is a clause, `Orders` a fact, `Order` a
-step.
+`Did`, `Came`, `Hit` and `Send` are several kinds of thing; so is `Sent`, which is about an ordered
+request, while `Sends` and a field `sent` are about its response; an answer is a reply, a response,
+or operations (`answers_of`); `Requestor` and `Memory` are senders and targets; `taken` and `other`
+are functions, and names of something else; clauses of the theorem and fields of other records may
+have the same name; a line is a cache's, memory's, a table's or one of output. Names that differ in
+a capital or an ending are different things: `hits` is a clause, `Hits` a fact, `Hit` an action and
+a reply; `orders` is a clause, `Orders` a fact, `Order` a step.
 
 | Written | Means |
 |---|---|
-| `f a b`, `x.log`, `(a, b)`, `λ x. ..` | f of a and b; a field, which binds before `f a`; a pair (`(a, b, c)` three and so on); a function of x |
+| `f a b`, `x.log`, `(a, b)`, `λ x. ..` | f of a and b (with fewer arguments than f has, a function of the others); a field, which binds before `f a`; a pair (`(a, b, c)` three and so on); a function of x |
 | `A × B`, `A → B`, `¬ A`, `⊥` | between facts: A and B; if A then B; not A; what never holds. Between types: their pairs; the functions from A to B |
 | `(x : T) × P`, `(x : T) → P` | there is an x with P; P for every x. `(x y : T)` has two of one type, and before one arrow there may be several such |
 | `(made : Orders ..) → ..` | the fact has the name `made`, and `made.from` is the `from` that it says exists |
@@ -256,28 +260,28 @@ The names used here are defined below, types under "Types", the others here:
 |---|---|
 {index}
 
-The function `coherent` does nothing: what it ensures is the theorem. The theorem is about every
-list of steps put to a machine from reset, in any order, and about every situation to which they may
-lead. The first steps of a run are a run, so it is about each situation on the way too. Another
-function, `the_run_is_coherent`, ensures that a run as the code has it, in which each Order is of a
-core's oldest request and no step is refused as out of memory, is one of these runs, and so
-coherent. Every list of steps has such a run (`runs_go_on`). That the code does as the model says is
-not on this page: docs/PROVED.md has it, with the clauses of the functions named here. By them each
-step that the code takes or refuses is one of these (`Machine::step` for one step, `run_steps` for a
-list); of Orders it takes only those of a core's oldest request. PROVED also says what is trusted:
-above all the prover of the Rattle toolchain, in whose language Snoop is written, which has checked
-all of it.
+A tool copies this, and each definition below, from the files that are named. The function
+`coherent` does nothing: what it ensures is the theorem. The theorem is about every list of steps
+put to a machine from reset, in any order, and about every situation to which they may lead. The
+first steps of a run are a run, so it is about each situation on the way too. Another function,
+`the_run_is_coherent`, ensures that a run as the code has it, in which each Order is of a core's
+oldest request and no step is refused as out of memory, is one of these runs, and so coherent. Every
+list of steps has such a run (`runs_go_on`). That the code does as the model says is not on this
+page: docs/PROVED.md has it, with what the functions named here promise. By that each step that the
+code takes or refuses is one of these (`Machine::step` for one step, `run_steps` for a list); of
+Orders it takes only those of a core's oldest request. PROVED also says what is trusted: above all
+the prover of the Rattle toolchain, in whose language Snoop is written, which has checked all of it.
 
 `Orders`, which `orders` and `by_table` mention, is a move without the bounds on core and block
 (`IsWithin`). It needs none: outside the shape no request waits.
 
 | About | Clauses | Why |
 |---|---|---|
-| who may read and write | `one_writer`, `readers`, `writers`, `owned` | below |
+| who may read and write | `one_writer`, `readers`, `writers`, `owned` | below; `readers` is about memory's I and I_D, which MSI does not have |
 | memory's state | `at_rest` | only an Order leads memory to a state in which it waits, and its Respond leads out of it |
-| values | `kept`, `current`, `carried`, `memory`, `clean` | below |
+| values | `kept`, `current`, `carried`, `memory`, `clean` | below; `clean` is about E and EI_A, which MSI does not have |
 | the history | `legal`, `logged` | each load that is performed gets its word of flat memory; an Ask outside the shape is refused |
-| operations | `once`, `told` | what each move adds to the history and takes from a line |
+| operations | `once`, `told` | what each move adds to the log and takes from a line |
 | | `waiting`, `given_up` | a state says what waits in its line, and whether it keeps words; which states a requestor may be in |
 | | `stalls`, `gone` | the tables' rows, and how a move answers by them, with `awaited`, `waiting` and `kept` |
 | | `hits` | how a move answers, alone |
@@ -291,20 +295,20 @@ all of it.
 By induction over the steps, with a stronger statement about each block. Memory's state and the open
 transaction decide three things: whether a core owns the block; whether other cores may have copies
 to read; and whether memory is sure to have the words of flat memory. docs/COHERENCE.md has this as
-a table of twelve lines. The statement has three parts: (1) each core's state, by itself, agrees
-with that table, given whether the core is the owner and whether it is the requestor; (2) each copy
-that may be read, and data under way, has the words of flat memory; (3) so has memory if the table
-says so, or if a core has the block in E or EI_A. Beside the open transaction only the owner's
-number connects the cores. The clauses about reading and writing follow from the first part and the
-table.
+a table of twelve lines. For the clauses marked "below" the statement has three parts: (1) each
+core's state, by itself, agrees with that table, given whether the core is the owner and whether it
+is the requestor; (2) each copy that may be read, and data under way, has the words of flat memory;
+(3) so has memory if the table says so, or if a core has the block in E or EI_A. Beside the open
+transaction only the owner's number connects the cores. The clauses about reading and writing follow
+from the first part and the table.
 
 So whether a step keeps the first part is a question about the tables: about the protocol, memory's
 state, the request, the payload, the state of the core that asks or whose request it is, and that of
 one other core. These are finitely many cases, whatever the number of cores, and the prover has
 computed them all. As for the other two: a word of flat memory changes only by a store, of the owner
 at a hit, or of a GetM's requestor when its data comes. After it no other copy may be read, no data
-is under way, and the table does not claim that memory has the words. docs/COHERENCE.md has the
-argument step by step.
+is under way, the table does not claim that memory has the words, and no core is in E or EI_A.
+docs/COHERENCE.md has the argument step by step.
 
 ## What follows, and what is not said
 
@@ -322,18 +326,18 @@ argument step by step.
   operations, hits keep their order of asking and come before each earlier miss that still waits;
   two misses may be performed in either order.
 - **Real time** is no clause, but follows by hand too: a hit is performed at its Ask, a miss at the
-  Respond whose reply has it, so each between its Ask and its last reply (`told`, `once`). So if
+  Respond whose reply has it, so each between its Ask and that reply (`told`, `once`). So if
   each core waits for its operations, the history is a linearization: an order that agrees with that
   of operations which do not overlap in time.
 - **That a step has only one outcome**, apart from out of memory and from Orders (of which block, or
   the cause `BusTaken`), is no clause; of a run as the code has it `laws::runs_are_one` says so
   (docs/PROVED.md).
 - **A load or store of an existing word, in a state whose row for it is a hit, does hit**, apart
-  from out of memory: no cause of `Refuses` holds of it, so by `Goes` (under "Runs") it is taken,
-  and by `hits`, which follows from the moves alone, that is a hit. If a cause holds, the step is
-  refused; but an Order of a core whose first block has an open transaction may be taken instead, of
-  another block, which is free and on which the core waits. Any step may also be refused as out of
-  memory, whatever other cause holds.
+  from out of memory: no cause of `Refuses` holds of it, so it has a move (`moves`) and by `Goes`
+  (under "Runs") is not refused, and by `hits`, which follows from the moves alone, the move is a
+  hit. If a cause holds, the step is refused; but an Order of a core whose first block has an open
+  transaction may be taken instead, of another block, which is free and on which the core waits. Any
+  step may also be refused as out of memory, whatever other cause holds.
 - `given_up` is about words only: a core whose PutM is open may have asked for the block again.
 
 The definitions say more about each step of a run, which no clause repeats:
@@ -344,12 +348,12 @@ The definitions say more about each step of a run, which no clause repeats:
 - that a step leaves other blocks as they were, and at an Ask other cores; that an Order opens the
   transaction of the request that it took, in which order the blocks are in a queue, and that a PutM
   that was issued is there;
-- whether a response performs an operation, and that the requestor and request that the history has
-  for it are those of the open transaction. `told` says that the history has what was replied, that
-  a response is of the block of its Respond, and that its operation, if it has one, is on that
-  block, by the requestor that the history has, and not marked as a hit. `told` does not say which
-  of that core's operations it is, nor a load's value: the first follows from `once`, before the
-  step and after it, the second from `legal`;
+- whether a response performs an operation, and that the requestor and request that the log has for
+  it are those of the open transaction. `told` says that the log has what was replied, that a
+  response is of the block of its Respond, and that its operation, if it has one, is on that block,
+  by the requestor that the log has, and not marked as a hit. `told` does not say which of that
+  core's operations it is, nor a load's value: the first follows from `once`, before the step and
+  after it, the second from `legal`;
 - who takes a message (`on_table` says memory's state then); a controller that does not take it
   needs no row for it. Only the next state and a Send are used of a row that is taken at an Order,
   and only the next state and a Write of memory's row at a Respond; the target that a row names is
@@ -360,12 +364,12 @@ senders.
 
 ## Types
 
-These are Rust, as the code declares them: an `enum` by its members and a `struct` by its fields.
-`u32` and `u64` are numbers, `bool` true or false, and `Open<K>` is `Open` of a type K, which here
-is a block's `Data`; in the definitions all numbers are ℕ. The comments are about the code: in them
-a machine is the code's, a text is what Snoop reads (docs/TEXTS.md), and a row is a controller's, or
-a load, a store or an eviction in a text. A holder of a block is a core that has words of it. Of the
-causes of `Refused`, `NoMemory` may come whatever other cause holds.
+These are as the code declares them, in the words of Rust: an `enum` by its members and a `struct`
+by its fields. `u32` and `u64` are numbers, `bool` true or false, and `Open<K>` is `Open` of a type
+K, which here is a block's `Data`; in the definitions all numbers are ℕ. The comments are about the
+code: in them a machine is the code's, a text is what Snoop reads (docs/TEXTS.md), and a row is a
+controller's, or a load, a store or an eviction in a text. A holder of a block is a core that has
+words of it. Of the causes of `Refused`, `NoMemory` may come whatever other cause holds.
 
 Each later part begins with what its file is about, and names the file. A file may have more: of its
 definitions the page has only those that the theorem uses, and a first line may speak of others.
