@@ -1,6 +1,6 @@
 -- From every situation of a run each step leads on, in one way: it is a move, or refused for a cause. And runs whose steps were all taken.
 use Rattle.snoop_model.proofs.Common.{[], ap, Err, Extent, FirstMove, FirstRunFrom, Goes, GoesFirst, Invariant, IsWellKept, KeepsWell, List, map, map-append, None, Ok, Protocol, refl, Refused, Refuses, Reply, reset, Result, rules, RunBy, Situation, Step, sym, taken, TakenGoesOn, ◌++◌, ◌∙◌, ◌∷◌, ◌≡◌, arith}
-use Rattle.snoop_model.specs.Runs.{Run.RunsAreOne, TakenOnce.TakenOnce}
+use Rattle.snoop_model.specs.Runs.{Run.{RunsAreOne, RunsGoOn}, TakenOnce.TakenOnce}
 use Rattle.snoop_model.proofs.{Invariant.Runs.{move_keeps, reset_invariant}, Once.run_asked_once, Queues.{AreQueued, keeps_well, starts_well}}
 use Rattle.snoop_model.proofs.{Runs.Along.{kept_along, run_more, seen_along}, Steps.{goes_is, goes_next, next_of}}
 
@@ -37,6 +37,10 @@ runs_on (step ∷ steps) s steady =
     let goes = goes_next s steady.0 steady.1.queued step in
     let rest = runs_on steps next.1 (steady_on keeps_well s step next.0 next.1 steady goes) in
     (next.0 ∷ rest.0, (rest.1.0, (next.1, (goes, rest.1.1))))
+
+-- so a run goes on, since every situation that it reaches is coherent and well kept
+pub runs_go_on : RunsGoOn
+runs_go_on protocol shape steps further outcomes reached run = runs_on further reached (run_steady steps outcomes (reset protocol shape) reached (reset_steady protocol shape) run)
 
 -- the run of some steps is the only one: each step comes to what is computed of it
 pub run_one : (steps : List Step) (outcomes outcomes' : List (Result Reply Refused)) (old new new' : Situation) → IsSteady old
