@@ -15,11 +15,11 @@ pub use Rattle.snoop_rules.specs.{TableOrder.{cache_events, cache_states, memory
 pub use Rattle.snoop_rules.specs.{Takers.{arrival, arrival_at_memory, asked, at_memory, seen_by, takes_payload, other, own}, declared.names.MemEvent.MemEvent}
 pub use Rattle.snoop_rules.specs.declared.names.{CacheState.{CacheState, TheVariants.I}, MemState.MemState, Request.{Request, TheVariants.PutM}}
 pub use Rattle.{snoop_bus.specs.{Queues.queue_of, Traffic.Open}, snoop_history.specs.declared.items.{Did.Did, Item.Item}}
-pub use Rattle.snoop_model.{proofs.Turns.turn_rule, specs.{Invariant.Invariant.Invariant, Moves.LookUps.{ConsultsCache, ConsultsMemory}}}
+pub use Rattle.snoop_model.{proofs.{Runs.GoOn.runs_go_on, Turns.turn_rule}, specs.{Invariant.Invariant.Invariant, Moves.LookUps.{ConsultsCache, ConsultsMemory}}}
 pub use Rattle.snoop_model.specs.Moves.Move.{ArrivesFor, Asks, FirstMove, IsAbsent, IsWithin, Responds, TakesFirst, Settles}
 pub use Rattle.snoop_model.specs.{Pictures.{Lines.Line, Picture.{Picture, held_at, held_by, nothing_held, with_line}, Proper.keeps}, Turns.Quiet.IsQuiet}
 pub use Rattle.snoop_model.specs.{Pictures.Situation.{Situation, picture_of, reset, state_of, nothing_there, untouched}, Turns.Turn.turn_of}
-pub use Rattle.snoop_model.specs.{Runs.Run.{FirstRunFrom, GoesFirst, RunsGoOn, TheRun}, Turns.Serving.{IsUnderWay, steps_paid, IsServing, has_transaction, steps_owed}}
+pub use Rattle.snoop_model.specs.{Runs.Run.{FirstRunFrom, GoesFirst, TheRun}, Turns.Serving.{IsUnderWay, steps_paid, IsServing, has_transaction, steps_owed}}
 pub use Rattle.snoop_model.specs.declared.replies.{Refused.{Refused, TheVariants.{BusTaken, Stalled, NoTransaction}}, Reply.Reply}
 pub use Rattle.snoop_engine.specs.{Askers.{AreAskers, AreOthersInI}, Chosen.{Chosen, is_shown}, Fault.fault_of_write, Words.spaced}
 pub use Rattle.snoop_engine.specs.Counts.{takes_memory_row, takes_row, all_lines, counts_text, frames_counts_text, memory_count_at, cache_count_at}

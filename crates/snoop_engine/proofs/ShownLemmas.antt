@@ -1,5 +1,5 @@
 -- The frames that a view was shown: what was written of them, or stands in the chunk.
-use Rattle.snoop_engine.proofs.Common.{map-append, ◌≡◌, ℕ, ◌+◌, List, [], ◌∷◌, ◌++◌, length, length-append, Option, refl, ◌∙◌, append_assoc, append-nil, arith, Result, Ok, Err, IsErrAnd, subst, Appends, Extent, AppendsFront, Step, Protocol, WriteFault, gathers_cut, gathers_done, gathers_more, gathers_stop, appends_none_of, Reply, Refused, Situation, reset, GoesFirst, RunsGoOn, TheRun, CanEnd, LeadsToEndWith, Leading, LeadsOn, fault_of_write, AreFrames, Frame, FramesFrom, Gathers, GivesSteps, lines_of_step, IsNextSeen, block_of_step, frame_seen, shown, view_text, SimFault, Seen, steps_of, outcomes_of}
+use Rattle.snoop_engine.proofs.Common.{map-append, ◌≡◌, ℕ, ◌+◌, List, [], ◌∷◌, ◌++◌, length, length-append, Option, refl, ◌∙◌, append_assoc, append-nil, arith, Result, Ok, Err, IsErrAnd, subst, Appends, Extent, AppendsFront, Step, Protocol, WriteFault, gathers_cut, gathers_done, gathers_more, gathers_stop, appends_none_of, Reply, Refused, Situation, reset, GoesFirst, runs_go_on, TheRun, CanEnd, LeadsToEndWith, Leading, LeadsOn, fault_of_write, AreFrames, Frame, FramesFrom, Gathers, GivesSteps, lines_of_step, IsNextSeen, block_of_step, frame_seen, shown, view_text, SimFault, Seen, steps_of, outcomes_of}
 use Rattle.snoop_trace.specs.declared.fault.WriteFault.TheVariants as write
 use Rattle.snoop_engine.specs.{SimulatedView.{BeginsToShow, ShowsRun, SimulatesView}, declared.{input.Input.Input, fault.SimFault.TheVariants.Text}}
 use Rattle.snoop_engine.proofs.{Gathering.{Gathering, gathering_more, ends_here, ends_on}, TrueLines.lines_fit}
@@ -29,24 +29,24 @@ module _ {protocol : Protocol} {shape : Extent} {steps : List Step} {one other :
 
 module _ (protocol : Protocol) (shape : Extent) (heading : List ℕ) (shows : List Frame → Frame → List ℕ) (ending : List Frame → Situation → List ℕ) where
   -- some frames were shown, and the run goes on
-  begins_on : RunsGoOn → (left : List Step) (frames : List Frame) (to : Situation) (a b : Option (List ℕ)) → FramesFrom (reset protocol shape) frames to
+  begins_on : (left : List Step) (frames : List Frame) (to : Situation) (a b : Option (List ℕ)) → FramesFrom (reset protocol shape) frames to
       → ((rest : List ℕ) → AppendsFront a b ((heading ++ shown shows [] frames) ++ rest)) → BeginsToShow protocol shape (view_text heading shows ending) (steps_of frames ++ left) a b
-  begins_on go_on left frames to a b run cut =
-      let further = go_on protocol shape (steps_of frames) left (outcomes_of frames) to (frames_run frames (reset protocol shape) to run) in
+  begins_on left frames to a b run cut =
+      let further = runs_go_on protocol shape (steps_of frames) left (outcomes_of frames) to (frames_run frames (reset protocol shape) to run) in
       let more = framed left further.0 to further.1.0 further.1.1 in
       let all : AreFrames protocol shape (steps_of frames ++ left) (frames ++ more.0) further.1.0 =
       record { whole = rw (map-append (λ (f : Frame). f.step) frames more.0, more.1.0); run = frames_on frames more.0 (reset protocol shape) to further.1.0 run more.1.1 } in
       begins_to_show all (simp (shown_on shows [] frames more.0, append_assoc) (simp append_assoc at (cut (shown shows frames more.0 ++ ending (frames ++ more.0) further.1.0))))
 
   -- nothing was written
-  pub begins_nothing : (steps : List Step) → RunsGoOn → (a : Option (List ℕ)) → BeginsToShow protocol shape (view_text heading shows ending) steps a a
-  begins_nothing steps go_on a = begins_on go_on steps [] (reset protocol shape) a a refl (λ rest. appends_none_of a ((heading ++ []) ++ rest))
+  pub begins_nothing : (steps : List Step) (a : Option (List ℕ)) → BeginsToShow protocol shape (view_text heading shows ending) steps a a
+  begins_nothing steps a = begins_on steps [] (reset protocol shape) a a refl (λ rest. appends_none_of a ((heading ++ []) ++ rest))
 
 -- nothing was written, and the course can go on to its end
-pub ends_with_nothing : (protocol : Protocol) (shape : Extent) (heading : List ℕ) (shows : List Frame → Frame → List ℕ) (ending : List Frame → Situation → List ℕ) (leads : Leading) → RunsGoOn → CanEnd leads
+pub ends_with_nothing : (protocol : Protocol) (shape : Extent) (heading : List ℕ) (shows : List Frame → Frame → List ℕ) (ending : List Frame → Situation → List ℕ) (leads : Leading) → CanEnd leads
     → (a : Option (List ℕ)) → LeadsToEndWith leads (λ steps _ _. BeginsToShow protocol shape (view_text heading shows ending) steps a a)
-ends_with_nothing protocol shape heading shows ending leads go_on end a =
-    record { steps = end.steps; outcomes = end.outcomes; final = end.final; way = end.way; holds = begins_nothing protocol shape heading shows ending end.steps go_on a }
+ends_with_nothing protocol shape heading shows ending leads end a =
+    record { steps = end.steps; outcomes = end.outcomes; final = end.final; way = end.way; holds = begins_nothing protocol shape heading shows ending end.steps a }
 
 -- so many steps of a course were taken and seen, and what was shown of them was written or stands in the chunk
 pub record Showing (protocol : Protocol) (shape : Extent) (heading : Protocol → Extent → List ℕ) (shows : Protocol → Extent → List Frame → Frame → List ℕ) (seen : Protocol → Extent → List Frame → Type 0)
@@ -86,19 +86,19 @@ module _ {protocol : Protocol} {shape : Extent} {heading : Protocol → Extent �
     text = view_text (heading protocol shape) (shows protocol shape) (ending protocol shape)
 
     -- the course can go on to its end, and something was written
-    stopped : RunsGoOn → (c : Option (List ℕ)) → ((rest : List ℕ) → AppendsFront a c ((heading protocol shape ++ shown (shows protocol shape) [] far.so_far.frames) ++ rest))
+    stopped : (c : Option (List ℕ)) → ((rest : List ℕ) → AppendsFront a c ((heading protocol shape ++ shown (shows protocol shape) [] far.so_far.frames) ++ rest))
         → LeadsToEndWith first (λ steps _ _. BeginsToShow protocol shape text steps a c)
-    stopped go_on c cut =
+    stopped c cut =
         ends_on far.so_far (λ steps _ _. BeginsToShow protocol shape text steps a c)
-        (begins_on protocol shape (heading protocol shape) (shows protocol shape) (ending protocol shape) go_on far.so_far.can_end.steps far.so_far.frames to a c far.so_far.run cut)
+        (begins_on protocol shape (heading protocol shape) (shows protocol shape) (ending protocol shape) far.so_far.can_end.steps far.so_far.frames to a c far.so_far.run cut)
 
     -- a stop before a write
-    pub showing_stop : RunsGoOn → LeadsToEndWith first (λ steps _ _. BeginsToShow protocol shape text steps a b)
-    showing_stop go_on = stopped go_on b (λ rest. gathers_stop a b chunk _ rest far.so_far.lines)
+    pub showing_stop : LeadsToEndWith first (λ steps _ _. BeginsToShow protocol shape text steps a b)
+    showing_stop = stopped b (λ rest. gathers_stop a b chunk _ rest far.so_far.lines)
 
     -- a stop in a write of the chunk
-    pub showing_cut : RunsGoOn → (c : Option (List ℕ)) → AppendsFront b c chunk → LeadsToEndWith first (λ steps _ _. BeginsToShow protocol shape text steps a c)
-    showing_cut go_on c cut = stopped go_on c (λ rest. gathers_cut a b c chunk _ rest far.so_far.lines cut)
+    pub showing_cut : (c : Option (List ℕ)) → AppendsFront b c chunk → LeadsToEndWith first (λ steps _ _. BeginsToShow protocol shape text steps a c)
+    showing_cut c cut = stopped c (λ rest. gathers_cut a b c chunk _ rest far.so_far.lines cut)
 
     -- what the view does at the end
     abbrev pub Ends : List ℕ → Protocol → Extent → Type 0

@@ -1,5 +1,5 @@
 -- The lines of a course's steps, written or in the chunk, and then the report.
-use Rattle.snoop_engine.proofs.Common.{arith, common_steps, ◌≡◌, ℕ, List, [], ◌∷◌, ◌++◌, Option, sym, ◌∙◌, append_assoc, append-nil, map-append, inr, ◌⊎◌, Result, Err, IsErrAnd, Appends, Extent, AppendsFront, WriteFault, Protocol, Row, Step, gathers_cut, gathers_done, gathers_stop, appends_none_of, Item, Reply, Refused, Situation, reset, GoesFirst, RunsGoOn, TheRun, appends_more, front_after, CanEnd, LeadsToEndWith, Leading, LeadsOn, fault_of_write, EndsInOrder, InOrder, IsAtTheEnd, IsAtTheStart, Progress, SimFault, Frame, outcomes_of, steps_of, refl}
+use Rattle.snoop_engine.proofs.Common.{arith, common_steps, ◌≡◌, ℕ, List, [], ◌∷◌, ◌++◌, Option, sym, ◌∙◌, append_assoc, append-nil, map-append, inr, ◌⊎◌, Result, Err, IsErrAnd, Appends, Extent, AppendsFront, WriteFault, Protocol, Row, Step, gathers_cut, gathers_done, gathers_stop, appends_none_of, Item, Reply, Refused, Situation, reset, GoesFirst, runs_go_on, TheRun, appends_more, front_after, CanEnd, LeadsToEndWith, Leading, LeadsOn, fault_of_write, EndsInOrder, InOrder, IsAtTheEnd, IsAtTheStart, Progress, SimFault, Frame, outcomes_of, steps_of, refl}
 use Rattle.snoop_history.specs.Report.{report_of}
 use Rattle.snoop_engine.specs.{Line.{line_text, line_texts}, Simulated.Begins, SimulatedRun.{BeginsRun, ReportsRun}, Written.run_text}
 use Rattle.snoop_engine.{specs.SimulatedSerial.{BeginsSerial, ReportsSerial}, proofs.{CourseLemmas.{driver_served, in_order_served}, TakenLemmas.frames_keep}}
@@ -63,9 +63,9 @@ module _ {protocol : Protocol} {shape : Extent} {first now : Leading} {here : Si
     writing_done all = ends_here far (WritesRun shape a d) over (appends_more a c d _ _ (gathers_done a b c chunk _ far.lines flushed) (rw report at all))
 
 -- nothing was written
-pub begins_nothing : RunsGoOn → (protocol : Protocol) (shape : Extent) (steps : List Step) (a : Option (List ℕ)) → Begins protocol shape steps a a
-begins_nothing go_on protocol shape steps a =
-    let all = go_on protocol shape [] steps [] (reset protocol shape) refl in
+pub begins_nothing : (protocol : Protocol) (shape : Extent) (steps : List Step) (a : Option (List ℕ)) → Begins protocol shape steps a a
+begins_nothing protocol shape steps a =
+    let all = runs_go_on protocol shape [] steps [] (reset protocol shape) refl in
     record { outcomes = all.0; final = all.1.0; run = all.1.1; output = appends_none_of a (run_text shape steps all.0 all.1.0) }
 
 -- a driver at its end has served its rows

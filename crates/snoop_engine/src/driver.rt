@@ -12,7 +12,6 @@ use crate::asks::AskQueue;
 use crate::course::{Course, take_enabled};
 use crate::deal::{all_cores, deal};
 use crate::lane::Lane;
-use snoop_machine::laws::runs_go_on;
 use snoop_machine::{Machine, Refused, Reply};
 use snoop_rules::Protocol;
 use snoop_trace::{NoMemory, Shape, Step};
@@ -190,7 +189,6 @@ impl Course for Driver {
 
     #[tactic(auto, using(crate::proofs::Completing::driver_can_end))]
     fn can_end(&self) {
-        runs_go_on();
         let _ = &self.machine;
     }
 }

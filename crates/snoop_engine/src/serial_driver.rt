@@ -9,7 +9,6 @@ ghost use Rattle.snoop_engine.specs.Round.{IsEnabled};
 ghost use Rattle.snoop_engine.specs.Serial.{is_ask};
 
 use crate::course::{Course, take_enabled};
-use snoop_machine::laws::runs_go_on;
 use snoop_machine::{Machine, Refused, Reply};
 use snoop_rules::Protocol;
 use snoop_trace::{NoMemory, Row, Shape, Step};
@@ -137,7 +136,6 @@ impl<'a> Course for SerialDriver<'a> {
 
     #[tactic(auto, using(crate::proofs::Completing::in_order_can_end))]
     fn can_end(&self) {
-        runs_go_on();
         let _ = &self.machine;
     }
 }

@@ -22,7 +22,6 @@ use crate::steps::Listed;
 use crate::taken::{block_of, head_for, take_step};
 use crate::view::View;
 use snoop_machine::Machine;
-use snoop_machine::laws::runs_go_on;
 use snoop_rules::Protocol;
 use snoop_trace::streams::{Sink, Source, gather_steps, spill, write_whole};
 use snoop_trace::{NoMemory, Shape, Step, TextFault, WriteFault, read_rows};
@@ -159,7 +158,6 @@ fn show_script<W: Sink, S: Script + Drop, V: View>(
     ensures never_blamed { W.never_fails ≡ true → result ≢ Err WriteFault.Write }
     ensures blamed { BlamesWriter (W.failed writer.old) (W.failed writer.new) (result ≡ Err WriteFault.Write) }
 {
-    runs_go_on();
     let machine = Machine::reset(alloc, protocol, shape)?;
     let mut course = Listed { machine, script };
     show(alloc, writer, &mut course, view)
@@ -178,7 +176,6 @@ fn show<W: Sink, C: Course, V: View>(
     ensures never_blamed { W.never_fails ≡ true → result ≢ Err WriteFault.Write }
     ensures blamed { BlamesWriter (W.failed writer.old) (W.failed writer.new) (result ≡ Err WriteFault.Write) }
 {
-    runs_go_on();
     course.can_end();
     let mut askers = Askers::new(alloc, course.machine().shape().blocks())?;
     let mut chunk = Vec::new(alloc);

@@ -17,7 +17,6 @@ use crate::lines::push_line;
 use crate::packed::StepQueue;
 use crate::script::Script;
 use snoop_history::write_report;
-use snoop_machine::laws::runs_go_on;
 use snoop_machine::{Machine, Refused, Reply};
 use snoop_rules::Protocol;
 use snoop_trace::streams::{Sink, Source, gather_steps, spill, write_whole};
@@ -46,8 +45,6 @@ pub fn simulate_steps<R: Source, W: Sink>(
     ensures blamed { BlamesWriter (W.failed writer.old) (W.failed writer.new) (result ≡ Err SimFault.Write) }
 {
     let steps = gather_steps(alloc, reader, protocol, shape, StepQueue::new(alloc))?;
-    // For the proof alone.
-    runs_go_on();
     let Ok(machine) = Machine::reset(alloc, protocol, shape) else {
         return Err(SimFault::NoMemory);
     };
@@ -118,7 +115,5 @@ impl<S: Script + Drop> Course for Listed<S> {
         }
     }
 
-    fn can_end(&self) {
-        runs_go_on();
-    }
+    fn can_end(&self) {}
 }

@@ -9,7 +9,6 @@ ghost use Rattle.snoop_states.specs.Whole.{states_table_text};
 
 use crate::tables::Tables;
 use snoop_engine::{Choice, Input, SimFault, read_input, show_steps};
-use snoop_machine::laws::runs_go_on;
 use snoop_trace::streams::{Sink, Source};
 use snoop_trace::{Protocol, Shape, Step, WriteFault};
 use std::alloc::Global;
@@ -59,7 +58,6 @@ fn write_tables<W: Sink>(
     ensures never_blamed { W.never_fails ≡ true → result ≢ Err WriteFault.Write }
     ensures blamed { BlamesWriter (W.failed writer.old) (W.failed writer.new) (result ≡ Err WriteFault.Write) }
 {
-    runs_go_on();
     let mut view = Tables::new(alloc, shape, choice, steps)?;
     show_steps(alloc, writer, protocol, shape, steps, &mut view)
 }

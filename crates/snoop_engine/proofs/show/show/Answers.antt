@@ -4,11 +4,11 @@ use Rattle.snoop_engine.proofs.show.show.Goals as goal
 
 pub returns-in_err-askers-clause-front : goal.returns-in_err-askers-clause-front
 returns-in_err-askers-clause-front g c =
-    on_err c.from_residual.result _ (ends_with_nothing _ _ _ _ _ _ c.runs_go_on.ensures (c.can_end.ensures _ _ [] [] c.requires) (g.W.Write.contents c.args.writer.now))
+    on_err c.from_residual.result _ (ends_with_nothing _ _ _ _ _ _ (c.can_end.ensures _ _ [] [] c.requires) (g.W.Write.contents c.args.writer.now))
 
 pub returns-in_err-begin-clause-front : goal.returns-in_err-begin-clause-front
 returns-in_err-begin-clause-front g c =
-    on_err c.from_residual-in_err-begin.result _ (ends_with_nothing _ _ _ _ _ _ c.runs_go_on.ensures (c.can_end.ensures _ _ [] [] c.requires) (g.W.Write.contents c.args.writer.now))
+    on_err c.from_residual-in_err-begin.result _ (ends_with_nothing _ _ _ _ _ _ (c.can_end.ensures _ _ [] [] c.requires) (g.W.Write.contents c.args.writer.now))
 
 pub loop-step-init : goal.loop-step-init
 loop-step-init g c =
@@ -23,13 +23,13 @@ loop-step-init g c =
     )
 
 pub returns-in_err-number-clause-front : goal.returns-in_err-number-clause-front
-returns-in_err-number-clause-front g c = on_err c.from_residual-in_err-number.result _ (showing_stop c.loop-step.invariant.0 (g.V.View.ending c.args.view.now) c.runs_go_on.ensures)
+returns-in_err-number-clause-front g c = on_err c.from_residual-in_err-number.result _ (showing_stop c.loop-step.invariant.0 (g.V.View.ending c.args.view.now))
 
 pub returns-in_err-outcome-clause-front : goal.returns-in_err-outcome-clause-front
-returns-in_err-outcome-clause-front g c = on_err c.from_residual-in_err-outcome.result _ (showing_stop c.loop-step.invariant.0 (g.V.View.ending c.args.view.now) c.runs_go_on.ensures)
+returns-in_err-outcome-clause-front g c = on_err c.from_residual-in_err-outcome.result _ (showing_stop c.loop-step.invariant.0 (g.V.View.ending c.args.view.now))
 
 pub returns-in_err-see-clause-front : goal.returns-in_err-see-clause-front
-returns-in_err-see-clause-front g c = on_err c.from_residual-in_err-see.result _ (showing_stop c.loop-step.invariant.0 (g.V.View.ending c.args.view.now) c.runs_go_on.ensures)
+returns-in_err-see-clause-front g c = on_err c.from_residual-in_err-see.result _ (showing_stop c.loop-step.invariant.0 (g.V.View.ending c.args.view.now))
 
 pub loop-step-preserved : goal.loop-step-preserved
 loop-step-preserved g c =
@@ -48,10 +48,10 @@ returns-in_err-spill-clause-front g c =
     showing_more c.loop-step.invariant.0 (λ p s frames. g.V.View.has_seen c.args.view.now p s frames c.see.new.self) _ _ _ _ c.in_ok-number.ensures (rw c.in-Some.ensures.same at c.in_ok-outcome.ensures.goes)
     (c.deref.ensures.value ∙ (rw c.in-Some.ensures.same at c.in_ok-outcome.ensures.lines)) (c.block_of-block.ensures _ (rw (c.machine-in-Some.ensures, c.in-Some.ensures.same) at c.head_for-head.ensures))
     (c.in_ok-outcome.ensures.leads c.loop-step.course c.in-Some.ensures.found) (c.can_end-in-Some.ensures _ _) (rw c.machine-in-Some-2.ensures at (c.in_ok-see.ensures c.args.view.now)) in
-    on_err c.from_residual-in_err-spill.result _ (showing_cut far (g.V.View.ending c.args.view.now) c.runs_go_on.ensures _ c.in_err-spill.ensures.front)
+    on_err c.from_residual-in_err-spill.result _ (showing_cut far (g.V.View.ending c.args.view.now) _ c.in_err-spill.ensures.front)
 
 pub returns-in_err-end-clause-front : goal.returns-in_err-end-clause-front
-returns-in_err-end-clause-front g c = on_err c.from_residual-in_err-end.result _ (showing_stop c.loop-step.invariant.0 (g.V.View.ending c.args.view.now) c.runs_go_on.ensures)
+returns-in_err-end-clause-front g c = on_err c.from_residual-in_err-end.result _ (showing_stop c.loop-step.invariant.0 (g.V.View.ending c.args.view.now))
 
 pub returns-in_err-write_whole-clause-front : goal.returns-in_err-write_whole-clause-front
 returns-in_err-write_whole-clause-front g c =

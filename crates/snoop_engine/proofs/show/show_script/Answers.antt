@@ -3,4 +3,4 @@ use Rattle.snoop_engine.proofs.show.show_script.Goals as goal
 
 pub returns-in_err-machine-clause-front : goal.returns-in_err-machine-clause-front
 returns-in_err-machine-clause-front g c =
-    on_err c.from_residual.result _ (begins_nothing c.args.protocol c.args.shape _ _ _ (g.S.Script.steps c.args.script) c.runs_go_on.ensures (g.W.Write.contents c.args.writer.now))
+    on_err c.from_residual.result _ (begins_nothing c.args.protocol c.args.shape _ _ _ (g.S.Script.steps c.args.script) (g.W.Write.contents c.args.writer.now))

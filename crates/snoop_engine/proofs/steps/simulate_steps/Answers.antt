@@ -3,7 +3,7 @@ use Rattle.snoop_engine.proofs.steps.simulate_steps.Goals as goal
 
 pub returns-in_default-clause-does : goal.returns-in_default-clause-does
 returns-in_default-clause-does g c =
-    (c.in_ok-steps.steps, (c.in_ok-steps.ensures.read, begins_nothing c.runs_go_on.ensures c.args.protocol c.args.shape c.in_ok-steps.steps _))
+    (c.in_ok-steps.steps, (c.in_ok-steps.ensures.read, begins_nothing c.args.protocol c.args.shape c.in_ok-steps.steps _))
 
 pub returns-in_err-write_lines-clause-does : goal.returns-in_err-write_lines-clause-does
 returns-in_err-write_lines-clause-does g c =

@@ -36,7 +36,7 @@ pub returns-in_err-view-clause-front : goal.returns-in_err-view-clause-front
 returns-in_err-view-clause-front g c =
     let text : List Frame → Situation → List ℕ = states_table_text c.args.protocol c.args.shape c.args.choice in
     on_err c.from_residual.result _ (begun_so (λ frames final are. quiet_view text frames final)
-    (begins_nothing c.args.protocol c.args.shape [] (λ fs f. []) text c.args.steps.now c.runs_go_on.ensures (g.W.Write.contents c.args.writer.now)))
+    (begins_nothing c.args.protocol c.args.shape [] (λ fs f. []) text c.args.steps.now (g.W.Write.contents c.args.writer.now)))
 
 pub returns-clause-ok : goal.returns-clause-ok
 returns-clause-ok g c = on_ok_weaker c.show_steps.result (shown_so (text_same c.in_ok-view.ensures)) c.show_steps.ensures.ok
