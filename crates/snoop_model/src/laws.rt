@@ -33,7 +33,6 @@ pub fn the_run_is_coherent()
 /// The run of some steps goes on: from where it led, any further steps have a run too.
 ///
 /// So every list of steps has a run from reset, and the run of its first steps is the beginning of one of all of them.
-#[tactic(auto, using(crate::proofs::Runs::GoOn::runs_go_on))]
 pub fn runs_go_on()
     ensures { RunsGoOn }
 {}
