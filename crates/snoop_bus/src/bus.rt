@@ -88,8 +88,8 @@ pub struct Open<K = Words> {
 
 /// The requests that wait, by core in order of issue, and the open transactions, by block. `K` is what a message carries of a block.
 ///
-/// Memory is asked for in `new` and `reserve` alone. Outside the shape a core has no request, and
-/// a block no transaction.
+/// Memory is asked for in `new` and `reserve` alone. Outside the shape a core has no request and no
+/// room, and a block no transaction.
 #[derive(Debug, Drop)]
 pub struct Bus<K = Words> {
     queues: Vec<Queue>,
@@ -150,6 +150,15 @@ impl<K: Copy> Bus<K> {
             grown?;
         }
         Ok(())
+    }
+
+    /// Whether the core can issue one more request.
+    pub fn has_room(&self, core: u32) -> bool
+        ensures { IsTrue result ↔ (0 < (waiting_of self.now core).room) }
+    {
+        self.queues
+            .get(core as usize)
+            .is_some_and(|queue| queue.has_room())
     }
 
     /// Puts a request for a block last in the core's queue.

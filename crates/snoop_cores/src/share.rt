@@ -90,8 +90,7 @@ impl Share {
                 Ok(Turn::Going) => {}
                 Ok(turn) => return Ok(turn),
                 Err(AdvanceFault::NoMemory) => return Err(NoMemory),
-                // The seat has checked the core and the block. Another work of the core ends by its own turns, so this tries
-                // again.
+                // None of these comes: the seat has checked the core and the block, and nobody else takes its core's turns.
                 Err(AdvanceFault::NoCore | AdvanceFault::NoBlock | AdvanceFault::Other(_)) => {}
             }
         }

@@ -1,21 +1,79 @@
 //! What only the lock itself shows; the other tests stand in the crate `snoop_cores_tests`.
 
-use crate::{GatherFault, SeatFault, Shared, Turn, Work, end_seats, end_watches, gather};
+use crate::{AdvanceFault, GatherFault, SeatFault, Shared, Turn, Work, end_seats, end_watches, gather};
 use snoop_rules::Protocol;
 use snoop_trace::{Op, Shape};
 use std::sync::MutexGuard;
 use std::test::Fail;
+
+/// The store of the value in word 0 of block 0.
+fn store(value: u64) -> Work {
+    Work {
+        block: 0,
+        word: 0,
+        op: Op::Store(value),
+    }
+}
+
+/// A load of word 0 of the block.
+fn load(block: u32) -> Work {
+    Work {
+        block,
+        word: 0,
+        op: Op::Load,
+    }
+}
+
+#[test]
+fn a_turn_closes_the_work_of_another_core(rt: HostRuntime) -> Result<(), Fail> {
+    let made = Shared::new(&rt, rt.alloc(), Protocol::Msi, Shape::new(2, 4, 64)?, 0);
+    let Ok((shared, seats, watches)) = made else {
+        return Err(Fail::from("a shared machine"));
+    };
+    let mut held = shared.lock(&rt);
+    let turns = [
+        held.advance(&rt, 0, store(1)),
+        held.advance(&rt, 1, store(2)),
+        held.advance(&rt, 0, store(1)),
+        held.advance(&rt, 1, store(2)),
+        held.advance(&rt, 0, load(0)),
+        held.advance(&rt, 0, store(1)),
+        held.advance(&rt, 2, store(1)),
+        held.advance(&rt, 0, load(4)),
+    ];
+    let left = (held.work(0), held.work(1));
+    let steps = held.steps().len();
+    MutexGuard::unlock(held);
+    end_seats(&rt, seats);
+    end_watches(&rt, watches);
+    shared.end(&rt);
+    let expected = [
+        Ok(Turn::Going),
+        Ok(Turn::Going),
+        Ok(Turn::Going),
+        Ok(Turn::Going),
+        Err(AdvanceFault::Other(store(1))),
+        Ok(Turn::Stored),
+        Err(AdvanceFault::NoCore),
+        Err(AdvanceFault::NoBlock),
+    ];
+    if turns != expected {
+        return Err(Fail::from("the turns of one bench"));
+    }
+    if left != (None, Some(store(2))) {
+        return Err(Fail::from("the work that is left"));
+    }
+    if steps != 4 {
+        return Err(Fail::from("how many steps"));
+    }
+    Ok(())
+}
 
 #[test]
 fn readings_while_the_lock_is_held(rt: HostRuntime) -> Result<(), Fail> {
     let made = Shared::new(&rt, rt.alloc(), Protocol::Msi, Shape::new(2, 4, 64)?, 1);
     let Ok((shared, mut seats, mut watches)) = made else {
         return Err(Fail::from("a shared machine"));
-    };
-    let store = Work {
-        block: 0,
-        word: 0,
-        op: Op::Store(7),
     };
     let mut held = shared.lock(&rt);
     let watched = watches
@@ -24,14 +82,14 @@ fn readings_while_the_lock_is_held(rt: HostRuntime) -> Result<(), Fail> {
     let seated = seats
         .get_mut(0)
         .map(|seat| (seat.totals().is_ok(), seat.value(0, 0)));
-    let asked = held.advance(&rt, 0, store);
+    let asked = held.advance(&rt, 0, store(7));
     MutexGuard::unlock(held);
     let pending = gather(&rt, rt.alloc(), &shared, seats.as_slice()).err();
     let mut held = shared.lock(&rt);
     let turns = [
         asked,
-        held.advance(&rt, 0, store),
-        held.advance(&rt, 0, store),
+        held.advance(&rt, 0, store(7)),
+        held.advance(&rt, 0, store(7)),
     ];
     MutexGuard::unlock(held);
     // The seat did not make that store. Its own load is core 0's second operation.

@@ -101,9 +101,9 @@ fn go_through(bus: &mut Bus) -> Result<(), Fail>
     if !is_finished_once(bus) {
         return Err(Fail::from("what was open"));
     }
-    issue(bus, 1, Request::GetM, 0)?;
-    if bus.head(1) != Some((Request::GetM, 0)) || bus.head(2).is_some() {
-        return Err(Fail::from("one more request"));
+    bus.reserve(1)?;
+    if !bus.has_room(1) || bus.has_room(2) {
+        return Err(Fail::from("room"));
     }
     Ok(())
 }

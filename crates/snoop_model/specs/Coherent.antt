@@ -72,5 +72,5 @@ pub record IsCoherentRun (protocol : Protocol) (shape : Extent) (steps : List St
   pub coherent : IsCoherent s
   -- of each core and block, the loads and stores in the history and the one that waits, if any, are exactly those whose Asks were taken, each as often
   pub once : Once steps outcomes s
-  -- each step adds to the history what its outcome tells, and its reply is one that it may have: a load that hits replies the value that the history has for it
+  -- each step adds to the log what its outcome tells, and its reply is one that such a step may have: a load that hits replies the value that the log has for it
   pub told : RunBy Tells [] steps outcomes s.log

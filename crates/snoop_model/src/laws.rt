@@ -4,7 +4,7 @@ ghost use Rattle.snoop_model.specs.Runs.Run.{EveryRun, TheRunIsARun, RunsAreOne,
 ghost use Rattle.snoop_model.specs.Runs.Safe.{RowsAreFound, TheRunIsCoherent};
 ghost use Rattle.snoop_model.specs.Runs.TakenOnce.{TakenOnce};
 
-/// Every run from reset is coherent, for every number of cores and blocks, under MSI and MESI.
+/// Every run from reset is coherent, for every number of cores, blocks and words, under MSI and MESI.
 ///
 /// `IsCoherentRun` says what that means: each block has one writer and no other reader, or only readers, or neither; in the history
 /// each load has the value of the last store to its word before it, or 0 where there is none; no step is stuck at an impossible

@@ -1,6 +1,6 @@
-//! Turns of two cores on one bench.
+//! Turns on a bench.
 
-use snoop_cores::{AdvanceFault, Bench, Evicted, Turn, Work};
+use snoop_cores::{Bench, Evicted, Turn, Work};
 use snoop_rules::Protocol;
 use snoop_trace::{Op, Shape, Step};
 use std::test::Fail;
@@ -12,54 +12,6 @@ pub(super) fn store(value: u64) -> Work {
         word: 0,
         op: Op::Store(value),
     }
-}
-
-#[test]
-fn a_turn_closes_the_work_of_another_core(rt: HostRuntime) -> Result<(), Fail> {
-    let mut bench = Bench::new(rt.alloc(), Protocol::Msi, Shape::new(2, 4, 64)?, 1)?;
-    let load = Work {
-        block: 0,
-        word: 0,
-        op: Op::Load,
-    };
-    let outside = Work {
-        block: 4,
-        word: 0,
-        op: Op::Load,
-    };
-    let turns = [
-        bench.advance(&rt, 0, store(1)),
-        bench.advance(&rt, 1, store(2)),
-        bench.advance(&rt, 0, store(1)),
-        bench.advance(&rt, 1, store(2)),
-        bench.advance(&rt, 0, load),
-        bench.advance(&rt, 0, store(1)),
-        bench.advance(&rt, 2, store(1)),
-        bench.advance(&rt, 0, outside),
-    ];
-    let left = (bench.work(0), bench.work(1));
-    let steps = bench.steps().len();
-    bench.end(&rt);
-    let expected = [
-        Ok(Turn::Going),
-        Ok(Turn::Going),
-        Ok(Turn::Going),
-        Ok(Turn::Going),
-        Err(AdvanceFault::Other(store(1))),
-        Ok(Turn::Stored),
-        Err(AdvanceFault::NoCore),
-        Err(AdvanceFault::NoBlock),
-    ];
-    if turns != expected {
-        return Err(Fail::from("the turns of one bench"));
-    }
-    if left != (None, Some(store(2))) {
-        return Err(Fail::from("the work that is left"));
-    }
-    if steps != 4 {
-        return Err(Fail::from("how many steps"));
-    }
-    Ok(())
 }
 
 /// An eviction of block 0, with a word that is not looked at.

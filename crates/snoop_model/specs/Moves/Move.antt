@@ -108,7 +108,7 @@ pub record ArrivesAtMemory (closing : Open) (protocol : Protocol) (old new : Mem
   pub settled : Settles protocol closing.request closing.payload old.state act new.state
   pub value : new.value ≡ written act closing.value old.value
 
--- the response, as the history has it
+-- the response, as the log has it
 abbrev pub came_of : Open → Came
 came_of closing = record { core = closing.core; request = closing.request; block = closing.block; from = closing.from; payload = closing.payload }
 

@@ -1,4 +1,4 @@
--- Which Asks hit, what is replied to each step, and what it adds to the history.
+-- Which Asks hit, what is replied to each step, and what it adds to the log.
 -- Source: which Asks hit, the tables of "A Primer on Memory Consistency and Cache Coherence", 2nd edition, chapter 7; replies and items, this project's profile.
 use Rattle.std.specs.Prelude.{◌≡◌, ⊤, ℕ, true, false, List, [], ◌∷◌, ◌++◌, Result, Ok, Err, IfSome}
 use Rattle.snoop_trace.specs.declared.step.Op.TheVariants as op
@@ -21,7 +21,7 @@ IsHit (Hit value) = ⊤
 IsHit StoreHit = ⊤
 IsHit _ = ⊥
 
--- what a step with this outcome adds to the history, and which replies it may have: a hit is the operation that was asked, with the value that a load replied; what is issued is the request that serves it; an Order adds the request that was replied, of some block; a Respond adds the response that was replied, to some request for this block, with the operation, if any, of its requestor on the block, which is no hit; an issue, Gone, Absent and a refusal add nothing, and no step has another reply
+-- what a step with this outcome adds to the log, and which replies it may have: a hit is the operation that was asked, with the value that a load replied; what is issued is the request that serves it; an Order adds the request that was replied, of some block; a Respond adds the response that was replied, to some request for this block, with the operation, if any, of its requestor on the block, which is no hit; an issue, Gone, Absent and a refusal add nothing, and no step has another reply
 abbrev pub Tells : List Item → Step → Result Reply Refused → List Item → Type 0
 Tells past (Ask core block word op.Load) (Ok (Hit value)) log = log ≡ past ++ item.Did (next_did past core block word op.Load value true) ∷ []
 Tells past (Ask core block word (op.Store value)) (Ok StoreHit) log = log ≡ past ++ item.Did (next_did past core block word (op.Store value) value true) ∷ []

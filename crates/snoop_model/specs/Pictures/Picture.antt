@@ -43,7 +43,7 @@ abbrev pub first_memory : Protocol → MemState
 first_memory Msi = mem.IorS
 first_memory Mesi = mem.I
 
--- what is left of kept words when a state comes: they are given up in I, IM_AD and II_A
+-- what is left of kept words when a state comes: they are dropped in I, IM_AD and II_A
 abbrev pub kept_on : CacheState → Option Data → Option Data
 kept_on I kept = None
 kept_on ImAd kept = None

@@ -1,4 +1,4 @@
--- The machine as its callers see it.
+-- All that is seen of a machine.
 -- Source: this project's profile.
 use Rattle.std.specs.Prelude.{◌≡◌, ◌<◌, ℕ, List, [], Some, None, slice_get, slice_index_or, slice_set, replicate, length}
 use Rattle.snoop_trace.specs.{Extent.Extent, Words.zero_words, declared.protocol.Protocol.Protocol}
@@ -7,7 +7,7 @@ use Rattle.snoop_history.specs.declared.items.Item.{Item}
 use Rattle.snoop_model.specs.Pictures.{Lines.Line, Picture.{Picture, first_memory, nothing_held, held_by}}
 use Rattle.snoop_bus.specs.{Queues.queue_of, Traffic.Open}
 
--- the protocol and the shape, the picture of each block, each core's queue, and the log, which is the history
+-- the protocol and the shape, the picture of each block, each core's queue, and the log, with the history in it
 pub record Situation : Type 0 where
   pub protocol : Protocol
   pub shape : Extent
