@@ -89,7 +89,7 @@ the request is open: the block has an open **transaction** (below). A core that 
 | EorM (MESI), M (MSI) | if no transaction of it is open, one core may write it, and no other may read it | `owned`, `one_writer` |
 | I_D | as in I, but a transaction is open and memory waits for its message | the same, `at_rest` |
 | S_D, IorS_D | as in S and IorS, but a transaction is open and memory waits for its message | the same, `at_rest` |
-| EorM_D, M_D | memory waits for the message of a writeback (a PutM, below). If that core still owned the block, it has given it up, and no core may read or write it. If the block had gone to another core before, that one may write it, and no other may read it. No one clause says more of this than that at most one core may write it, and that no other may read it then | `one_writer`, `at_rest`, `on_table` |
+| EorM_D, M_D | memory waits for the message of a writeback (a PutM, below). If that core still owned the block, it has given it up, and no core may read or write it. If the block had gone to another core before, that one may write it, and no other may read it. That the core of the PutM reads and writes no more is by `given_up` and `current`; of the others no one clause says more than that at most one may write it, and that no other may read it then | `one_writer`, `given_up`, `at_rest`, `on_table` |
 
 While a transaction is open in EorM or M, the data is under way to the next writer. Then the core
 that asked for it may still read its old copy, and no core may write the block: no clause says so,
@@ -279,10 +279,10 @@ the prover of the Rattle toolchain, in whose language Snoop is written, which ha
 |---|---|---|
 | who may read and write | `one_writer`, `readers`, `writers`, `owned` | below; `readers` is about memory's I and I_D, which MSI does not have |
 | memory's state | `at_rest` | only an Order leads memory to a state in which it waits, and its Respond leads out of it |
-| values | `kept`, `current`, `carried`, `memory`, `clean` | below; `clean` is about E and EI_A, which MSI does not have |
+| values | `current`, `carried`, `memory`, `clean` | below; `clean` is about E and EI_A, which MSI does not have |
 | the history | `legal`, `logged` | each load that is performed gets its word of flat memory; an Ask outside the shape is refused |
 | operations | `once`, `told` | what each move adds to the log and takes from a line |
-| | `waiting`, `given_up` | a state says what waits in its line, and whether it keeps words; which states a requestor may be in |
+| | `waiting`, `kept`, `given_up` | a state says what waits in its line, and whether it keeps words; which states a requestor may be in |
 | | `stalls`, `gone` | the tables' rows, and how a move answers by them, with `awaited`, `waiting` and `kept` |
 | | `hits` | how a move answers, alone |
 | requests and transactions | `queued`, `awaited`, `opened` | an issue puts its block last, an Order takes the block out and opens a transaction of it, a Respond closes that |
@@ -298,9 +298,9 @@ to read; and whether memory is sure to have the words of flat memory. docs/COHER
 a table of twelve lines. For the clauses marked "below" the statement has three parts: (1) each
 core's state, by itself, agrees with that table, given whether the core is the owner and whether it
 is the requestor; (2) each copy that may be read, and data under way, has the words of flat memory;
-(3) so has memory if the table says so, or if a core has the block in E or EI_A. Beside the open
-transaction only the owner's number connects the cores. The clauses about reading and writing follow
-from the first part and the table.
+(3) so has memory if the table says so, or if a core has the block in E or EI_A. Beside memory's
+state and the open transaction only the owner's number connects the cores. The clauses about reading
+and writing follow from the first part and the table.
 
 So whether a step keeps the first part is a question about the tables: about the protocol, memory's
 state, the request, the payload, the state of the core that asks or whose request it is, and that of
