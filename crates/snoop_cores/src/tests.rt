@@ -1,6 +1,8 @@
 //! What only the lock itself shows; the other tests stand in the crate `snoop_cores_tests`.
 
-use crate::{AdvanceFault, GatherFault, SeatFault, Shared, Turn, Work, end_seats, end_watches, gather};
+use crate::{
+    AdvanceFault, GatherFault, SeatFault, Shared, Turn, Work, end_seats, end_watches, gather,
+};
 use snoop_rules::Protocol;
 use snoop_trace::{Op, Shape};
 use std::sync::MutexGuard;
