@@ -1,6 +1,6 @@
 //! What seats, watches, shared machines and benches say of themselves.
 
-use snoop_cores::{Bench, Seat, Shared, Watch, end_seats, end_watches};
+use snoop_cores::{Bench, Seat, Shared, Watch, end_seats, end_watches, gather};
 use snoop_rules::Protocol;
 use snoop_trace::Shape;
 use std::sync::Wait;
@@ -42,6 +42,33 @@ fn three_seats_and_three_watches(rt: HostRuntime) -> Result<(), Fail> {
         Ok(())
     } else {
         Err(Fail::from("what a shared machine says of itself"))
+    }
+}
+
+#[test]
+fn an_end_takes_no_turn(rt: HostRuntime) -> Result<(), Fail> {
+    let made = Shared::new(&rt, rt.alloc(), Protocol::Msi, Shape::new(2, 4, 64)?, 2);
+    let Ok((shared, mut seats, mut watches)) = made else {
+        return Err(Fail::from("a shared machine"));
+    };
+    let stored = seats
+        .first_mut()
+        .is_some_and(|seat| seat.store(&rt, 0, 0, 7).is_ok());
+    if let Some(watch) = watches.pop() {
+        watch.end(&rt);
+    }
+    let steps = gather(&rt, rt.alloc(), &shared, seats.as_slice()).map(|all| all.steps.len());
+    end_seats(&rt, seats);
+    let read = watches.first_mut().map(|watch| (
+        watch.totals().map(|totals| totals.stores),
+        watch.value(0, 0),
+    ));
+    end_watches(&rt, watches);
+    shared.end(&rt);
+    if stored && steps == Ok(3) && read == Some((Ok(1), Ok(7))) {
+        Ok(())
+    } else {
+        Err(Fail::from("what an end leaves"))
     }
 }
 

@@ -7,7 +7,7 @@ use snoop_trace::{
 };
 use std::alloc::Global;
 use std::io;
-use std::io::{ErrorKind, Read};
+use std::io::{ErrorKind, Read, Write};
 use std::test::Fail;
 
 static STEPS: [Step; 3] = [
@@ -133,6 +133,37 @@ fn a_writer_that_fails(rt: HostRuntime) -> Result<(), Fail> {
                 }
             }
         }
+    }
+    Ok(())
+}
+
+// The kind of the error of a read that fails.
+fn kind_of_read() -> Option<ErrorKind> {
+    let mut reader = AnyReader::new(Failing {
+        text: TEXT,
+        a_call: 1,
+        left: 0,
+    });
+    let mut bytes = [0; 4];
+    reader.read(&mut bytes).err().map(|error| error.kind())
+}
+
+// The kind of the error of a first write that fails.
+fn kind_of_write(alloc: Global, failure: Failure) -> Option<ErrorKind> {
+    let mut writer = AnyWriter::new(Stopping::new(alloc, 1, 0, failure));
+    writer.write(b"V").err().map(|error| error.kind())
+}
+
+#[test]
+fn errors_keep_their_kind(rt: HostRuntime) -> Result<(), Fail> {
+    if kind_of_read() != Some(ErrorKind::Interrupted) {
+        return Err(Fail::from("a read"));
+    }
+    if kind_of_write(rt.alloc(), Failure::Refuses) != Some(ErrorKind::Interrupted) {
+        return Err(Fail::from("a write"));
+    }
+    if kind_of_write(rt.alloc(), Failure::TakesNothing) != Some(ErrorKind::WriteZero) {
+        return Err(Fail::from("a write that takes nothing"));
     }
     Ok(())
 }
