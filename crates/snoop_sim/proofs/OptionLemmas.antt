@@ -1,5 +1,5 @@
 -- What the options of a command are read as.
-use Rattle.std.{proofs.Common.{◌≡◌, ◌∙◌, ◌^◌, ap, sym, refl, ℕ, Bool, false, List, Option, Some, None}, specs.Option.option_map}
+use Rattle.std.{proofs.Common.{◌≡◌, ◌∙◌, ◌^◌, ap, sym, refl, ℕ, Bool, false, List, Option, Some, None}, specs.Option.{option_map, option_map_or}}
 use Rattle.std.specs.{Prelude.{Result, Ok, Err, is_some}, Str.Parse.ParsesUnsigned, Result.OkIff}
 use Rattle.clap.specs.{Words.{ReadsOne, first_of, first_value, one_of, one_text, rows_of, same_text}, declared.parser.matches.Found.Found}
 use Rattle.clap.proofs.WalkLemmas.{first_value-rows, one_text-rows}
@@ -7,14 +7,10 @@ use Rattle.snoop_trace.specs.Extent.{Extent, IsBlockCount, IsBlockSize, IsCoreCo
 use Rattle.snoop_trace.specs.declared.shape.ShapeFault.{ShapeFault, TheVariants.{BadCores, BadBlocks, BadBytes, BadWords}}
 use Rattle.snoop_sim.specs.Options.{IsReadAs, IsShape, says}
 
--- the option has a value, which is compared
-pub said : (ignore_case : Bool) (f : Found) (name value text : List ℕ) (same : Bool) → first_value f name ≡ Some text → same ≡ same_text ignore_case text value
-    → same ≡ says ignore_case name value (rows_of f)
-said ignore_case f name value text same given is = rw (sym (first_value-rows f name) ∙ given) is
-
--- it has none
-pub unsaid : (ignore_case : Bool) (f : Found) (name value : List ℕ) → first_value f name ≡ None → false ≡ says ignore_case name value (rows_of f)
-unsaid ignore_case f name value given = rw (sym (first_value-rows f name) ∙ given) refl
+-- the option has a value, which is compared, or it has none
+pub said : (ignore_case : Bool) (f : Found) (name value : List ℕ) (text : Option (List ℕ)) (same : Bool) → first_value f name ≡ text
+    → same ≡ option_map_or (λ text. same_text ignore_case text value) text false → same ≡ says ignore_case name value (rows_of f)
+said ignore_case f name value text same found is = rw (sym (first_value-rows f name) ∙ found) is
 
 -- an option is given where a value of it is read
 pub given : {A : Type 0} (f : Found) (name : List ℕ) (text : A → List ℕ) (read : Option A) → option_map text read ≡ first_value f name
