@@ -88,6 +88,12 @@ impl<const N: usize> Model for Few<N> {
 }
 
 impl<const N: usize> Clone for Few<N> {
+    ghost use Rattle.std.specs.Prelude.{◌≡◌, ⊤};
+
+    ghost is_clone = { λ x y. y ≡ x };
+
+    ghost is_infallible = { λ _. ⊤ };
+
     fn clone(&self) -> Result<Self, AllocError> {
         Ok(*self)
     }
@@ -146,6 +152,12 @@ impl<B: Block> Model for Kept<B> {
 }
 
 impl<B: Block> Clone for Kept<B> {
+    ghost use Rattle.std.specs.Prelude.{◌≡◌, ⊤};
+
+    ghost is_clone = { λ x y. y ≡ x };
+
+    ghost is_infallible = { λ _. ⊤ };
+
     fn clone(&self) -> Result<Self, AllocError> {
         Ok(*self)
     }
