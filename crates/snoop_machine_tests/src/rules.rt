@@ -307,3 +307,27 @@ fn names_of_the_tables() -> Result<(), Fail> {
     }
     Ok(())
 }
+
+#[test]
+fn names_fill_a_width(rt: HostRuntime) -> Result<(), Fail> {
+    let (state, event, memory) = (CacheState::IsAd, CacheEvent::Load, MemState::SD);
+    let shown = format!(in rt.alloc();
+        "{state:<6}|{event:>6}|{memory:-^7}|{:.4}|{state}",
+        MemEvent::NoDataE
+    )
+    .map_err(|_| Fail::from("memory"))?;
+    if shown.as_str() != "IS_AD |  Load|--S_D--|NoDa|IS_AD" {
+        Err("states and events")?
+    }
+    let (request, payload) = (Request::GetS, Payload::DataE);
+    let shown = format!(in rt.alloc();
+        "{request:<6}|{payload:>6}|{:<10}|{:>5}",
+        Target::Memory,
+        Protocol::Msi
+    )
+    .map_err(|_| Fail::from("memory"))?;
+    if shown.as_str() != "GetS  | DataE|memory    |  msi" {
+        Err("messages")?
+    }
+    Ok(())
+}

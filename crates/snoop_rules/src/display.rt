@@ -1,5 +1,6 @@
 //! How the words of the protocols are printed: names with underscores, as in the tables.
 ghost use Rattle.std.specs.Prelude.{◌≡◌, Some};
+ghost use Rattle.std.specs.Fmt.{styled_text};
 ghost use Rattle.snoop_rules.specs.Names.{state_name, event_name, memory_state_name, memory_event_name, request_name, payload_name, target_name, action_text, memory_action_text};
 
 use crate::names::{
@@ -33,8 +34,10 @@ impl CacheState {
 impl fmt::Display for CacheState {
     ghost output = { λ state. Some (state_name state) };
 
+    ghost styled_output = { λ state style. Some (styled_text style (state_name state)) };
+
     fn fmt<W: fmt::Write>(&self, f: &mut fmt::Formatter<W>) -> fmt::Result {
-        f.write_str(self.name())
+        f.pad(self.name())
     }
 }
 
@@ -62,8 +65,10 @@ impl CacheEvent {
 impl fmt::Display for CacheEvent {
     ghost output = { λ event. Some (event_name event) };
 
+    ghost styled_output = { λ event style. Some (styled_text style (event_name event)) };
+
     fn fmt<W: fmt::Write>(&self, f: &mut fmt::Formatter<W>) -> fmt::Result {
-        f.write_str(self.name())
+        f.pad(self.name())
     }
 }
 
@@ -90,8 +95,10 @@ impl MemState {
 impl fmt::Display for MemState {
     ghost output = { λ state. Some (memory_state_name state) };
 
+    ghost styled_output = { λ state style. Some (styled_text style (memory_state_name state)) };
+
     fn fmt<W: fmt::Write>(&self, f: &mut fmt::Formatter<W>) -> fmt::Result {
-        f.write_str(self.name())
+        f.pad(self.name())
     }
 }
 
@@ -114,8 +121,10 @@ impl MemEvent {
 impl fmt::Display for MemEvent {
     ghost output = { λ event. Some (memory_event_name event) };
 
+    ghost styled_output = { λ event style. Some (styled_text style (memory_event_name event)) };
+
     fn fmt<W: fmt::Write>(&self, f: &mut fmt::Formatter<W>) -> fmt::Result {
-        f.write_str(self.name())
+        f.pad(self.name())
     }
 }
 
@@ -135,8 +144,10 @@ impl Request {
 impl fmt::Display for Request {
     ghost output = { λ request. Some (request_name request) };
 
+    ghost styled_output = { λ request style. Some (styled_text style (request_name request)) };
+
     fn fmt<W: fmt::Write>(&self, f: &mut fmt::Formatter<W>) -> fmt::Result {
-        f.write_str(self.name())
+        f.pad(self.name())
     }
 }
 
@@ -157,8 +168,10 @@ impl Payload {
 impl fmt::Display for Payload {
     ghost output = { λ payload. Some (payload_name payload) };
 
+    ghost styled_output = { λ payload style. Some (styled_text style (payload_name payload)) };
+
     fn fmt<W: fmt::Write>(&self, f: &mut fmt::Formatter<W>) -> fmt::Result {
-        f.write_str(self.name())
+        f.pad(self.name())
     }
 }
 
@@ -178,8 +191,10 @@ impl Target {
 impl fmt::Display for Target {
     ghost output = { λ target. Some (target_name target) };
 
+    ghost styled_output = { λ target style. Some (styled_text style (target_name target)) };
+
     fn fmt<W: fmt::Write>(&self, f: &mut fmt::Formatter<W>) -> fmt::Result {
-        f.write_str(self.name())
+        f.pad(self.name())
     }
 }
 

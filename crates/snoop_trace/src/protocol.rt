@@ -1,5 +1,6 @@
 //! The coherence protocols, and what they are called.
 ghost use Rattle.std.specs.Prelude.{◌≡◌, Some};
+ghost use Rattle.std.specs.Fmt.{styled_text};
 ghost use Rattle.snoop_trace.specs.Protocol.{protocol_name};
 
 use std::fmt;
@@ -26,7 +27,9 @@ impl Protocol {
 impl fmt::Display for Protocol {
     ghost output = { λ protocol. Some (protocol_name protocol) };
 
+    ghost styled_output = { λ protocol style. Some (styled_text style (protocol_name protocol)) };
+
     fn fmt<W: fmt::Write>(&self, f: &mut fmt::Formatter<W>) -> fmt::Result {
-        f.write_str(self.name())
+        f.pad(self.name())
     }
 }
