@@ -10,7 +10,7 @@ use Rattle.snoop_sim.specs.declared.{failure.Failure.{Failure, TheVariants.{Comm
 -- `clap` says what it finds in the words of such a command line, whatever lists the names are in, and of which kinds its errors are
 is_free : (app : App) → IsSnoop app → is_simple_and_free app ≡ true
 unfolding clap_on_literals
-is_free app (_, _, _, _, _, _, _, _, (_, _, a), (_, _, b), (_, _, c), (_, _, (_, _, _, _, d)), (_, _, (_, _, _, _, e)), (_, _, (_, _, f)), (_, _, _, _, (_, _, _, _, g)), (_, _, _, _, _, _, h), is) =
+is_free app (_, (_, _, _, (_, _, _, a)), (_, (_, _, _, (_, _, _, (_, _, _, b))), (_, (_, _, _, (_, _, _, c)), (_, (_, _, _, (_, _, _, (_, _, _, (_, _, _, (_, _, _, (_, _, _, d)))))), (_, (_, _, _, (_, _, _, (_, _, _, (_, _, _, (_, _, _, e))))), (_, (_, _, _, (_, _, _, (_, _, _, (_, _, _, f)))), (_, (_, _, _, (_, _, _, (_, _, _, (_, _, _, (_, _, _, (_, _, _, g)))))), (_, (_, _, _, (_, _, _, h)), is)))))))) =
     rw (is, a, b, c, d, e, f, g, h) refl
 
 -- what is no mistake is help or the version

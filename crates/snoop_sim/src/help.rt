@@ -75,7 +75,7 @@ Exit statuses: snoop --help. More in docs/TEXTS.md."] $($rest)*)
     };
 }
 
-pub(crate) static PROGRAM: &str = "\
+pub(crate) const PROGRAM: &str = "\
 Reads a text from standard input, and writes one to standard output. A file is
 handed in by `<`:
   snoop steps < FILE
@@ -99,7 +99,7 @@ Exit statuses:
 
 More in docs/TEXTS.md.";
 
-pub(crate) static STEPS: &str = help!(
+pub(crate) const STEPS: &str = help!(
     "Reads standard input: `snoop steps < FILE`. Each line is a step:"
     asks
     "
@@ -121,7 +121,7 @@ All counts 0? A text without O and R is for `snoop run`."
     more
 );
 
-pub(crate) static RUN: &str = help!(
+pub(crate) const RUN: &str = help!(
     "Reads standard input: `snoop run < FILE`. Each line is what a core does next:"
     asks
     numbers
@@ -139,7 +139,7 @@ A text with V, O or R is for `snoop steps`."
     more
 );
 
-pub(crate) static THREADS: &str = help!(
+pub(crate) const THREADS: &str = help!(
     "Reads standard input: `snoop threads < FILE`. Each line is what a core does next:"
     asks
     numbers
@@ -157,7 +157,7 @@ A text with V, O or R is for `snoop steps`."
     more
 );
 
-pub(crate) static STATES: &str = help!(
+pub(crate) const STATES: &str = help!(
     "Reads standard input: `snoop states < FILE`. Each line is a step:"
     asks
     "
@@ -181,7 +181,7 @@ with its values after it, and the request's place in the queue, from 1. Refused 
     more
 );
 
-pub(crate) static COUNTS: &str = help!(
+pub(crate) const COUNTS: &str = help!(
     "Reads standard input: `snoop counts --by row < FILE`. Each line is a step:"
     asks
     "
@@ -208,7 +208,7 @@ cores together. A stall counts too; a core in I at another core's request is lef
     more
 );
 
-pub(crate) static LINT: &str = "\
+pub(crate) const LINT: &str = "\
 Reads standard input to its end: `snoop lint < FILE`. Each faulty line of it has a line
 of output: its record and line, the fault, what was expected there, and which option
 would allow it. Then come how many records and faults there are, the cores and blocks
@@ -223,7 +223,7 @@ wait at the end of a text without faults is in the last line of `snoop states`.
 
 Exit statuses: snoop --help. More in docs/TEXTS.md.";
 
-pub(crate) static DRAW: &str = help!(
+pub(crate) const DRAW: &str = help!(
     "Reads standard input: `snoop draw < FILE`. Each line is a step:"
     asks
     "
@@ -252,7 +252,7 @@ A text is refused as by `snoop steps`, with --of rows as by `snoop run`. Refused
     more
 );
 
-pub(crate) static TABLE: &str = "\
+pub(crate) const TABLE: &str = "\
 No input is read. Each line of output is a row of the table: state, event, action
 and next state, with commas between.
 --as matrix: a line for each state, with a field for each event: action/next, or

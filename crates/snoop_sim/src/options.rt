@@ -1,8 +1,8 @@
 //! The command line: its words and what they ask for.
 ghost use Rattle.std.specs.Prelude.{◌≡◌, ◌≢◌, ◌^◌, [], IfErr, IfOk, Ok, false, is_some, map, string_bytes, true};
-ghost use Rattle.clap.specs.Words.{App, app_of, first_of, found_of, one_of, rows_of};
+ghost use Rattle.clap.specs.Words.{app_of, first_of, found_of, one_of, rows_of};
 ghost use Rattle.snoop_sim.specs.Asked.{AsksFor, BeginsNothing, HasNoTask, IsTaskOf};
-ghost use Rattle.snoop_sim.specs.CommandLine.{Describes, DescribesOption, IsCounts, IsDraw, IsKinds, IsLint, IsLocal, IsProtocols, IsRun, IsSimulation, IsSnoop, IsStates, IsSteps, IsTable, IsThreads, IsView, Names, choice_rules, flag_rule, form_rule, kind_rule, number_rule, optional_rule, protocol_rule, with_rules};
+ghost use Rattle.snoop_sim.specs.CommandLine.{AreOptionsOf, DescribesOption, IsCommand, IsLocal, IsSnoop, command_said, rule_said};
 ghost use Rattle.snoop_sim.specs.Options.{IsChoiceOf, HasNoGrouping, HasNoNamed, HasNoSteps, IsGroupingOf, IsInputOf, IsNamed, IsPaperOf, IsSteps as IsStepsOf, IsNumberOf, IsReadAs, IsShapeOf, MisplacesPaper, MisplacesSerial, asks_ascii, asks_serial, charset_named, form_named, kind_named, layout_named, protocol_named, says, theme_named, which_named};
 
 use crate::failure::Failure;
@@ -65,21 +65,285 @@ pub(crate) enum Grouping {
     Steps(NonZeroU64),
 }
 
-static PROTOCOLS: [&str; 2] = ["msi", "mesi"];
+/// What the command line has of a command.
+struct CommandSpec {
+    name: &'static str,
+    about: &'static str,
+    help: Help,
+    groups: &'static [Group],
+}
 
-static KINDS: [&str; 2] = ["steps", "rows"];
+/// Which help a command has.
+#[derive(Clone, Copy)]
+enum Help {
+    Steps,
+    Run,
+    Threads,
+    States,
+    Counts,
+    Lint,
+    Draw,
+    Table,
+}
 
-static DRAWINGS: [&str; 3] = ["text", "svg", "html"];
+/// What the command line has of an option.
+struct OptionSpec {
+    name: &'static str,
+    takes: Takes,
+    /// Its value where it is not given.
+    default: Option<&'static str>,
+    help: &'static str,
+}
 
-static THEMES: [&str; 3] = ["auto", "light", "dark"];
+/// What an option takes.
+enum Takes {
+    Nothing,
+    U32,
+    U64,
+    OneOf(&'static [&'static str]),
+    /// In small or capital letters.
+    OneOfAnyCase(&'static [&'static str]),
+}
 
-static FORMS: [&str; 2] = ["text", "csv"];
+/// The options that a command has, or that several have in common.
+#[derive(Clone, Copy)]
+enum Group {
+    Protocol,
+    Shape,
+    Kind,
+    Serial,
+    SerialRun,
+    Choice,
+    States,
+    Counts,
+    Lint,
+    Draw,
+    Table,
+}
 
-static GROUPINGS: [&str; 4] = ["row", "core", "block", "word"];
+static COMMANDS: [CommandSpec; 8] = [
+    CommandSpec {
+        name: "steps",
+        about: "Read steps; write each one's reply and a report",
+        help: Help::Steps,
+        groups: &[Group::Protocol, Group::Shape],
+    },
+    CommandSpec {
+        name: "run",
+        about: "Read what each core does; write each step's reply and a report",
+        help: Help::Run,
+        groups: &[Group::Protocol, Group::Shape, Group::SerialRun],
+    },
+    CommandSpec {
+        name: "threads",
+        about: "Read what each core does, let a thread for each do it; write the steps taken",
+        help: Help::Threads,
+        groups: &[Group::Protocol, Group::Shape],
+    },
+    CommandSpec {
+        name: "states",
+        about: "Read steps or rows; write the states that each block goes through",
+        help: Help::States,
+        groups: &[
+            Group::Protocol,
+            Group::Shape,
+            Group::Kind,
+            Group::Serial,
+            Group::States,
+            Group::Choice,
+        ],
+    },
+    CommandSpec {
+        name: "counts",
+        about: "Read steps or rows; write counts by row of the tables, core, block, word or steps",
+        help: Help::Counts,
+        groups: &[
+            Group::Protocol,
+            Group::Shape,
+            Group::Kind,
+            Group::Serial,
+            Group::Counts,
+        ],
+    },
+    CommandSpec {
+        name: "lint",
+        about: "Read steps or rows; write what is wrong with the text",
+        help: Help::Lint,
+        groups: &[Group::Protocol, Group::Shape, Group::Kind, Group::Lint],
+    },
+    CommandSpec {
+        name: "draw",
+        about: "Read steps or rows; draw what happens to each block",
+        help: Help::Draw,
+        groups: &[
+            Group::Protocol,
+            Group::Shape,
+            Group::Kind,
+            Group::Serial,
+            Group::Draw,
+            Group::Choice,
+        ],
+    },
+    CommandSpec {
+        name: "table",
+        about: "Write a controller's table: state, event, action and next state",
+        help: Help::Table,
+        groups: &[Group::Protocol, Group::Table],
+    },
+];
 
-static TABLES: [&str; 2] = ["cache", "memory"];
+static PROTOCOL: [OptionSpec; 1] = [OptionSpec {
+    name: "protocol",
+    takes: Takes::OneOfAnyCase(&["msi", "mesi"]),
+    default: Some("msi"),
+    help: "The protocol",
+}];
 
-static LAYOUTS: [&str; 2] = ["rows", "matrix"];
+static SHAPE: [OptionSpec; 4] = [
+    OptionSpec {
+        name: "cores",
+        takes: Takes::U32,
+        default: Some("2"),
+        help: "How many cores, from 1 to 256",
+    },
+    OptionSpec {
+        name: "blocks",
+        takes: Takes::U32,
+        default: Some("4"),
+        help: "How many blocks of memory, from 1 to 65536",
+    },
+    OptionSpec {
+        name: "block-bytes",
+        takes: Takes::U32,
+        default: Some("64"),
+        help: "Bytes of a block, a power of two up to 4096",
+    },
+    OptionSpec {
+        name: "words",
+        takes: Takes::U32,
+        default: Some("1"),
+        help: "Words of a block, a power of two up to 64",
+    },
+];
+
+static KIND: [OptionSpec; 1] = [OptionSpec {
+    name: "of",
+    takes: Takes::OneOf(&["steps", "rows"]),
+    default: Some("steps"),
+    help: "The kind of text",
+}];
+
+static SERIAL: [OptionSpec; 1] = [OptionSpec {
+    name: "serial",
+    takes: Takes::Nothing,
+    default: None,
+    help: "Of rows: each line whole before the next, in the text's order",
+}];
+
+static CHOICE: [OptionSpec; 3] = [
+    OptionSpec {
+        name: "block",
+        takes: Takes::U32,
+        default: None,
+        help: "Show this block alone",
+    },
+    OptionSpec {
+        name: "from",
+        takes: Takes::U64,
+        default: Some("1"),
+        help: "Show steps from this number on",
+    },
+    OptionSpec {
+        name: "to",
+        takes: Takes::U64,
+        default: None,
+        help: "Show steps up to this number",
+    },
+];
+
+static SERIAL_RUN: [OptionSpec; 1] = [OptionSpec {
+    name: "serial",
+    takes: Takes::Nothing,
+    default: None,
+    help: "Do each line whole before the next, in the order of the text",
+}];
+
+static STATES: [OptionSpec; 1] = [OptionSpec {
+    name: "as",
+    takes: Takes::OneOf(&["text", "csv"]),
+    default: Some("text"),
+    help: "The form",
+}];
+
+static COUNTS: [OptionSpec; 3] = [
+    OptionSpec {
+        name: "by",
+        takes: Takes::OneOf(&["row", "core", "block", "word"]),
+        default: None,
+        help: "What each line counts",
+    },
+    OptionSpec {
+        name: "top",
+        takes: Takes::U32,
+        default: None,
+        help: "By block: so many blocks alone, those of most requests first",
+    },
+    OptionSpec {
+        name: "every",
+        takes: Takes::U64,
+        default: None,
+        help: "In place of --by: a line for each so many steps",
+    },
+];
+
+static LINT: [OptionSpec; 1] = [OptionSpec {
+    name: "most",
+    takes: Takes::U64,
+    default: Some("20"),
+    help: "How many faulty records are shown at most",
+}];
+
+static DRAW: [OptionSpec; 4] = [
+    OptionSpec {
+        name: "as",
+        takes: Takes::OneOf(&["text", "svg", "html"]),
+        default: Some("text"),
+        help: "The form",
+    },
+    OptionSpec {
+        name: "ascii",
+        takes: Takes::Nothing,
+        default: None,
+        help: "For text: draw with ASCII characters alone",
+    },
+    OptionSpec {
+        name: "theme",
+        takes: Takes::OneOf(&["auto", "light", "dark"]),
+        default: None,
+        help: "Colours for svg and html",
+    },
+    OptionSpec {
+        name: "shown",
+        takes: Takes::U64,
+        default: None,
+        help: "For svg and html: show so many rows alone",
+    },
+];
+
+static TABLE: [OptionSpec; 2] = [
+    OptionSpec {
+        name: "which",
+        takes: Takes::OneOf(&["cache", "memory"]),
+        default: Some("cache"),
+        help: "Whose table it is",
+    },
+    OptionSpec {
+        name: "as",
+        takes: Takes::OneOf(&["rows", "matrix"]),
+        default: Some("rows"),
+        help: "The layout",
+    },
+];
 
 /// The task that the words ask for; the first of them is the program's own name.
 pub(crate) fn task_in(alloc: Global, words: &[String]) -> Result<Task, Failure>
@@ -146,294 +410,91 @@ fn task_of(name: &str, options: &ArgMatches) -> Result<Task, Failure>
 fn grammar<'a>(alloc: Global) -> Result<Command<'a>, AllocError>
     ensures { IfOk result (λ command. IsSnoop (app_of command)) }
 {
-    let named = Command::new(alloc, "snoop").bin_name("snoop")?;
-    named
+    let mut snoop = Command::new(alloc, "snoop")
+        .bin_name("snoop")?
         .version("0.1.0")
         .about("Simulates private caches on a snooping bus, under MSI or MESI")
         .after_help(help::PROGRAM)
-        .subcommand_required(true)
-        .subcommand(steps(alloc)?)?
-        .subcommand(run(alloc)?)?
-        .subcommand(threads(alloc)?)?
-        .subcommand(states(alloc)?)?
-        .subcommand(counts(alloc)?)?
-        .subcommand(lint(alloc)?)?
-        .subcommand(draw(alloc)?)?
-        .subcommand(table(alloc)?)
+        .subcommand_required(true);
+    for command in COMMANDS.as_slice() {
+        snoop = snoop.subcommand(command.build(alloc)?)?;
+    }
+    Ok(snoop)
 }
 
-fn steps<'a>(alloc: Global) -> Result<Command<'a>, AllocError>
-    ensures { IfOk result (λ command. IsLocal command × IsSteps (app_of command)) }
-{
-    simulation(
-        alloc,
-        "steps",
-        "Read steps; write each one's reply and a report",
-        help::STEPS,
-    )
+impl CommandSpec {
+    /// The command as `clap` has it.
+    fn build<'a>(&self, alloc: Global) -> Result<Command<'a>, AllocError>
+        ensures { IfOk result (λ command. IsLocal command × IsCommand (command_said self.now) (app_of command)) }
+    {
+        let mut command = Command::new(alloc, self.name)
+            .about(self.about)
+            .after_help(self.help.text());
+        for group in self.groups {
+            for option in group.options() {
+                command = command.arg(option.build(alloc))?;
+            }
+        }
+        Ok(command)
+    }
 }
 
-fn run<'a>(alloc: Global) -> Result<Command<'a>, AllocError>
-    ensures { IfOk result (λ command. IsLocal command × IsRun (app_of command)) }
-{
-    simulation(
-        alloc,
-        "run",
-        "Read what each core does; write each step's reply and a report",
-        help::RUN,
-    )?
-    .arg(flag(
-        alloc,
-        "serial",
-        "Do each line whole before the next, in the order of the text",
-    ))
+impl Help {
+    fn text(self) -> &'static str {
+        match self {
+            Help::Steps => help::STEPS,
+            Help::Run => help::RUN,
+            Help::Threads => help::THREADS,
+            Help::States => help::STATES,
+            Help::Counts => help::COUNTS,
+            Help::Lint => help::LINT,
+            Help::Draw => help::DRAW,
+            Help::Table => help::TABLE,
+        }
+    }
 }
 
-fn threads<'a>(alloc: Global) -> Result<Command<'a>, AllocError>
-    ensures { IfOk result (λ command. IsLocal command × IsThreads (app_of command)) }
-{
-    simulation(
-        alloc,
-        "threads",
-        "Read what each core does, let a thread for each do it; write the steps taken",
-        help::THREADS,
-    )
+impl Group {
+    /// Its options, in the order of the help.
+    fn options(self) -> &'static [OptionSpec]
+        ensures { AreOptionsOf self result.now }
+    {
+        match self {
+            Group::Protocol => PROTOCOL.as_slice(),
+            Group::Shape => SHAPE.as_slice(),
+            Group::Kind => KIND.as_slice(),
+            Group::Serial => SERIAL.as_slice(),
+            Group::SerialRun => SERIAL_RUN.as_slice(),
+            Group::Choice => CHOICE.as_slice(),
+            Group::States => STATES.as_slice(),
+            Group::Counts => COUNTS.as_slice(),
+            Group::Lint => LINT.as_slice(),
+            Group::Draw => DRAW.as_slice(),
+            Group::Table => TABLE.as_slice(),
+        }
+    }
 }
 
-fn states<'a>(alloc: Global) -> Result<Command<'a>, AllocError>
-    ensures { IfOk result (λ command. IsLocal command × IsStates (app_of command)) }
-{
-    let plain = view(
-        alloc,
-        "states",
-        "Read steps or rows; write the states that each block goes through",
-        help::STATES,
-    )?;
-    choosing(alloc, plain.arg(forms(alloc, FORMS.as_slice()))?)
-}
-
-fn counts<'a>(alloc: Global) -> Result<Command<'a>, AllocError>
-    ensures { IfOk result (λ command. IsLocal command × IsCounts (app_of command)) }
-{
-    view(
-        alloc,
-        "counts",
-        "Read steps or rows; write counts by row of the tables, core, block, word or steps",
-        help::COUNTS,
-    )?
-    .arg(optional(
-        alloc,
-        "by",
-        ValueParser::Names(GROUPINGS.as_slice()),
-        "What each line counts",
-    ))?
-    .arg(optional(
-        alloc,
-        "top",
-        value_parser!(u32),
-        "By block: so many blocks alone, those of most requests first",
-    ))?
-    .arg(optional(
-        alloc,
-        "every",
-        value_parser!(u64),
-        "In place of --by: a line for each so many steps",
-    ))
-}
-
-fn lint<'a>(alloc: Global) -> Result<Command<'a>, AllocError>
-    ensures { IfOk result (λ command. IsLocal command × IsLint (app_of command)) }
-{
-    let most = optional(
-        alloc,
-        "most",
-        value_parser!(u64),
-        "How many faulty records are shown at most",
-    );
-    simulation(
-        alloc,
-        "lint",
-        "Read steps or rows; write what is wrong with the text",
-        help::LINT,
-    )?
-    .arg(kinds(alloc))?
-    .arg(most.default_value("20"))
-}
-
-fn draw<'a>(alloc: Global) -> Result<Command<'a>, AllocError>
-    ensures { IfOk result (λ command. IsLocal command × IsDraw (app_of command)) }
-{
-    let plain = view(
-        alloc,
-        "draw",
-        "Read steps or rows; draw what happens to each block",
-        help::DRAW,
-    )?;
-    let ascii = flag(alloc, "ascii", "For text: draw with ASCII characters alone");
-    let theme = optional(
-        alloc,
-        "theme",
-        ValueParser::Names(THEMES.as_slice()),
-        "Colours for svg and html",
-    );
-    let shown = optional(
-        alloc,
-        "shown",
-        value_parser!(u64),
-        "For svg and html: show so many rows alone",
-    );
-    choosing(
-        alloc,
-        plain
-            .arg(forms(alloc, DRAWINGS.as_slice()))?
-            .arg(ascii)?
-            .arg(theme)?
-            .arg(shown)?,
-    )
-}
-
-/// The command, which chooses a block and steps too.
-fn choosing<'a>(alloc: Global, command: Command<'a>) -> Result<Command<'a>, AllocError>
-    ensures { IfOk result (λ new. (app : App) → Describes command.entry app → Describes new (with_rules app choice_rules)) }
-{
-    let from = optional(
-        alloc,
-        "from",
-        value_parser!(u64),
-        "Show steps from this number on",
-    );
-    command
-        .arg(optional(alloc, "block", value_parser!(u32), "Show this block alone"))?
-        .arg(from.default_value("1"))?
-        .arg(optional(
-            alloc,
-            "to",
-            value_parser!(u64),
-            "Show steps up to this number",
-        ))
-}
-
-/// A command that shows a run of steps or of rows; the help says what it shows.
-fn view<'a>(
-    alloc: Global,
-    name: &'a str,
-    about: &'a str,
-    help: &'a str,
-) -> Result<Command<'a>, AllocError>
-    ensures { IfOk result (λ command. IsLocal command × IsView name.entry.now [] (app_of command)) }
-{
-    simulation(alloc, name, about, help)?
-        .arg(kinds(alloc))?
-        .arg(flag(
-            alloc,
-            "serial",
-            "Of rows: each line whole before the next, in the text's order",
-        ))
-}
-
-/// A command that simulates a text on a machine of some shape; the help says what the text is.
-fn simulation<'a>(
-    alloc: Global,
-    name: &'a str,
-    about: &'a str,
-    help: &'a str,
-) -> Result<Command<'a>, AllocError>
-    ensures { IfOk result (λ command. IsLocal command × IsSimulation name.entry.now [] (app_of command)) }
-{
-    Command::new(alloc, name)
-        .about(about)
-        .after_help(help)
-        .arg(protocol(alloc))?
-        .arg(number(alloc, "cores", "2", "How many cores, from 1 to 256"))?
-        .arg(number(
-            alloc,
-            "blocks",
-            "4",
-            "How many blocks of memory, from 1 to 65536",
-        ))?
-        .arg(number(
-            alloc,
-            "block-bytes",
-            "64",
-            "Bytes of a block, a power of two up to 4096",
-        ))?
-        .arg(number(
-            alloc,
-            "words",
-            "1",
-            "Words of a block, a power of two up to 64",
-        ))
-}
-
-fn table<'a>(alloc: Global) -> Result<Command<'a>, AllocError>
-    ensures { IfOk result (λ command. IsLocal command × IsTable (app_of command)) }
-{
-    let which = optional(
-        alloc,
-        "which",
-        ValueParser::Names(TABLES.as_slice()),
-        "Whose table it is",
-    );
-    let layout = optional(
-        alloc,
-        "as",
-        ValueParser::Names(LAYOUTS.as_slice()),
-        "The layout",
-    );
-    Command::new(alloc, "table")
-        .about("Write a controller's table: state, event, action and next state")
-        .after_help(help::TABLE)
-        .arg(protocol(alloc))?
-        .arg(which.default_value("cache"))?
-        .arg(layout.default_value("rows"))
-}
-
-fn protocol<'a>(alloc: Global) -> Arg<'a>
-    ensures { (protocols : Names) × IsProtocols protocols × DescribesOption result (protocol_rule protocols) }
-{
-    let names = ValueParser::Names(PROTOCOLS.as_slice());
-    optional(alloc, "protocol", names, "The protocol")
-        .ignore_case(true)
-        .default_value("msi")
-}
-
-fn flag<'a>(alloc: Global, name: &'a str, help: &'a str) -> Arg<'a>
-    ensures { DescribesOption result (flag_rule name.entry.now) }
-{
-    Arg::new(alloc, name)
-        .long(name)
-        .help(help)
-        .action(ArgAction::SetTrue)
-}
-
-/// The form of the output, a text if it is not given.
-fn forms<'a>(alloc: Global, names: &'a [&'a str]) -> Arg<'a>
-    ensures { DescribesOption result (form_rule names.entry) }
-{
-    optional(alloc, "as", ValueParser::Names(names), "The form").default_value("text")
-}
-
-fn kinds<'a>(alloc: Global) -> Arg<'a>
-    ensures { (kinds : Names) × IsKinds kinds × DescribesOption result (kind_rule kinds) }
-{
-    let names = ValueParser::Names(KINDS.as_slice());
-    optional(alloc, "of", names, "The kind of text").default_value("steps")
-}
-
-/// An option that may be left out.
-fn optional<'a>(alloc: Global, name: &'a str, values: ValueParser<'a>, help: &'a str) -> Arg<'a>
-    ensures { DescribesOption result (optional_rule name.entry.now values.entry) }
-{
-    Arg::new(alloc, name)
-        .long(name)
-        .help(help)
-        .value_parser(values)
-}
-
-fn number<'a>(alloc: Global, name: &'a str, default: &'a str, help: &'a str) -> Arg<'a>
-    ensures { DescribesOption result (number_rule name.entry.now default.entry.now) }
-{
-    optional(alloc, name, value_parser!(u32), help).default_value(default)
+impl OptionSpec {
+    /// The option as `clap` has it.
+    fn build<'a>(&self, alloc: Global) -> Arg<'a>
+        ensures { DescribesOption result (rule_said self.now) }
+    {
+        let named = Arg::new(alloc, self.name).long(self.name).help(self.help);
+        let typed = match &self.takes {
+            Takes::Nothing => named.action(ArgAction::SetTrue),
+            Takes::U32 => named.value_parser(value_parser!(u32)),
+            Takes::U64 => named.value_parser(value_parser!(u64)),
+            Takes::OneOf(names) => named.value_parser(ValueParser::Names(names)),
+            Takes::OneOfAnyCase(names) => named
+                .value_parser(ValueParser::Names(names))
+                .ignore_case(true),
+        };
+        match self.default {
+            Some(value) => typed.default_value(value),
+            None => typed,
+        }
+    }
 }
 
 /// The protocol that was named, in either case.
