@@ -36,7 +36,7 @@ Names = Bor (List (Bor (List ℕ)))
 abbrev pub AreNames : List Text → Names → Type 0
 AreNames texts names = map (λ name. name.now) names.now ≡ texts
 
--- the names that the options of a group take: those of the first option that takes names, and those of the second
+-- the names that the options of a group take: those of the first option that takes names, and those of the second; where none takes names, any list will do
 abbrev pub AreNamesOf : Group → Names → Names → Type 0
 AreNamesOf Protocol protocols more = AreNames (codes "msi" ∷ codes "mesi" ∷ []) protocols
 AreNamesOf Kind kinds more = AreNames (codes "steps" ∷ codes "rows" ∷ []) kinds
@@ -44,9 +44,13 @@ AreNamesOf States forms more = AreNames (codes "text" ∷ codes "csv" ∷ []) fo
 AreNamesOf Counts groupings more = AreNames (codes "row" ∷ codes "core" ∷ codes "block" ∷ codes "word" ∷ []) groupings
 AreNamesOf Draw forms themes = AreNames (codes "text" ∷ codes "svg" ∷ codes "html" ∷ []) forms × AreNames (codes "auto" ∷ codes "light" ∷ codes "dark" ∷ []) themes
 AreNamesOf Table tables layouts = AreNames (codes "cache" ∷ codes "memory" ∷ []) tables × AreNames (codes "rows" ∷ codes "matrix" ∷ []) layouts
-AreNamesOf group names more = ⊤
+AreNamesOf Shape names more = ⊤
+AreNamesOf Serial names more = ⊤
+AreNamesOf SerialRun names more = ⊤
+AreNamesOf Choice names more = ⊤
+AreNamesOf Lint names more = ⊤
 
--- the options of a group, in this order; a protocol is named in either case
+-- the options of a group, in this order; a protocol is named in either case, and the two kinds of `--serial` differ in their help alone
 abbrev pub rules_of : Group → Names → Names → List Rule
 rules_of Protocol protocols more = record (option_rule (codes "protocol") (codes "msi") (parser.Names protocols)) { ignore_case = true } ∷ []
 rules_of Shape names more = option_rule (codes "cores") (codes "2") u32_parser ∷ option_rule (codes "blocks") (codes "4") u32_parser
@@ -67,30 +71,30 @@ abbrev pub with_rules : App → List Rule → App
 with_rules app [] = app
 with_rules app (rule ∷ rules) = with_rules (with_rule app rule) rules
 
--- a command with the options of these groups too, in this order
+-- a command with the options of these groups too, in this order, whatever lists their names are in
 abbrev pub Extends : App → List Group → App → Type 0
 Extends app [] new = new ≡ app
 Extends app (group ∷ groups) new = (names more : Names) × AreNamesOf group names more × Extends (with_rules app (rules_of group names more)) groups new
 
--- a command: its name, and the groups of its options
-abbrev pub Said : Type 0
-Said = Text × List Group
+-- a row of the table of commands: a name, and the groups of its options
+abbrev pub CommandRow : Type 0
+CommandRow = Text × List Group
 
 -- this is the command, as `clap` describes it
-abbrev pub IsCommand : Said → App → Type 0
+abbrev pub IsCommand : CommandRow → App → Type 0
 IsCommand (name, groups) = Extends (new_app name) groups
 
 -- a program with these commands too, in this order
-abbrev pub Adds : App → List Said → App → Type 0
+abbrev pub Adds : App → List CommandRow → App → Type 0
 Adds app [] new = new ≡ app
-Adds app (said ∷ more) new = (command : App) × IsCommand said command × Adds (with_subcommand app command.top) more new
+Adds app (row ∷ rows) new = (command : App) × IsCommand row command × Adds (with_subcommand app command.top) rows new
 
 -- the program before its commands
 abbrev pub top_app : App
 top_app = let new = new_app (codes "snoop") in record new { top = record new.top { has_version = true; subcommand_required = true } }
 
 -- the program's commands
-abbrev pub commands : List Said
+abbrev pub commands : List CommandRow
 commands = (codes "steps", Protocol ∷ Shape ∷ []) ∷ (codes "run", Protocol ∷ Shape ∷ SerialRun ∷ []) ∷ (codes "threads", Protocol ∷ Shape ∷ [])
     ∷ (codes "states", Protocol ∷ Shape ∷ Kind ∷ Serial ∷ States ∷ Choice ∷ []) ∷ (codes "counts", Protocol ∷ Shape ∷ Kind ∷ Serial ∷ Counts ∷ [])
     ∷ (codes "lint", Protocol ∷ Shape ∷ Kind ∷ Lint ∷ []) ∷ (codes "draw", Protocol ∷ Shape ∷ Kind ∷ Serial ∷ Draw ∷ Choice ∷ [])
@@ -99,10 +103,6 @@ commands = (codes "steps", Protocol ∷ Shape ∷ []) ∷ (codes "run", Protocol
 -- `clap`'s description of the program
 abbrev pub IsSnoop : App → Type 0
 IsSnoop = Adds top_app commands
-
--- a command of the code's table
-abbrev pub command_said : CommandSpec → Said
-command_said command = (command.name.now, command.groups.now)
 
 -- no option of the command is one of its subcommands' too
 abbrev pub IsLocal : Command → Type 0
@@ -117,6 +117,12 @@ pub record Describes (command : Command) (app : App) : Type 0 where
 pub record DescribesOption (arg : Arg) (rule : Rule) : Type 0 where
   pub local : arg.global ≡ false
   pub is : rule_of arg ≡ rule
+
+-- What follows is about the code's table, and is no part of `IsSnoop`.
+
+-- a command of the code's table
+abbrev pub command_said : CommandSpec → CommandRow
+command_said command = (command.name.now, command.groups.now)
 
 -- an option that takes such values
 abbrev pub taking : Takes → Rule → Rule
@@ -145,7 +151,7 @@ lists_of (option ∷ options) = list_of option.takes ++ lists_of options
     list_of (takes.OneOfAnyCase names) = names ∷ []
     list_of values = []
 
--- the list at a place among them
+-- the list at a place among them; where there is none, an empty one
 abbrev pub names_at : List OptionSpec → ℕ → Names
 names_at options place = slice_index_or (lists_of options) place (record { ref_ptr = (0, 0); now = [] })
 

@@ -1,9 +1,9 @@
 //! The command line: its words and what they ask for.
-ghost use Rattle.std.specs.Prelude.{◌≡◌, ◌≢◌, ◌^◌, [], IfErr, IfOk, Ok, false, is_some, map, string_bytes, true};
+ghost use Rattle.std.specs.Prelude.{◌≡◌, ◌≢◌, ◌^◌, IfErr, IfOk, Ok, false, is_some, map, string_bytes, true};
 ghost use Rattle.clap.specs.Words.{app_of, first_of, found_of, one_of, rows_of};
 ghost use Rattle.snoop_sim.specs.Asked.{AsksFor, BeginsNothing, HasNoTask, IsTaskOf};
 ghost use Rattle.snoop_sim.specs.CommandLine.{AreOptionsOf, DescribesOption, IsCommand, IsLocal, IsSnoop, command_said, rule_said};
-ghost use Rattle.snoop_sim.specs.Options.{IsChoiceOf, HasNoGrouping, HasNoNamed, HasNoSteps, IsGroupingOf, IsInputOf, IsNamed, IsPaperOf, IsSteps as IsStepsOf, IsNumberOf, IsReadAs, IsShapeOf, MisplacesPaper, MisplacesSerial, asks_ascii, asks_serial, charset_named, form_named, kind_named, layout_named, protocol_named, says, theme_named, which_named};
+ghost use Rattle.snoop_sim.specs.Options.{IsChoiceOf, HasNoGrouping, HasNoNamed, HasNoSteps, IsGroupingOf, IsInputOf, IsNamed, IsPaperOf, IsSteps, IsNumberOf, IsReadAs, IsShapeOf, MisplacesPaper, MisplacesSerial, asks_ascii, asks_serial, charset_named, form_named, kind_named, layout_named, protocol_named, says, theme_named, which_named};
 
 use crate::failure::Failure;
 use crate::help;
@@ -65,7 +65,7 @@ pub(crate) enum Grouping {
     Steps(NonZeroU64),
 }
 
-/// What the command line has of a command.
+/// A command of the command line.
 struct CommandSpec {
     name: &'static str,
     about: &'static str,
@@ -86,7 +86,7 @@ enum Help {
     Table,
 }
 
-/// What the command line has of an option.
+/// An option of a command.
 struct OptionSpec {
     name: &'static str,
     takes: Takes,
@@ -112,6 +112,7 @@ enum Group {
     Shape,
     Kind,
     Serial,
+    /// That of `run`, which has a help of its own.
     SerialRun,
     Choice,
     States,
@@ -240,6 +241,13 @@ static SERIAL: [OptionSpec; 1] = [OptionSpec {
     help: "Of rows: each line whole before the next, in the text's order",
 }];
 
+static SERIAL_RUN: [OptionSpec; 1] = [OptionSpec {
+    name: "serial",
+    takes: Takes::Nothing,
+    default: None,
+    help: "Do each line whole before the next, in the order of the text",
+}];
+
 static CHOICE: [OptionSpec; 3] = [
     OptionSpec {
         name: "block",
@@ -260,13 +268,6 @@ static CHOICE: [OptionSpec; 3] = [
         help: "Show steps up to this number",
     },
 ];
-
-static SERIAL_RUN: [OptionSpec; 1] = [OptionSpec {
-    name: "serial",
-    takes: Takes::Nothing,
-    default: None,
-    help: "Do each line whole before the next, in the order of the text",
-}];
 
 static STATES: [OptionSpec; 1] = [OptionSpec {
     name: "as",
@@ -633,7 +634,7 @@ fn named_in(options: &ArgMatches) -> Result<Grouping, Failure>
 
 /// The number of steps that `--every` says.
 fn steps_in(options: &ArgMatches, every: u64) -> Result<Grouping, Failure>
-    ensures ok { IfOk result (IsStepsOf every (rows_of (found_of options.now))) }
+    ensures ok { IfOk result (IsSteps every (rows_of (found_of options.now))) }
     ensures err { IfErr result (HasNoSteps every (rows_of (found_of options.now))) }
 {
     if short_in(options, "top").is_some() {
