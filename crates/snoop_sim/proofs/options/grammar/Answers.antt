@@ -1,4 +1,4 @@
-use Rattle.std.proofs.Common.{rules, ◌≡◌, ◌∙◌, ap, subst, sym, map, drop, true}
+use Rattle.std.proofs.Common.{rules, ◌≡◌, ◌∙◌, ap, subst, sym, map, true}
 use Rattle.std.proofs.lemmas.List.{drop_all, drop_more}
 use Rattle.clap.specs.{Words.{App, app_of, with_subcommand}, Simple.app_of_fields}
 use Rattle.snoop_sim.{specs.CommandLine.{Adds, Describes, command_said, commands, top_app}, proofs.CommandLineLemmas.{adds_command}}
