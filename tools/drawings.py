@@ -81,12 +81,12 @@ expect(null, "at last");
 await later();
 """
 KEYS = r"""
-const press = key => {
-  const event = new KeyboardEvent("keydown", {key, cancelable: true});
+const press = (key, held = {}) => {
+  const event = new KeyboardEvent("keydown", {key, cancelable: true, ...held});
   dispatchEvent(event);
   return event.defaultPrevented;
 };
-const notes = () => document.querySelector("pre").textContent;
+const notes = () => document.querySelector("pre").textContent, hint = notes(), visited = history.length;
 const heads = svg => [...svg.querySelectorAll(":scope > text")].filter(text => Number(text.getAttribute("y")) < 56)
   .map(text => `${text.textContent} at ${text.getBoundingClientRect().left.toFixed(1)}`).join("; ");
 function look(place, why) {
@@ -119,8 +119,15 @@ if (!all.length) {
     if (!press(["ArrowDown", "ArrowRight"][place % 2])) found.push("the page is scrolled, too");
     await at(place, "a key forward");
   }
+  for (const held of ["altKey", "ctrlKey", "metaKey", "shiftKey"]) {
+    if (press("ArrowUp", {[held]: true})) found.push(`an arrow with ${held} is taken`);
+  }
+  await at(Math.min(29, last), "an arrow with another key");
   press("Escape");
   expect(null, "Esc");
+  await later();
+  if (notes() !== hint) found.push(`Esc: the line at the foot is '${notes()}'`);
+  if (history.length !== visited) found.push("a key makes a step that the browser goes back to");
   press("ArrowDown");
   await at(0, "a key after Esc");
   press("ArrowUp");

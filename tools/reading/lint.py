@@ -94,7 +94,7 @@ def no_core(core, options):
 def no_block(address, options):
     """The address is outside memory."""
     bytes_in_all, needed = options.blocks * options.block_bytes, address // options.block_bytes + 1
-    return f"address {address} is outside the memory of {options.blocks} blocks of {options.block_bytes} bytes (0 to {bytes_in_all - 1})" + first_of(
+    return f"address {address} is outside the memory of {counted(options.blocks, 'block')} of {counted(options.block_bytes, 'byte')} (0 to {bytes_in_all - 1})" + first_of(
         (needed <= MOST_BLOCKS, f"--blocks {needed} has room for it"), (True, f"no machine has more than {MOST_BLOCKS} blocks: number the blocks anew"))
 
 

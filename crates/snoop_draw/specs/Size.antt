@@ -8,7 +8,7 @@ use Rattle.snoop_draw.specs.Panels.{Panel}
 abbrev pub steps_within : Chosen → ℕ → ℕ
 steps_within choice count = min choice.to count + 1 - choice.from
 
--- the columns of panels: those of the cores, the bus and memory
+-- how many columns panels have: one for each core, one for the bus and one for memory
 abbrev pub columns_of : List Panel → ℕ
 columns_of [] = 0
 columns_of (panel ∷ panels) = length panel.cores + 2 + columns_of panels

@@ -6,7 +6,7 @@ ghost use Rattle.snoop_draw.specs.Events.{ask_mark, awaits, event_in, event_of, 
 use crate::marks::Mark;
 use snoop_engine::{Seen, Taken};
 use snoop_machine::{Refused, Reply};
-use snoop_rules::{CacheState, Protocol, may_load, may_store};
+use snoop_rules::{CacheState, Protocol, may_load, may_store, waits};
 use snoop_trace::Step;
 
 /// What happens in a panel.
@@ -162,13 +162,10 @@ pub fn may(protocol: Protocol, state: CacheState) -> Mark
 pub fn awaits(state: CacheState) -> Mark
     ensures { result ≡ awaits state }
 {
+    if waits(state) {
+        return Mark::AwaitsOrder;
+    }
     match state {
-        CacheState::IsAd
-        | CacheState::ImAd
-        | CacheState::SmAd
-        | CacheState::EiA
-        | CacheState::MiA
-        | CacheState::IiA => Mark::AwaitsOrder,
         CacheState::IsD | CacheState::ImD | CacheState::SmD => Mark::AwaitsData,
         _ => Mark::Blank,
     }

@@ -6,7 +6,7 @@ use thiserror::Error;
 /// Why a drawing was not made, or not to its end.
 #[derive(Clone, Copy, Debug, PartialEq, Eq, Error)]
 pub enum DrawFault {
-    /// The simulation stopped.
+    /// The simulation stopped; `SimFault` says what was written.
     #[error(transparent)]
     Simulation(SimFault),
     /// The drawing would have more cells than its form may have; nothing was written.

@@ -162,7 +162,8 @@ fn one_panel(
     }
 }
 
-/// The panels of a drawing of the steps, of one block or of all that a core asks for.
+/// The panels of a drawing of the steps: of one block, or of all that a core asks for. None where the one block is outside the
+/// shape; `NoMemory` where a growth was refused.
 pub fn panels_for(
     alloc: Global,
     shape: Shape,

@@ -28,7 +28,7 @@ pub(crate) struct Moment<'a> {
     pub(crate) lines: &'a [Taken],
 }
 
-/// The state in which the core holds the block.
+/// The state in which the core holds the block; I where it has no line for it, or one of them is outside the shape.
 pub fn held_in(machine: &Machine, block: u32, core: u32) -> CacheState
     ensures { result ≡ held_in machine.now.situation block core }
 {

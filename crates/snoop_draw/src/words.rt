@@ -10,6 +10,7 @@ use snoop_trace::NoMemory;
 use std::alloc::Global;
 
 /// What the core says of the block: its state, its values, and the place of its request in its queue, from the second on.
+/// `NoMemory` where a growth was refused.
 pub fn core_words(
     alloc: Global,
     machine: &Machine,
@@ -23,7 +24,8 @@ pub fn core_words(
     Ok(words)
 }
 
-/// What the bus says of the block: the message of the open transaction, if there is one.
+/// What the bus says of the block: the message of the open transaction, if there is one. `NoMemory` where a growth was
+/// refused.
 pub fn bus_words(alloc: Global, machine: &Machine, block: u32) -> Result<Vec<u8>, NoMemory>
     ensures { IfOk result (λ words. words.items ≡ bus_words machine.now.situation block) }
 {
@@ -34,7 +36,8 @@ pub fn bus_words(alloc: Global, machine: &Machine, block: u32) -> Result<Vec<u8>
     Ok(words)
 }
 
-/// What memory says of the block: its state and its values, in brackets where it would not send them.
+/// What memory says of the block: its state and its values, in brackets where it would not send them. `NoMemory` where a
+/// growth was refused.
 pub fn memory_words(alloc: Global, machine: &Machine, block: u32) -> Result<Vec<u8>, NoMemory>
     ensures { IfOk result (λ words. words.items ≡ memory_words machine.now.situation block) }
 {

@@ -1,12 +1,12 @@
 -- The faulty records of a text: the fault by which it is refused, and the fewest cores and blocks with which it is taken where they are all it needs.
 use Rattle.std.proofs.Common.{◌≡◌, ℕ, ◌+◌, ◌≤◌, ◌++◌, List, [], ◌∷◌, length, Option, Some, true, false, refl, sym, ap, ◌∙◌, arith, append_assoc, append-nil}
-use Rattle.std.{specs.{List.list_all, Prelude.{Result, fold, max, not, option_map}, Result.result_err}, proofs.Math.Nat.zero-div}
+use Rattle.std.{specs.{List.list_all, Prelude.{Result, codes, fold, max, not, option_map}, Result.result_err}, proofs.Math.Nat.zero-div}
 use Rattle.csv.specs.Records.{field_at}
 use Rattle.snoop_trace.specs.Grammar.{ask, order, respond, row_by_letter, row_in, step_in, store, without_value}
 use Rattle.snoop_trace.specs.{Heading.heading_for, Text.{entries_from, entries_in}}
-use Rattle.snoop_lint.specs.{Fewest.{AreFewest, resized}, Fields.{address_named, core_named}, Summary.can_be_taken, Tallies.{block_named, greatest}}
+use Rattle.snoop_lint.specs.{Fewest.{AreFewest, resized}, Fields.{field, number_at}, Hints.is_letter_of, Kinds.{address_named, core_named}, Summary.can_be_taken, Tallies.{block_named, greatest}}
 use Rattle.snoop_lint.proofs.Common.{Bool, Extent, Finding, Form, Protocol, Rows, Steps, TextFault, fault_at, finding, findings, findings_from}
-use Rattle.snoop_lint.proofs.Common.{first_fault, has_heading, heads, is_limit, is_none, is_other, list_any, nat_lt, nat_tests}
+use Rattle.snoop_lint.proofs.Common.{first_fault, has_heading, heads, if◌then◌else◌, is_limit, is_none, is_other, list_any, nat_lt, nat_tests}
 use Rattle.snoop_lint.proofs.Common.{option_to_list, records_of, refusal, tally_of, ◌&&◌, ◌||◌}
 
 abbrev pub Fields : Type 0
@@ -64,14 +64,24 @@ all_below : (number : Fields → ℕ) (c m : ℕ) (rows : List Fields)
 all_below number c m [] = grind arith
 all_below number c m (row ∷ rows) = grind (arith, nat_tests, all_below number c (max m (number row)) rows)
 
+-- the core and the address that a record names, by the letters that name one
+core_by_letter : (row : Fields) → core_named row ≡ (if is_letter_of (codes "LSEO") (field row 0) then number_at row 1 else 0)
+unfolding core_named
+core_by_letter row = grind (arith, nat_tests)
+
+address_by_letter : (row : Fields) → address_named row
+    ≡ (if is_letter_of (codes "LSE") (field row 0) then number_at row 2 else (if is_letter_of (codes "R") (field row 0) then number_at row 1 else 0))
+unfolding address_named
+address_by_letter row = grind (arith, nat_tests)
+
 -- a text with no other faults is taken with so many cores and blocks exactly where each core and each block that it names is there
 module _ (shape : Extent) (c b : ℕ) (some_core : 1 ≤ c) (some_block : 1 ≤ b) where
   -- so it is of a record that is no heading
   fault_bound : (form : Form) (protocol : Protocol) (n : ℕ) (row : Fields) → heads form n row ≡ false → is_other (fault_at form protocol shape n row) ≡ false
       → is_none (fault_at form protocol (resized shape c b) n row) ≡ (nat_lt (core_named row) c && nat_lt (block_named shape row) b)
-  unfolding row_in step_in ask order respond row_by_letter without_value store core_named address_named field_at
-  fault_bound Steps protocol n row none same = grind (arith, nat_tests, zero-div shape.block_bytes)
-  fault_bound Rows protocol n row none same = grind (arith, nat_tests)
+  unfolding row_in step_in ask order respond row_by_letter without_value store field_at
+  fault_bound Steps protocol n row none same = grind (arith, nat_tests, core_by_letter row, address_by_letter row, zero-div shape.block_bytes)
+  fault_bound Rows protocol n row none same = grind (arith, nat_tests, core_by_letter row, address_by_letter row)
 
   -- and of records one after another, with no heading among them
   all_bound : (form : Form) (protocol : Protocol) (n : ℕ) (rows : List Fields) → 1 ≤ n → (n ≡ 1 → has_heading form rows ≡ false)

@@ -1,10 +1,12 @@
 -- What is said of a faulty record.
 -- Source: this project's profile.
+use Rattle.std.specs.Option.{option_map_or}
 use Rattle.std.specs.Prelude.{ℕ, ◌+◌, ◌-◌, ◌*◌, ◌/◌, ◌==◌, ◌&&◌, not, Bool, List, [], ◌++◌, codes, length, nat_lt, if◌then◌else◌}
 use Rattle.snoop_trace.specs.{Extent.Extent, Protocol.protocol_name, declared.{fault.TextFault.TextFault, protocol.Protocol.Protocol}}
 use Rattle.snoop_trace.specs.declared.fault.TextFault.TheVariants.{BadKind, BadFields, BadNumber, NoCore, NoBlock, Read, NoMemory, OtherShape, BadVersion}
-use Rattle.snoop_lint.specs.{declared.form.Form.{Form, TheVariants.{Steps, Rows}}, Fields.{address_named, core_named, field, is_number, letter, number_at}}
-use Rattle.snoop_lint.specs.{Findings.{Finding, heads}, Hints.{begins_record, fields_hint, is_empty, kind_hint, number_hint, or_else}, Shown.{labelled, shown}}
+use Rattle.snoop_lint.specs.{declared.form.Form.{Form, TheVariants.{Steps, Rows}}, Fields.{field, is_number, number_at}}
+use Rattle.snoop_lint.specs.declared.kind.Kind.{Kind, TheVariants.Respond}
+use Rattle.snoop_lint.specs.{Findings.{Finding, heads}, Hints.{begins_as_step, fields_hint, is_empty, kind_hint, number_hint, or_else}, Kinds.{address_named, bad_place, core_named, field_count, field_name, field_names, kind_of}, Shown.{counted, labelled, shown}}
 
 -- the kinds of record that a text may have
 abbrev pub kinds : Form → List ℕ
@@ -13,7 +15,7 @@ kinds Rows = codes "L, S, E"
 
 -- record n may be a line of names: it is the first, its second field is no number, and it does not begin as a step with a gap for its comma
 abbrev pub may_be_names : ℕ → List (List ℕ) → Bool
-may_be_names n fields = (n == 1) && not (is_number fields 1) && not (begins_record (field fields 0))
+may_be_names n fields = (n == 1) && not (is_number fields 1) && not (begins_as_step (field fields 0))
 
 -- of a first field that is no kind of record
 unfoldable pub bad_kind : Form → ℕ → List (List ℕ) → List ℕ
@@ -24,82 +26,35 @@ bad_kind form n fields =
 unfoldable pub bad_protocol : List (List ℕ) → List ℕ
 bad_protocol fields = shown (field fields 2) ++ codes " is no protocol (msi, mesi)"
 
--- how many fields a kind of record has, by its letter
-unfoldable pub field_count : ℕ → ℕ
-field_count kind =
-    if kind == 76 then 3
-    else if kind == 83 then 4
-    else if kind == 69 then 3
-    else if kind == 79 then 2
-    else if kind == 82 then 2
-    else 7
-
--- the same in words, and the fields
-unfoldable pub field_names : ℕ → List ℕ
-field_names kind =
-    if kind == 76 then codes "L has 3 fields (L,core,address)"
-    else if kind == 83 then codes "S has 4 fields (S,core,address,value)"
-    else if kind == 69 then codes "E has 3 fields (E,core,address)"
-    else if kind == 79 then codes "O has 2 fields (O,core)"
-    else if kind == 82 then codes "R has 2 fields (R,address)"
-    else codes "V has 7 fields (V,2,protocol,cores,blocks,block_bytes,words)"
-
 -- a record has so many fields and one more, which is empty
 abbrev pub has_comma_more : ℕ → List (List ℕ) → Bool
 has_comma_more count fields = (length fields == count + 1) && is_empty (field fields count)
 
--- of a record with an empty field more than its kind has, and of an R with as many fields as a load
-unfoldable pub count_hint : ℕ → List (List ℕ) → List ℕ
-count_hint kind fields =
-    if has_comma_more (field_count kind) fields then codes "; a comma stands at the end"
-    else if (kind == 82) && (length fields == 3) then codes "; a load is L, a store S, an eviction E"
-    else []
+-- of an R with as many fields as a load
+abbrev pub row_hint : Kind → ℕ → List ℕ
+row_hint Respond count = if count == 3 then codes "; a load is L, a store S, an eviction E" else []
+row_hint kind count = []
 
--- of a record with too many fields or too few
+-- of a record with an empty field more than its kind has, and of such an R
+unfoldable pub count_hint : Kind → List (List ℕ) → List ℕ
+count_hint kind fields = if has_comma_more (field_count kind) fields then codes "; a comma stands at the end" else row_hint kind (length fields)
+
+-- of a record of this kind with too many fields or too few
+unfoldable pub bad_fields_of : Kind → List (List ℕ) → List ℕ
+bad_fields_of kind fields =
+    field_names kind ++ labelled (codes ", and this record has ") (length fields) ++ or_else (fields_hint fields) (count_hint kind fields)
+
+-- of a record with too many fields or too few; nothing of one of no kind
 unfoldable pub bad_fields : List (List ℕ) → List ℕ
-bad_fields fields =
-    field_names (letter fields) ++ labelled (codes ", and this record has ") (length fields)
-    ++ or_else (fields_hint fields) (count_hint (letter fields) fields)
-
--- the place of the first field of a heading that ought to be a number and is none
-unfoldable pub heading_place : List (List ℕ) → ℕ
-heading_place fields =
-    if not (is_number fields 1) then 1
-    else if not (is_number fields 3) then 3
-    else if not (is_number fields 4) then 4
-    else if not (is_number fields 5) then 5
-    else 6
-
--- the same of a step or a row
-unfoldable pub step_place : List (List ℕ) → ℕ
-step_place fields = if not (is_number fields 1) then 1 else if not (is_number fields 2) then 2 else 3
-
--- what a field of a heading is called
-unfoldable pub heading_name : ℕ → List ℕ
-heading_name i =
-    if i == 1 then codes "version"
-    else if i == 3 then codes "cores"
-    else if i == 4 then codes "blocks"
-    else if i == 5 then codes "block_bytes"
-    else codes "words"
-
--- what a field of a step or a row is called, by the letter of its kind
-unfoldable pub step_name : ℕ → ℕ → List ℕ
-step_name kind i =
-    if kind == 82 then codes "address"
-    else if i == 1 then codes "core"
-    else if i == 2 then codes "address"
-    else codes "value"
+bad_fields fields = option_map_or (λ kind. bad_fields_of kind fields) (kind_of fields) []
 
 -- of a field that is no number
 unfoldable pub no_number : List ℕ → List ℕ → List ℕ
 no_number name field = name ++ codes " " ++ shown field ++ codes " is no number" ++ number_hint field
 
--- of a record that has such a field
+-- of a record that has such a field; nothing of one of no kind
 unfoldable pub bad_number : List (List ℕ) → List ℕ
-bad_number fields =
-    if letter fields == 86 then no_number (heading_name (heading_place fields)) (field fields (heading_place fields))
-    else no_number (step_name (letter fields) (step_place fields)) (field fields (step_place fields))
+bad_number fields = option_map_or (λ kind. no_number (field_name kind (bad_place kind fields)) (field fields (bad_place kind fields))) (kind_of fields) []
 
 -- the fewest cores that have a core
 unfoldable pub more_cores : ℕ → List ℕ
@@ -119,8 +74,8 @@ more_blocks block =
 -- the memory of a shape
 unfoldable pub memory : Extent → List ℕ
 memory shape =
-    labelled (codes "the memory of ") shape.blocks ++ labelled (codes " blocks of ") shape.block_bytes
-    ++ labelled (codes " bytes (0 to ") (shape.blocks * shape.block_bytes - 1) ++ codes ")"
+    codes "the memory of " ++ counted shape.blocks (codes "block") ++ codes " of " ++ counted shape.block_bytes (codes "byte")
+    ++ labelled (codes " (0 to ") (shape.blocks * shape.block_bytes - 1) ++ codes ")"
 
 -- of an address that lies in no block
 unfoldable pub no_block : Extent → ℕ → List ℕ

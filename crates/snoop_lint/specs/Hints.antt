@@ -43,9 +43,9 @@ abbrev pub letters : List ℕ
 letters = codes "LSEOR"
 
 -- a field begins with a letter of a step and a gap
-abbrev pub begins_record : List ℕ → Bool
-begins_record (letter ∷ gap ∷ rest) = is_letter_of letters (letter ∷ []) && is_gap gap
-begins_record _ = false
+abbrev pub begins_as_step : List ℕ → Bool
+begins_as_step (letter ∷ gap ∷ rest) = is_letter_of letters (letter ∷ []) && is_gap gap
+begins_as_step _ = false
 
 -- a gap and a letter of a step, and nothing else
 abbrev pub is_next_kind : List ℕ → Bool

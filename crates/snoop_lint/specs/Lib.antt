@@ -4,6 +4,7 @@ pub mod Places
 pub mod Shown
 pub mod Hints
 pub mod Fields
+pub mod Kinds
 pub mod Explained
 pub mod Tallies
 pub mod Summary

@@ -4,7 +4,10 @@ use Rattle.std.specs.{Prelude.{ℕ, List, [], nat_lt, if◌then◌else◌}, Opti
 use Rattle.snoop_trace.specs.{Extent.Extent, declared.protocol.Protocol.Protocol}
 use Rattle.snoop_lint.specs.{declared.form.Form.Form, Findings.{fault_at, finding}, Linted.line_at}
 
--- the line of record n, if it is faulty and there are fewer faulty records before it than lines are wanted
+-- the line of record n, if it is faulty
+abbrev pub line_if_faulty : Form → Protocol → Extent → List ℕ → ℕ → List (List ℕ) → List ℕ
+line_if_faulty form protocol shape lines n fields = option_map_or (line_at form protocol shape lines) (finding (fault_at form protocol shape) n fields) []
+
+-- the same, if there are fewer faulty records before it than lines are wanted
 abbrev pub line_if_room : Form → ℕ → Protocol → Extent → List ℕ → ℕ → ℕ → List (List ℕ) → List ℕ
-line_if_room form most protocol shape lines faults n fields =
-    if nat_lt faults most then option_map_or (line_at form protocol shape lines) (finding (fault_at form protocol shape) n fields) [] else []
+line_if_room form most protocol shape lines faults n fields = if nat_lt faults most then line_if_faulty form protocol shape lines n fields else []

@@ -1,10 +1,9 @@
 -- What is counted of the records of a text.
 -- Source: this project's profile.
-use Rattle.std.specs.Prelude.{ℕ, ◌+◌, ◌/◌, ◌||◌, max, not, Bool, true, false, List, [], ◌∷◌, codes, fold, length, Option, is_some, if◌then◌else◌}
+use Rattle.std.specs.Prelude.{ℕ, ◌+◌, ◌/◌, ◌||◌, max, not, Bool, true, false, List, [], ◌∷◌, fold, length, Option, is_some, if◌then◌else◌}
 use Rattle.std.specs.{List.list_any, Option.option_map_or}
 use Rattle.snoop_trace.specs.{Extent.Extent, declared.{fault.TextFault.{TextFault, TheVariants.{NoCore, NoBlock}}, protocol.Protocol.Protocol}}
-use Rattle.snoop_lint.specs.{declared.{form.Form.Form, tally.Tally.Tally}, Fields.{address_named, core_named, field}, Findings.{Finding, findings, heads}}
-use Rattle.snoop_lint.specs.Hints.{is_letter_of}
+use Rattle.snoop_lint.specs.{declared.{form.Form.Form, tally.Tally.Tally}, Findings.{Finding, findings, heads}, Kinds.{address_named, asks, core_named, drives, kind_of}}
 
 -- a fault that more cores or more blocks would mend
 abbrev pub is_limit : TextFault → Bool
@@ -27,11 +26,11 @@ greatest number rows = fold (λ most row. max most (number row)) 0 rows
 
 -- a core asks for something
 abbrev pub is_asking : List (List ℕ) → Bool
-is_asking fields = is_letter_of (codes "LSE") (field fields 0)
+is_asking fields = option_map_or asks (kind_of fields) false
 
 -- the bus does something
-abbrev pub drives : List (List ℕ) → Bool
-drives fields = is_letter_of (codes "OR") (field fields 0)
+abbrev pub is_driving : List (List ℕ) → Bool
+is_driving fields = option_map_or drives (kind_of fields) false
 
 -- what is counted of the records of a text: how many they are, how many are faulty, and whether more cores and blocks would not mend all
 -- of these; whether there is a heading, whether cores ask and the bus is driven; the greatest core and the greatest block that are named
@@ -42,7 +41,7 @@ tally_of form protocol shape rows = record {
   has_others = list_any (λ (f : Finding). not (is_limit f.fault)) (findings form protocol shape rows);
   has_heading = has_heading form rows;
   asks = list_any is_asking rows;
-  drives = list_any drives rows;
+  drives = list_any is_driving rows;
   core = greatest core_named rows;
   block = greatest (block_named shape) rows;
 }
@@ -59,7 +58,7 @@ one_more form shape n fields fault tally = record {
   has_others = tally.has_others || is_other fault;
   has_heading = tally.has_heading || heads form n fields;
   asks = tally.asks || is_asking fields;
-  drives = tally.drives || drives fields;
+  drives = tally.drives || is_driving fields;
   core = max tally.core (core_named fields);
   block = max tally.block (block_named shape fields);
 }

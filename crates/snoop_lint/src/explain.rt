@@ -5,10 +5,11 @@ ghost use Rattle.snoop_trace.specs.Heading.{is_heading};
 ghost use Rattle.snoop_lint.specs.Explained as spec;
 ghost use Rattle.snoop_lint.specs.Findings.{heads};
 
-use crate::fields::{address_named, core_named, field, is_number, letter, number_at};
-use crate::form::Form;
-use crate::hints::{begins_record, fields_hint, kind_hint, number_hint, or_else};
-use crate::shown::push_shown;
+use crate::fields::{field, is_number, number_at};
+use crate::form::{Form, Reading};
+use crate::hints::{begins_as_step, fields_hint, kind_hint, number_hint, or_else};
+use crate::kind::{Kind, address_named, core_named};
+use crate::shown::{push_bytes, push_counted, push_shown};
 use csv::ByteRecord;
 use snoop_trace::streams::{push_numbered, push_text};
 use snoop_trace::{NoMemory, Protocol, Shape, TextFault, kind_of};
@@ -17,23 +18,21 @@ use snoop_trace::{NoMemory, Protocol, Shape, TextFault, kind_of};
 #[tactic(auto, unfolding(crate::specs::Explained::finding_line))]
 pub(crate) fn push_finding(
     out: &mut Vec<u8>,
-    form: Form,
-    protocol: Protocol,
-    shape: Shape,
+    reading: &Reading,
     line: u64,
     n: u64,
     fields: &ByteRecord,
     fault: TextFault,
 ) -> Result<(), NoMemory>
     ensures { OnOk result (out.new.items ≡ out.old.items
-        ++ spec.finding_line form protocol shape line (record { number = n; fields = fields_of fields.now; fault = fault })) }
+        ++ spec.finding_line reading.now.form reading.now.protocol reading.now.shape line (record { number = n; fields = fields_of fields.now; fault = fault })) }
 {
     push_numbered(out, "record ", n)?;
     push_numbered(out, ", line ", line)?;
     push_text(out, ": ")?;
     push_text(out, word(fault))?;
     push_text(out, ": ")?;
-    push_explained(out, form, protocol, shape, n, fields, fault)?;
+    push_explained(out, reading, n, fields, fault)?;
     push_text(out, "\n")
 }
 
@@ -58,23 +57,23 @@ fn word(fault: TextFault) -> &'static str
 #[tactic(auto, unfolding(crate::specs::Explained::explained))]
 fn push_explained(
     out: &mut Vec<u8>,
-    form: Form,
-    protocol: Protocol,
-    shape: Shape,
+    reading: &Reading,
     n: u64,
     fields: &ByteRecord,
     fault: TextFault,
 ) -> Result<(), NoMemory>
-    ensures { OnOk result (out.new.items ≡ out.old.items ++ spec.explained form protocol shape n (fields_of fields.now) fault) }
+    ensures { OnOk result (out.new.items ≡ out.old.items ++ spec.explained reading.now.form reading.now.protocol reading.now.shape n (fields_of fields.now) fault) }
 {
     match fault {
-        TextFault::BadKind(_) if heads(form, n, fields) => push_bad_protocol(out, fields),
-        TextFault::BadKind(_) => push_bad_kind(out, form, n, fields),
+        TextFault::BadKind(_) if heads(reading.form, n, fields) => push_bad_protocol(out, fields),
+        TextFault::BadKind(_) => push_bad_kind(out, reading.form, n, fields),
         TextFault::BadFields(_) => push_bad_fields(out, fields),
         TextFault::BadNumber(_) => push_bad_number(out, fields),
-        TextFault::NoCore(_) => push_no_core(out, shape, core_named(fields)),
-        TextFault::NoBlock(_) => push_no_block(out, shape, address_named(fields)),
-        TextFault::OtherShape(_) => push_other_shape(out, protocol, shape, fields),
+        TextFault::NoCore(_) => push_no_core(out, reading.shape, core_named(fields)),
+        TextFault::NoBlock(_) => push_no_block(out, reading.shape, address_named(fields)),
+        TextFault::OtherShape(_) => {
+            push_other_shape(out, reading.protocol, reading.shape, fields)
+        }
         TextFault::BadVersion(_) => push_bad_version(out, fields),
         TextFault::Read | TextFault::NoMemory => Ok(()),
     }
@@ -115,7 +114,7 @@ fn push_bad_kind(out: &mut Vec<u8>, form: Form, n: u64, fields: &ByteRecord) -> 
 fn may_be_names(n: u64, fields: &ByteRecord) -> bool
     ensures { result ≡ spec.may_be_names n (fields_of fields.now) }
 {
-    n == 1 && !is_number(fields, 1) && !begins_record(field(fields, 0))
+    n == 1 && !is_number(fields, 1) && !begins_as_step(field(fields, 0))
 }
 
 fn kinds(form: Form) -> &'static str
@@ -139,51 +138,31 @@ fn push_bad_protocol(out: &mut Vec<u8>, fields: &ByteRecord) -> Result<(), NoMem
 fn push_bad_fields(out: &mut Vec<u8>, fields: &ByteRecord) -> Result<(), NoMemory>
     ensures { OnOk result (out.new.items ≡ out.old.items ++ spec.bad_fields (fields_of fields.now)) }
 {
-    let kind = letter(fields);
-    push_text(out, field_names(kind))?;
+    match Kind::of(fields) {
+        Some(kind) => push_fields_of_kind(out, kind, fields),
+        None => Ok(()),
+    }
+}
+
+#[tactic(auto, unfolding(crate::specs::Explained::bad_fields_of))]
+fn push_fields_of_kind(out: &mut Vec<u8>, kind: Kind, fields: &ByteRecord) -> Result<(), NoMemory>
+    ensures { OnOk result (out.new.items ≡ out.old.items ++ spec.bad_fields_of kind (fields_of fields.now)) }
+{
+    push_text(out, kind.field_names())?;
     push_numbered(out, ", and this record has ", fields.len() as u64)?;
     push_text(out, or_else(fields_hint(fields), count_hint(kind, fields)))
 }
 
 #[tactic(auto, unfolding(crate::specs::Explained::count_hint))]
-fn count_hint(kind: u8, fields: &ByteRecord) -> &'static str
+fn count_hint(kind: Kind, fields: &ByteRecord) -> &'static str
     ensures { result.now ≡ spec.count_hint kind (fields_of fields.now) }
 {
-    if has_comma_more(field_count(kind), fields) {
-        "; a comma stands at the end"
-    } else if kind == b'R' && fields.len() == 3 {
-        "; a load is L, a store S, an eviction E"
-    } else {
-        ""
+    if has_comma_more(kind.field_count(), fields) {
+        return "; a comma stands at the end";
     }
-}
-
-#[tactic(auto, unfolding(crate::specs::Explained::field_count))]
-fn field_count(kind: u8) -> usize
-    ensures value { result ≡ spec.field_count kind }
-    ensures few { result < 8 }
-{
     match kind {
-        b'L' => 3,
-        b'S' => 4,
-        b'E' => 3,
-        b'O' => 2,
-        b'R' => 2,
-        _ => 7,
-    }
-}
-
-#[tactic(auto, unfolding(crate::specs::Explained::field_names))]
-fn field_names(kind: u8) -> &'static str
-    ensures { result.now ≡ spec.field_names kind }
-{
-    match kind {
-        b'L' => "L has 3 fields (L,core,address)",
-        b'S' => "S has 4 fields (S,core,address,value)",
-        b'E' => "E has 3 fields (E,core,address)",
-        b'O' => "O has 2 fields (O,core)",
-        b'R' => "R has 2 fields (R,address)",
-        _ => "V has 7 fields (V,2,protocol,cores,blocks,block_bytes,words)",
+        Kind::Respond if fields.len() == 3 => "; a load is L, a store S, an eviction E",
+        _ => "",
     }
 }
 
@@ -198,70 +177,12 @@ fn has_comma_more(count: usize, fields: &ByteRecord) -> bool
 fn push_bad_number(out: &mut Vec<u8>, fields: &ByteRecord) -> Result<(), NoMemory>
     ensures { OnOk result (out.new.items ≡ out.old.items ++ spec.bad_number (fields_of fields.now)) }
 {
-    let kind = letter(fields);
-    if kind == b'V' {
-        let i = heading_place(fields);
-        push_no_number(out, heading_name(i), field(fields, i))
-    } else {
-        let i = step_place(fields);
-        push_no_number(out, step_name(kind, i), field(fields, i))
-    }
-}
-
-#[tactic(auto, unfolding(crate::specs::Explained::heading_place))]
-fn heading_place(fields: &ByteRecord) -> usize
-    ensures { result ≡ spec.heading_place (fields_of fields.now) }
-{
-    if !is_number(fields, 1) {
-        1
-    } else if !is_number(fields, 3) {
-        3
-    } else if !is_number(fields, 4) {
-        4
-    } else if !is_number(fields, 5) {
-        5
-    } else {
-        6
-    }
-}
-
-#[tactic(auto, unfolding(crate::specs::Explained::step_place))]
-fn step_place(fields: &ByteRecord) -> usize
-    ensures { result ≡ spec.step_place (fields_of fields.now) }
-{
-    if !is_number(fields, 1) {
-        1
-    } else if !is_number(fields, 2) {
-        2
-    } else {
-        3
-    }
-}
-
-#[tactic(auto, unfolding(crate::specs::Explained::heading_name))]
-fn heading_name(i: usize) -> &'static str
-    ensures { result.now ≡ spec.heading_name i }
-{
-    match i {
-        1 => "version",
-        3 => "cores",
-        4 => "blocks",
-        5 => "block_bytes",
-        _ => "words",
-    }
-}
-
-#[tactic(auto, unfolding(crate::specs::Explained::step_name))]
-fn step_name(kind: u8, i: usize) -> &'static str
-    ensures { result.now ≡ spec.step_name kind i }
-{
-    if kind == b'R' {
-        return "address";
-    }
-    match i {
-        1 => "core",
-        2 => "address",
-        _ => "value",
+    match Kind::of(fields) {
+        Some(kind) => {
+            let i = kind.bad_place(fields);
+            push_no_number(out, kind.field_name(i), field(fields, i))
+        }
+        None => Ok(()),
     }
 }
 
@@ -313,9 +234,11 @@ fn push_memory(out: &mut Vec<u8>, shape: Shape) -> Result<(), NoMemory>
     ensures { OnOk result (out.new.items ≡ out.old.items ++ spec.memory shape) }
 {
     let bytes = shape.blocks() as u64 * shape.block_bytes() as u64;
-    push_numbered(out, "the memory of ", shape.blocks() as u64)?;
-    push_numbered(out, " blocks of ", shape.block_bytes() as u64)?;
-    push_numbered(out, " bytes (0 to ", bytes.saturating_sub(1))?;
+    push_text(out, "the memory of ")?;
+    push_counted(out, shape.blocks() as u64, "block")?;
+    push_text(out, " of ")?;
+    push_counted(out, shape.block_bytes() as u64, "byte")?;
+    push_numbered(out, " (0 to ", bytes.saturating_sub(1))?;
     push_text(out, ")")
 }
 
@@ -389,10 +312,4 @@ fn push_options(
     push_numbered(out, " --blocks ", blocks)?;
     push_numbered(out, " --block-bytes ", bytes)?;
     push_numbered(out, " --words ", words)
-}
-
-fn push_bytes(out: &mut Vec<u8>, bytes: &[u8]) -> Result<(), NoMemory>
-    ensures { OnOk result (out.new.items ≡ out.old.items ++ bytes.now) }
-{
-    out.extend_from_slice(bytes).map_err(|_| NoMemory)
 }

@@ -171,8 +171,8 @@ fn is_of_report(field: &[u8]) -> bool
 }
 
 /// Whether a field begins with a letter of a step and a gap.
-pub(crate) fn begins_record(field: &[u8]) -> bool
-    ensures { result ≡ spec.begins_record field.now }
+pub(crate) fn begins_as_step(field: &[u8]) -> bool
+    ensures { result ≡ spec.begins_as_step field.now }
 {
     match field {
         [letter, gap, ..] => is_letter(*letter) && is_gap(*gap),

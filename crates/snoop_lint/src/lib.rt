@@ -6,6 +6,7 @@ mod fault;
 mod fields;
 mod form;
 mod hints;
+mod kind;
 mod lines;
 mod lint;
 mod shown;

@@ -9,13 +9,13 @@ ghost use Rattle.snoop_lint.specs.Fewest.{AreFewest};
 ghost use Rattle.snoop_lint.specs.Findings as found;
 ghost use Rattle.snoop_lint.specs.Lines as line;
 ghost use Rattle.snoop_lint.specs.Linted.{Lints, first_lines, lint_of};
-ghost use Rattle.snoop_lint.specs.Looked.{line_if_room};
+ghost use Rattle.snoop_lint.specs.Looked.{line_if_faulty, line_if_room};
 ghost use Rattle.snoop_lint.specs.Summary.{can_be_taken};
 ghost use Rattle.snoop_lint.specs.Tallies.{one_more, tally_of};
 
 use crate::explain::push_finding;
 use crate::fault::LintFault;
-use crate::form::Form;
+use crate::form::{Form, Reading};
 use crate::lines::record_lines;
 use crate::summary::push_summary;
 use crate::tally::Tally;
@@ -80,18 +80,14 @@ fn report_of(
 ) -> Result<Vec<u8>, NoMemory>
     ensures { IfOk result (λ report. report.items ≡ lint_of form most protocol shape text.now) }
 {
-    let lines = record_lines(alloc, text)?;
-    let mut report = Vec::new(alloc);
-    let tally = look(
-        alloc,
-        &mut report,
+    let reading = Reading {
         form,
-        most,
         protocol,
         shape,
-        &lines,
-        text,
-    )?;
+    };
+    let lines = record_lines(alloc, text)?;
+    let mut report = Vec::new(alloc);
+    let tally = look(alloc, &mut report, &reading, most, &lines, text)?;
     push_summary(&mut report, form, most, tally)?;
     Ok(report)
 }
@@ -101,15 +97,13 @@ fn report_of(
 fn look(
     alloc: Global,
     out: &mut Vec<u8>,
-    form: Form,
+    reading: &Reading,
     most: u64,
-    protocol: Protocol,
-    shape: Shape,
     lines: &[u64],
     text: &[u8],
 ) -> Result<Tally, NoMemory>
-    ensures tally { IfOk result (λ tally. tally ≡ tally_of form protocol shape (records_of text.now)) }
-    ensures lines { OnOk result (out.new.items ≡ out.old.items ++ first_lines form most protocol shape lines.now (records_of text.now)) }
+    ensures tally { IfOk result (λ tally. tally ≡ tally_of reading.now.form reading.now.protocol reading.now.shape (records_of text.now)) }
+    ensures lines { OnOk result (out.new.items ≡ out.old.items ++ first_lines reading.now.form most reading.now.protocol reading.now.shape lines.now (records_of text.now)) }
 {
     let mut records = ReaderBuilder::new()
         .has_headers(false)
@@ -121,17 +115,7 @@ fn look(
         if !next_record(&mut records, &mut fields)? {
             return Ok(tally);
         }
-        tally = look_at(
-            out,
-            form,
-            most,
-            protocol,
-            shape,
-            lines,
-            tally,
-            i + 1,
-            &fields,
-        )?;
+        tally = look_at(out, reading, most, lines, tally, i + 1, &fields)?;
     }
     // No text has so many records.
     Err(NoMemory)
@@ -155,80 +139,49 @@ fn next_record<R: std::io::Read>(
 /// Appends the line of record n, if it is faulty and fewer than `most` lines stand there, and counts the record.
 fn look_at(
     out: &mut Vec<u8>,
-    form: Form,
+    reading: &Reading,
     most: u64,
-    protocol: Protocol,
-    shape: Shape,
     lines: &[u64],
     tally: Tally,
     n: u64,
     fields: &ByteRecord,
 ) -> Result<Tally, NoMemory>
     requires { tally.faults < 2 ^ 64 - 1 }
-    ensures counted { IfOk result (λ next. next ≡ one_more form shape n (fields_of fields.now) (found.fault_at form protocol shape n (fields_of fields.now)) tally) }
-    ensures line { OnOk result (out.new.items ≡ out.old.items ++ line_if_room form most protocol shape lines.now tally.faults n (fields_of fields.now)) }
+    ensures counted { IfOk result (λ next. next ≡ one_more reading.now.form reading.now.shape n (fields_of fields.now) (found.fault_at reading.now.form reading.now.protocol reading.now.shape n (fields_of fields.now)) tally) }
+    ensures line { OnOk result (out.new.items ≡ out.old.items ++ line_if_room reading.now.form most reading.now.protocol reading.now.shape lines.now tally.faults n (fields_of fields.now)) }
 {
-    let fault = fault_at(form, protocol, shape, n, fields);
-    push_line_if_room(
-        out,
-        form,
-        most,
-        protocol,
-        shape,
-        lines,
-        tally.faults,
-        n,
-        fields,
-        fault,
-    )?;
-    Ok(tally.with_record(form, shape, n, fields, fault))
+    let fault = fault_at(reading, n, fields);
+    if tally.faults < most {
+        push_line(out, reading, lines, n, fields, fault)?;
+    }
+    Ok(tally.with_record(reading.form, reading.shape, n, fields, fault))
 }
 
-fn push_line_if_room(
+/// Appends the line of record n, if it is faulty.
+fn push_line(
     out: &mut Vec<u8>,
-    form: Form,
-    most: u64,
-    protocol: Protocol,
-    shape: Shape,
+    reading: &Reading,
     lines: &[u64],
-    faults: u64,
     n: u64,
     fields: &ByteRecord,
     fault: Option<TextFault>,
 ) -> Result<(), NoMemory>
-    requires { fault ≡ found.fault_at form protocol shape n (fields_of fields.now) }
-    ensures { OnOk result (out.new.items ≡ out.old.items ++ line_if_room form most protocol shape lines.now faults n (fields_of fields.now)) }
+    requires { fault ≡ found.fault_at reading.now.form reading.now.protocol reading.now.shape n (fields_of fields.now) }
+    ensures { OnOk result (out.new.items ≡ out.old.items ++ line_if_faulty reading.now.form reading.now.protocol reading.now.shape lines.now n (fields_of fields.now)) }
 {
     match fault {
-        Some(fault) if faults < most => {
-            push_finding(
-                out,
-                form,
-                protocol,
-                shape,
-                line_of(lines, n),
-                n,
-                fields,
-                fault,
-            )
-        }
-        _ => Ok(()),
+        Some(fault) => push_finding(out, reading, line_of(lines, n), n, fields, fault),
+        None => Ok(()),
     }
 }
 
 /// Why record n is refused, where no record before it is.
-fn fault_at(
-    form: Form,
-    protocol: Protocol,
-    shape: Shape,
-    n: u64,
-    fields: &ByteRecord,
-) -> Option<TextFault>
-    ensures { result ≡ found.fault_at form protocol shape n (fields_of fields.now) }
+fn fault_at(reading: &Reading, n: u64, fields: &ByteRecord) -> Option<TextFault>
+    ensures { result ≡ found.fault_at reading.now.form reading.now.protocol reading.now.shape n (fields_of fields.now) }
 {
-    match form {
-        Form::Steps => step_fault(protocol, shape, n, fields),
-        Form::Rows => row_fault(shape, n, fields),
+    match reading.form {
+        Form::Steps => step_fault(reading.protocol, reading.shape, n, fields),
+        Form::Rows => row_fault(reading.shape, n, fields),
     }
 }
 

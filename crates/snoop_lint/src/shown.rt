@@ -19,7 +19,7 @@ pub(crate) fn push_shown(out: &mut Vec<u8>, field: &[u8]) -> Result<(), NoMemory
 {
     let front = front(field);
     push_text(out, "'")?;
-    push_bytes(out, front)?;
+    push_shown_bytes(out, front)?;
     push_text(out, "'")?;
     push_not_shown(out, field.len() - front.len())
 }
@@ -39,7 +39,7 @@ fn first_line_len(field: &[u8]) -> usize
     field.iter().take_while(|byte| !is_line_end(**byte)).count()
 }
 
-fn push_bytes(out: &mut Vec<u8>, bytes: &[u8]) -> Result<(), NoMemory>
+fn push_shown_bytes(out: &mut Vec<u8>, bytes: &[u8]) -> Result<(), NoMemory>
     ensures { OnOk result (out.new.items ≡ out.old.items ++ flat_map spec.shown_byte bytes.now) }
 {
     for byte in bytes {
@@ -94,4 +94,11 @@ pub(crate) fn push_counted(out: &mut Vec<u8>, count: u64, thing: &str) -> Result
     push_text(out, " ")?;
     push_text(out, thing)?;
     push_text(out, if count == 1 { "" } else { "s" })
+}
+
+/// Appends bytes as they are.
+pub(crate) fn push_bytes(out: &mut Vec<u8>, bytes: &[u8]) -> Result<(), NoMemory>
+    ensures { OnOk result (out.new.items ≡ out.old.items ++ bytes.now) }
+{
+    out.extend_from_slice(bytes).map_err(|_| NoMemory)
 }

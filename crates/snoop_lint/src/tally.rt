@@ -4,9 +4,8 @@ ghost use Rattle.csv.specs.Records.{fields_of};
 ghost use Rattle.snoop_lint.specs.Tallies as spec;
 
 use crate::explain::heads;
-use crate::fields::{address_named, core_named, field};
 use crate::form::Form;
-use crate::hints::is_letter_of;
+use crate::kind::{Kind, address_named, core_named};
 use csv::ByteRecord;
 use snoop_trace::{Shape, TextFault};
 
@@ -60,12 +59,24 @@ impl Tally {
             faults: self.faults + if fault.is_some() { 1 } else { 0 },
             has_others: self.has_others || is_other(fault),
             has_heading: self.has_heading || heads(form, n, fields),
-            asks: self.asks || is_letter_of(b"LSE", field(fields, 0)),
-            drives: self.drives || is_letter_of(b"OR", field(fields, 0)),
+            asks: self.asks || is_asking(fields),
+            drives: self.drives || is_driving(fields),
             core: self.core.max(core_named(fields)),
             block: self.block.max(block_named(shape, fields)),
         }
     }
+}
+
+fn is_asking(fields: &ByteRecord) -> bool
+    ensures { result ≡ spec.is_asking (fields_of fields.now) }
+{
+    Kind::of(fields).is_some_and(|kind| kind.asks())
+}
+
+fn is_driving(fields: &ByteRecord) -> bool
+    ensures { result ≡ spec.is_driving (fields_of fields.now) }
+{
+    Kind::of(fields).is_some_and(|kind| kind.drives())
 }
 
 fn is_other(fault: Option<TextFault>) -> bool

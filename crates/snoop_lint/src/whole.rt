@@ -3,7 +3,7 @@ ghost use Rattle.std.specs.Prelude.{◌≡◌, ◌≢◌, ◌++◌, true, Err, I
 ghost use Rattle.snoop_trace.specs.Text.{BlamesReader};
 
 use crate::fault::LintFault;
-use snoop_trace::NoMemory;
+use crate::shown::push_bytes;
 use snoop_trace::streams::Source;
 use std::alloc::Global;
 
@@ -22,16 +22,10 @@ pub(crate) fn read_whole<R: Source>(alloc: Global, reader: &mut R) -> Result<Vec
     for _ in 0..u64::MAX {
         match reader.pull(&mut part) {
             Ok(0) => return Ok(text),
-            Ok(count) => append(&mut text, &part[..count])?,
+            Ok(count) => push_bytes(&mut text, &part[..count])?,
             Err(_) => return Err(LintFault::Read),
         }
     }
     // No vector holds so many parts.
     Err(LintFault::NoMemory)
-}
-
-fn append(text: &mut Vec<u8>, part: &[u8]) -> Result<(), NoMemory>
-    ensures { OnOk result (text.new.items ≡ text.old.items ++ part.now) }
-{
-    text.extend_from_slice(part).map_err(|_| NoMemory)
 }

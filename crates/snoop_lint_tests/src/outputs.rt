@@ -7,7 +7,18 @@ use std::test::Fail;
 
 /// What is written of a text under MSI, for 2 cores and 4 blocks of 64 bytes, is this.
 fn expect(alloc: Global, form: Form, most: u64, text: &[u8], expected: &str) -> Result<(), Fail> {
-    let shape = Shape::new(2, 4, 64)?;
+    expect_in(alloc, form, most, Shape::new(2, 4, 64)?, text, expected)
+}
+
+/// What is written of a text under MSI, for this shape, is this.
+fn expect_in(
+    alloc: Global,
+    form: Form,
+    most: u64,
+    shape: Shape,
+    text: &[u8],
+    expected: &str,
+) -> Result<(), Fail> {
     let mut output = Vec::new(alloc);
     lint_text(
         alloc,
@@ -73,6 +84,25 @@ no O and no R: is this a text for snoop run?
 fn what_a_text_needs(rt: HostRuntime) -> Result<(), Fail> {
     let text = b"L,1,0\nL,63,0\nS,64,262144,1\n";
     expect(rt.alloc(), Form::Steps, 20, text, NEEDS_OUTPUT)
+}
+
+const SMALLEST_OUTPUT: &str = "\
+record 1, line 1: NoBlock: address 1 is outside the memory of 1 block of 1 byte (0 to 0); --blocks 2 has room for it
+1 fault in 1 record
+needs --cores 1 --blocks 2
+";
+
+#[test]
+fn one_block_of_one_byte(rt: HostRuntime) -> Result<(), Fail> {
+    let shape = Shape::new(1, 1, 1)?;
+    expect_in(
+        rt.alloc(),
+        Form::Steps,
+        20,
+        shape,
+        b"R,1\n",
+        SMALLEST_OUTPUT,
+    )
 }
 
 const HEADING_OUTPUT: &str = "\

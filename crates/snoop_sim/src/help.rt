@@ -11,6 +11,11 @@ macro_rules! help {
   S,core,address,value  the core stores the value at the address
   E,core,address        the core evicts the block of the address"] $($rest)*)
     };
+    (@ [$($text:literal)*] bus $($rest:tt)*) => {
+        help!(@ [$($text)* "
+  O,core                the bus orders the core's oldest request
+  R,address             the response for the block of the address comes"] $($rest)*)
+    };
     (@ [$($text:literal)*] numbers $($rest:tt)*) => {
         help!(@ [$($text)* "
 Numbers are decimal, or hexadecimal after 0x. An address is in bytes. A block has
@@ -102,9 +107,7 @@ More in docs/TEXTS.md.";
 pub(crate) const STEPS: &str = help!(
     "Reads standard input: `snoop steps < FILE`. Each line is a step:"
     asks
-    "
-  O,core                the bus orders the core's oldest request
-  R,address             the response for the block of the address comes"
+    bus
     numbers
     "
 Example: printf 'L,0,0\\nO,0\\nR,0\\n' | snoop steps"
@@ -160,9 +163,7 @@ A text with V, O or R is for `snoop steps`."
 pub(crate) const STATES: &str = help!(
     "Reads standard input: `snoop states < FILE`. Each line is a step:"
     asks
-    "
-  O,core                the bus orders the core's oldest request
-  R,address             the response for the block of the address comes"
+    bus
     numbers
     rows
     "
@@ -176,7 +177,7 @@ it, the bus and memory, and the step's line. A dot stands for the cell above.
 with its values after it, and the request's place in the queue, from 1. Refused options:"
     serial
     choice
-    faults "L, S, E, of steps O or R," "L and E take 2 numbers, S 3, O and R 1"
+    faults "L, S or E, in steps O or R," "L and E take 2 numbers, S 3, O and R 1"
     heading
     more
 );
@@ -184,9 +185,7 @@ with its values after it, and the request's place in the queue, from 1. Refused 
 pub(crate) const COUNTS: &str = help!(
     "Reads standard input: `snoop counts --by row < FILE`. Each line is a step:"
     asks
-    "
-  O,core                the bus orders the core's oldest request
-  R,address             the response for the block of the address comes"
+    bus
     numbers
     rows
     "
@@ -203,16 +202,17 @@ cores together. A stall counts too; a core in I at another core's request is lef
   BadBy      neither --by nor --every, or both
   BadTop     --top comes without --by block
   BadEvery   --every is 0"
-    faults "L, S, E, of steps O or R," "L and E take 2 numbers, S 3, O and R 1"
+    faults "L, S or E, in steps O or R," "L and E take 2 numbers, S 3, O and R 1"
     heading
     more
 );
 
 pub(crate) const LINT: &str = "\
-Reads standard input to its end: `snoop lint < FILE`. Each faulty line of it has a line
-of output: its record and line, the fault, what was expected there, and which option
-would allow it. Then come how many records and faults there are, the cores and blocks
-that the text needs, and whether it looks like a text of the other kind.
+Reads standard input to its end: `snoop lint < FILE`. Each faulty record, of the first 20
+or --most N, has a line of output: its number, the line it begins on, the fault, what was
+expected there, and which option would allow it. Then come how many records and faults
+there are, the cores and blocks that the text needs, and whether it looks like a text of
+the other kind.
 Example: printf 'L,0\\n' | snoop lint
   record 1, line 1: BadFields: L has 3 fields (L,core,address), and this record has 2
   1 fault in 1 record
@@ -226,9 +226,7 @@ Exit statuses: snoop --help. More in docs/TEXTS.md.";
 pub(crate) const DRAW: &str = help!(
     "Reads standard input: `snoop draw < FILE`. Each line is a step:"
     asks
-    "
-  O,core                the bus orders the core's oldest request
-  R,address             the response for the block of the address comes"
+    bus
     numbers
     rows
     "

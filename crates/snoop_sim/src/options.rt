@@ -231,21 +231,21 @@ static KIND: [OptionSpec; 1] = [OptionSpec {
     name: "of",
     takes: Takes::OneOf(&["steps", "rows"]),
     default: Some("steps"),
-    help: "The kind of text",
+    help: "What the text holds: steps, or rows (what each core does)",
 }];
 
 static SERIAL: [OptionSpec; 1] = [OptionSpec {
     name: "serial",
     takes: Takes::Nothing,
     default: None,
-    help: "Of rows: each line whole before the next, in the text's order",
+    help: "With --of rows: complete each row before the next, in the order of the text",
 }];
 
 static SERIAL_RUN: [OptionSpec; 1] = [OptionSpec {
     name: "serial",
     takes: Takes::Nothing,
     default: None,
-    help: "Do each line whole before the next, in the order of the text",
+    help: "Complete each line before the next, in the order of the text",
 }];
 
 static CHOICE: [OptionSpec; 3] = [
@@ -253,7 +253,7 @@ static CHOICE: [OptionSpec; 3] = [
         name: "block",
         takes: Takes::U32,
         default: None,
-        help: "Show this block alone",
+        help: "Show only this block",
     },
     OptionSpec {
         name: "from",
@@ -273,7 +273,7 @@ static STATES: [OptionSpec; 1] = [OptionSpec {
     name: "as",
     takes: Takes::OneOf(&["text", "csv"]),
     default: Some("text"),
-    help: "The form",
+    help: "A table for each block, or a line of fields for each row that a controller takes",
 }];
 
 static COUNTS: [OptionSpec; 3] = [
@@ -287,13 +287,13 @@ static COUNTS: [OptionSpec; 3] = [
         name: "top",
         takes: Takes::U32,
         default: None,
-        help: "By block: so many blocks alone, those of most requests first",
+        help: "With --by block: only this many blocks, those with the most requests",
     },
     OptionSpec {
         name: "every",
         takes: Takes::U64,
         default: None,
-        help: "In place of --by: a line for each so many steps",
+        help: "Instead of --by: a line for each time that this many steps are over",
     },
 ];
 
@@ -309,25 +309,25 @@ static DRAW: [OptionSpec; 4] = [
         name: "as",
         takes: Takes::OneOf(&["text", "svg", "html"]),
         default: Some("text"),
-        help: "The form",
+        help: "A text for a terminal, an SVG image, or an HTML page",
     },
     OptionSpec {
         name: "ascii",
         takes: Takes::Nothing,
         default: None,
-        help: "For text: draw with ASCII characters alone",
+        help: "With --as text: draw with ASCII characters only",
     },
     OptionSpec {
         name: "theme",
         takes: Takes::OneOf(&["auto", "light", "dark"]),
         default: None,
-        help: "Colours for svg and html",
+        help: "With --as svg or html: its colours (auto where not given)",
     },
     OptionSpec {
         name: "shown",
         takes: Takes::U64,
         default: None,
-        help: "For svg and html: show so many rows alone",
+        help: "With --as svg or html: draw only this many rows, on a canvas for all",
     },
 ];
 
@@ -336,13 +336,13 @@ static TABLE: [OptionSpec; 2] = [
         name: "which",
         takes: Takes::OneOf(&["cache", "memory"]),
         default: Some("cache"),
-        help: "Whose table it is",
+        help: "The cache controller's table, or the memory controller's",
     },
     OptionSpec {
         name: "as",
         takes: Takes::OneOf(&["rows", "matrix"]),
         default: Some("rows"),
-        help: "The layout",
+        help: "A line for each row, or a matrix of states and events",
     },
 ];
 

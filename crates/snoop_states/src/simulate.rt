@@ -36,12 +36,9 @@ pub fn simulate_states_table<R: Source, W: Sink>(
     ensures read_blamed { BlamesReader (R.failed reader.old) (R.failed reader.new) (result ≡ Err (SimFault.Text text_fault.Read)) }
     ensures blamed { BlamesWriter (W.failed writer.old) (W.failed writer.new) (result ≡ Err SimFault.Write) }
 {
-    let steps = read_input(alloc, reader, protocol, shape, input).map_err(SimFault::Text)?;
-    match write_tables(alloc, writer, protocol, shape, choice, &steps) {
-        Ok(()) => Ok(()),
-        Err(WriteFault::NoMemory) => Err(SimFault::NoMemory),
-        Err(WriteFault::Write) => Err(SimFault::Write),
-    }
+    let steps = read_input(alloc, reader, protocol, shape, input)?;
+    write_tables(alloc, writer, protocol, shape, choice, &steps)?;
+    Ok(())
 }
 
 /// Runs the steps on a machine at reset, and writes their tables.

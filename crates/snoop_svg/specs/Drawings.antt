@@ -32,9 +32,13 @@ last_above above (n ∷ ns) = last_above (record { number = n.number; situation 
 abbrev pub row_above : Chosen → Protocol → Extent → List Frame → AfterSteps
 row_above choice protocol shape frames = last_above (first_above choice protocol shape frames) (drawn choice frames)
 
--- how many rows a sheet has at most
+-- the most cells of a drawing
+abbrev pub most_cells : ℕ
+most_cells = 20000
+
+-- how many rows a sheet has at most: an SVG is one sheet, since no drawing has more rows than cells
 abbrev pub rows_per_sheet : Form → ℕ
-rows_per_sheet Svg = 20000
+rows_per_sheet Svg = most_cells
 rows_per_sheet Html = 24
 
 -- how many rows the sheet has that begins after so many

@@ -5,11 +5,11 @@ use Rattle.snoop_trace.specs.{Extent.Extent, declared.{protocol.Protocol.Protoco
 use Rattle.snoop_model.specs.Pictures.Situation.{Situation}
 use Rattle.snoop_engine.specs.{Frames.{AreFrames, Frame}, Chosen.{Chosen, is_shown}}
 use Rattle.snoop_draw.specs.{Panels.Panel, Size.columns_of}
-use Rattle.snoop_svg.specs.Drawings.{drawn}
+use Rattle.snoop_svg.specs.Drawings.{drawn, most_cells}
 
--- a drawing of so many rows and these panels has at most 20,000 cells
+-- a drawing of so many rows and these panels has no more cells than that
 abbrev pub IsSmall : ℕ → List Panel → Type 0
-IsSmall rows panels = (rows + 1) * (columns_of panels + 1) ≤ 20000
+IsSmall rows panels = (rows + 1) * (columns_of panels + 1) ≤ most_cells
 
 -- in the run of the steps so many are drawn
 pub record HasRows (protocol : Protocol) (shape : Extent) (choice : Chosen) (steps : List Step) (rows : ℕ) : Type 0 where

@@ -5,6 +5,7 @@ ghost use Rattle.snoop_svg.specs.Drawings.{rows_per_sheet, sheet_rows};
 
 use crate::columns::Column;
 use crate::paper::{Form, Paper};
+use crate::size::MAX_CELLS;
 use crate::sizes::Sizes;
 use snoop_engine::Choice;
 use std::marker::Model;
@@ -95,7 +96,8 @@ impl Plan {
         ensures few { result ≤ 20000 }
     {
         match self.paper.form {
-            Form::Svg => 20000,
+            // One sheet: no drawing has more rows than cells.
+            Form::Svg => MAX_CELLS,
             Form::Html => 24,
         }
     }

@@ -5,12 +5,12 @@ ghost use Rattle.snoop_svg.specs.Size.{IsSmall};
 use snoop_draw::{Panel, columns_of};
 
 /// The most cells of a drawing.
-const MAX_CELLS: u64 = 20_000;
+pub(crate) const MAX_CELLS: u32 = 20_000;
 
 /// Whether a drawing of `rows` rows with these panels is small enough to be made.
 pub(crate) fn is_small(rows: u64, panels: &[Panel]) -> bool
     ensures { IsTrue result ↔ IsSmall rows panels.now }
 {
     let columns = columns_of(panels).saturating_add(1);
-    rows.saturating_add(1).saturating_mul(columns) <= MAX_CELLS
+    rows.saturating_add(1).saturating_mul(columns) <= MAX_CELLS as u64
 }

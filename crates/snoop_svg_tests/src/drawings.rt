@@ -60,7 +60,7 @@ const BODY: &str = "\
 const SCRIPT: &str = "\
 <pre aria-live=\"polite\">Click a row, or go through the steps with the arrow keys. Esc shows the whole run.</pre>
 <script>
-const rows = [...document.querySelectorAll(\"a[id]\")], notes = document.querySelector(\"pre\");
+const rows = [...document.querySelectorAll(\"a[id]\")], notes = document.querySelector(\"pre\"), hint = notes.textContent;
 const sheet = document.querySelector(\"svg\"), names = sheet.cloneNode();
 names.id = \"names\";
 names.setAttribute(\"height\", 56);
@@ -73,8 +73,8 @@ document.body.prepend(names);
 const at = () => rows.findIndex(row => \"#\" + row.id === location.hash);
 function show() {
   const row = rows[at()];
+  notes.textContent = row ? row.querySelector(\"title\").textContent : hint;
   if (!row) return;
-  notes.textContent = row.querySelector(\"title\").textContent;
   row.scrollIntoView({block: \"center\"});
   const marks = [...row.querySelectorAll(\".o,.a,.i,.x,.p,.g,.v\")].map(mark => mark.getBoundingClientRect());
   if (!marks.length) return;
@@ -86,11 +86,12 @@ function show() {
 }
 addEventListener(\"hashchange\", show);
 addEventListener(\"keydown\", event => {
+  if (event.altKey || event.ctrlKey || event.metaKey || event.shiftKey) return;
   const by = {ArrowDown: 1, ArrowRight: 1, ArrowUp: -1, ArrowLeft: -1}[event.key];
-  if (event.key === \"Escape\") location.hash = \"all\";
+  if (event.key === \"Escape\") location.replace(\"#all\");
   if (!by || !rows.length) return;
   event.preventDefault();
-  location.hash = rows[Math.max(0, Math.min(rows.length - 1, at() + by))].id;
+  location.replace(\"#\" + rows[Math.max(0, Math.min(rows.length - 1, at() + by))].id);
 });
 addEventListener(\"load\", show);
 </script>

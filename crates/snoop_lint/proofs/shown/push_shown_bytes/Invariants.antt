@@ -1,6 +1,6 @@
 use Rattle.std.{proofs.Common.{◌≡◌, ◌++◌, take}, specs.List.flat_map}
 use Rattle.snoop_lint.specs.Shown.{shown_byte}
-use Rattle.snoop_lint.proofs.shown.push_bytes.Given as goal
+use Rattle.snoop_lint.proofs.shown.push_shown_bytes.Given as goal
 
 -- the bytes so far
 abbrev pub invariant-loop-byte : goal.invariant-loop-byte
