@@ -353,31 +353,15 @@ fn push_reply(
 fn push_captions(
     out: &mut Vec<u8>,
     plan: &Plan,
-    shape: Shape,
+    machine: &Machine,
     y: u32,
-    taken: u64,
-    step: Step,
-    outcome: Result<Reply, Refused>,
+    seen: &Seen<'_>,
 ) -> Result<(), NoMemory>
-    ensures { OnOk result (out.new.items ≡ out.old.items ++ captions plan.now shape y taken step outcome) }
+    ensures { OnOk result (out.new.items ≡ out.old.items ++ captions plan.now machine.now.situation.shape y seen.now.number seen.now.step seen.now.outcome) }
 {
-    push_step_number(out, plan, y, taken)?;
-    push_record(out, plan, y, shape, step)?;
-    push_reply(out, plan, y, outcome)
-}
-
-fn push_title_of(out: &mut Vec<u8>, machine: &Machine, seen: &Seen<'_>) -> Result<(), NoMemory>
-    ensures { OnOk result (out.new.items ≡ out.old.items ++ row_title machine.now.situation.shape seen.now.number machine.now.situation seen.now.step seen.now.outcome seen.now.lines.now) }
-{
-    push_row_title(
-        out,
-        machine,
-        machine.shape(),
-        seen.number,
-        seen.step,
-        seen.outcome,
-        seen.lines,
-    )
+    push_step_number(out, plan, y, seen.number)?;
+    push_record(out, plan, y, machine.shape(), seen.step)?;
+    push_reply(out, plan, y, seen.outcome)
 }
 
 fn push_plan_row_ground(
@@ -390,26 +374,6 @@ fn push_plan_row_ground(
     ensures { OnOk result (out.new.items ≡ out.old.items ++ row_ground (width_of plan.now) y (border above taken)) }
 {
     push_row_ground(out, plan.width(), y, border(above, taken))
-}
-
-fn push_captions_of(
-    out: &mut Vec<u8>,
-    plan: &Plan,
-    machine: &Machine,
-    y: u32,
-    seen: &Seen<'_>,
-) -> Result<(), NoMemory>
-    ensures { OnOk result (out.new.items ≡ out.old.items ++ captions plan.now machine.now.situation.shape y seen.now.number seen.now.step seen.now.outcome) }
-{
-    push_captions(
-        out,
-        plan,
-        machine.shape(),
-        y,
-        seen.number,
-        seen.step,
-        seen.outcome,
-    )
 }
 
 // Appends the beginning of the row of a step, below that of another.
@@ -425,9 +389,9 @@ fn push_row_head(
     ensures { OnOk result (out.new.items ≡ out.old.items ++ row_head plan.now machine.now.situation.shape y above seen.now.number machine.now.situation seen.now.step seen.now.outcome seen.now.lines.now) }
 {
     open_row(out, seen.number)?;
-    push_title_of(out, machine, seen)?;
+    push_row_title(out, machine, seen)?;
     push_plan_row_ground(out, plan, y, above, seen.number)?;
-    push_captions_of(out, plan, machine, y, seen)
+    push_captions(out, plan, machine, y, seen)
 }
 
 // Appends the end of the row of a step.

@@ -7,7 +7,7 @@ ghost use Rattle.snoop_engine.specs.States.{done_text, memory_done_text};
 ghost use Rattle.snoop_engine.specs.Taken.{memory_at, state_at};
 ghost use Rattle.snoop_svg.specs.Titles.{core_row, memory_row, row_title, step_line, taken_row};
 
-use snoop_engine::{Taken, push_outcome};
+use snoop_engine::{Seen, Taken, push_outcome};
 use snoop_machine::{Machine, Refused, Reply};
 use snoop_rules::{
     CacheAction, CacheEvent, CacheState, MemAction, MemEvent, MemState, Protocol, cache_cell,
@@ -195,18 +195,14 @@ fn push_step_line(
 pub(crate) fn push_row_title(
     out: &mut Vec<u8>,
     machine: &Machine,
-    shape: Shape,
-    number: u64,
-    step: Step,
-    outcome: Result<Reply, Refused>,
-    lines: &[Taken],
+    seen: &Seen<'_>,
 ) -> Result<(), NoMemory>
-    ensures { OnOk result (out.new.items ≡ out.old.items ++ row_title shape number machine.now.situation step outcome lines.now) }
+    ensures { OnOk result (out.new.items ≡ out.old.items ++ row_title machine.now.situation.shape seen.now.number machine.now.situation seen.now.step seen.now.outcome seen.now.lines.now) }
 {
     push_text(out, "<title>")?;
-    push_decimal(out, number)?;
+    push_decimal(out, seen.number)?;
     push_text(out, ". ")?;
-    push_step_line(out, shape, step, outcome)?;
-    push_rows_taken(out, machine, lines)?;
+    push_step_line(out, machine.shape(), seen.step, seen.outcome)?;
+    push_rows_taken(out, machine, seen.lines)?;
     push_text(out, "</title>\n")
 }
