@@ -116,7 +116,7 @@ if (!all.length) {
 } else {
   const last = all.length - 1;
   for (let place = 0; place <= Math.min(29, last); place++) {
-    if (!press(["ArrowDown", "ArrowRight"][place % 2])) found.push("the page is scrolled, too");
+    if (!press(["ArrowDown", "ArrowRight", "PageDown"][place % 3])) found.push("the page is scrolled, too");
     await at(place, "a key forward");
   }
   for (const held of ["altKey", "ctrlKey", "metaKey", "shiftKey"]) {
@@ -137,6 +137,8 @@ if (!all.length) {
   await at(last, "a key behind the last row");
   press("ArrowLeft");
   await at(Math.max(last - 1, 0), "a key back");
+  press("PageUp");
+  await at(Math.max(last - 2, 0), "another key back");
   all[0].dispatchEvent(new MouseEvent("click", {bubbles: true, cancelable: true}));
   await later();
   await at(0, "a click");

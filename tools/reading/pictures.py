@@ -60,15 +60,15 @@ def check_choice(options):
     """Refuses an order of rows where there are none, a block outside the shape, a range without a step, the first blocks where no blocks
     are counted, and stretches of no steps."""
     if options.serial and options.command != "run" and options.of != "rows":
-        raise Refused("BadSerial")
+        raise Refused("BadSerial: --serial needs --of rows")
     if options.block is not None and not options.block < options.blocks:
         raise Refused("BadBlock")
     if not 1 <= options.first <= options.last:
         raise Refused("BadRange")
     if options.top is not None and options.by != "block":
-        raise Refused("BadTop")
+        raise Refused("BadTop: --top needs --by block")
     if options.every == 0:
-        raise Refused("BadEvery")
+        raise Refused("BadEvery: --every is 1 or more")
 
 
 def is_shown(options, step):

@@ -27,22 +27,22 @@ pub(crate) enum Failure {
     #[error(transparent)]
     Shape(ShapeFault),
     /// `--serial` is given without `--of rows`.
-    #[error("BadSerial")]
+    #[error("BadSerial: --serial needs --of rows")]
     BadSerial,
     /// An option is given that this form of a drawing has not.
-    #[error("BadChoice")]
+    #[error("BadChoice: --theme and --shown are for svg and html, --ascii is for text")]
     BadChoice,
     /// The block or the steps that are to be shown are refused.
     #[error(transparent)]
     Unchosen(ChoiceFault),
     /// Neither of `--by` and `--every` is given, or both.
-    #[error("BadBy")]
+    #[error("BadBy: give either --by or --every")]
     BadBy,
     /// `--every` is 0.
-    #[error("BadEvery")]
+    #[error("BadEvery: --every is 1 or more")]
     BadEvery,
     /// `--top` is given without `--by block`.
-    #[error("BadTop")]
+    #[error("BadTop: --top needs --by block")]
     BadTop,
     #[error(transparent)]
     Simulation(SimFault),

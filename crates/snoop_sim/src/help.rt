@@ -195,6 +195,7 @@ The first line of output names the fields. --by row: each row of the cache table
 the memory table has a line (see `snoop table`), with how often it was taken, by all
 cores together. A stall counts too; a core in I at another core's request is left out.
 --by core, --by block: each core or block that the text names has a line (docs/TEXTS.md).
+With one word a block each miss of coherence is true_sharing; --words tells them apart.
 --by word: each word of each block that several cores use. --top N: the N blocks of most requests.
 --every N: a line for steps 1 to N, one for the next N, and so on. Refused options:"
     serial

@@ -68,6 +68,7 @@ pub(crate) enum Grouping {
 /// A command of the command line.
 struct CommandSpec {
     name: &'static str,
+    usage: &'static str,
     about: &'static str,
     help: Help,
     groups: &'static [Group],
@@ -125,24 +126,28 @@ enum Group {
 static COMMANDS: [CommandSpec; 8] = [
     CommandSpec {
         name: "steps",
+        usage: "snoop steps [OPTIONS] < FILE",
         about: "Read steps; write each one's reply and a report",
         help: Help::Steps,
         groups: &[Group::Protocol, Group::Shape],
     },
     CommandSpec {
         name: "run",
+        usage: "snoop run [OPTIONS] < FILE",
         about: "Read what each core does; write each step's reply and a report",
         help: Help::Run,
         groups: &[Group::Protocol, Group::Shape, Group::SerialRun],
     },
     CommandSpec {
         name: "threads",
+        usage: "snoop threads [OPTIONS] < FILE",
         about: "Read what each core does, let a thread for each do it; write the steps taken",
         help: Help::Threads,
         groups: &[Group::Protocol, Group::Shape],
     },
     CommandSpec {
         name: "states",
+        usage: "snoop states [OPTIONS] < FILE",
         about: "Read steps or rows; write the states that each block goes through",
         help: Help::States,
         groups: &[
@@ -156,6 +161,7 @@ static COMMANDS: [CommandSpec; 8] = [
     },
     CommandSpec {
         name: "counts",
+        usage: "snoop counts [OPTIONS] < FILE",
         about: "Read steps or rows; write counts by row of the tables, core, block, word or steps",
         help: Help::Counts,
         groups: &[
@@ -168,12 +174,14 @@ static COMMANDS: [CommandSpec; 8] = [
     },
     CommandSpec {
         name: "lint",
+        usage: "snoop lint [OPTIONS] < FILE",
         about: "Read steps or rows; write what is wrong with the text",
         help: Help::Lint,
         groups: &[Group::Protocol, Group::Shape, Group::Kind, Group::Lint],
     },
     CommandSpec {
         name: "draw",
+        usage: "snoop draw [OPTIONS] < FILE",
         about: "Read steps or rows; draw what happens to each block",
         help: Help::Draw,
         groups: &[
@@ -187,6 +195,7 @@ static COMMANDS: [CommandSpec; 8] = [
     },
     CommandSpec {
         name: "table",
+        usage: "snoop table [OPTIONS]",
         about: "Write a controller's table: state, event, action and next state",
         help: Help::Table,
         groups: &[Group::Protocol, Group::Table],
@@ -430,6 +439,7 @@ impl CommandSpec {
     {
         let mut command = Command::new(alloc, self.name)
             .about(self.about)
+            .override_usage(self.usage)
             .after_help(self.help.text());
         for group in self.groups {
             for option in group.options() {

@@ -70,7 +70,7 @@ static REFUSALS: [Refusal; 19] = [
         "snoop states --as csv --serial",
         b"X\n",
         2,
-        b"snoop: BadSerial\n",
+        b"snoop: BadSerial: --serial needs --of rows\n",
     ),
     ("snoop draw --block 4", b"", 2, b"snoop: BadBlock\n"),
     (

@@ -41,7 +41,7 @@ page_middle = codes "</style>\n</head>\n<body>\n"
 
 -- what stands behind the last sheet
 unfoldable pub page_end : List ℕ
-page_end = codes "<pre aria-live=\"polite\">Click a row, or go through the steps with the arrow keys. Esc shows the whole run.</pre>\n<script>\nconst rows = [...document.querySelectorAll(\"a[id]\")], notes = document.querySelector(\"pre\"), hint = notes.textContent;\nconst sheet = document.querySelector(\"svg\"), names = sheet.cloneNode();\nnames.id = \"names\";\nnames.setAttribute(\"height\", 56);\nnames.setAttribute(\"viewBox\", `0 0 ${names.getAttribute(\"width\")} 56`);\nnames.setAttribute(\"aria-hidden\", true);\nfor (const part of sheet.children) {\n  if (part.matches(\".paper\") || part.matches(\"text\") && part.getAttribute(\"y\") < 56) names.append(part.cloneNode(true));\n}\ndocument.body.prepend(names);\nconst at = () => rows.findIndex(row => \"#\" + row.id === location.hash);\nfunction show() {\n  const row = rows[at()];\n  notes.textContent = row ? row.querySelector(\"title\").textContent : hint;\n  if (!row) return;\n  row.scrollIntoView({block: \"center\"});\n  const marks = [...row.querySelectorAll(\".o,.a,.i,.x,.p,.g,.v\")].map(mark => mark.getBoundingClientRect());\n  if (!marks.length) return;\n  const left = Math.min(...marks.map(mark => mark.left)), right = Math.max(...marks.map(mark => mark.right));\n  const panels = [...names.querySelectorAll(\".t\"), row.querySelectorAll(\"text\")[2]].map(text => text.getBoundingClientRect().left);\n  const start = Math.max(...panels.filter(x => x <= left)), end = Math.min(...panels.filter(x => x > left));\n  const wide = document.documentElement.clientWidth, [from, to] = end - start > wide ? [left - 48, right + 48] : [start, end];\n  scrollBy(from < 0 || to - from > wide ? from : Math.max(0, to - wide), 0);\n}\naddEventListener(\"hashchange\", show);\naddEventListener(\"keydown\", event => {\n  if (event.altKey || event.ctrlKey || event.metaKey || event.shiftKey) return;\n  const by = {ArrowDown: 1, ArrowRight: 1, ArrowUp: -1, ArrowLeft: -1}[event.key];\n  if (event.key === \"Escape\") location.replace(\"#all\");\n  if (!by || !rows.length) return;\n  event.preventDefault();\n  location.replace(\"#\" + rows[Math.max(0, Math.min(rows.length - 1, at() + by))].id);\n});\naddEventListener(\"load\", show);\n</script>\n</body>\n</html>\n"
+page_end = codes "<pre aria-live=\"polite\">Click a row, or go through the steps with the arrow keys. Esc shows the whole run.</pre>\n<script>\nconst rows = [...document.querySelectorAll(\"a[id]\")], notes = document.querySelector(\"pre\"), hint = notes.textContent;\nconst sheet = document.querySelector(\"svg\"), names = sheet.cloneNode();\nnames.id = \"names\";\nnames.setAttribute(\"height\", 56);\nnames.setAttribute(\"viewBox\", `0 0 ${names.getAttribute(\"width\")} 56`);\nnames.setAttribute(\"aria-hidden\", true);\nfor (const part of sheet.children) {\n  if (part.matches(\".paper\") || part.matches(\"text\") && part.getAttribute(\"y\") < 56) names.append(part.cloneNode(true));\n}\ndocument.body.prepend(names);\nconst at = () => rows.findIndex(row => \"#\" + row.id === location.hash);\nfunction show() {\n  const row = rows[at()];\n  notes.textContent = row ? row.querySelector(\"title\").textContent : hint;\n  if (!row) return;\n  row.scrollIntoView({block: \"center\"});\n  const marks = [...row.querySelectorAll(\".o,.a,.i,.x,.p,.g,.v\")].map(mark => mark.getBoundingClientRect());\n  if (!marks.length) return;\n  const left = Math.min(...marks.map(mark => mark.left)), right = Math.max(...marks.map(mark => mark.right));\n  const panels = [...names.querySelectorAll(\".t\"), row.querySelectorAll(\"text\")[2]].map(text => text.getBoundingClientRect().left);\n  const start = Math.max(...panels.filter(x => x <= left)), end = Math.min(...panels.filter(x => x > left));\n  const wide = document.documentElement.clientWidth, [from, to] = end - start > wide ? [left - 48, right + 48] : [start, end];\n  scrollBy(from < 0 || to - from > wide ? from : Math.max(0, to - wide), 0);\n}\naddEventListener(\"hashchange\", show);\naddEventListener(\"keydown\", event => {\n  if (event.altKey || event.ctrlKey || event.metaKey || event.shiftKey) return;\n  const by = {ArrowDown: 1, ArrowRight: 1, PageDown: 1, ArrowUp: -1, ArrowLeft: -1, PageUp: -1}[event.key];\n  if (event.key === \"Escape\") location.replace(\"#all\");\n  if (!by || !rows.length) return;\n  event.preventDefault();\n  location.replace(\"#\" + rows[Math.max(0, Math.min(rows.length - 1, at() + by))].id);\n});\naddEventListener(\"load\", show);\n</script>\n</body>\n</html>\n"
 
 -- all that stands before the first sheet of a page
 abbrev pub page_head : Theme → List ℕ

@@ -87,7 +87,7 @@ function show() {
 addEventListener(\"hashchange\", show);
 addEventListener(\"keydown\", event => {
   if (event.altKey || event.ctrlKey || event.metaKey || event.shiftKey) return;
-  const by = {ArrowDown: 1, ArrowRight: 1, ArrowUp: -1, ArrowLeft: -1}[event.key];
+  const by = {ArrowDown: 1, ArrowRight: 1, PageDown: 1, ArrowUp: -1, ArrowLeft: -1, PageUp: -1}[event.key];
   if (event.key === \"Escape\") location.replace(\"#all\");
   if (!by || !rows.length) return;
   event.preventDefault();
