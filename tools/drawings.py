@@ -6,8 +6,9 @@
 
 No words may lie over others, be crossed by a line, a dot or a cross, be wider than 8 pixels a letter, or leave the picture. Where the
 drawing is gone to a row, that row and those above it are as they were, and all below are faded, in further sheets too. A page also answers
-its keys: arrows go to the next and the previous row and stop at the ends, Esc shows the whole run, and the line at the foot tells the
-row. The row is in view then, sideways what happens there too, and so are the names of the columns, over those of the sheets. With --paper the ground has this colour; with --dark the browser says that its reader likes it dark. Prints each mistake, and ends
+its keys: arrows, PageDown and PageUp go to the next and the previous row and stop at the ends, Esc shows the whole run, and the line at
+the foot tells the row, if there is one. With Alt, Ctrl, Meta or Shift they are the browser's, and none leaves a step that Back goes to.
+The row is in view then, sideways what happens there too, and so are the names of the columns, over those of the sheets. With --paper the ground has this colour; with --dark the browser says that its reader likes it dark. Prints each mistake, and ends
 with 1 if there is one. The browser is $CHROMIUM, or else chromium.
 """
 import argparse

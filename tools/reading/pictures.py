@@ -68,7 +68,7 @@ def check_choice(options):
     if options.top is not None and options.by != "block":
         raise Refused("BadTop: --top needs --by block")
     if options.every == 0:
-        raise Refused("BadEvery: --every is 1 or more")
+        raise Refused("BadEvery: --every has to be 1 or more")
 
 
 def is_shown(options, step):

@@ -16,7 +16,7 @@ class Faulty(Exception):
 
 
 class Refused(Exception):
-    """A choice that is none for this machine or this text, by the fault's name: BadBlock, BadRange, BadTop, TooLarge."""
+    """A choice that is none for this machine or this text, by what is reported: BadBlock, BadRange, BadTop, TooLarge."""
 
 
 BYTE_ORDER_MARK = b"\xef\xbb\xbf"

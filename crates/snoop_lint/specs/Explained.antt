@@ -31,20 +31,20 @@ abbrev pub has_comma_more : ℕ → List (List ℕ) → Bool
 has_comma_more count fields = (length fields == count + 1) && is_empty (field fields count)
 
 -- of an R with as many fields as a load
-abbrev pub row_hint : Kind → ℕ → List ℕ
-row_hint Respond count = if count == 3 then codes "; a load is L, a store S, an eviction E" else []
-row_hint kind count = []
+abbrev pub read_hint : Kind → ℕ → List ℕ
+read_hint Respond count = if count == 3 then codes "; a load is L, a store S, an eviction E" else []
+read_hint kind count = []
 
 -- of a record with an empty field more than its kind has, and of such an R
 unfoldable pub count_hint : Kind → List (List ℕ) → List ℕ
-count_hint kind fields = if has_comma_more (field_count kind) fields then codes "; a comma stands at the end" else row_hint kind (length fields)
+count_hint kind fields = if has_comma_more (field_count kind) fields then codes "; a comma stands at the end" else read_hint kind (length fields)
 
 -- of a record of this kind with too many fields or too few
 unfoldable pub bad_fields_of : Kind → List (List ℕ) → List ℕ
 bad_fields_of kind fields =
     field_names kind ++ labelled (codes ", and this record has ") (length fields) ++ or_else (fields_hint fields) (count_hint kind fields)
 
--- of a record with too many fields or too few; nothing of one of no kind
+-- of a record with too many fields or too few; nothing, if it is of no kind
 unfoldable pub bad_fields : List (List ℕ) → List ℕ
 bad_fields fields = option_map_or (λ kind. bad_fields_of kind fields) (kind_of fields) []
 
@@ -52,7 +52,7 @@ bad_fields fields = option_map_or (λ kind. bad_fields_of kind fields) (kind_of 
 unfoldable pub no_number : List ℕ → List ℕ → List ℕ
 no_number name field = name ++ codes " " ++ shown field ++ codes " is no number" ++ number_hint field
 
--- of a record that has such a field; nothing of one of no kind
+-- of a record that has such a field; nothing, if it is of no kind
 unfoldable pub bad_number : List (List ℕ) → List ℕ
 bad_number fields = option_map_or (λ kind. no_number (field_name kind (bad_place kind fields)) (field fields (bad_place kind fields))) (kind_of fields) []
 

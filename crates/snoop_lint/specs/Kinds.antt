@@ -1,6 +1,6 @@
 -- The kinds of record, and what their fields are.
 -- Source: the grammar of texts.
-use Rattle.std.specs.Prelude.{ℕ, ◌==◌, Bool, true, false, List, [], Option, Some, None, codes, not, if◌then◌else◌}
+use Rattle.std.specs.Prelude.{ℕ, ◌==◌, Bool, true, false, List, Option, Some, None, codes, not, if◌then◌else◌}
 use Rattle.snoop_lint.specs.{declared.kind.Kind.{Kind, TheVariants.{Load, Store, Evict, Order, Respond, Heading}}, Fields.{field, is_number, number_at}, Hints.is_letter_of}
 
 -- the kind of a record, by its letter
@@ -14,42 +14,42 @@ kind_of fields =
     else if is_letter_of (codes "V") (field fields 0) then Some Heading
     else None
 
--- a core asks for something
+-- a kind by which a core asks for something
 abbrev pub asks : Kind → Bool
 asks Load = true
 asks Store = true
 asks Evict = true
 asks kind = false
 
--- the bus does something
+-- a kind by which the bus does something
 abbrev pub drives : Kind → Bool
 drives Order = true
 drives Respond = true
 drives kind = false
 
 -- the core that a record of such a kind names; 0 where it names none
-abbrev pub core_of : Option Kind → List (List ℕ) → ℕ
-core_of (Some Load) fields = number_at fields 1
-core_of (Some Store) fields = number_at fields 1
-core_of (Some Evict) fields = number_at fields 1
-core_of (Some Order) fields = number_at fields 1
-core_of kind fields = 0
+abbrev pub core_by_kind : Option Kind → List (List ℕ) → ℕ
+core_by_kind (Some Load) fields = number_at fields 1
+core_by_kind (Some Store) fields = number_at fields 1
+core_by_kind (Some Evict) fields = number_at fields 1
+core_by_kind (Some Order) fields = number_at fields 1
+core_by_kind kind fields = 0
 
 -- the core that a record names
 unfoldable pub core_named : List (List ℕ) → ℕ
-core_named fields = core_of (kind_of fields) fields
+core_named fields = core_by_kind (kind_of fields) fields
 
 -- the address that a record of such a kind names; 0 where it names none
-abbrev pub address_of : Option Kind → List (List ℕ) → ℕ
-address_of (Some Load) fields = number_at fields 2
-address_of (Some Store) fields = number_at fields 2
-address_of (Some Evict) fields = number_at fields 2
-address_of (Some Respond) fields = number_at fields 1
-address_of kind fields = 0
+abbrev pub address_by_kind : Option Kind → List (List ℕ) → ℕ
+address_by_kind (Some Load) fields = number_at fields 2
+address_by_kind (Some Store) fields = number_at fields 2
+address_by_kind (Some Evict) fields = number_at fields 2
+address_by_kind (Some Respond) fields = number_at fields 1
+address_by_kind kind fields = 0
 
 -- the address that a record names
 unfoldable pub address_named : List (List ℕ) → ℕ
-address_named fields = address_of (kind_of fields) fields
+address_named fields = address_by_kind (kind_of fields) fields
 
 -- how many fields it has
 abbrev pub field_count : Kind → ℕ

@@ -1,5 +1,5 @@
 //! A text, read to its end.
-ghost use Rattle.std.specs.Prelude.{◌≡◌, ◌≢◌, ◌++◌, true, Err, IfOk, IfSome, OnOk};
+ghost use Rattle.std.specs.Prelude.{◌≡◌, ◌≢◌, true, Err, IfOk, IfSome};
 ghost use Rattle.snoop_trace.specs.Text.{BlamesReader};
 
 use crate::fault::LintFault;

@@ -39,7 +39,7 @@ pub(crate) enum Failure {
     #[error("BadBy: give either --by or --every")]
     BadBy,
     /// `--every` is 0.
-    #[error("BadEvery: --every is 1 or more")]
+    #[error("BadEvery: --every has to be 1 or more")]
     BadEvery,
     /// `--top` is given without `--by block`.
     #[error("BadTop: --top needs --by block")]

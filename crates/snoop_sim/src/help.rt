@@ -177,7 +177,7 @@ it, the bus and memory, and the step's line. A dot stands for the cell above.
 with its values after it, and the request's place in the queue, from 1. Refused options:"
     serial
     choice
-    faults "L, S or E, in steps O or R," "L and E take 2 numbers, S 3, O and R 1"
+    faults "L, S or E (in steps O, R)" "L and E take 2 numbers, S 3, O and R 1"
     heading
     more
 );
@@ -195,7 +195,6 @@ The first line of output names the fields. --by row: each row of the cache table
 the memory table has a line (see `snoop table`), with how often it was taken, by all
 cores together. A stall counts too; a core in I at another core's request is left out.
 --by core, --by block: each core or block that the text names has a line (docs/TEXTS.md).
-With one word a block each miss of coherence is true_sharing; --words tells them apart.
 --by word: each word of each block that several cores use. --top N: the N blocks of most requests.
 --every N: a line for steps 1 to N, one for the next N, and so on. Refused options:"
     serial
@@ -203,14 +202,14 @@ With one word a block each miss of coherence is true_sharing; --words tells them
   BadBy      neither --by nor --every, or both
   BadTop     --top comes without --by block
   BadEvery   --every is 0"
-    faults "L, S or E, in steps O or R," "L and E take 2 numbers, S 3, O and R 1"
+    faults "L, S or E (in steps O, R)" "L and E take 2 numbers, S 3, O and R 1"
     heading
     more
 );
 
 pub(crate) const LINT: &str = "\
-Reads standard input to its end: `snoop lint < FILE`. Each faulty record, of the first 20
-or --most N, has a line of output: its number, the line it begins on, the fault, what was
+Reads standard input to its end: `snoop lint < FILE`. Each of the first 20 faulty records
+(--most N) has a line of output: its number, the line it begins on, the fault, what was
 expected there, and which option would allow it. Then come how many records and faults
 there are, the cores and blocks that the text needs, and whether it looks like a text of
 the other kind.

@@ -240,14 +240,14 @@ static KIND: [OptionSpec; 1] = [OptionSpec {
     name: "of",
     takes: Takes::OneOf(&["steps", "rows"]),
     default: Some("steps"),
-    help: "What the text holds: steps, or rows (what each core does)",
+    help: "What a text holds",
 }];
 
 static SERIAL: [OptionSpec; 1] = [OptionSpec {
     name: "serial",
     takes: Takes::Nothing,
     default: None,
-    help: "With --of rows: complete each row before the next, in the order of the text",
+    help: "Of rows: complete each before the next, in the order of the text",
 }];
 
 static SERIAL_RUN: [OptionSpec; 1] = [OptionSpec {
@@ -282,7 +282,7 @@ static STATES: [OptionSpec; 1] = [OptionSpec {
     name: "as",
     takes: Takes::OneOf(&["text", "csv"]),
     default: Some("text"),
-    help: "A table for each block, or a line of fields for each row that a controller takes",
+    help: "Tables, or fields",
 }];
 
 static COUNTS: [OptionSpec; 3] = [
@@ -296,13 +296,13 @@ static COUNTS: [OptionSpec; 3] = [
         name: "top",
         takes: Takes::U32,
         default: None,
-        help: "With --by block: only this many blocks, those with the most requests",
+        help: "With --by block: only so many, those with the most requests",
     },
     OptionSpec {
         name: "every",
         takes: Takes::U64,
         default: None,
-        help: "Instead of --by: a line for each time that this many steps are over",
+        help: "Instead of --by: a line for every so many steps",
     },
 ];
 
@@ -318,7 +318,7 @@ static DRAW: [OptionSpec; 4] = [
         name: "as",
         takes: Takes::OneOf(&["text", "svg", "html"]),
         default: Some("text"),
-        help: "A text for a terminal, an SVG image, or an HTML page",
+        help: "The form",
     },
     OptionSpec {
         name: "ascii",
@@ -330,13 +330,13 @@ static DRAW: [OptionSpec; 4] = [
         name: "theme",
         takes: Takes::OneOf(&["auto", "light", "dark"]),
         default: None,
-        help: "With --as svg or html: its colours (auto where not given)",
+        help: "Colours for svg and html",
     },
     OptionSpec {
         name: "shown",
         takes: Takes::U64,
         default: None,
-        help: "With --as svg or html: draw only this many rows, on a canvas for all",
+        help: "Of svg and html: draw only so many rows, on a canvas for all",
     },
 ];
 
@@ -345,13 +345,13 @@ static TABLE: [OptionSpec; 2] = [
         name: "which",
         takes: Takes::OneOf(&["cache", "memory"]),
         default: Some("cache"),
-        help: "The cache controller's table, or the memory controller's",
+        help: "Whose table it is",
     },
     OptionSpec {
         name: "as",
         takes: Takes::OneOf(&["rows", "matrix"]),
         default: Some("rows"),
-        help: "A line for each row, or a matrix of states and events",
+        help: "The layout",
     },
 ];
 

@@ -7,7 +7,7 @@ use Rattle.snoop_engine.specs.{Frames.{AreFrames, Frame}, Chosen.{Chosen, is_sho
 use Rattle.snoop_draw.specs.{Panels.Panel, Size.columns_of}
 use Rattle.snoop_svg.specs.Drawings.{drawn, most_cells}
 
--- a drawing of so many rows and these panels has no more cells than that
+-- a drawing of so many rows and these panels has `most_cells` cells at most
 abbrev pub IsSmall : ℕ → List Panel → Type 0
 IsSmall rows panels = (rows + 1) * (columns_of panels + 1) ≤ most_cells
 

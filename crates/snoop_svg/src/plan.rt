@@ -1,7 +1,7 @@
 //! What all sheets of a drawing share.
 ghost use Rattle.std.specs.Prelude.{◌≡◌, ◌≤◌, ◌+◌};
 ghost use Rattle.snoop_svg.specs.Sheets.{width_of};
-ghost use Rattle.snoop_svg.specs.Drawings.{rows_per_sheet, sheet_rows};
+ghost use Rattle.snoop_svg.specs.Drawings.{most_cells, rows_per_sheet, sheet_rows};
 
 use crate::columns::Column;
 use crate::paper::{Form, Paper};
@@ -93,7 +93,7 @@ impl Plan {
     pub(crate) fn rows_per_sheet(&self) -> u32
         ensures value { result ≡ rows_per_sheet self.now.paper.form }
         ensures some { 1 ≤ result }
-        ensures few { result ≤ 20000 }
+        ensures few { result ≤ most_cells }
     {
         match self.paper.form {
             // One sheet: no drawing has more rows than cells.
@@ -105,7 +105,7 @@ impl Plan {
     /// How many rows the sheet has that begins after `done` rows.
     pub(crate) fn sheet_rows(&self, done: u64) -> u32
         ensures value { result ≡ sheet_rows self.now done }
-        ensures few { result ≤ 20000 }
+        ensures few { result ≤ most_cells }
     {
         let left = self.rows.saturating_sub(done);
         let most = self.rows_per_sheet();

@@ -4,10 +4,10 @@ ghost use Rattle.std.specs.List.{flat_map};
 ghost use Rattle.snoop_trace.specs.Output.{address_of, step_text};
 ghost use Rattle.snoop_model.specs.Pictures.Situation.{Situation};
 ghost use Rattle.snoop_engine.specs.Line.{outcome_text};
+ghost use Rattle.snoop_svg.specs.Drawings.{most_cells};
 ghost use Rattle.snoop_svg.specs.Elements.{number, text_closed, text_opened};
 ghost use Rattle.snoop_svg.specs.Legends.{legend_text};
 ghost use Rattle.snoop_svg.specs.Looks.{cells_at};
-ghost use Rattle.snoop_svg.specs.Titles.{row_title};
 ghost use Rattle.snoop_svg.specs.Sheets.{block_title, border, captions, column_heading, first_row, first_word, first_words, ground, heading_text, name_of, own_style, panel_heading, protocol_title, reply_class, row_end, row_ground, row_head, row_opened, row_text, row_y, sheet_closed, sheet_opened, sheet_title, svg_opened, width_of};
 
 use crate::cells::{push_first_cells, push_next_cells};
@@ -31,7 +31,7 @@ use std::alloc::Global;
 
 /// The y of the row in this place of a sheet, from 0, which is where the first `place` rows end.
 pub(crate) fn row_y(place: u32) -> u32
-    requires { place ≤ 20000 }
+    requires { place ≤ most_cells }
     ensures value { result ≡ row_y place }
     ensures low { result ≤ 1080082 }
 {
@@ -197,7 +197,7 @@ fn push_ground(
 }
 
 fn open_plan(out: &mut Vec<u8>, plan: &Plan, rows: u32) -> Result<(), NoMemory>
-    requires { rows ≤ 20000 }
+    requires { rows ≤ most_cells }
     ensures { OnOk result (out.new.items ≡ out.old.items ++ sheet_opened (width_of plan.now) (row_y rows + 70)) }
 {
     open_sheet(out, plan.width(), row_y(rows) as u64 + 70)
@@ -215,7 +215,7 @@ fn push_plan_ground(
     protocol: Protocol,
     rows: u32,
 ) -> Result<(), NoMemory>
-    requires { rows ≤ 20000 }
+    requires { rows ≤ most_cells }
     ensures { OnOk result (out.new.items ≡ out.old.items ++ ground protocol (width_of plan.now) (row_y rows + 70)) }
 {
     push_ground(out, protocol, plan.width(), row_y(rows) as u64 + 70)
@@ -227,7 +227,7 @@ fn push_plan_columns(
     shape: Shape,
     rows: u32,
 ) -> Result<(), NoMemory>
-    requires { rows ≤ 20000 }
+    requires { rows ≤ most_cells }
     ensures { OnOk result (out.new.items ≡ out.old.items ++ flat_map (column_heading shape (row_y rows)) plan.now.columns) }
 {
     push_column_headings(out, shape, row_y(rows), plan.columns())
@@ -241,7 +241,7 @@ pub(crate) fn push_heading(
     shape: Shape,
     rows: u32,
 ) -> Result<(), NoMemory>
-    requires { rows ≤ 20000 }
+    requires { rows ≤ most_cells }
     ensures { OnOk result (out.new.items ≡ out.old.items ++ heading_text plan.now protocol shape rows) }
 {
     open_plan(out, plan, rows)?;
@@ -431,7 +431,7 @@ pub(crate) fn push_row(
 }
 
 fn push_legend_below(out: &mut Vec<u8>, protocol: Protocol, rows: u32) -> Result<(), NoMemory>
-    requires { rows ≤ 20000 }
+    requires { rows ≤ most_cells }
     ensures { OnOk result (out.new.items ≡ out.old.items ++ legend_text protocol (row_y rows + 18)) }
 {
     push_legend(out, protocol, row_y(rows) + 18)
@@ -439,7 +439,7 @@ fn push_legend_below(out: &mut Vec<u8>, protocol: Protocol, rows: u32) -> Result
 
 /// Appends the end of a sheet with `rows` rows.
 pub(crate) fn close_sheet(out: &mut Vec<u8>, protocol: Protocol, rows: u32) -> Result<(), NoMemory>
-    requires { rows ≤ 20000 }
+    requires { rows ≤ most_cells }
     ensures { OnOk result (out.new.items ≡ out.old.items ++ sheet_closed protocol rows) }
 {
     push_legend_below(out, protocol, rows)?;
