@@ -122,6 +122,15 @@ fn a_heading_for_mesi(rt: HostRuntime) -> Result<(), Fail> {
 }
 
 #[test]
+fn a_heading_of_version_3(rt: HostRuntime) -> Result<(), Fail> {
+    let expected = "\
+record 1, line 1: BadVersion: version 3 is not known; it has to be 2
+1 fault in 1 record
+";
+    expect(rt.alloc(), Form::Steps, 20, b"V,3\n", expected)
+}
+
+#[test]
 fn a_text_without_a_fault(rt: HostRuntime) -> Result<(), Fail> {
     let text = b"\xef\xbb\xbfL,0,0\nO,0\nR,0";
     let expected = "no fault in 3 records\nneeds --cores 1 --blocks 1\n";
