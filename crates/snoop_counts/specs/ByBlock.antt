@@ -6,13 +6,9 @@ use Rattle.snoop_trace.specs.{Extent.Extent, Output.address_of}
 use Rattle.snoop_history.specs.Totals.{capped}
 use Rattle.snoop_model.specs.Pictures.Situation.{Situation}
 use Rattle.snoop_engine.specs.Frames.{Frame}
-use Rattle.snoop_counts.specs.{CoreTable.count_fields, Counted.{counted_of, is_named}, Happenings.happenings, Sharers.sharing_fields, declared.ranking.Ranked.Ranked}
+use Rattle.snoop_counts.specs.{CoreTable.{count_fields, header}, Counted.{counted_of, is_named}, Happenings.happenings, Sharers.sharing_fields, declared.ranking.Ranked.Ranked}
 use Rattle.snoop_counts.specs.declared.count.{Count.Count, Happening.Happening, Subjects.TheVariants.Blocks}
 use Rattle.snoop_counts.specs.declared.count.Count.TheVariants as count
-
--- the names of the fields
-abbrev pub block_header : List ℕ
-block_header = codes "block,address,cores,readers,writers,loads,load_hits,stores,store_hits,gets,getm,putm,from_memory,from_caches,writebacks,clean,stale,misses,cold,given_up,true_sharing,false_sharing,upgrades,upgrades_lost,invalidated,taken,downgraded,overtaken,stalled,bus_taken,no_transaction\n"
 
 -- the counts of a block, in the order of the fields
 abbrev pub block_counts : List Count
@@ -20,6 +16,10 @@ block_counts =
     count.Loads ∷ count.LoadHits ∷ count.Stores ∷ count.StoreHits ∷ count.GetS ∷ count.GetM ∷ count.PutM ∷ count.FromMemory ∷ count.FromCaches ∷ count.Writebacks ∷ count.Clean ∷ count.Stale
     ∷ count.Misses ∷ count.Cold ∷ count.GivenUp ∷ count.TrueSharing ∷ count.FalseSharing
     ∷ count.Upgrades ∷ count.UpgradesLost ∷ count.Invalidated ∷ count.Taken ∷ count.Downgraded ∷ count.Overtaken ∷ count.Stalled ∷ count.BusTaken ∷ count.NoTransaction ∷ []
+
+-- the names of the fields
+abbrev pub block_header : List ℕ
+block_header = header (codes "block,address,cores,readers,writers") block_counts
 
 -- the line of a block, with how many cores a line of it names
 abbrev pub block_line : Extent → List Happening → ℕ → List ℕ

@@ -3,16 +3,16 @@
 use Rattle.std.specs.{Prelude.{ℕ, ◌+◌, ◌-◌, ◌%◌, ◌==◌, List, [], ◌∷◌, ◌++◌, codes, drop, length, take, if◌then◌else◌}, Fmt.decimal}
 use Rattle.snoop_model.specs.Pictures.Situation.{Situation}
 use Rattle.snoop_engine.specs.{Frames.Frame, Views.view_text}
-use Rattle.snoop_counts.specs.{CoreTable.{core_counts, count_fields}, Counted.counted_of, Happenings.seen_after, declared.count.Count.Count}
+use Rattle.snoop_counts.specs.{CoreTable.{core_counts, count_fields, header}, Counted.counted_of, Happenings.seen_after, declared.count.Count.Count}
 use Rattle.snoop_counts.specs.declared.count.{Count.TheVariants.NoTransaction, Happening.Happening, Subjects.TheVariants.Machine}
-
--- the names of the fields
-abbrev pub steps_header : List ℕ
-steps_header = codes "first,last,loads,load_hits,stores,store_hits,gets,getm,putm,from_memory,from_caches,writebacks,clean,stale,misses,cold,given_up,true_sharing,false_sharing,upgrades,upgrades_lost,invalidated,taken,downgraded,overtaken,invalidates,supplied,stalled,bus_taken,nothing_waiting,no_transaction\n"
 
 -- the counts of the machine, in the order of the fields
 abbrev pub machine_counts : List Count
 machine_counts = core_counts ++ NoTransaction ∷ []
+
+-- the names of the fields
+abbrev pub steps_header : List ℕ
+steps_header = header (codes "first,last") machine_counts
 
 -- what can be counted of the last so many of these steps
 abbrev pub seen_last : ℕ → List Frame → List Happening

@@ -4,17 +4,17 @@ use Rattle.std.specs.{Prelude.{ℕ, Bool, List, [], ◌∷◌, ◌++◌, codes, 
 use Rattle.snoop_trace.specs.{Extent.Extent, Output.word_address, Words.place_of}
 use Rattle.snoop_model.specs.Pictures.Situation.{Situation}
 use Rattle.snoop_engine.specs.Frames.{Frame}
-use Rattle.snoop_counts.specs.{CoreTable.count_fields, Counted.counted_of, Happenings.happenings, Sharers.{sharers, sharing_fields}, declared.count.Count.Count}
+use Rattle.snoop_counts.specs.{CoreTable.{count_fields, header}, Counted.counted_of, Happenings.happenings, Sharers.{sharers, sharing_fields}, declared.count.Count.Count}
 use Rattle.snoop_counts.specs.declared.count.Count.TheVariants as count
 use Rattle.snoop_counts.specs.declared.count.{Happening.Happening, Subjects.TheVariants.{Blocks, Words}}
-
--- the names of the fields
-abbrev pub word_header : List ℕ
-word_header = codes "block,word,address,cores,readers,writers,loads,load_hits,stores,store_hits\n"
 
 -- the counts of a word, in the order of the fields
 abbrev pub word_counts : List Count
 word_counts = count.Loads ∷ count.LoadHits ∷ count.Stores ∷ count.StoreHits ∷ []
+
+-- the names of the fields
+abbrev pub word_header : List ℕ
+word_header = header (codes "block,word,address,cores,readers,writers") word_counts
 
 -- the line of a word, with how many cores performed an operation on it
 abbrev pub word_line : Extent → List Happening → ℕ → ℕ → List ℕ

@@ -8,11 +8,11 @@ ghost use Rattle.snoop_counts.specs.declared.count.Happening.{Happening};
 ghost use Rattle.snoop_counts.specs.declared.count.Subjects.TheVariants.{Blocks};
 
 use crate::block_tally::BlockTally;
-use crate::core_table::push_counts;
+use crate::core_table::{push_counts, push_header};
 use crate::count::Count;
 use crate::ranking::{Ranked, rank, requests};
 use crate::sharers::push_sharing;
-use snoop_trace::streams::{push_byte, push_decimal, push_text};
+use snoop_trace::streams::{push_byte, push_decimal};
 use snoop_trace::{NoMemory, Shape};
 use std::alloc::Global;
 
@@ -145,10 +145,7 @@ pub(crate) fn push_block_table(
 ) -> Result<(), NoMemory>
     ensures { (seen : List Happening) → CountsBlocks shape.blocks seen tally.now → OnOk result (out.new.items ≡ out.old.items ++ block_table shape top seen) }
 {
-    push_text(
-        out,
-        "block,address,cores,readers,writers,loads,load_hits,stores,store_hits,gets,getm,putm,from_memory,from_caches,writebacks,clean,stale,misses,cold,given_up,true_sharing,false_sharing,upgrades,upgrades_lost,invalidated,taken,downgraded,overtaken,stalled,bus_taken,no_transaction\n",
-    )?;
+    push_header(out, "block,address,cores,readers,writers", &BLOCK_COUNTS)?;
     let named = blocks_named(alloc, tally, shape.blocks())?;
     let shown = blocks_shown(named, top)?;
     push_blocks(out, shape, tally, &shown)

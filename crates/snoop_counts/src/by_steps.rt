@@ -11,7 +11,7 @@ ghost use Rattle.snoop_counts.specs.Tally.{HasCounted};
 ghost use Rattle.snoop_counts.specs.declared.count.Happening.{Happening};
 ghost use Rattle.snoop_counts.specs.declared.count.Subjects.TheVariants.{Machine as Whole};
 
-use crate::core_table::push_counts;
+use crate::core_table::{push_counts, push_header};
 use crate::count::{Count, Subjects};
 use crate::counts::add_all;
 use crate::tally::Tally;
@@ -19,7 +19,7 @@ use crate::watch::Watch;
 use snoop_engine::{Input, Seen, SimFault, View, simulate_view};
 use snoop_machine::Machine;
 use snoop_rules::Protocol;
-use snoop_trace::streams::{Sink, Source, push_byte, push_decimal, push_text};
+use snoop_trace::streams::{Sink, Source, push_byte, push_decimal};
 use snoop_trace::{NoMemory, Shape};
 use std::alloc::Global;
 use std::num::NonZeroU64;
@@ -110,10 +110,7 @@ impl View for BySteps {
         self.steps = 0;
         self.watch = Watch::new(alloc);
         self.tally = Some(Tally::new(alloc, Subjects::Machine, 1)?);
-        push_text(
-            out,
-            "first,last,loads,load_hits,stores,store_hits,gets,getm,putm,from_memory,from_caches,writebacks,clean,stale,misses,cold,given_up,true_sharing,false_sharing,upgrades,upgrades_lost,invalidated,taken,downgraded,overtaken,invalidates,supplied,stalled,bus_taken,nothing_waiting,no_transaction\n",
-        )
+        push_header(out, "first,last", &MACHINE_COUNTS)
     }
 
     fn see(

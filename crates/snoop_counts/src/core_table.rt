@@ -1,7 +1,7 @@
 //! The counts of each core, as a table.
 ghost use Rattle.std.specs.Prelude.{◌≡◌, ◌<◌, ◌++◌, ℕ, List, OnOk};
 ghost use Rattle.std.specs.List.{flat_map, range_with_len};
-ghost use Rattle.snoop_counts.specs.CoreTable.{core_line, core_table, count_fields};
+ghost use Rattle.snoop_counts.specs.CoreTable.{core_line, core_table, count_fields, header, name_fields};
 ghost use Rattle.snoop_counts.specs.Tally.{HasCounted, counter_in};
 ghost use Rattle.snoop_counts.specs.declared.count.Happening.{Happening};
 ghost use Rattle.snoop_counts.specs.declared.count.Subjects.TheVariants.{Cores};
@@ -42,6 +42,27 @@ static CORE_COUNTS: [Count; 28] = [
     Count::BusTaken,
     Count::NothingWaiting,
 ];
+
+/// Appends a line of names: `first`, and those of the counts.
+#[tactic(auto, unfolding(crate::specs::CoreTable::header))]
+pub(crate) fn push_header(out: &mut Vec<u8>, first: &str, counts: &[Count]) -> Result<(), NoMemory>
+    ensures { OnOk result (out.new.items ≡ out.old.items ++ header first.now counts.now) }
+{
+    push_text(out, first)?;
+    push_names(out, counts)?;
+    push_byte(out, b'\n')
+}
+
+// Appends the names of the counts, a comma before each.
+fn push_names(out: &mut Vec<u8>, counts: &[Count]) -> Result<(), NoMemory>
+    ensures { OnOk result (out.new.items ≡ out.old.items ++ name_fields counts.now) }
+{
+    for count in counts {
+        push_byte(out, b',')?;
+        push_text(out, count.name())?;
+    }
+    Ok(())
+}
 
 /// Appends the fields of the counts, a comma before each.
 pub(crate) fn push_counts(
@@ -89,9 +110,6 @@ pub(crate) fn push_core_table(out: &mut Vec<u8>, tally: &Tally, cores: u32) -> R
     ensures { (seen : List Happening) → HasCounted Cores cores seen tally.now
         → OnOk result (out.new.items ≡ out.old.items ++ core_table cores seen) }
 {
-    push_text(
-        out,
-        "core,loads,load_hits,stores,store_hits,gets,getm,putm,from_memory,from_caches,writebacks,clean,stale,misses,cold,given_up,true_sharing,false_sharing,upgrades,upgrades_lost,invalidated,taken,downgraded,overtaken,invalidates,supplied,stalled,bus_taken,nothing_waiting\n",
-    )?;
+    push_header(out, "core", &CORE_COUNTS)?;
     push_cores(out, tally, cores)
 }

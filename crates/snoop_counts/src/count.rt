@@ -1,4 +1,7 @@
 //! What is counted of a run, and for whom.
+ghost use Rattle.std.specs.Prelude.{◌≡◌};
+ghost use Rattle.snoop_counts.specs.CoreTable.{count_name};
+
 use snoop_engine::Taken;
 use snoop_history::Item;
 use snoop_machine::{Refused, Reply};
@@ -69,6 +72,48 @@ pub(crate) enum Count {
     Lines,
     /// Operations that were performed. Not a field: they say which blocks and words are shared.
     Operations,
+}
+
+impl Count {
+    /// What its field is called.
+    #[tactic(auto, unfolding(crate::specs::CoreTable::count_name))]
+    pub(crate) fn name(self) -> &'static str
+        ensures { result.now ≡ count_name self }
+    {
+        match self {
+            Count::Loads => "loads",
+            Count::LoadHits => "load_hits",
+            Count::Stores => "stores",
+            Count::StoreHits => "store_hits",
+            Count::GetS => "gets",
+            Count::GetM => "getm",
+            Count::PutM => "putm",
+            Count::FromMemory => "from_memory",
+            Count::FromCaches => "from_caches",
+            Count::Writebacks => "writebacks",
+            Count::Clean => "clean",
+            Count::Stale => "stale",
+            Count::Misses => "misses",
+            Count::Cold => "cold",
+            Count::GivenUp => "given_up",
+            Count::TrueSharing => "true_sharing",
+            Count::FalseSharing => "false_sharing",
+            Count::Upgrades => "upgrades",
+            Count::UpgradesLost => "upgrades_lost",
+            Count::Invalidated => "invalidated",
+            Count::Taken => "taken",
+            Count::Downgraded => "downgraded",
+            Count::Overtaken => "overtaken",
+            Count::Invalidates => "invalidates",
+            Count::Supplied => "supplied",
+            Count::Stalled => "stalled",
+            Count::BusTaken => "bus_taken",
+            Count::NothingWaiting => "nothing_waiting",
+            Count::NoTransaction => "no_transaction",
+            Count::Lines => "lines",
+            Count::Operations => "operations",
+        }
+    }
 }
 
 /// Why a core had no copy at a miss: how its last one went.

@@ -7,11 +7,11 @@ ghost use Rattle.snoop_counts.specs.ByWord.{word_line, word_lines, word_table};
 ghost use Rattle.snoop_counts.specs.WordTally.{CountsWords};
 ghost use Rattle.snoop_counts.specs.declared.count.Happening.{Happening};
 
-use crate::core_table::push_counts;
+use crate::core_table::{push_counts, push_header};
 use crate::count::Count;
 use crate::sharers::push_sharing;
 use crate::word_tally::WordTally;
-use snoop_trace::streams::{push_byte, push_decimal, push_text};
+use snoop_trace::streams::{push_byte, push_decimal};
 use snoop_trace::{NoMemory, Shape};
 
 // The counts of a word, in the order of the fields.
@@ -108,9 +108,10 @@ pub(crate) fn push_word_table(
 ) -> Result<(), NoMemory>
     ensures { (seen : List Happening) → CountsWords shape seen tally.now → OnOk result (out.new.items ≡ out.old.items ++ word_table shape seen) }
 {
-    push_text(
+    push_header(
         out,
-        "block,word,address,cores,readers,writers,loads,load_hits,stores,store_hits\n",
+        "block,word,address,cores,readers,writers",
+        &WORD_COUNTS,
     )?;
     push_blocks(out, tally, shape)
 }

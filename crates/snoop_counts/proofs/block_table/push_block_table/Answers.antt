@@ -9,4 +9,4 @@ returns c seen far =
     let shown : c.deref.result.now ≡ blocks_shown c.args.top (map (with_requests seen) (blocks_named blocks seen)) =
     c.deref.ensures.value ∙ c.in_ok-shown.ensures ∙ ap (blocks_shown c.args.top) named in
     IfOk-equal _ _ _ _ (c.push_blocks.ensures seen far (rw shown (shown_are_named seen blocks c.args.top)))
-    (rw (c.in_ok-push_text.ensures.ok, shown) (append_assoc c.args.out.now.items _ _))
+    (rw (c.in_ok-push_header.ensures, shown) (append_assoc c.args.out.now.items _ _))
