@@ -1,22 +1,14 @@
--- The marks of which cores ask for which blocks.
+-- Which cores ask for which blocks: a set of cores for each block.
 -- Source: this project's profile.
-use Rattle.std.specs.{Prelude.{◌≡◌, ◌<◌, ℕ, Bool, false, List, length, slice_get, slice_index_or}, Option.option_map_or}
+use Rattle.std.specs.Prelude.{◌≡◌, ◌<◌, ℕ, Bool, List, length}
 use Rattle.snoop_trace.specs.Extent.{Extent}
-use Rattle.snoop_states.specs.{declared.asked.Marks.Marks, Each.AreEach}
+use Rattle.snoop_blocks.specs.CoreSet.{has, set_of}
 
--- the mark of a core; not set where there is none
-abbrev pub mark_of : Marks → ℕ → Bool
-mark_of marks core = slice_index_or marks.cores.items core false
+-- the core is in the set of the block
+abbrev pub has_asked : List (List ℕ) → ℕ → ℕ → Bool
+has_asked asked block core = has (set_of asked block) core
 
--- the mark of a core for a block
-abbrev pub mark_at : List Marks → ℕ → ℕ → Bool
-mark_at asked block core = option_map_or (λ marks. mark_of marks core) (slice_get asked block) false
-
--- a mark for each core, set where it passes the test
-pub record HasMarks (cores : ℕ) (test : ℕ → Bool) (marks : Marks) : Type 0 where
-  pub count : length marks.cores.items ≡ cores
-  pub each : (core : ℕ) → core < cores → mark_of marks core ≡ test core
-
--- marks for each block
-abbrev pub AreMarks : Extent → (ℕ → ℕ → Bool) → List Marks → Type 0
-AreMarks shape test asked = AreEach shape.blocks (λ block marks. HasMarks shape.cores (test block) marks) asked
+-- there is a set for each block of a shape, and it has those of its cores that pass the test
+pub record AreAskers (shape : Extent) (test : ℕ → ℕ → Bool) (asked : List (List ℕ)) : Type 0 where
+  pub count : length asked ≡ shape.blocks
+  pub each : (block core : ℕ) → block < shape.blocks → core < shape.cores → has_asked asked block core ≡ test block core

@@ -3,18 +3,18 @@
 use Rattle.std.specs.Prelude.{◌≡◌, ℕ, List}
 use Rattle.snoop_trace.specs.{Extent.Extent, declared.{protocol.Protocol.Protocol, step.Step.Step}}
 use Rattle.snoop_engine.specs.{Frames.Frame, Chosen.Chosen}
-use Rattle.snoop_states.specs.{declared.{column.Column.Column, tables.Tables.Tables}, Asked.{AreMarks, mark_at}, Columns.{columns_for, is_asker}}
+use Rattle.snoop_states.specs.{declared.{column.Column.Column, tables.Tables.Tables}, Asked.{AreAskers, has_asked}, Columns.{columns_for, is_asker}}
 use Rattle.snoop_states.specs.{Seen.{AreTables, IsTable}, Widths.widths_of}
 
 -- the view is for these steps
 pub record IsFor (shape : Extent) (wanted : Chosen) (steps : List Step) (view : Tables) : Type 0 where
   pub choice : view.choice ≡ wanted
   pub widths : view.widths ≡ widths_of shape steps
-  pub asked : AreMarks shape (is_asker steps) view.asked.items
+  pub asked : AreAskers shape (is_asker steps) view.asked
 
 -- the columns of a block's table
 abbrev pub columns_in : Extent → Tables → ℕ → List Column
-columns_in shape view block = columns_for shape (mark_at view.asked.items block)
+columns_in shape view block = columns_for shape (has_asked view.asked block)
 
 -- the view that was begun has seen these frames, and is this now
 pub record HasSeen (first : Tables) (protocol : Protocol) (shape : Extent) (frames : List Frame) (now : Tables) : Type 0 where

@@ -5,7 +5,7 @@ ghost use Rattle.snoop_trace.specs.declared.protocol.Protocol.{Protocol};
 ghost use Rattle.snoop_model.specs.Pictures.Situation.{reset};
 ghost use Rattle.snoop_engine.specs.Frames.{Frame};
 ghost use Rattle.snoop_engine.specs.Views.{block_of_step};
-ghost use Rattle.snoop_states.specs.Asked.{mark_at};
+ghost use Rattle.snoop_states.specs.Asked.{has_asked};
 ghost use Rattle.snoop_engine.specs.Chosen.{Chosen};
 ghost use Rattle.snoop_states.specs.Tables.{shown_block};
 ghost use Rattle.snoop_states.specs.Columns.{columns_for};
@@ -15,10 +15,11 @@ ghost use Rattle.snoop_states.specs.Views.{HasSeen, IsFor, columns_in};
 ghost use Rattle.snoop_states.specs.Whole.{block_table, tables_text};
 ghost use Rattle.snoop_states.specs.declared.column.Column.{Column};
 
-use crate::asked::{Marks, asked_by, askers};
+use crate::asked::{asked_by, askers};
 use crate::at_end::push_end;
 use crate::table::Table;
 use crate::widths::{Widths, widths_of};
+use snoop_blocks::{BlockTable, CoreSet};
 use snoop_engine::{Choice, Seen, View};
 use snoop_machine::{Machine, Refused, Reply};
 use snoop_trace::{NoMemory, Shape, Step};
@@ -30,7 +31,7 @@ pub(crate) struct Tables {
     alloc: Global,
     choice: Choice,
     widths: Widths,
-    asked: Vec<Marks>,
+    asked: BlockTable<CoreSet>,
     tables: Vec<Table>,
 }
 
@@ -67,8 +68,13 @@ fn add(tables: &mut Vec<Table>, table: Table) -> Result<(), NoMemory>
 }
 
 // The table of a block without a row.
-fn empty_table(alloc: Global, shape: Shape, asked: &[Marks], block: u32) -> Result<Table, NoMemory>
-    ensures { IfOk result (IsEmpty (columns_for shape (mark_at asked.now block))) }
+fn empty_table(
+    alloc: Global,
+    shape: Shape,
+    asked: &BlockTable<CoreSet>,
+    block: u32,
+) -> Result<Table, NoMemory>
+    ensures { IfOk result (IsEmpty (columns_for shape (has_asked asked.now block))) }
 {
     let cores = askers(alloc, shape, asked, block)?;
     Table::new(alloc, &cores)
@@ -76,8 +82,12 @@ fn empty_table(alloc: Global, shape: Shape, asked: &[Marks], block: u32) -> Resu
 
 // A table without a row for each block.
 #[tactic(auto, using(crate::proofs::TableLemmas::each_more))]
-fn empty_tables(alloc: Global, shape: Shape, asked: &[Marks]) -> Result<Vec<Table>, NoMemory>
-    ensures { IfOk result (λ tables. AreEach shape.blocks (λ block. IsEmpty (columns_for shape (mark_at asked.now block))) tables.items) }
+fn empty_tables(
+    alloc: Global,
+    shape: Shape,
+    asked: &BlockTable<CoreSet>,
+) -> Result<Vec<Table>, NoMemory>
+    ensures { IfOk result (λ tables. AreEach shape.blocks (λ block. IsEmpty (columns_for shape (has_asked asked.now block))) tables.items) }
 {
     let mut tables = Vec::new(alloc);
     for block in 0..shape.blocks() {
@@ -134,12 +144,12 @@ fn begin_tables(
     alloc: Global,
     choice: Choice,
     widths: Widths,
-    asked: &[Marks],
+    asked: &BlockTable<CoreSet>,
     machine: &Machine,
 ) -> Result<Vec<Table>, NoMemory>
     ensures { machine.now.situation ≡ reset machine.now.situation.protocol machine.now.situation.shape
         → IfOk result (λ tables. AreTables machine.now.situation.shape choice
-        (λ block. IsTable widths choice machine.now.situation.protocol machine.now.situation.shape (columns_for machine.now.situation.shape (mark_at asked.now block)) [] block) tables.items) }
+        (λ block. IsTable widths choice machine.now.situation.protocol machine.now.situation.shape (columns_for machine.now.situation.shape (has_asked asked.now block)) [] block) tables.items) }
 {
     let mut tables = empty_tables(alloc, machine.shape(), asked)?;
     if choice.from() == 1 {

@@ -1,12 +1,12 @@
 use Rattle.std.proofs.{Common.subst, lemmas.List.Folds.list_any_more}
 use Rattle.snoop_trace.specs.declared.step.{Op.TheVariants.Load, Step.TheVariants.Ask}
-use Rattle.snoop_states.{proofs.Common.{ℕ, AreMarks, Bool, is_asker, sym, take}, specs.Columns.asks_for}
+use Rattle.snoop_states.{proofs.Common.{ℕ, arith, AreAskers, Bool, is_asker, sym, take}, specs.Columns.asks_for}
 use Rattle.snoop_states.proofs.asked.asked_by.Goals as goal
 
 pub loop-step-preserved : goal.loop-step-preserved
 loop-step-preserved c =
     let steps = c.args.steps.now in
     let i = c.loop-step.step-index in
-    subst (λ (test : ℕ → ℕ → Bool). AreMarks c.args.shape test c.mark.new.asked.items)
+    subst (λ (test : ℕ → ℕ → Bool). AreAskers c.args.shape test c.add.new.asked)
     (λ j block core. sym (list_any_more (asks_for block core) steps i (Ask 0 0 0 Load) c.loop-step-test.true) j)
-    (c.mark.ensures c.args.shape (is_asker (take i steps)) c.loop-step.invariant)
+    (c.add.ensures c.args.shape (is_asker (take i steps)) (omega (arith, c.within_limits.ensures)) c.loop-step.invariant)
