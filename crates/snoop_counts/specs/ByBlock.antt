@@ -6,16 +6,13 @@ use Rattle.snoop_trace.specs.{Extent.Extent, Output.address_of}
 use Rattle.snoop_history.specs.Totals.{capped}
 use Rattle.snoop_model.specs.Pictures.Situation.{Situation}
 use Rattle.snoop_engine.specs.Frames.{Frame}
-use Rattle.snoop_counts.specs.{CoreTable.{count_fields, header}, Counted.{counted_of, is_named}, Happenings.happenings, Sharers.sharing_fields, declared.ranking.Ranked.Ranked}
+use Rattle.snoop_counts.specs.{CoreTable.{count_fields, header, shared_counts}, Counted.{counted_of, is_named}, Happenings.happenings, Sharers.sharing_fields, declared.ranking.Ranked.Ranked}
 use Rattle.snoop_counts.specs.declared.count.{Count.Count, Happening.Happening, Subjects.TheVariants.Blocks}
 use Rattle.snoop_counts.specs.declared.count.Count.TheVariants as count
 
--- the counts of a block, in the order of the fields
+-- the counts of a block
 abbrev pub block_counts : List Count
-block_counts =
-    count.Loads ∷ count.LoadHits ∷ count.Stores ∷ count.StoreHits ∷ count.GetS ∷ count.GetM ∷ count.PutM ∷ count.FromMemory ∷ count.FromCaches ∷ count.Writebacks ∷ count.Clean ∷ count.Stale
-    ∷ count.Misses ∷ count.Cold ∷ count.GivenUp ∷ count.TrueSharing ∷ count.FalseSharing
-    ∷ count.Upgrades ∷ count.UpgradesLost ∷ count.Invalidated ∷ count.Taken ∷ count.Downgraded ∷ count.Overtaken ∷ count.Stalled ∷ count.BusTaken ∷ count.NoTransaction ∷ []
+block_counts = shared_counts ++ count.Stalled ∷ count.BusTaken ∷ count.NoTransaction ∷ []
 
 -- the names of the fields
 abbrev pub block_header : List ℕ

@@ -6,7 +6,7 @@ use Rattle.snoop_engine.specs.{Frames.Frame, Views.view_text}
 use Rattle.snoop_counts.specs.{CoreTable.{core_counts, count_fields, header}, Counted.counted_of, Happenings.seen_after, declared.count.Count.Count}
 use Rattle.snoop_counts.specs.declared.count.{Count.TheVariants.NoTransaction, Happening.Happening, Subjects.TheVariants.Machine}
 
--- the counts of the machine, in the order of the fields
+-- the counts of the machine
 abbrev pub machine_counts : List Count
 machine_counts = core_counts ++ NoTransaction ∷ []
 

@@ -54,12 +54,16 @@ header first counts = first ++ name_fields counts ++ codes "\n"
 abbrev pub count_fields : List Count → (Count → ℕ) → List ℕ
 count_fields counts value = flat_map (λ counted. codes "," ++ decimal (value counted)) counts
 
--- the counts of a core, in the order of the fields
-abbrev pub core_counts : List Count
-core_counts =
+-- the counts that cores, blocks and the machine all have, in the order of the fields
+abbrev pub shared_counts : List Count
+shared_counts =
     count.Loads ∷ count.LoadHits ∷ count.Stores ∷ count.StoreHits ∷ count.GetS ∷ count.GetM ∷ count.PutM ∷ count.FromMemory ∷ count.FromCaches ∷ count.Writebacks ∷ count.Clean ∷ count.Stale
     ∷ count.Misses ∷ count.Cold ∷ count.GivenUp ∷ count.TrueSharing ∷ count.FalseSharing
-    ∷ count.Upgrades ∷ count.UpgradesLost ∷ count.Invalidated ∷ count.Taken ∷ count.Downgraded ∷ count.Overtaken ∷ count.Invalidates ∷ count.Supplied ∷ count.Stalled ∷ count.BusTaken ∷ count.NothingWaiting ∷ []
+    ∷ count.Upgrades ∷ count.UpgradesLost ∷ count.Invalidated ∷ count.Taken ∷ count.Downgraded ∷ count.Overtaken ∷ []
+
+-- the counts of a core
+abbrev pub core_counts : List Count
+core_counts = shared_counts ++ count.Invalidates ∷ count.Supplied ∷ count.Stalled ∷ count.BusTaken ∷ count.NothingWaiting ∷ []
 
 -- the line of a core, if a line of a step names it
 abbrev pub core_line : List Happening → ℕ → List ℕ

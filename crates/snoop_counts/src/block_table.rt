@@ -9,42 +9,12 @@ ghost use Rattle.snoop_counts.specs.declared.count.Subjects.TheVariants.{Blocks}
 
 use crate::block_tally::BlockTally;
 use crate::core_table::{push_counts, push_header};
-use crate::count::Count;
+use crate::count::BLOCK_COUNTS;
 use crate::ranking::{Ranked, rank, requests};
 use crate::sharers::push_sharing;
 use snoop_trace::streams::{push_byte, push_decimal};
 use snoop_trace::{NoMemory, Shape};
 use std::alloc::Global;
-
-// The counts of a block, in the order of the fields.
-static BLOCK_COUNTS: [Count; 26] = [
-    Count::Loads,
-    Count::LoadHits,
-    Count::Stores,
-    Count::StoreHits,
-    Count::GetS,
-    Count::GetM,
-    Count::PutM,
-    Count::FromMemory,
-    Count::FromCaches,
-    Count::Writebacks,
-    Count::Clean,
-    Count::Stale,
-    Count::Misses,
-    Count::Cold,
-    Count::GivenUp,
-    Count::TrueSharing,
-    Count::FalseSharing,
-    Count::Upgrades,
-    Count::UpgradesLost,
-    Count::Invalidated,
-    Count::Taken,
-    Count::Downgraded,
-    Count::Overtaken,
-    Count::Stalled,
-    Count::BusTaken,
-    Count::NoTransaction,
-];
 
 // Appends the line of a block that a line of a step names.
 fn push_block(

@@ -12,7 +12,7 @@ ghost use Rattle.snoop_counts.specs.declared.count.Happening.{Happening};
 ghost use Rattle.snoop_counts.specs.declared.count.Subjects.TheVariants.{Machine as Whole};
 
 use crate::core_table::{push_counts, push_header};
-use crate::count::{Count, Subjects};
+use crate::count::{MACHINE_COUNTS, Subjects};
 use crate::counts::add_all;
 use crate::tally::Tally;
 use crate::watch::Watch;
@@ -23,39 +23,6 @@ use snoop_trace::streams::{Sink, Source, push_byte, push_decimal};
 use snoop_trace::{NoMemory, Shape};
 use std::alloc::Global;
 use std::num::NonZeroU64;
-
-// The counts of the machine, in the order of the fields.
-static MACHINE_COUNTS: [Count; 29] = [
-    Count::Loads,
-    Count::LoadHits,
-    Count::Stores,
-    Count::StoreHits,
-    Count::GetS,
-    Count::GetM,
-    Count::PutM,
-    Count::FromMemory,
-    Count::FromCaches,
-    Count::Writebacks,
-    Count::Clean,
-    Count::Stale,
-    Count::Misses,
-    Count::Cold,
-    Count::GivenUp,
-    Count::TrueSharing,
-    Count::FalseSharing,
-    Count::Upgrades,
-    Count::UpgradesLost,
-    Count::Invalidated,
-    Count::Taken,
-    Count::Downgraded,
-    Count::Overtaken,
-    Count::Invalidates,
-    Count::Supplied,
-    Count::Stalled,
-    Count::BusTaken,
-    Count::NothingWaiting,
-    Count::NoTransaction,
-];
 
 /// Counts each group of `every` steps; there are no counters before the run begins.
 #[derive(Drop)]

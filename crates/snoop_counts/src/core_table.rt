@@ -6,42 +6,10 @@ ghost use Rattle.snoop_counts.specs.Tally.{HasCounted, counter_in};
 ghost use Rattle.snoop_counts.specs.declared.count.Happening.{Happening};
 ghost use Rattle.snoop_counts.specs.declared.count.Subjects.TheVariants.{Cores};
 
-use crate::count::Count;
+use crate::count::{CORE_COUNTS, Count};
 use crate::tally::{Counters, Tally};
 use snoop_trace::NoMemory;
 use snoop_trace::streams::{push_byte, push_decimal, push_text};
-
-// The counts of a core, in the order of the fields.
-static CORE_COUNTS: [Count; 28] = [
-    Count::Loads,
-    Count::LoadHits,
-    Count::Stores,
-    Count::StoreHits,
-    Count::GetS,
-    Count::GetM,
-    Count::PutM,
-    Count::FromMemory,
-    Count::FromCaches,
-    Count::Writebacks,
-    Count::Clean,
-    Count::Stale,
-    Count::Misses,
-    Count::Cold,
-    Count::GivenUp,
-    Count::TrueSharing,
-    Count::FalseSharing,
-    Count::Upgrades,
-    Count::UpgradesLost,
-    Count::Invalidated,
-    Count::Taken,
-    Count::Downgraded,
-    Count::Overtaken,
-    Count::Invalidates,
-    Count::Supplied,
-    Count::Stalled,
-    Count::BusTaken,
-    Count::NothingWaiting,
-];
 
 /// Appends a line of names: `first`, and those of the counts.
 #[tactic(auto, unfolding(crate::specs::CoreTable::header))]

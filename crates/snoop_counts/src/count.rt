@@ -116,6 +116,60 @@ impl Count {
     }
 }
 
+// The counts that cores, blocks and the machine all have, in the order of the fields, and then these.
+macro_rules! counts {
+    ($($own:ident),+) => {
+        [
+            Count::Loads,
+            Count::LoadHits,
+            Count::Stores,
+            Count::StoreHits,
+            Count::GetS,
+            Count::GetM,
+            Count::PutM,
+            Count::FromMemory,
+            Count::FromCaches,
+            Count::Writebacks,
+            Count::Clean,
+            Count::Stale,
+            Count::Misses,
+            Count::Cold,
+            Count::GivenUp,
+            Count::TrueSharing,
+            Count::FalseSharing,
+            Count::Upgrades,
+            Count::UpgradesLost,
+            Count::Invalidated,
+            Count::Taken,
+            Count::Downgraded,
+            Count::Overtaken,
+            $(Count::$own),+
+        ]
+    };
+}
+
+/// The counts of a core, in the order of the fields.
+pub(crate) static CORE_COUNTS: [Count; 28] = counts!(
+    Invalidates,
+    Supplied,
+    Stalled,
+    BusTaken,
+    NothingWaiting
+);
+
+/// The counts of a block, in the order of the fields.
+pub(crate) static BLOCK_COUNTS: [Count; 26] = counts!(Stalled, BusTaken, NoTransaction);
+
+/// The counts of the machine, in the order of the fields.
+pub(crate) static MACHINE_COUNTS: [Count; 29] = counts!(
+    Invalidates,
+    Supplied,
+    Stalled,
+    BusTaken,
+    NothingWaiting,
+    NoTransaction
+);
+
 /// Why a core had no copy at a miss: how its last one went.
 #[derive(Clone, Copy)]
 pub(crate) enum Cause {
