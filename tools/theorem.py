@@ -61,10 +61,11 @@ HEAD = r"""# The theorem
 The **history** has the loads and stores in the order in which they are performed. A core **waits
 for its operations** if it asks for nothing while a load or store of its own is not performed yet.
 For a core that does not, the history need not have the order of its program: a hit is performed
-before an earlier miss of the same core, and it may load the old value of a word that its own
-earlier store has yet to write. Some definitions of coherence require a core's operations on one
-word to keep the order of its program; here that holds for cores that wait for their operations, and
-is not a clause: it follows by hand.
+before an earlier miss of the same core that still waits, and it may load the old value of a word
+that its own earlier store has yet to write. Some definitions of coherence require a core's
+operations on one word to keep the order of its program; that is not a clause. For cores that wait
+for their operations it follows from the clauses by hand, which means that the prover has not
+checked it.
 
 This page begins with the machine in words and an example run. It then explains the notation, gives
 the theorem, says in outline why it holds and what it leaves out, and ends with every type and
@@ -89,15 +90,16 @@ the request is open: the block has an open **transaction** (below). A core that 
 | EorM (MESI), M (MSI) | if no transaction of it is open, one core may write it, and no other may read it | `owned`, `one_writer` |
 | I_D | as in I, but a transaction is open and memory waits for its message | the same, `at_rest` |
 | S_D, IorS_D | as in S and IorS, but a transaction is open and memory waits for its message | the same, `at_rest` |
-| EorM_D, M_D | memory waits for the message of a writeback (a PutM, below). If that core still owned the block, it has given it up, and no core may read or write it. If the block had gone to another core before, that one may write it, and no other may read it. That the core of the PutM reads and writes no more is by `given_up` and `current`; of the others no one clause says more than that at most one may write it, and that no other may read it then | `one_writer`, `given_up`, `at_rest`, `on_table` |
+| EorM_D, M_D | memory waits for the message of a writeback (a PutM, below). If the core of the PutM still owned the block at its Order, it has given the block up, and no core may read or write it. If the block had gone to another core before, that one may write it, and no other may read it. That the core of the PutM reads and writes no more is by `given_up`, `current` and the tables; of the others a single clause says only that at most one may write it, and that no other may read it then | `one_writer`, `given_up`, `at_rest`, `on_table` |
 
-While a transaction is open in EorM or M, the data is under way to the next writer. Then the core
-that asked for it may still read its old copy, and no core may write the block: no clause says so,
-but a store would hit (`moves`, `hits`) and leave the data under way old, against `carried`.
+While memory is in EorM or M and a transaction is open, the data is under way to the next writer.
+Then the core that asked for it may still read its old copy, and no core may write the block: no
+clause says so, but a store would hit (`moves`, `hits`) and leave the data under way old, against
+`carried`.
 
 Each cache has a controller, and so has memory. A controller has a table with a **row** for each
 event that it may meet in a state. A pair of state and event without a row is an **impossible
-cell**, except that of I and an eviction: nothing is asked of the table there. The tables are those
+cell**, except that of I and an eviction, which is answered without the table. The tables are those
 of *A Primer on Memory Consistency and Cache Coherence* (second edition, chapter 7), except E's
 eviction and memory's states under MESI, which are this project's.
 
@@ -108,8 +110,8 @@ kinds.
   store **hits** if the table's row for it is a hit. A core in a state with such a row for a load
   may load the block, and is a **reader**; one in a state with such a row for a store may store in
   it, and is a **writer**. By the tables these are S, SM_AD, SM_D, E, M, EI_A and MI_A for loads,
-  and E, M, EI_A and MI_A for stores. Otherwise the operation is stalled, which is a refusal (so is
-  any outside the machine's shape), or it misses: the cache issues a request, which waits in the
+  and E, M, EI_A and MI_A for stores. If the row is a stall, the operation is refused, as is any
+  outside the machine's shape. Otherwise it misses: the cache issues a request, which waits in the
   core's queue, behind the older ones, and the operation waits until its data comes. Giving up a
   block in E or M takes a request too, a writeback. A block in S is dropped, which is answered Gone;
   in I there is nothing to give up, which is answered Absent, by no row. In the states between, an
@@ -122,9 +124,9 @@ kinds.
   takes that to a PutM. Memory always takes the response to a PutM, and that to a GetS or GetM if
   its state ends in D.
 
-A step is taken, which is a **move**, with a reply, or it is refused for a cause. A refused step
-changes nothing. The reply or the cause is the step's **outcome**. "Taken next" means from this
-situation.
+A step is either taken or refused. A step that is taken is a **move**, and has a reply. A step that
+is refused has a cause, and changes nothing. The reply or the cause is the step's **outcome**.
+"Taken next" means from this situation.
 
 | Word | Is |
 |---|---|
@@ -151,8 +153,8 @@ What this machine takes as given:
 - **Each step happens at once.** At an Order all caches and memory take their rows for the request
   together; at a Respond the message arrives whole, and at all who take it together.
 - **A block has at most one open transaction**, from its Order to its Respond. Other blocks may have
-  theirs meanwhile. The Primer calls this *atomic transactions*. It calls it *non-atomic requests*
-  that a request may wait between its issue and its order. Requests of different cores, and of one
+  theirs meanwhile. The Primer calls this *atomic transactions*. That a request may wait between
+  its issue and its order, it calls *non-atomic requests*. Requests of different cores, and of one
   core for different blocks, may be ordered in any order: the code takes a core's oldest request,
   the model any. A core may have misses on many blocks, but at most one waiting operation on each.
 - **The history is in the order of performance**, at a hit or when the data comes, and not in the
@@ -167,12 +169,13 @@ What this machine takes as given:
 
 ## One run
 
-Two cores under MSI, and blocks of 64 bytes and one word, as `snoop` has them without options: core
-0 stores 7 in block 0, then core 1 loads it. An Ask to store is written `S,core,address,value`, one
-to load `L,core,address`, an Order `O,core`, a Respond `R,address`. An address is in bytes, so
-addresses 0 to 63 are in block 0. Each line shows block 0 after a step: the state and the value in
-each core, the transaction, memory. A dot means the same as above; `#1` is the first place in its
-core's queue, `C0` is core 0, and memory's value is in brackets if memory would not send it.
+Two cores under MSI, and blocks of 64 bytes with one value each, as `snoop` has them without
+options: core 0 stores 7 in block 0, then core 1 loads it. An Ask to store is written
+`S,core,address,value`, one to load `L,core,address`, an Order `O,core`, a Respond `R,address`. An
+address is in bytes, so addresses 0 to 63 are in block 0. Each line shows block 0 after a step: the
+state and the value in each core, the transaction, memory. A dot means the same as above; `#1` is
+the first place in its core's queue, `C0` is core 0, and memory's value is in brackets if memory
+would not send it.
 
 ```console
 $ printf 'S,0,0,7\nO,0\nR,0\nL,1,0\nO,1\nR,0\n' | ./snoop states
@@ -254,23 +257,23 @@ than `&&`. `(x : T) ×`, `(x : T) →` and `λ x.` extend to the end of their br
 {records}
 ```
 
-The names used here are defined below, types under "Types", the others here:
+The names used here are defined below: the types of Rust under "Types", the others here:
 
 | Part | Names, by file |
 |---|---|
 {index}
 
-A tool copies this, and each definition below, from the files that are named. The function
+A tool copies the theorem, the types and each definition below from Snoop's sources. The function
 `coherent` does nothing: what it ensures is the theorem. The theorem is about every list of steps
 put to a machine from reset, in any order, and about every situation to which they may lead. The
 first steps of a run are a run, so it is about each situation on the way too. Another function,
 `the_run_is_coherent`, ensures that a run as the code has it, in which each Order is of a core's
 oldest request and no step is refused as out of memory, is one of these runs, and so coherent. Every
 list of steps has such a run (`runs_go_on`). That the code does as the model says is not on this
-page: docs/PROVED.md has it, with what the functions named here promise. By that each step that the
-code takes or refuses is one of these (`Machine::step` for one step, `run_steps` for a list); of
-Orders it takes only those of a core's oldest request. PROVED also says what is trusted: above all
-the prover of the Rattle toolchain, in whose language Snoop is written, which has checked all of it.
+page: docs/PROVED.md has it, with what the functions named here promise. There each step of the
+code, taken or refused, is a step of such a run (`Machine::step` for one step, `run_steps` for a
+list), and its Orders take a core's oldest request. PROVED also says what is trusted: above all the
+prover of the Rattle toolchain, in whose language Snoop is written, which has checked all of it.
 
 `Orders`, which `orders` and `by_table` mention, is a move without the bounds on core and block
 (`IsWithin`). It needs none: outside the shape no request waits.
