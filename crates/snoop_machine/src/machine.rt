@@ -148,14 +148,14 @@ impl Machine {
     pub fn protocol(&self) -> Protocol
         ensures { result ≡ self.now.situation.protocol }
     {
-        each!(&self.parts, parts => parts.protocol())
+        each!(&self.parts, parts => parts.protocol)
     }
 
     /// How many cores and blocks there are, and how many bytes and words a block.
     pub fn shape(&self) -> Shape
         ensures { result ≡ self.now.situation.shape }
     {
-        each!(&self.parts, parts => parts.shape())
+        each!(&self.parts, parts => parts.shape)
     }
 
     /// The core's state of the block, or `None` outside the shape.
@@ -271,7 +271,7 @@ impl Machine {
         ensures items { result.now.items ≡ self.now.situation.log }
         ensures shape { (result.now.cores ≡ self.now.situation.shape.cores) × (result.now.blocks ≡ self.now.situation.shape.blocks) × (result.now.words ≡ self.now.situation.shape.words) }
     {
-        each!(&self.parts, parts => parts.log())
+        each!(&self.parts, parts => &parts.log)
     }
 }
 

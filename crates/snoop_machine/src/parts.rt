@@ -28,12 +28,12 @@ use std::marker::Model;
 
 /// The caches, memory, the bus that joins them, and the history of what they did.
 pub(crate) struct Parts<B: Block> {
-    protocol: Protocol,
-    shape: Shape,
+    pub(crate) protocol: Protocol,
+    pub(crate) shape: Shape,
     lines: Lines<B>,
     memory: Memory<B>,
     bus: Bus<Kept<B>>,
-    log: Log,
+    pub(crate) log: Log,
 }
 
 // Not derived: each end of each function that owns one would prove the drop of its fields anew.
@@ -89,20 +89,6 @@ impl<B: Block> Parts<B> {
             bus,
             log,
         })
-    }
-
-    /// The protocol that all controllers follow.
-    pub(crate) fn protocol(&self) -> Protocol
-        ensures { result ≡ self.now.situation.protocol }
-    {
-        self.protocol
-    }
-
-    /// How many cores and blocks there are, and how many bytes and words a block.
-    pub(crate) fn shape(&self) -> Shape
-        ensures { result ≡ self.now.situation.shape }
-    {
-        self.shape
     }
 
     /// The core's state of the block, or `None` outside the shape.
@@ -223,14 +209,6 @@ impl<B: Block> Parts<B> {
         ensures outside { IfSome result (λ _. core < self.now.situation.shape.cores) }
     {
         self.lines.len(core)
-    }
-
-    /// The history of all that was performed, ordered and answered.
-    pub(crate) fn log(&self) -> &Log
-        ensures items { result.now.items ≡ self.now.situation.log }
-        ensures shape { (result.now.cores ≡ self.now.situation.shape.cores) × (result.now.blocks ≡ self.now.situation.shape.blocks) × (result.now.words ≡ self.now.situation.shape.words) }
-    {
-        &self.log
     }
 
     /// What the core holds of the block, if its map has a line for it.

@@ -118,15 +118,17 @@ impl<B: Block> Parts<B> {
     {
         let cores = self.shape.cores();
         let blocks = self.shape.blocks();
+        let words = self.shape.words();
         match step {
             Step::Ask { core, .. } if core >= cores => Err(Refused::NoCore),
             Step::Order { core } if core >= cores => Err(Refused::NoCore),
+            Step::Ask { block, .. } if block >= blocks => Err(Refused::NoBlock),
+            // An eviction is of the whole block, and its word is not looked at.
             Step::Ask {
-                block,
                 word,
-                op,
+                op: Op::Load | Op::Store(_),
                 ..
-            } if block >= blocks || !self.shape.has_word(word, op) => Err(Refused::NoBlock),
+            } if word >= words => Err(Refused::NoBlock),
             Step::Respond { block } if block >= blocks => Err(Refused::NoBlock),
             Step::Ask {
                 core,
