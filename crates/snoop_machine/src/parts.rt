@@ -104,13 +104,14 @@ impl<B: Block> Parts<B> {
     }
 
     /// The value of a word that the core keeps, or `None` outside the shape and in a state that may not read.
+    #[tactic(auto, using(crate::proofs::PartsViews::pictures_get))]
     pub(crate) fn kept(&self, core: u32, block: u32, word: u32) -> Option<u64>
         ensures inside { core < self.now.situation.shape.cores → block < self.now.situation.shape.blocks → word < self.now.situation.shape.words → result ≡ option_map (λ ws. word_at ws word) (held_of self.now.situation core block).kept }
         ensures readable { core < self.now.situation.shape.cores → block < self.now.situation.shape.blocks → word < self.now.situation.shape.words → is_some result ≡ keeps (state_of self.now.situation core block) }
         ensures outside { IfSome result (λ _. (core < self.now.situation.shape.cores) × (block < self.now.situation.shape.blocks) × (word < self.now.situation.shape.words)) }
     {
         if core < self.shape.cores() && block < self.shape.blocks() && word < self.shape.words() {
-            word_kept(self.line(core, block), word)
+            word_kept(self.lines.get(core, block), word)
         } else {
             None
         }
@@ -209,18 +210,6 @@ impl<B: Block> Parts<B> {
         ensures outside { IfSome result (λ _. core < self.now.situation.shape.cores) }
     {
         self.lines.len(core)
-    }
-
-    /// What the core holds of the block, if its map has a line for it.
-    #[inline(always)]
-    #[tactic(auto, using(crate::proofs::PartsViews::pictures_get))]
-    fn line(&self, core: u32, block: u32) -> Option<&Entry<B>>
-        requires core { core < self.now.situation.shape.cores }
-        requires block { block < self.now.situation.shape.blocks }
-        ensures line { line_or_nothing (option_copied result) ≡ held_of self.now.situation core block }
-        ensures proper { IsProper (line_or_nothing (option_copied result)) }
-    {
-        self.lines.get(core, block)
     }
 
     /// The state in which the core holds the block.

@@ -28,6 +28,7 @@ use snoop_trace::{Block, Op};
 impl<B: Block> Parts<B> {
     /// What an Ask will do, of a core and a block that there are.
     #[inline(always)]
+    #[tactic(auto, using(crate::proofs::PartsViews::pictures_get))]
     pub(super) fn plan_ask(&self, core: u32, block: u32, word: u32, op: Op) -> Result<Plan, Refused>
         requires core { core < self.now.situation.shape.cores }
         requires block { block < self.now.situation.shape.blocks }
@@ -37,7 +38,7 @@ impl<B: Block> Parts<B> {
         ensures denied { IfErr result (λ cause. Refuses self.now.situation (Ask core block word op) cause) }
         ensures exactly { (cause : Refused) → Refuses self.now.situation (Ask core block word op) cause → result ≡ Err cause }
     {
-        let found = self.line(core, block);
+        let found = self.lines.get(core, block);
         let state = state_of(found);
         let asked = if matches!((&state, &op), (CacheState::I, Op::Evict)) {
             Asked::Absent

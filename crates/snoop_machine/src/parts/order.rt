@@ -75,6 +75,7 @@ impl<B: Block> Parts<B> {
 
     /// The words of a message with this sender and payload.
     #[inline(always)]
+    #[tactic(auto, using(crate::proofs::PartsViews::pictures_get))]
     fn words_sent(&self, block: u32, from: Option<u32>, payload: Payload) -> Kept<B>
         requires few { B.count ≤ 64 }
         requires block { block < self.now.situation.shape.blocks }
@@ -85,7 +86,7 @@ impl<B: Block> Parts<B> {
             return Kept::zero();
         }
         match from {
-            Some(sender) => words_of(self.line(sender, block)),
+            Some(sender) => words_of(self.lines.get(sender, block)),
             None => self.memory_words(block),
         }
     }

@@ -30,6 +30,7 @@ use snoop_trace::{Block, Kept, Op};
 impl<B: Block> Parts<B> {
     /// What a Respond will do, of a block that there is.
     #[inline(always)]
+    #[tactic(auto, using(crate::proofs::PartsViews::pictures_get))]
     pub(super) fn plan_respond(&self, block: u32) -> Result<Plan, Refused>
         requires block { block < self.now.situation.shape.blocks }
         requires inductive { Invariant self.now.situation }
@@ -54,7 +55,7 @@ impl<B: Block> Parts<B> {
                 filled: None,
             });
         }
-        let found = self.line(closing.core, block);
+        let found = self.lines.get(closing.core, block);
         let filled = plan_fill(self.protocol, found, closing);
         Ok(Plan::Respond {
             came,
