@@ -35,7 +35,7 @@ impl Entry for Step {
 
     ghost within = { spec.IsStepWithin };
 
-    #[tactic(auto, using(std::proofs::lemmas::Bool::Decides::nat_tests, crate::proofs::WordPlaces::asked_within), unfolding(crate::specs::Grammar::step_in, crate::specs::Grammar::ask))]
+    #[tactic(auto, using(std::proofs::lemmas::Bool::Decides::nat_tests, crate::proofs::WordPlaces::asked_of_few), unfolding(crate::specs::Grammar::step_in, crate::specs::Grammar::ask))]
     #[inline(always)]
     fn from_record(shape: Shape, n: u64, fields: &ByteRecord) -> Result<Self, TextFault> {
         match kind_of(fields).ok_or(TextFault::BadKind(n))? {
@@ -44,8 +44,7 @@ impl Entry for Step {
             letter => {
                 let row = row_by_letter(shape, n, letter, fields)?;
                 let block = shape.block_of(row.address).ok_or(TextFault::NoBlock(n))?;
-                // For the proof alone: the word is one of the shape's.
-                shape.within_limits();
+                prove!(shape.word_of(row.address) < shape.words());
                 Ok(Step::Ask {
                     core: row.core,
                     block,
