@@ -26,20 +26,6 @@ impl Model for Queue {
 }
 
 impl Queue {
-    fn new(alloc: Global) -> Self
-        ensures { result.requests ≡ [] }
-    {
-        Queue {
-            requests: VecDeque::new(alloc),
-        }
-    }
-
-    fn has_room(&self) -> bool
-        ensures { IsTrue result ↔ (0 < self.now.room) }
-    {
-        self.requests.len() < self.requests.capacity()
-    }
-
     fn head(&self) -> Option<(Request, u32)>
         ensures { result ≡ slice_get self.now.requests 0 }
     {
@@ -116,7 +102,9 @@ impl<K: Copy> Bus<K> {
         let cores = shape.cores() as usize;
         let mut queues = Vec::with_capacity(alloc, cores)?;
         for _ in 0..cores {
-            queues.push_reserved(Queue::new(alloc));
+            queues.push_reserved(Queue {
+                requests: VecDeque::new(alloc),
+            });
         }
         let transactions = BlockTable::new(alloc, shape.blocks(), None)?;
         Ok(Bus {
@@ -139,14 +127,14 @@ impl<K: Copy> Bus<K> {
         ensures queue { self.new.queues ≡ slice_set self.old.queues core (record { requests = (waiting_of self.old core).requests; room = (waiting_of self.new core).room }) }
         ensures transactions { self.new.transactions ≡ self.old.transactions }
     {
-        let queue = &mut self.queues[core as usize];
+        let requests = &mut self.queues[core as usize].requests;
         // The usual case, at no cost.
-        if queue.has_room() {
+        if requests.len() < requests.capacity() {
             return Ok(());
         }
         // The room alone decides: a refused growth may have left some.
-        let grown = queue.requests.reserve(1);
-        if !queue.has_room() {
+        let grown = requests.reserve(1);
+        if requests.len() == requests.capacity() {
             grown?;
         }
         Ok(())
@@ -158,7 +146,7 @@ impl<K: Copy> Bus<K> {
     {
         self.queues
             .get(core as usize)
-            .is_some_and(|queue| queue.has_room())
+            .is_some_and(|queue| queue.requests.len() < queue.requests.capacity())
     }
 
     /// Puts a request for a block last in the core's queue.

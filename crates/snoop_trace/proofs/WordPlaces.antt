@@ -47,9 +47,12 @@ module _ (shape : Extent) (limits : IsWithinLimits shape) where
     address_before = omega (arith, word_starts)
 
 -- the word that is asked for is one that the block has
+pub asked_of_few : (shape : Extent) (address : ℕ) (op : Op) → word_in_block shape address < shape.words → word_asked shape address op < shape.words
+asked_of_few shape address Evict few = omega (arith, few)
+asked_of_few shape address op few = few
+
 pub asked_within : (shape : Extent) (address : ℕ) (op : Op) → IsWithinLimits shape → word_asked shape address op < shape.words
-asked_within shape address Evict limits = power_some shape.words limits.words.0
-asked_within shape address op limits = word_within shape limits address
+asked_within shape address op limits = asked_of_few shape address op (word_within shape limits address)
 
 -- an operation may be of the word that is asked for: no word that a block has lies past the places
 pub word_there : (shape : Extent) (address : ℕ) (op : Op) → IsWithinLimits shape → HasWord shape (word_asked shape address op) op

@@ -1,6 +1,6 @@
 //! From a record to a heading, a step or a row.
-ghost use Rattle.std.specs.Prelude.{◌≡◌, ◌<◌, ◌≤◌, ◌==◌, ◌&&◌, ℕ, List, Result, Some, IfErr, IfOk, length, option_map};
-ghost use Rattle.csv.specs.Records.{field_at, fields_of};
+ghost use Rattle.std.specs.Prelude.{◌≡◌, ◌<◌, ◌≤◌, ◌==◌, ◌&&◌, ℕ, List, Result, IfErr, IfOk, length, option_map};
+ghost use Rattle.csv.specs.Records.{fields_of};
 ghost use Rattle.snoop_trace.specs.Asked.{IsAskedByRow, asked_in};
 ghost use Rattle.snoop_trace.specs.Extent.{Extent};
 ghost use Rattle.snoop_trace.specs.Grammar as spec;
@@ -35,7 +35,7 @@ impl Entry for Step {
 
     ghost within = { spec.IsStepWithin };
 
-    #[tactic(auto, using(std::proofs::lemmas::Bool::Decides::nat_tests, crate::proofs::WordPlaces::asked_within), unfolding(crate::specs::Grammar::step_in, crate::specs::Grammar::ask))]
+    #[tactic(auto, using(std::proofs::lemmas::Bool::Decides::nat_tests, crate::proofs::WordPlaces::asked_of_few), unfolding(crate::specs::Grammar::step_in, crate::specs::Grammar::ask))]
     #[inline(always)]
     fn from_record(shape: Shape, n: u64, fields: &ByteRecord) -> Result<Self, TextFault> {
         match kind_of(fields).ok_or(TextFault::BadKind(n))? {
@@ -44,8 +44,7 @@ impl Entry for Step {
             letter => {
                 let row = row_by_letter(shape, n, letter, fields)?;
                 let block = shape.block_of(row.address).ok_or(TextFault::NoBlock(n))?;
-                // For the proof alone: the word is one of the shape's.
-                shape.within_limits();
+                prove!(shape.word_of(row.address) < shape.words());
                 Ok(Step::Ask {
                     core: row.core,
                     block,
@@ -295,63 +294,53 @@ pub fn kind_of(fields: &ByteRecord) -> Option<u8>
 }
 
 // The field after the kind, where there is one alone.
-#[tactic(auto, using(crate::proofs::FieldLemmas::one_at))]
+#[tactic(auto, using(crate::proofs::FieldLemmas::field_there, crate::proofs::FieldLemmas::one_at))]
 fn one_of(fields: &ByteRecord) -> Option<&[u8]>
     ensures { option_map (λ f. f.now) result ≡ spec.one_of (fields_of fields.now) }
 {
     if fields.len() == 2 {
-        Some(field(fields, 1))
+        fields.get(1)
     } else {
         None
     }
 }
 
-// The field at a place that the record has.
-#[tactic(auto, using(crate::proofs::FieldLemmas::field_there))]
-#[inline(always)]
-fn field(fields: &ByteRecord, place: usize) -> &[u8]
-    requires { place < length (fields_of fields.now) }
-    ensures { Some result.now ≡ field_at (fields_of fields.now) place }
-{
-    fields.get(place).unwrap()
-}
-
 // The fields after the kind, where there are two.
-#[tactic(auto, using(crate::proofs::FieldLemmas::two_at))]
+#[tactic(auto, using(crate::proofs::FieldLemmas::field_there, crate::proofs::FieldLemmas::two_at))]
 fn two_of(fields: &ByteRecord) -> Option<(&[u8], &[u8])>
     ensures { option_map (λ f. (f.0.now, f.1.now)) result ≡ spec.two_of (fields_of fields.now) }
 {
     if fields.len() == 3 {
-        Some((field(fields, 1), field(fields, 2)))
+        Some((fields.get(1)?, fields.get(2)?))
     } else {
         None
     }
 }
 
 // The fields after the kind, where there are three.
-#[tactic(auto, using(crate::proofs::FieldLemmas::three_at))]
+#[tactic(auto, using(crate::proofs::FieldLemmas::field_there, crate::proofs::FieldLemmas::three_at))]
 fn three_of(fields: &ByteRecord) -> Option<(&[u8], &[u8], &[u8])>
     ensures { option_map (λ f. (f.0.now, f.1.now, f.2.now)) result ≡ spec.three_of (fields_of fields.now) }
 {
     if fields.len() == 4 {
-        Some((field(fields, 1), field(fields, 2), field(fields, 3)))
+        Some((fields.get(1)?, fields.get(2)?, fields.get(3)?))
     } else {
         None
     }
 }
 
 // The five fields after the kind and the one that follows it, where there are five.
-#[tactic(auto, using(crate::proofs::FieldLemmas::five_at))]
+#[tactic(auto, using(crate::proofs::FieldLemmas::field_there, crate::proofs::FieldLemmas::five_at))]
 fn five_of(fields: &ByteRecord) -> Option<(&[u8], &[u8], &[u8], &[u8], &[u8])>
     ensures { option_map (λ f. (f.0.now, f.1.now, f.2.now, f.3.now, f.4.now)) result ≡ heading.five_of (fields_of fields.now) }
 {
     if fields.len() == 7 {
         Some((
-            field(fields, 2),
-            field(fields, 3),
-            field(fields, 4),
-            field(fields, 5),
-            field(fields, 6),
+            fields.get(2)?,
+            fields.get(3)?,
+            fields.get(4)?,
+            fields.get(5)?,
+            fields.get(6)?,
         ))
     } else {
         None

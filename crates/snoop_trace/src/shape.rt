@@ -1,5 +1,5 @@
 //! How many cores and blocks there are, and how many bytes and words a block.
-ghost use Rattle.std.specs.Prelude.{◌≡◌, ◌≤◌, ◌<◌, ◌↔◌, Err, IsTrue};
+ghost use Rattle.std.specs.Prelude.{◌≡◌, ◌<◌, ◌↔◌, Err, IsTrue};
 ghost use Rattle.std.specs.Result.{OkIff};
 ghost use Rattle.snoop_trace.specs.Extent.{IsBlockCount, IsBlockSize, IsCoreCount, IsWithinLimits, IsWordCount};
 ghost use Rattle.snoop_trace.specs.Output.{address_of, word_address};
@@ -83,6 +83,7 @@ impl Shape {
     /// The shape of so many cores and blocks, and bytes and words a block.
     ///
     /// It is refused as by `new`, and then by `BadWords` where a block cannot have so many words.
+    #[tactic(auto, using(std::proofs::lemmas::Bool::Decides::nat_tests, crate::proofs::PowerLemmas::is_power, crate::proofs::PowerLemmas::no_power))]
     pub fn with_words(
         cores: u32,
         blocks: u32,
@@ -104,10 +105,13 @@ impl Shape {
         if !(1..=MAX_BLOCKS).contains(&blocks) {
             return Err(ShapeFault::BadBlocks);
         }
-        if !is_block_size(block_bytes) {
+        if !block_bytes.is_power_of_two() || block_bytes > MAX_BLOCK_BYTES {
             return Err(ShapeFault::BadBytes);
         }
-        if !is_word_count(words, block_bytes) {
+        if !words.is_power_of_two() || words > MAX_WORDS {
+            return Err(ShapeFault::BadWords);
+        }
+        if words > 1 && 8 * words > block_bytes {
             return Err(ShapeFault::BadWords);
         }
         Ok(Shape {
@@ -223,21 +227,4 @@ impl Shape {
         let word_bytes = self.block_bytes / self.words;
         block as u64 * self.block_bytes as u64 + word as u64 * word_bytes as u64
     }
-}
-
-// Whether a block can have so many bytes.
-#[tactic(auto, using(crate::proofs::PowerLemmas::is_power, crate::proofs::PowerLemmas::power_is))]
-fn is_block_size(bytes: u32) -> bool
-    ensures { IsTrue result ↔ IsBlockSize bytes }
-{
-    bytes.is_power_of_two() && bytes <= MAX_BLOCK_BYTES
-}
-
-// Whether a block of so many bytes can have so many words.
-#[tactic(auto, using(crate::proofs::PowerLemmas::is_power, crate::proofs::PowerLemmas::power_is))]
-fn is_word_count(words: u32, block_bytes: u32) -> bool
-    requires { block_bytes ≤ 4096 }
-    ensures { IsTrue result ↔ IsWordCount words block_bytes }
-{
-    words.is_power_of_two() && words <= MAX_WORDS && (words == 1 || 8 * words <= block_bytes)
 }

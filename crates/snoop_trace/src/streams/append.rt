@@ -81,16 +81,6 @@ impl Model for Back {
 }
 
 impl Back {
-    // No text.
-    fn new() -> Self
-        ensures { result ≡ [] }
-    {
-        Back {
-            bytes: [0; ROOM],
-            start: ROOM,
-        }
-    }
-
     // Puts a byte before the text.
     #[inline(always)]
     fn put(&mut self, byte: u8)
@@ -116,24 +106,6 @@ impl Back {
         }
         self.put(b',');
     }
-
-    // Puts a letter and its first field before the text.
-    #[inline(always)]
-    fn put_first(&mut self, letter: u8, number: u64)
-        requires { length self.old + 22 ≤ 64 }
-        ensures { self.new ≡ letter ∷ [] ++ codes "," ++ decimal number ++ self.old }
-    {
-        self.put_field(number);
-        self.put(letter);
-    }
-
-    // The text.
-    #[inline(always)]
-    fn text(&self) -> &[u8]
-        ensures { result.now ≡ self.now }
-    {
-        &self.bytes[self.start..]
-    }
 }
 
 /// Appends the text of a step, without a line end.
@@ -144,8 +116,11 @@ impl Back {
 pub fn push_step(out: &mut Vec<u8>, shape: Shape, step: Step) -> Result<(), NoMemory>
     ensures ok { OnOk result (out.new.items ≡ out.old.items ++ step_text shape step) }
 {
-    let mut back = Back::new();
-    match step {
+    let mut back = Back {
+        bytes: [0; ROOM],
+        start: ROOM,
+    };
+    let (letter, first) = match step {
         Step::Ask {
             core,
             block,
@@ -153,7 +128,7 @@ pub fn push_step(out: &mut Vec<u8>, shape: Shape, step: Step) -> Result<(), NoMe
             op: Op::Load,
         } => {
             back.put_field(shape.word_address(block, word));
-            back.put_first(b'L', core as u64);
+            (b'L', core as u64)
         }
         Step::Ask {
             core,
@@ -163,7 +138,7 @@ pub fn push_step(out: &mut Vec<u8>, shape: Shape, step: Step) -> Result<(), NoMe
         } => {
             back.put_field(value);
             back.put_field(shape.word_address(block, word));
-            back.put_first(b'S', core as u64);
+            (b'S', core as u64)
         }
         Step::Ask {
             core,
@@ -172,12 +147,14 @@ pub fn push_step(out: &mut Vec<u8>, shape: Shape, step: Step) -> Result<(), NoMe
             op: Op::Evict,
         } => {
             back.put_field(shape.address_of(block));
-            back.put_first(b'E', core as u64);
+            (b'E', core as u64)
         }
-        Step::Order { core } => back.put_first(b'O', core as u64),
-        Step::Respond { block } => back.put_first(b'R', shape.address_of(block)),
-    }
-    match out.extend_from_slice(back.text()) {
+        Step::Order { core } => (b'O', core as u64),
+        Step::Respond { block } => (b'R', shape.address_of(block)),
+    };
+    back.put_field(first);
+    back.put(letter);
+    match out.extend_from_slice(&back.bytes[back.start..]) {
         Ok(()) => Ok(()),
         Err(_) => Err(NoMemory),
     }

@@ -5,7 +5,7 @@ use Rattle.snoop_bus.proofs.bus.Bus.new.Goals as goal
 pub loop-preserved : goal.loop-preserved
 loop-preserved g c = (
   grind (arith, common_steps),
-  rw c.push_reserved.ensures.items (All-push (λ queue. queue.requests ≡ []) _ _ c.loop.invariant.1 c.new.ensures),
+  rw c.push_reserved.ensures.items (All-push (λ queue. queue.requests ≡ []) _ _ c.loop.invariant.1 c.new.ensures.items),
   grind (arith, common_steps),
 )
 
