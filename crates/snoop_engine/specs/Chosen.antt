@@ -17,12 +17,12 @@ chosen c = record { block = c.block; from = c.from; to = c.to }
 abbrev pub fields : Chosen → Inside
 fields c = record { block = c.block; from = c.from; to = c.to }
 
--- this block is shown
+-- this block is shown: it is the one that is named, or none is named
 abbrev pub is_chosen : Option ℕ → ℕ → Bool
 is_chosen None block = true
 is_chosen (Some one) block = block == one
 
--- a step of this number is shown, as far as its number goes
+-- the number is one of those that are shown, the first and the last included
 abbrev pub is_in_range : Chosen → ℕ → Bool
 is_in_range choice number = nat_le choice.from number && nat_le number choice.to
 

@@ -7,7 +7,7 @@ use Rattle.snoop_rules.specs.declared.names.CacheEvent.TheVariants as event
 use Rattle.snoop_rules.specs.declared.names.MemState.TheVariants as mem_state
 use Rattle.snoop_rules.specs.declared.names.MemEvent.TheVariants as mem_event
 
--- a state of a cache line
+-- the number of a state of a cache line, from 0
 abbrev pub state_number : CacheState → ℕ
 state_number state.I = 0
 state_number state.IsAd = 1
@@ -23,7 +23,7 @@ state_number state.EiA = 10
 state_number state.MiA = 11
 state_number state.IiA = 12
 
--- an event at a cache controller
+-- the number of an event at a cache controller, from 0
 abbrev pub event_number : CacheEvent → ℕ
 event_number event.Load = 0
 event_number event.Store = 1
@@ -37,7 +37,7 @@ event_number event.OtherPutM = 8
 event_number event.Data = 9
 event_number event.DataE = 10
 
--- a state of a block at memory
+-- the number of a state of a block at memory, from 0
 abbrev pub memory_state_number : MemState → ℕ
 memory_state_number mem_state.IorS = 0
 memory_state_number mem_state.M = 1
@@ -50,7 +50,7 @@ memory_state_number mem_state.ID = 7
 memory_state_number mem_state.SD = 8
 memory_state_number mem_state.EorMD = 9
 
--- an event at the memory controller
+-- the number of an event at the memory controller, from 0
 abbrev pub memory_event_number : MemEvent → ℕ
 memory_event_number mem_event.GetS = 0
 memory_event_number mem_event.GetM = 1

@@ -105,6 +105,6 @@ shown_texts shape choice number frames = flat_map (λ n. shown_text shape choice
 abbrev pub header_text : List ℕ
 header_text = codes "step,record,reply,block,controller,event,before,action,after,value,place\n"
 
--- the whole text of some frames
+-- the states of a run as a text: the names of the fields, and then the lines of each step that is shown
 abbrev pub states_text : Extent → Chosen → List Frame → List ℕ
 states_text shape choice frames = header_text ++ shown_texts shape choice 1 frames

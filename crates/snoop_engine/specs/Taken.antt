@@ -12,19 +12,19 @@ use Rattle.snoop_model.specs.declared.replies.{Reply.Reply, Refused.{Refused, Th
 use Rattle.snoop_model.specs.Pictures.Situation.{Situation, picture_of, state_of}
 use Rattle.snoop_engine.specs.declared.taken.Taken.{Taken, TheVariants.{Core, Memory, Nobody}}
 
--- the core's state of the block, where both are there
+-- the core's state of the block; none where the shape has no such core or no such block
 abbrev pub state_at : Situation → ℕ → ℕ → Option CacheState
 state_at s core block = if nat_lt core s.shape.cores && nat_lt block s.shape.blocks then Some (state_of s core block) else None
 
--- memory's state of the block, where it is there
+-- memory's state of the block; none where the shape has no such block
 abbrev pub memory_at : Situation → ℕ → Option MemState
 memory_at s block = if nat_lt block s.shape.blocks then Some (picture_of s block).memory.state else None
 
--- the core meets the event, or none
+-- the line of a core that meets the event, or none; no line where the shape has no such core or no such block
 abbrev pub of_core : Situation → ℕ → ℕ → Option CacheEvent → List Taken
 of_core s core block event = option_map_or (λ before. Core core block event before ∷ []) (state_at s core block) []
 
--- memory meets the event
+-- the line of memory, which meets the event; no line where the shape has no such block
 abbrev pub of_memory : Situation → ℕ → MemEvent → List Taken
 of_memory s block event = option_map_or (λ before. Memory block event before ∷ []) (memory_at s block) []
 
@@ -33,7 +33,7 @@ abbrev pub event_asked : Op → CacheState → Option CacheEvent
 event_asked op.Evict I = None
 event_asked asking _ = Some (asked asking)
 
--- an Ask: the core meets it
+-- the line of an Ask: its core meets what is asked
 abbrev pub of_ask : Situation → ℕ → ℕ → Op → List Taken
 of_ask s core block asking = option_map_or (λ before. Core core block (event_asked asking before) before ∷ []) (state_at s core block) []
 
@@ -47,12 +47,12 @@ abbrev pub of_holder : Situation → ℕ → ℕ → Request → ℕ → List Ta
 of_holder s requestor block request core =
     option_map_or (λ before. unless_i before (Core core block (Some (seen_by core requestor request)) before)) (state_at s core block) []
 
--- an Order of this request: the cores, by rising number, and then memory meet it
+-- the lines of an Order of this request: the cores, by rising number, and then memory meet it
 abbrev pub of_request : Situation → ℕ → ℕ → Request → List Taken
 of_request s core block request =
     flat_map (of_holder s core block request) (range_with_len 0 s.shape.cores) ++ of_memory s block (at_memory request)
 
--- an Order: the request that waits for the block is met
+-- the lines of an Order of this block: those of the request for it with which the core waits
 abbrev pub of_order : Situation → ℕ → ℕ → List Taken
 of_order s core block = option_map_or (of_request s core block) (waiting_request (state_of s core block)) []
 
@@ -83,17 +83,17 @@ abbrev pub of_waiting_memory : Situation → ℕ → Open → List Taken
 of_waiting_memory s block opened =
     option_map_or (λ before. if takes_payload opened.request before then of_arrival_at_memory s block (arrival_at_memory opened.payload) else []) (memory_at s block) []
 
--- a Respond of this transaction: the requestor, and then memory
+-- the lines of a Respond that ends this transaction: the requestor meets what comes, and then memory
 abbrev pub of_respond : Situation → ℕ → Open → List Taken
 of_respond s block opened = of_requestor opened.request s block opened ++ of_waiting_memory s block opened
 
--- a step that is taken, by the machine before it
+-- the lines of a step that is taken, by the machine before it
 abbrev pub taken_by : Situation → Step → List Taken
 taken_by s (Ask core block word asking) = of_ask s core block asking
 taken_by s (Order core) = option_map_or (of_order s core) (slice_get (queue_of s.queues core) 0) []
 taken_by s (Respond block) = option_map_or (of_respond s block) (picture_of s block).transaction []
 
--- a step that is refused: a stall is a row of the table, and at any other refusal no row is taken
+-- the lines of a step that is refused: a stall is a row of the table, and at any other refusal no row is taken
 abbrev pub refused_by : Situation → Step → Refused → List Taken
 refused_by s (Ask core block word asking) (Stalled held) = of_ask s core block asking
 refused_by s (Order core) (BusTaken block) = of_core s core block None
@@ -101,7 +101,7 @@ refused_by s (Order core) NothingWaiting = Nobody (Some core) None ∷ []
 refused_by s (Respond block) NoTransaction = Nobody None (Some block) ∷ []
 refused_by s _ _ = Nobody None None ∷ []
 
--- a step, by the machine before it and what was answered
+-- the lines of a step, by the machine before it and what was answered
 abbrev pub lines_of_step : Situation → Step → Result Reply Refused → List Taken
 lines_of_step s step (Ok answer) = taken_by s step
 lines_of_step s step (Err cause) = refused_by s step cause

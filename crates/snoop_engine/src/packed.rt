@@ -1,5 +1,5 @@
 //! The steps of a text, packed until they are taken.
-ghost use Rattle.std.specs.Prelude.{◌≡◌, ◌<◌, ◌≤◌, ◌^◌, ◌++◌, ◌∷◌, [], drop, length, take, OnOk, OnErr, slice_index_or};
+ghost use Rattle.std.specs.Prelude.{◌≡◌, ◌<◌, ◌^◌, ◌++◌, ◌∷◌, [], length, OnOk, OnErr, slice_index_or};
 ghost use Rattle.snoop_trace.specs.Grammar.{IsStepWithin};
 ghost use Rattle.snoop_trace.specs.declared.step.Step.TheVariants.{Ask};
 ghost use Rattle.snoop_engine.specs.declared.packed.Head.{Head};
@@ -74,21 +74,6 @@ impl Head {
     }
 }
 
-/// The word of a step of this kind: the first of `words`, which is taken away, or 0 if none of them is its own.
-#[inline(always)]
-fn take_word(words: &mut VecDeque<u8>, kind: Kind) -> u32
-    requires { worded_by kind ≤ length words.old.items }
-    ensures word { result ≡ slice_index_or (take (worded_by kind) words.old.items) 0 0 }
-    ensures rest { words.new.items ≡ drop (worded_by kind) words.old.items }
-{
-    match kind {
-        Kind::LoadOfWord | Kind::StoreOfWord | Kind::EvictOfWord => {
-            words.pop_front().unwrap() as u32
-        }
-        _ => 0,
-    }
-}
-
 /// Steps in their order, of the largest shape or a smaller one, which are taken from the front.
 #[derive(Drop)]
 pub(crate) struct StepQueue {
@@ -131,7 +116,12 @@ impl Script for StepQueue {
         let head = self.heads.pop_front()?;
         let core = head.core as u32;
         let block = head.block as u32;
-        let word = take_word(&mut self.words, head.kind);
+        let word = match head.kind {
+            Kind::LoadOfWord | Kind::StoreOfWord | Kind::EvictOfWord => {
+                self.words.pop_front().unwrap() as u32
+            }
+            _ => 0,
+        };
         let op = match head.kind {
             Kind::Load | Kind::LoadOfWord => Op::Load,
             Kind::Store | Kind::StoreOfWord => Op::Store(self.values.pop_front().unwrap()),

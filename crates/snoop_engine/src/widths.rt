@@ -1,5 +1,5 @@
 //! How wide the numbers of a text are.
-ghost use Rattle.std.specs.Prelude.{◌≡◌, ◌≤◌, max};
+ghost use Rattle.std.specs.Prelude.{◌≡◌, ◌≤◌};
 ghost use Rattle.snoop_engine.specs.Widths.{digits, most_stored, stored};
 
 use itoa::Buffer;
@@ -28,20 +28,13 @@ fn stored(step: Step) -> u64
     }
 }
 
-// The larger of two numbers.
-fn larger(one: u64, other: u64) -> u64
-    ensures { result ≡ max one other }
-{
-    if one < other { other } else { one }
-}
-
 /// The largest value that the steps store, or 0.
 pub fn most_stored(steps: &[Step]) -> u64
     ensures { result ≡ most_stored steps.now }
 {
     let mut most = 0;
     for step in steps {
-        most = larger(most, stored(*step));
+        most = most.max(stored(*step));
     }
     most
 }

@@ -15,7 +15,7 @@ use Rattle.snoop_model.specs.{Pictures.Situation.{Situation, reset}, Runs.Run.{G
 abbrev pub two_cores : Extent
 two_cores = record { cores = 2; blocks = 1; block_bytes = 64; words = 1 }
 
--- two cores, and two such blocks
+-- two cores, and two blocks of 64 bytes that are one word each
 abbrev pub two_blocks : Extent
 two_blocks = record { cores = 2; blocks = 2; block_bytes = 64; words = 1 }
 
@@ -124,11 +124,11 @@ core number = Some number
 abbrev pub missed_load : ℕ → ℕ → ℕ → ℕ → Did
 missed_load core number block value = record { core = core; number = number; block = block; word = 0; load = true; value = value; hit = false }
 
--- a store of the value in the block's first word, that missed
+-- the core's operation of this number, counted from 0, is a store of the value in the block's first word, and missed
 abbrev pub missed_store : ℕ → ℕ → ℕ → ℕ → Did
 missed_store core number block value = record { core = core; number = number; block = block; word = 0; load = false; value = value; hit = false }
 
--- a load that hit
+-- the core's operation of this number, counted from 0, is a load of the block's first word that hit, and read the value
 abbrev pub hit_load : ℕ → ℕ → ℕ → ℕ → Did
 hit_load core number block value = record { core = core; number = number; block = block; word = 0; load = true; value = value; hit = true }
 

@@ -3,7 +3,7 @@ ghost use Rattle.std.specs.Prelude.{◌≡◌, ◌≢◌, ◌^◌, IfErr, IfOk, 
 ghost use Rattle.clap.specs.Words.{app_of, first_of, found_of, one_of, rows_of};
 ghost use Rattle.snoop_sim.specs.Asked.{AsksFor, BeginsNothing, HasNoTask, IsTaskOf};
 ghost use Rattle.snoop_sim.specs.CommandLine.{AreOptionsOf, DescribesOption, IsCommand, IsLocal, IsSnoop, command_said, rule_said};
-ghost use Rattle.snoop_sim.specs.Options.{IsChoiceOf, HasNoGrouping, HasNoNamed, HasNoSteps, IsGroupingOf, IsInputOf, IsNamed, IsPaperOf, IsSteps, IsNumberOf, IsReadAs, IsShapeOf, MisplacesPaper, MisplacesSerial, asks_ascii, asks_serial, charset_named, form_named, kind_named, layout_named, protocol_named, says, theme_named, which_named};
+ghost use Rattle.snoop_sim.specs.Options.{IsChoiceOf, HasNoGrouping, HasNoNamed, HasNoSteps, IsGroupingOf, IsInputOf, IsNamed, IsPaperOf, IsSteps, IsReadAs, IsShapeOf, MisplacesPaper, MisplacesSerial, asks_ascii, asks_serial, charset_named, form_named, kind_named, layout_named, protocol_named, says, theme_named, which_named};
 
 use crate::failure::Failure;
 use crate::help;
@@ -697,15 +697,15 @@ fn says(options: &ArgMatches, name: &str, value: &str) -> bool
     }
 }
 
-/// The shape that was named.
+/// The shape that was named. 0, which no shape has, stands for what is no number.
 fn shape_in(options: &ArgMatches) -> Result<Shape, ShapeFault>
     ensures { IsShapeOf (rows_of (found_of options.now)) result }
 {
     Shape::with_words(
-        number_in(options, "cores"),
-        number_in(options, "blocks"),
-        number_in(options, "block-bytes"),
-        number_in(options, "words"),
+        short_in(options, "cores").unwrap_or(0),
+        short_in(options, "blocks").unwrap_or(0),
+        short_in(options, "block-bytes").unwrap_or(0),
+        short_in(options, "words").unwrap_or(0),
     )
 }
 
@@ -719,13 +719,6 @@ fn choice_in(options: &ArgMatches, shape: Shape) -> Result<Choice, ChoiceFault>
         long_in(options, "from").unwrap_or(0),
         long_in(options, "to").unwrap_or(u64::MAX),
     )
-}
-
-/// The number that was named; 0, which no shape has, where it is none.
-fn number_in(options: &ArgMatches, name: &str) -> u32
-    ensures { IsNumberOf name.now (rows_of (found_of options.now)) result }
-{
-    short_in(options, name).unwrap_or(0)
 }
 
 /// The number of 32 bits that was named.

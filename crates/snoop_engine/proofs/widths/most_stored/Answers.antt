@@ -10,4 +10,5 @@ most_more (first ∷ steps) step = rw (most_more steps step) (omega arith)
 pub loop-step-preserved : goal.loop-step-preserved
 loop-step-preserved c =
     let i = c.loop-step.step-index in
-    rw (c.larger-most.ensures, c.loop-step.invariant, c.stored.ensures, take_more c.args.steps.now i (Ask 0 0 0 Load) c.loop-step-test.true) (sym (most_more (take i c.args.steps.now) _))
+    let more : c.max-most.result ≡ max c.loop-step.most c.stored.result = grind (arith, c.max-most.ensures) in
+    rw (more, c.loop-step.invariant, c.stored.ensures, take_more c.args.steps.now i (Ask 0 0 0 Load) c.loop-step-test.true) (sym (most_more (take i c.args.steps.now) _))
