@@ -8,8 +8,8 @@ returns c =
       moved = record { owners = c.set.new.self; readers = c.set-2.new.self };
       set = c.set-3.ensures;
       follows = rw (← is) (record {
-        owner = c.set.ensures.here ∙ c.is_owner-owns.ensures;
-        reader = c.set-2.ensures.here ∙ c.keeps-reads.ensures;
+        owner = c.set.ensures.here ∙ c.of-membership.ensures.owner;
+        reader = c.set-2.ensures.here ∙ c.of-membership.ensures.reader;
         other_owners = c.set.ensures.others;
         other_readers = c.set-2.ensures.others;
       });
