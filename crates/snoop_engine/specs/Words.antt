@@ -9,7 +9,7 @@ use Rattle.snoop_bus.specs.{Queues.{place_in, queue_of}, Traffic.Open}
 use Rattle.snoop_model.specs.Pictures.Situation.{Situation}
 use Rattle.snoop_engine.specs.{States.{kept_at, memory_text}, Taken.{memory_at, state_at}}
 
--- a protocol in capitals
+-- the name of a protocol in capitals: `MSI` or `MESI`
 abbrev pub capitals : Protocol → List ℕ
 capitals Msi = codes "MSI"
 capitals Mesi = codes "MESI"
@@ -32,7 +32,7 @@ abbrev pub place_words : ℕ → Option ℕ → List ℕ
 place_words least None = []
 place_words least (Some place) = if nat_lt place least then [] else codes " #" ++ decimal place
 
--- a core: its state, its values, and the place of its request in its queue, from this place on
+-- what is said of a core and a block: the core's state of it, the values that it keeps, and the place of its request in its queue, if that is this place or a later one
 abbrev pub core_words : ℕ → Situation → ℕ → ℕ → List ℕ
 core_words least s block core = state_words (state_at s core block) ++ kept_words s core block ++ place_words least (place_in (queue_of s.queues core) block)
 
@@ -61,6 +61,6 @@ abbrev pub memory_state_words : List ℕ → MemState → List ℕ
 memory_state_words values state =
     memory_state_name state ++ (if answers state then codes " " ++ values else codes " (" ++ values ++ codes ")")
 
--- memory: its state and its values
+-- what is said of memory and a block: memory's state of it and its values, which are in brackets where it would not send them
 abbrev pub memory_words : Situation → ℕ → List ℕ
 memory_words s block = option_map_or (memory_state_words (memory_text s block)) (memory_at s block) []
