@@ -1,5 +1,5 @@
 //! The running tables of a history: its board, and the blocks that it mentions.
-ghost use Rattle.std.specs.Prelude.{◌≡◌, ℕ, All, ◌&&◌, List, [], ◌∷◌, ◌++◌, length, Some, None, slice_get, slice_index, option_and_then, if◌then◌else◌, nat_eq, nat_lt, ◌<◌, slice_set, IsTrue, ◌↔◌, IfOk, false};
+ghost use Rattle.std.specs.Prelude.{◌≡◌, ℕ, ◌&&◌, List, [], ◌∷◌, ◌++◌, length, Some, None, slice_get, slice_index, option_and_then, if◌then◌else◌, nat_eq, nat_lt, ◌<◌, slice_set, IsTrue, ◌↔◌, IfOk, false};
 ghost use Rattle.std.specs.List.{list_any};
 ghost use Rattle.std.specs.Option.{ForSome};
 ghost use Rattle.indexmap.specs.IndexSet.{insert_key};
@@ -30,7 +30,7 @@ pub struct Board {
     values: Vec<u64>,
     counts: Vec<u64>,
     lasts: Vec<Option<Did>>,
-    totals: Totals,
+    pub(crate) totals: Totals,
 }
 
 impl Model for Board {
@@ -191,7 +191,7 @@ fn write_value(values: &mut Vec<u64>, words: u32, did: Did)
 /// The blocks that items mention, in order of first mention, with room for all blocks from the beginning.
 #[derive(Debug, Drop)]
 pub(crate) struct TouchedBlocks {
-    order: IndexSet<u32>,
+    pub(crate) order: IndexSet<u32>,
     // By block, whether it is in `order`, so that the set is asked once a block.
     marks: Vec<bool>,
 }
@@ -217,14 +217,6 @@ impl TouchedBlocks {
             order: IndexSet::with_capacity(alloc, blocks)?,
             marks: vec![in alloc; false; blocks]?,
         })
-    }
-
-    /// The blocks, in order.
-    pub(crate) fn as_slice(&self) -> &[u32]
-        ensures value { result.now ≡ self.now.order }
-        ensures within { All (λ block. block < self.now.blocks) result.now }
-    {
-        self.order.as_slice()
     }
 
     /// Takes in the blocks that one more item mentions. It takes no memory.

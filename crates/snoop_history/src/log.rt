@@ -137,7 +137,7 @@ impl Log {
     pub fn totals(&self) -> Totals
         ensures { result ≡ totals_of self.now.items }
     {
-        self.board.totals()
+        self.board.totals
     }
 
     /// The blocks that an item mentions, in order of first mention.
@@ -145,7 +145,7 @@ impl Log {
         ensures value { result.now ≡ touched self.now.items }
         ensures within { All (λ block. block < self.now.blocks) result.now }
     {
-        self.touched.as_slice()
+        self.touched.order.as_slice()
     }
 
     /// The operations of one core, in order: none for a core outside the shape. `NoMemory` where the list

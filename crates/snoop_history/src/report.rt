@@ -4,18 +4,19 @@ ghost use Rattle.std.specs.Io.KnownBytes.{Appends};
 ghost use Rattle.std.specs.List.{range_with_len};
 ghost use Rattle.snoop_trace.specs.Output.{AppendsFront, BlamesWriter};
 ghost use Rattle.snoop_history.specs.History.{flat};
+ghost use Rattle.snoop_history.specs.Totals.{totals_of};
 ghost use Rattle.snoop_history.specs.Report.{totals_text, block_text, report_of};
 
-use crate::items::Totals;
 use crate::log::Log;
 use snoop_trace::streams::{Sink, push_byte, push_numbered, push_text, write_whole};
 use snoop_trace::{NoMemory, WriteFault};
 use std::alloc::Global;
 
-// Appends the five lines of totals.
-fn push_totals(out: &mut Vec<u8>, t: Totals) -> Result<(), NoMemory>
-    ensures { OnOk result (out.new.items ≡ out.old.items ++ totals_text t) }
+// Appends the five lines of the totals.
+fn push_totals(out: &mut Vec<u8>, log: &Log) -> Result<(), NoMemory>
+    ensures { OnOk result (out.new.items ≡ out.old.items ++ totals_text (totals_of log.now.items)) }
 {
+    let t = log.totals();
     push_numbered(out, "loads ", t.loads)?;
     push_numbered(out, " hits ", t.load_hits)?;
     push_numbered(out, "\nstores ", t.stores)?;
@@ -60,7 +61,7 @@ pub fn write_report<W: Sink>(alloc: Global, writer: &mut W, log: &Log) -> Result
     ensures blamed { BlamesWriter (W.failed writer.old) (W.failed writer.new) (result ≡ Err WriteFault.Write) }
 {
     let mut report = Vec::new(alloc);
-    push_totals(&mut report, log.totals())?;
+    push_totals(&mut report, log)?;
     for block in log.touched() {
         push_block(&mut report, log, *block)?;
     }

@@ -13,7 +13,7 @@ use Rattle.snoop_rules.specs.declared.names.Target.TheVariants as target
 use Rattle.snoop_rules.specs.declared.names.CacheAction.TheVariants as action
 use Rattle.snoop_rules.specs.declared.names.MemAction.TheVariants as mem_action
 
--- a state of a cache line
+-- the name that texts have for a state of a cache line, such as `IM_AD`
 abbrev pub state_name : CacheState → List ℕ
 state_name state.I = codes "I"
 state_name state.IsAd = codes "IS_AD"
@@ -29,7 +29,7 @@ state_name state.EiA = codes "EI_A"
 state_name state.MiA = codes "MI_A"
 state_name state.IiA = codes "II_A"
 
--- an event at a cache controller
+-- the name that texts have for an event at a cache controller, such as `OwnGetS`
 abbrev pub event_name : CacheEvent → List ℕ
 event_name event.Load = codes "Load"
 event_name event.Store = codes "Store"
@@ -43,7 +43,7 @@ event_name event.OtherPutM = codes "OtherPutM"
 event_name event.Data = codes "Data"
 event_name event.DataE = codes "DataE"
 
--- a state of a block at memory
+-- the name that texts have for a state of a block at memory, such as `IorS_D`
 abbrev pub memory_state_name : MemState → List ℕ
 memory_state_name mem_state.IorS = codes "IorS"
 memory_state_name mem_state.M = codes "M"
@@ -56,7 +56,7 @@ memory_state_name mem_state.ID = codes "I_D"
 memory_state_name mem_state.SD = codes "S_D"
 memory_state_name mem_state.EorMD = codes "EorM_D"
 
--- an event at the memory controller
+-- the name that texts have for an event at the memory controller, such as `NoDataE`
 abbrev pub memory_event_name : MemEvent → List ℕ
 memory_event_name mem_event.GetS = codes "GetS"
 memory_event_name mem_event.GetM = codes "GetM"
@@ -65,26 +65,26 @@ memory_event_name mem_event.Data = codes "Data"
 memory_event_name mem_event.NoData = codes "NoData"
 memory_event_name mem_event.NoDataE = codes "NoDataE"
 
--- a request
+-- the name that texts have for a request: `GetS`, `GetM` or `PutM`
 abbrev pub request_name : Request → List ℕ
 request_name request.GetS = codes "GetS"
 request_name request.GetM = codes "GetM"
 request_name request.PutM = codes "PutM"
 
--- a payload
+-- the name that texts have for what a message carries, such as `DataE`
 abbrev pub payload_name : Payload → List ℕ
 payload_name payload.Data = codes "Data"
 payload_name payload.DataE = codes "DataE"
 payload_name payload.NoData = codes "NoData"
 payload_name payload.NoDataE = codes "NoDataE"
 
--- to whom a cache's message goes
+-- the words that texts have for those to whom a cache's message goes: the requestor, memory, or both
 abbrev pub target_name : Target → List ℕ
 target_name target.Requestor = codes "requestor"
 target_name target.Memory = codes "memory"
 target_name target.Both = codes "requestor and memory"
 
--- what a cache controller does
+-- the words that texts have for what a cache controller does, such as `issue GetM`
 abbrev pub action_text : CacheAction → List ℕ
 action_text action.None = codes "none"
 action_text action.Hit = codes "hit"
@@ -95,7 +95,7 @@ action_text action.FillLoad = codes "fill load"
 action_text action.FillStore = codes "fill store"
 action_text (action.Send payload target) = payload_name payload ++ codes " to " ++ target_name target
 
--- what the memory controller does
+-- the words that texts have for what the memory controller does, such as `send Data`
 abbrev pub memory_action_text : MemAction → List ℕ
 memory_action_text mem_action.None = codes "none"
 memory_action_text (mem_action.Send payload) = codes "send " ++ payload_name payload

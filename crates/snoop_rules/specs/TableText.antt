@@ -35,7 +35,7 @@ cache_text protocol = flat_map (λ state. flat_map (cache_line_at protocol state
 unfoldable pub memory_text : Protocol → List ℕ
 memory_text protocol = flat_map (λ state. flat_map (memory_line_at protocol state) memory_events) memory_states
 
--- whose table is asked for
+-- the cache table or the memory table as a text: a line for each pair that is not impossible, with the names of the state and the event, the action, and the next state
 abbrev pub table_text : Protocol → Which → List ℕ
 table_text protocol Cache = cache_text protocol
 table_text protocol Memory = memory_text protocol

@@ -9,7 +9,7 @@ abbrev pub asked_of : Extent → Row → Asked
 asked_of shape row =
     record { core = row.core; work = record { block = row.address / shape.block_bytes; word = word_asked shape row.address row.op; op = row.op } }
 
--- the step that asks for it
+-- the step by which a core asks for a work: an Ask of its block, its word and its operation
 abbrev pub step_of : Asked → Step
 step_of asked = Ask asked.core asked.work.block asked.work.word asked.work.op
 

@@ -13,7 +13,7 @@ address_of shape block = block * shape.block_bytes
 abbrev pub word_address : Extent → ℕ → ℕ → ℕ
 word_address shape block word = address_of shape block + word * (shape.block_bytes / shape.words)
 
--- a step as a record
+-- the text of a step: its record without a line end, all numbers decimal, and for the word or the block its first address
 abbrev pub step_text : Extent → Step → List ℕ
 step_text shape (Ask core block word Load) = codes "L," ++ decimal core ++ codes "," ++ decimal (word_address shape block word)
 step_text shape (Ask core block word (Store value)) = codes "S," ++ decimal core ++ codes "," ++ decimal (word_address shape block word) ++ codes "," ++ decimal value

@@ -1,5 +1,5 @@
-use Rattle.std.{proofs.{Common.{◌≡◌, ◌++◌, List, ℕ, codes, refl, append_assoc}, lemmas.Result.on_ok_weaker}, specs.Fmt.decimal}
-use Rattle.snoop_history.{proofs.Common.Totals, specs.Report.{stores_text, requests_text, sources_text, writebacks_text}}
+use Rattle.std.{proofs.{Common.{◌≡◌, ◌++◌, List, ℕ, codes, refl, ap, ◌∙◌, append_assoc}, lemmas.Result.on_ok_weaker}, specs.Fmt.decimal}
+use Rattle.snoop_history.{proofs.Common.Totals, specs.Report.{stores_text, requests_text, sources_text, totals_text, writebacks_text}}
 use Rattle.snoop_history.proofs.report.push_totals.Goals as goal
 
 -- the names and counts, one after another, are the lines
@@ -16,8 +16,9 @@ lines_joined t old loads a b c d e f g h i j k l end = rw (end, l, k, j, i, h, g
 
 pub returns : goal.returns
 returns c =
-    on_ok_weaker c.push_byte.result (lines_joined c.args.t c.args.out.now.items (codes "loads ")
+    on_ok_weaker c.push_byte.result (λ end. lines_joined c.totals-t.result c.args.out.now.items (codes "loads ")
     c.in_ok-push_numbered.ensures.ok c.in_ok-push_numbered-2.ensures.ok c.in_ok-push_numbered-3.ensures.ok c.in_ok-push_numbered-4.ensures.ok c.in_ok-push_numbered-5.ensures.ok
     c.in_ok-push_numbered-6.ensures.ok c.in_ok-push_numbered-7.ensures.ok c.in_ok-push_numbered-8.ensures.ok c.in_ok-push_numbered-9.ensures.ok
-    c.in_ok-push_numbered-10.ensures.ok c.in_ok-push_numbered-11.ensures.ok c.in_ok-push_numbered-12.ensures.ok)
+    c.in_ok-push_numbered-10.ensures.ok c.in_ok-push_numbered-11.ensures.ok c.in_ok-push_numbered-12.ensures.ok
+    end ∙ ap (λ (t : Totals). c.args.out.now.items ++ totals_text t) c.totals-t.ensures)
     c.push_byte.ensures.ok

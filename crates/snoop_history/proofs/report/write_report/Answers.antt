@@ -5,7 +5,7 @@ use Rattle.{snoop_rules.proofs.TextLemmas.piece_more, snoop_trace.proofs.OutputL
 use Rattle.snoop_history.proofs.report.write_report.Goals as goal
 
 pub loop-block-init : goal.loop-block-init
-loop-block-init g c = rw append-nil (rw (c.new-report.ensures.items, c.totals.ensures) at c.in_ok-push_totals.ensures)
+loop-block-init g c = rw append-nil (rw c.new-report.ensures.items at c.in_ok-push_totals.ensures)
 
 pub loop-block-preserved : goal.loop-block-preserved
 loop-block-preserved g c =
@@ -13,6 +13,9 @@ loop-block-preserved g c =
     let blocks = sym c.touched-block-items.ensures.value in
     rw blocks (piece_more (λ block. block_text block (map (flat log.items block) (range_with_len 0 log.words))) c.touched-block-items.result.now c.loop-block.block-index 0
     (totals_text (totals_of log.items)) c.loop-block.report.items c.push_block.new.out.items c.loop-block-test.true (rw blocks at c.loop-block.invariant) c.in_ok-push_block.ensures)
+
+pub returns-in_err-push_totals-clause-front : goal.returns-in_err-push_totals-clause-front
+returns-in_err-push_totals-clause-front g c = search (rules, appends_none_of)
 
 pub returns-in_err-push_block-clause-front : goal.returns-in_err-push_block-clause-front
 returns-in_err-push_block-clause-front g c = search (rules, appends_none_of)
