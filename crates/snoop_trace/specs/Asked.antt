@@ -9,7 +9,7 @@ abbrev pub asked_of : Extent → Row → Asked
 asked_of shape row =
     record { core = row.core; work = record { block = row.address / shape.block_bytes; word = word_asked shape row.address row.op; op = row.op } }
 
--- the step that asks for it
+-- the Ask of what a row asks for: its core asks for the operation on the word of the block
 abbrev pub step_of : Asked → Step
 step_of asked = Ask asked.core asked.work.block asked.work.word asked.work.op
 
