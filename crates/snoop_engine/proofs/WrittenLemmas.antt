@@ -70,12 +70,12 @@ begins_nothing protocol shape steps a =
 
 -- a driver at its end has served its rows
 module _ {protocol : Protocol} {shape : Extent} {rows : List Row} {start : Progress} (at : IsAtTheStart protocol shape rows start) {a b : Option (List ℕ)} where
-  pub reports_run : LeadsToEndWith (IsAtTheEnd start) (WritesRun start.situation.shape a b) → ReportsRun protocol shape rows a b
+  pub reports_run : LeadsToEndWith (IsAtTheEnd start) (WritesRun shape a b) → ReportsRun protocol shape rows a b
   reports_run end =
       let served = driver_served at end.way in
-      record { steps = end.steps; outcomes = end.outcomes; final = end.final; run = served.0; serves = served.1; output = rw at.situation at end.holds }
+      record { steps = end.steps; outcomes = end.outcomes; final = end.final; run = served.0; serves = served.1; output = end.holds }
 
-  pub begins_run : LeadsToEndWith (IsAtTheEnd start) (WritesFront start.situation.shape a b) → BeginsRun protocol shape rows a b
+  pub begins_run : LeadsToEndWith (IsAtTheEnd start) (WritesFront shape a b) → BeginsRun protocol shape rows a b
   begins_run end =
       let served = driver_served at end.way in
       record {
@@ -86,17 +86,17 @@ module _ {protocol : Protocol} {shape : Extent} {rows : List Row} {start : Progr
         taken = served.1.taken;
         asked = λ core. ([], sym (served.1.asked core) ∙ sym (append-nil _));
         apart = served.1.apart;
-        output = inr (served.1, rw at.situation at end.holds);
+        output = inr (served.1, end.holds);
       }
 
 -- and so has one that serves them one after another
 module _ {protocol : Protocol} {shape : Extent} {rows : List Row} {start : InOrder} (at : start.situation ≡ reset protocol shape) (left : start.left ≡ rows) {a b : Option (List ℕ)} where
-  pub reports_serial : LeadsToEndWith (EndsInOrder start) (WritesRun start.situation.shape a b) → ReportsSerial protocol shape rows a b
+  pub reports_serial : LeadsToEndWith (EndsInOrder start) (WritesRun shape a b) → ReportsSerial protocol shape rows a b
   reports_serial end =
       let served = in_order_served at left end.way in
-      record { steps = end.steps; outcomes = end.outcomes; final = end.final; run = served.0; serves = served.1; output = rw at at end.holds }
+      record { steps = end.steps; outcomes = end.outcomes; final = end.final; run = served.0; serves = served.1; output = end.holds }
 
-  pub begins_serial : LeadsToEndWith (EndsInOrder start) (WritesFront start.situation.shape a b) → BeginsSerial protocol shape rows a b
+  pub begins_serial : LeadsToEndWith (EndsInOrder start) (WritesFront shape a b) → BeginsSerial protocol shape rows a b
   begins_serial end =
       let served = in_order_served at left end.way in
       record {
@@ -110,7 +110,7 @@ module _ {protocol : Protocol} {shape : Extent} {rows : List Row} {start : InOrd
         whole = sym (append-nil rows);
         asked = served.1.asked;
         apart = served.1.apart;
-        output = inr (served.1, rw at at end.holds);
+        output = inr (served.1, end.holds);
       }
 
 -- a failed write, or out of memory: what a fault of a write becomes

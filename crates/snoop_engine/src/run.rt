@@ -39,6 +39,6 @@ pub fn simulate_run<R: Source, W: Sink>(
     ensures blamed { BlamesWriter (W.failed writer.old) (W.failed writer.new) (result ≡ Err SimFault.Write) }
 {
     let mut driver = read_driver(alloc, reader, protocol, shape)?;
-    write_lines(alloc, writer, &mut driver)?;
+    write_lines(alloc, writer, shape, &mut driver)?;
     Ok(())
 }

@@ -40,6 +40,6 @@ pub fn simulate_serial<R: Source, W: Sink>(
     let Ok(mut driver) = SerialDriver::new(alloc, protocol, shape, &rows) else {
         return Err(SimFault::Text(TextFault::NoMemory));
     };
-    write_lines(alloc, writer, &mut driver)?;
+    write_lines(alloc, writer, shape, &mut driver)?;
     Ok(())
 }

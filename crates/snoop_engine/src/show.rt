@@ -96,7 +96,7 @@ fn view_rows<R: Source, W: Sink, V: View>(
     ensures blamed { BlamesWriter (W.failed writer.old) (W.failed writer.new) (result ≡ Err SimFault.Write) }
 {
     let mut driver = read_driver(alloc, reader, protocol, shape)?;
-    show(alloc, writer, &mut driver, view)?;
+    show(alloc, writer, shape, &mut driver, view)?;
     Ok(())
 }
 
@@ -120,7 +120,7 @@ fn view_serial_rows<R: Source, W: Sink, V: View>(
     let Ok(mut driver) = SerialDriver::new(alloc, protocol, shape, &rows) else {
         return Err(SimFault::Text(TextFault::NoMemory));
     };
-    show(alloc, writer, &mut driver, view)?;
+    show(alloc, writer, shape, &mut driver, view)?;
     Ok(())
 }
 
@@ -160,24 +160,25 @@ fn show_script<W: Sink, S: Script + Drop, V: View>(
 {
     let machine = Machine::reset(alloc, protocol, shape)?;
     let mut course = Listed { machine, script };
-    show(alloc, writer, &mut course, view)
+    show(alloc, writer, shape, &mut course, view)
 }
 
-/// Takes the steps of a course to its end, and writes what the view shows of them.
+/// Takes the steps of a course from reset to its end, on a machine of this shape, and writes what the view shows of them.
 fn show<W: Sink, C: Course, V: View>(
     alloc: Global,
     writer: &mut W,
+    shape: Shape,
     course: &mut C,
     view: &mut V,
 ) -> Result<(), WriteFault>
-    requires { let s = C.situation course.old in s ≡ reset s.protocol s.shape }
-    ensures ok { let s = C.situation course.old in OnOk result (LeadsToEndWith (C.leads course.old) (λ steps _ _. ShowsRun s.protocol s.shape (view_text (V.heading view.old s.protocol s.shape) (V.shows view.old s.protocol s.shape) (V.ending view.old s.protocol s.shape)) steps (W.contents writer.old) (W.contents writer.new))) }
-    ensures front { let s = C.situation course.old in OnErr result (LeadsToEndWith (C.leads course.old) (λ steps _ _. BeginsToShow s.protocol s.shape (view_text (V.heading view.old s.protocol s.shape) (V.shows view.old s.protocol s.shape) (V.ending view.old s.protocol s.shape)) steps (W.contents writer.old) (W.contents writer.new))) }
+    requires { let s = C.situation course.old in s ≡ reset s.protocol shape }
+    ensures ok { let s = C.situation course.old in OnOk result (LeadsToEndWith (C.leads course.old) (λ steps _ _. ShowsRun s.protocol shape (view_text (V.heading view.old s.protocol shape) (V.shows view.old s.protocol shape) (V.ending view.old s.protocol shape)) steps (W.contents writer.old) (W.contents writer.new))) }
+    ensures front { let s = C.situation course.old in OnErr result (LeadsToEndWith (C.leads course.old) (λ steps _ _. BeginsToShow s.protocol shape (view_text (V.heading view.old s.protocol shape) (V.shows view.old s.protocol shape) (V.ending view.old s.protocol shape)) steps (W.contents writer.old) (W.contents writer.new))) }
     ensures never_blamed { W.never_fails ≡ true → result ≢ Err WriteFault.Write }
     ensures blamed { BlamesWriter (W.failed writer.old) (W.failed writer.new) (result ≡ Err WriteFault.Write) }
 {
     course.can_end();
-    let mut askers = Askers::new(alloc, course.machine().shape().blocks())?;
+    let mut askers = Askers::new(alloc, shape.blocks())?;
     let mut chunk = Vec::new(alloc);
     let mut lines = Vec::new(alloc);
     let mut number = 0;

@@ -52,25 +52,25 @@ pub fn simulate_steps<R: Source, W: Sink>(
         machine,
         script: steps,
     };
-    write_lines(alloc, writer, &mut course)?;
+    write_lines(alloc, writer, shape, &mut course)?;
     Ok(())
 }
 
-/// Takes the steps of a course to its end, and writes the line of each and then the report.
+/// Takes the steps of a course from reset to its end, on a machine of this shape, and writes the line of each and then the report.
 pub(crate) fn write_lines<W: Sink, C: Course>(
     alloc: Global,
     writer: &mut W,
+    shape: Shape,
     course: &mut C,
 ) -> Result<(), WriteFault>
-    requires { let s = C.situation course.old in s ≡ reset s.protocol s.shape }
-    ensures ok { OnOk result (LeadsToEndWith (C.leads course.old) (λ steps outcomes final. Appends (W.contents writer.old) (W.contents writer.new) (run_text (C.situation course.old).shape steps outcomes final))) }
-    ensures front { OnErr result (LeadsToEndWith (C.leads course.old) (λ steps outcomes final. AppendsFront (W.contents writer.old) (W.contents writer.new) (run_text (C.situation course.old).shape steps outcomes final))) }
+    requires { let s = C.situation course.old in s ≡ reset s.protocol shape }
+    ensures ok { OnOk result (LeadsToEndWith (C.leads course.old) (λ steps outcomes final. Appends (W.contents writer.old) (W.contents writer.new) (run_text shape steps outcomes final))) }
+    ensures front { OnErr result (LeadsToEndWith (C.leads course.old) (λ steps outcomes final. AppendsFront (W.contents writer.old) (W.contents writer.new) (run_text shape steps outcomes final))) }
     ensures never_blamed { W.never_fails ≡ true → result ≢ Err WriteFault.Write }
     ensures blamed { BlamesWriter (W.failed writer.old) (W.failed writer.new) (result ≡ Err WriteFault.Write) }
 {
     // For the proof alone, here and in the loop.
     course.can_end();
-    let shape = course.machine().shape();
     let mut chunk = Vec::new(alloc);
     while let Some(step) = course.find() {
         let outcome = course.take(step)?;

@@ -1,4 +1,4 @@
-use Rattle.snoop_engine.proofs.{Common.◌∙◌, Common.{[], sym, on_err, refl, append-nil}, Gathering.{gathering_none, gathering_spilled}}
+use Rattle.snoop_engine.proofs.{Common.{◌∙◌, ◌≡◌}, Common.{ap, [], sym, Situation, on_err, refl, append-nil}, Gathering.{gathering_none, gathering_spilled}}
 use Rattle.snoop_engine.proofs.ShownLemmas.{ends_with_nothing, showing_cut, showing_cut_at_end, showing_done, showing_more, showing_stop}
 use Rattle.snoop_engine.proofs.show.show.Goals as goal
 
@@ -13,13 +13,13 @@ returns-in_err-begin-clause-front g c =
 pub loop-step-init : goal.loop-step-init
 loop-step-init g c =
     let s = g.C.Course.situation c.args.course.now in
-    let blocks = rw (c.shape.ensures, c.machine.ensures) at c.blocks-2.ensures.value in (
+    let same : s.shape ≡ c.args.shape = ap (λ (t : Situation). t.shape) c.requires in (
       record {
-        so_far = gathering_none _ _ _ _ _ _ _ _ c.requires (c.can_end.ensures s.protocol s.shape [] [] c.requires) (refl, rw c.machine-2.ensures at c.in_ok-begin.ensures.begins)
-            (rw append-nil (rw (c.machine-2.ensures, c.new-chunk.ensures.items) at c.in_ok-begin.ensures.text));
+        so_far = gathering_none _ _ _ _ _ _ _ _ c.requires (c.can_end.ensures s.protocol c.args.shape [] [] c.requires) (refl, rw (c.machine.ensures, same) at c.in_ok-begin.ensures.begins)
+            (rw append-nil (rw (c.machine.ensures, same, c.new-chunk.ensures.items) at c.in_ok-begin.ensures.text));
       },
       (λ none. none),
-      rw c.requires (c.in_ok-askers.ensures s.protocol s.shape (sym blocks)),
+      rw c.requires (c.in_ok-askers.ensures s.protocol c.args.shape (sym c.blocks-2.ensures.value)),
     )
 
 pub returns-in_err-number-clause-front : goal.returns-in_err-number-clause-front
@@ -57,9 +57,9 @@ pub returns-in_err-write_whole-clause-front : goal.returns-in_err-write_whole-cl
 returns-in_err-write_whole-clause-front g c =
     on_err c.from_residual-in_err-write_whole.result _
     (showing_cut_at_end c.loop-step.invariant.0 (g.V.View.ending c.args.view.now) c.end.new.out.items (rw c.in_default.is at c.find.ensures.end)
-    (rw (c.machine-3.ensures, c.find.ensures.same) at (c.in_ok-end.ensures c.args.view.now)) _ (rw c.deref-2.ensures.value at c.in_err-write_whole.ensures.front))
+    (rw (c.machine-2.ensures, c.find.ensures.same) at (c.in_ok-end.ensures c.args.view.now)) _ (rw c.deref-2.ensures.value at c.in_err-write_whole.ensures.front))
 
 pub returns-clause-ok : goal.returns-clause-ok
 returns-clause-ok g c =
     showing_done c.loop-step.invariant.0 (g.V.View.ending c.args.view.now) c.end.new.out.items (rw c.in_default.is at c.find.ensures.end)
-    (rw (c.machine-3.ensures, c.find.ensures.same) at (c.in_ok-end.ensures c.args.view.now)) _ (rw c.deref-2.ensures.value at c.in_ok-write_whole.ensures.ok)
+    (rw (c.machine-2.ensures, c.find.ensures.same) at (c.in_ok-end.ensures c.args.view.now)) _ (rw c.deref-2.ensures.value at c.in_ok-write_whole.ensures.ok)

@@ -5,7 +5,7 @@ use Rattle.snoop_engine.proofs.show.show.Given as goal
 abbrev pub invariant-loop-step : goal.invariant-loop-step
 invariant-loop-step g l =
     let s = g.C.Course.situation l.fn.course in
-    Showing s.protocol s.shape (g.V.View.heading l.fn.view) (g.V.View.shows l.fn.view) (λ p s frames. g.V.View.has_seen l.fn.view p s frames l.view) l.number
+    Showing s.protocol l.fn.shape (g.V.View.heading l.fn.view) (g.V.View.shows l.fn.view) (λ p s frames. g.V.View.has_seen l.fn.view p s frames l.view) l.number
     (g.C.Course.leads l.fn.course) (g.C.Course.leads l.course) (g.C.Course.situation l.course) (g.W.Write.contents l.fn.writer) (g.W.Write.contents l.writer) l.chunk.items
     × (g.W.Sink.failed l.fn.writer ≡ Some false → g.W.Sink.failed l.writer ≡ Some false) × AreAskers (g.C.Course.situation l.course) l.askers.sets
 
