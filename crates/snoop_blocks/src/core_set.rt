@@ -6,7 +6,7 @@ ghost use Rattle.snoop_blocks.specs.CoreSet.{has, LacksUpTo};
 use std::marker::Model;
 
 /// A set of cores: a bit for each of the 256 that there are at most.
-#[derive(Clone, Copy)]
+#[derive(Clone, Copy, Default)]
 pub struct CoreSet {
     words: [u64; 4],
 }
@@ -29,7 +29,7 @@ impl CoreSet {
     pub fn empty() -> CoreSet
         ensures { (k : ℕ) → has result k ≡ false }
     {
-        CoreSet { words: [0; 4] }
+        CoreSet::default()
     }
 
     /// Puts the core into the set, or takes it out.
