@@ -1,8 +1,8 @@
 -- The bits of a set of cores.
 use Rattle.std.proofs.Common.{◌≡◌, ◌≢◌, ℕ, ◌+◌, ◌-◌, ◌*◌, ◌/◌, ◌%◌, ◌^◌, ◌<◌, ◌≤◌, List, length, get_or, true, false, refl, arith, inl, inr, w64}
-use Rattle.std.{specs.{Array.AllOfLen, Prelude.{slice_index_or, slice_set, ◌==◌}, Int.{bit_at, trailing_zeros}}, proofs.lemmas.{Bool.{cases_eq, cases_lt}, Nat.shr-shr}}
+use Rattle.std.{specs.{Prelude.{slice_index_or, slice_set, ◌==◌}, Int.{bit_at, trailing_zeros}}, proofs.lemmas.{Bool.{cases_eq, cases_lt}, Nat.shr-shr}}
 use Rattle.std.proofs.lemmas.{List.{get_or-set_same, get_or-set_other, get_or_past}, Nat.Bits.{bit_at-zero, bit_at_above, bit_at-trailing_zeros}}
-use Rattle.snoop_blocks.specs.CoreSet.{has, LacksUpTo}
+use Rattle.snoop_blocks.specs.{CoreSet.{has, LacksUpTo}, contracts.core_set.CoreSetDefault.TheImpl.{is_default-value}}
 
 -- a core beyond the words is in no set
 pub has_past : (words : List ℕ) (k : ℕ) → length words ≡ 4 → 256 ≤ k → has words k ≡ false
@@ -10,11 +10,11 @@ unfolding has
 has_past words k long past = rw (get_or_past words (k / 64) 0 (omega arith), bit_at-zero (k % 64)) refl
 
 -- a set that is made by default has no core
-pub no_cores : (words : List ℕ) → AllOfLen (λ (word : ℕ). word ≡ 0) words 4 → (k : ℕ) → has words k ≡ false
+pub no_cores : (set : List ℕ) → is_default-value.it set → (k : ℕ) → has set k ≡ false
 unfolding has
-no_cores words zeros k =
-    let zero_word : slice_index_or words (k / 64) 0 ≡ 0 = elim (cases_lt (k / 64) 4) [ inl lt ↦ zeros.at (k / 64) 0 lt | inr ge ↦ get_or_past words (k / 64) 0 (omega (arith, zeros.long)) ] in
-    rw (zero_word, bit_at-zero (k % 64)) refl
+no_cores set (made, is, zeros) k =
+    let zero_word : slice_index_or made.words (k / 64) 0 ≡ 0 = elim (cases_lt (k / 64) 4) [ inl lt ↦ zeros.at (k / 64) 0 lt | inr ge ↦ get_or_past made.words (k / 64) 0 (omega (arith, zeros.long)) ] in
+    rw (← is, zero_word, bit_at-zero (k % 64)) refl
 
 -- a word is new
 module _ (words : List ℕ) (core word : ℕ) (long : length words ≡ 4) (few : core < 256) where

@@ -3,7 +3,7 @@ use Rattle.snoop_machine.proofs.lines.follow.Goals as goal
 
 pub returns : goal.returns
 returns c =
-    let is = c.get_or-moved.ensures ∙ get_or_default c.args.holders.now c.args.block c.empty.result no_holders c.requires.block in
+    let is = c.get_or-moved.ensures ∙ get_or_default c.args.holders.now c.args.block c.default.result no_holders c.requires.block in
     record {
       moved = record { owners = c.set.new.self; readers = c.set-2.new.self };
       set = c.set-3.ensures;

@@ -11,7 +11,7 @@ concerned-requires g c =
 fits : (g : _) (c : After-concerned g) → AreHolders c.get_or-holders.result (slice_index_or c.args.self.now.rows c.args.block [])
 fits g c =
     let within = (in_rows c.self.invariant c.self.view_is c.args.requestor c.args.block c.requires.block c.requires.requestor).0 in
-    let read = c.get_or-holders.ensures ∙ get_or_default c.self.inside.holders c.args.block c.empty.result no_holders within in
+    let read = c.get_or-holders.ensures ∙ get_or_default c.self.inside.holders c.args.block c.default.result no_holders within in
     rw (read, ← (row_seen c.self.invariant c.self.view_is c.args.block within)) (c.self.invariant.indexed c.args.block within)
 
 pub returns-clause-concerned : goal.returns-clause-concerned

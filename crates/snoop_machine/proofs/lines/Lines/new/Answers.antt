@@ -1,5 +1,5 @@
 use Rattle.snoop_machine.proofs.Common.{◌≡◌, ℕ, length, replicate, refl, ◌∙◌, ap, arith, common_steps, err_from_is_err_and, length-replicate, get_or-replicate, nothing_held, no_holders, is_owner, replicated, List, Contents, slice_index_or, no_cache, [], line_in, lines_held, constant, held_by_block, sym, map, blocks_of, ◌++◌, ◌∷◌}
-use Rattle.snoop_model.proofs.Invariant.Runs.{nothing_proper}
+use Rattle.{snoop_blocks.proofs.CoreSets.{no_cores}, snoop_model.proofs.Invariant.Runs.{nothing_proper}}
 use Rattle.std.proofs.lemmas.List.FromFn.{fill_by_all}
 use Rattle.snoop_machine.proofs.lines.Lines.new.Goals as goal
 use Rattle.snoop_machine.proofs.lines.Lines.new.Goals.{In_ok-holders}
@@ -24,8 +24,8 @@ module _ (caches : List Contents) (empty : (core : ℕ) → (slice_index_or cach
 counted : (g : _) (c : In_ok-holders g) → length c.loop.caches.items ≡ c.args.shape.cores
 counted g c = omega (arith, c.loop.invariant.1, c.loop-test.false, c.loop.auto.counter-end, c.cores-cores.ensures.value)
 
-holders_are : (g : _) (c : In_ok-holders g) → c.in_ok-holders.holders ≡ replicate c.args.shape.blocks c.empty.result
-holders_are g c = c.in_ok-holders.ensures ∙ ap (λ (n : ℕ). replicate n c.empty.result) c.blocks-2.ensures.value
+holders_are : (g : _) (c : In_ok-holders g) → c.in_ok-holders.holders ≡ replicate c.args.shape.blocks c.default.result
+holders_are g c = c.in_ok-holders.ensures ∙ ap (λ (n : ℕ). replicate n c.default.result) c.blocks-2.ensures.value
 
 pub loop-preserved : goal.loop-preserved
 loop-preserved g c = (
@@ -47,10 +47,10 @@ invariant_of-result g c =
       few = omega (arith, counted g d, c.requires);
       proper = λ core block. rw (c.loop.invariant.0 core) nothing_proper;
       indexed = λ block lt.
-          let within = rw (holders_are g d, length-replicate blocks c.empty.result) at lt in
-          rw (holders_are g d, get_or-replicate blocks block c.empty.result no_holders within, row-empty caches c.loop.invariant.0 block) (record {
-            owners = λ core. rw (replicated (length caches) core nothing_held) (c.empty.ensures.owners core);
-            readers = λ core. rw (replicated (length caches) core nothing_held) (c.empty.ensures.readers core);
+          let within = rw (holders_are g d, length-replicate blocks c.default.result) at lt in
+          rw (holders_are g d, get_or-replicate blocks block c.default.result no_holders within, row-empty caches c.loop.invariant.0 block) (record {
+            owners = λ core. rw (replicated (length caches) core nothing_held) (no_cores _ c.default.ensures.0 core);
+            readers = λ core. rw (replicated (length caches) core nothing_held) (no_cores _ c.default.ensures.1 core);
           });
     }
 
@@ -59,6 +59,6 @@ returns g c =
     let d = (goal.at.returns g c).In_ok-holders in
     let caches = c.loop.caches.items in
     record {
-      rows = rw (holders_are g d, length-replicate c.args.shape.blocks c.empty.result, rows-empty caches c.loop.invariant.0 c.args.shape.blocks, counted g d) refl;
+      rows = rw (holders_are g d, length-replicate c.args.shape.blocks c.default.result, rows-empty caches c.loop.invariant.0 c.args.shape.blocks, counted g d) refl;
       lines = rw (blocks-empty caches c.loop.invariant.0, counted g d) refl;
     }
