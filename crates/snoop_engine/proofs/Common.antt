@@ -23,7 +23,7 @@ pub use Rattle.snoop_model.specs.{Runs.Run.{FirstRunFrom, GoesFirst, TheRun}, Tu
 pub use Rattle.snoop_model.specs.declared.replies.{Refused.{Refused, TheVariants.{BusTaken, Stalled, NoTransaction}}, Reply.Reply}
 pub use Rattle.snoop_engine.specs.{Askers.{AreAskers, AreOthersInI}, Chosen.{Chosen, is_shown}, Fault.fault_of_write, Words.spaced}
 pub use Rattle.snoop_engine.specs.Counts.{takes_memory_row, takes_row, all_lines, counts_text, frames_counts_text, memory_count_at, cache_count_at}
-pub use Rattle.snoop_engine.specs.{Courses.{CanEnd, LeadsToEndWith, Leading, LeadsOn}, Inputs.{GivesSteps, StepsServe, StepsServeSerially}}
+pub use Rattle.snoop_engine.specs.{Courses.{CanEnd, CanEndFrom, LeadsListed, LeadsToEndWith, Leading, LeadsOn}, Inputs.{GivesSteps, StepsServe, StepsServeSerially}}
 pub use Rattle.snoop_engine.specs.{Frames.{Frame, FramesAreTheRun, FramesFrom, outcomes_of, steps_of, AreFrames}, Journey.{IsAtTheEnd, IsAtTheStart}}
 pub use Rattle.snoop_engine.specs.InOrder.{InOrder, IsInOrder, TakesUpNext, row_under_way, EndsInOrder, remaining_in_order, LeadsToRest}
 pub use Rattle.snoop_engine.specs.{Numbered.{Numbered, numbered_from, led_to}, Serial.{ask_for, is_ask, ServesSerially, all_asks}, Widths.{most_stored, stored}}

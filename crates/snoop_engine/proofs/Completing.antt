@@ -1,5 +1,5 @@
 -- From wherever a driver of rows has come, its rows can be served.
-use Rattle.snoop_engine.proofs.Common.{eq-eqb, option_map_or, IsIdle, get_or, get_or_default, ◌≡◌, ℕ, zero, suc, ◌+◌, ◌/◌, ◌<◌, true, Option, Some, None, List, [], ◌∷◌, length, refl, sym, ◌∙◌, ap, arith, inl, inr, Result, Ok, IsOk, slice_set, All-head, All-nil, All-tail, Extent, word_asked, Row, Step, Ask, Work, Protocol, Reply, Refused, FirstMove, Situation, reset, TheRun, IsUnderWay, turn_of, CanEnd, Leading, LeadsOn, EndsInOrder, InOrder, IsInOrder, TakesUpNext, remaining_in_order, row_under_way, IsAtTheEnd, ServesOnly, nothing, AsksWhenQuiet, IsEnabled, IsFit, IsOver, Progress, TakesUp, remaining, ask_for, Todo, block_of_work, left_in, nothing_to_do, todo_of, lanes_under_way}
+use Rattle.snoop_engine.proofs.Common.{eq-eqb, option_map_or, IsIdle, get_or, get_or_default, ◌≡◌, ℕ, zero, suc, ◌+◌, ◌/◌, ◌<◌, true, Option, Some, None, List, [], ◌∷◌, length, refl, sym, ◌∙◌, ap, arith, inl, inr, Ok, IsOk, slice_set, All-head, All-nil, All-tail, word_asked, Row, Step, Ask, Work, Reply, FirstMove, Situation, reset, IsUnderWay, turn_of, CanEnd, CanEndFrom, LeadsListed, runs_go_on, Leading, LeadsOn, EndsInOrder, InOrder, IsInOrder, TakesUpNext, remaining_in_order, row_under_way, IsAtTheEnd, ServesOnly, nothing, AsksWhenQuiet, IsEnabled, IsFit, IsOver, Progress, TakesUp, remaining, ask_for, Todo, block_of_work, left_in, nothing_to_do, todo_of, lanes_under_way}
 use Rattle.snoop_model.proofs.{Queues.keeps_well, Runs.GoOn.{IsSteady, moves_on, reset_steady, run_steady, steady_on}}
 use Rattle.snoop_engine.proofs.CourseLemmas.{one_none, driver_leads, fewer_in_order, in_order_ends, in_order_leads, leaves_fewer, left_same}
 use Rattle.snoop_engine.proofs.Driving.{all_done, fit_begins, fit_idles, fit_moves, goes_begun, goes_on, lane_apart, lane_put, over_idle, over_now, quiet_over, takes_first}
@@ -125,12 +125,18 @@ module _ (s : Situation) (left : List Row) (row : Option Row)
       then left row step fit (none.1 (row_under_way s.shape row)) (goes_on_enabled (rw its at fit) (Some step) is) (asks_nothing_more there step none.0)
 
 -- wherever a run has led, such drivers can go on to their ends
-pub driver_can_end : (d : Progress) → IsFit d.situation d.lanes d.turns → (protocol : Protocol) (shape : Extent) (steps : List Step) (outcomes : List (Result Reply Refused)) → TheRun protocol shape steps outcomes d.situation → CanEnd (IsAtTheEnd d)
+pub driver_can_end : (d : Progress) → IsFit d.situation d.lanes d.turns → CanEndFrom d.situation (IsAtTheEnd d)
 driver_can_end d fit protocol shape steps outcomes run =
     by_less turns_left DriverEnds (λ d. driver_ends d.situation d.lanes d.turns) (suc (turns_left d)) d (omega arith) fit
     (run_steady steps outcomes (reset protocol shape) d.situation (reset_steady protocol shape) run)
 
-pub in_order_can_end : (d : InOrder) → IsInOrder d.situation d.left d.row → (protocol : Protocol) (shape : Extent) (steps : List Step) (outcomes : List (Result Reply Refused)) → TheRun protocol shape steps outcomes d.situation → CanEnd (EndsInOrder d)
+pub in_order_can_end : (d : InOrder) → IsInOrder d.situation d.left d.row → CanEndFrom d.situation (EndsInOrder d)
 in_order_can_end d fit protocol shape steps outcomes run =
     by_less remaining_in_order InOrderEnds (λ d on fit steady. then_row d.situation d.left d.row on fit steady d.row _ refl refl) (suc (remaining_in_order d)) d (omega arith) fit
     (run_steady steps outcomes (reset protocol shape) d.situation (reset_steady protocol shape) run)
+
+-- and so can steps that are all known
+pub listed_can_end : (left : List Step) (here : Situation) → CanEndFrom here (LeadsListed left here)
+listed_can_end left here protocol shape steps outcomes run =
+    let more = runs_go_on protocol shape steps left outcomes here run in
+    record { steps = left; outcomes = more.0; final = more.1.0; way = (refl, more.1.1) }

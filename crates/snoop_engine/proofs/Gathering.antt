@@ -1,5 +1,5 @@
 -- How far a course has come: the frames of its steps, and the text of these, which was written or stands in the chunk.
-use Rattle.snoop_engine.proofs.Common.{◌≡◌, List, [], ◌∷◌, ◌++◌, Option, refl, sym, append_assoc, append-nil, map-append, Result, ℕ, Extent, Gathers, Spills, Protocol, Step, Reply, Refused, Situation, reset, GoesFirst, TheRun, appends_none, gathers_more, gathers_spilled, CanEnd, LeadsToEndWith, Leading, LeadsOn, Frame, FramesFrom, outcomes_of, steps_of}
+use Rattle.snoop_engine.proofs.Common.{◌≡◌, List, [], ◌∷◌, ◌++◌, Option, refl, sym, append_assoc, append-nil, map-append, Result, ℕ, Extent, Gathers, Spills, Protocol, Step, Reply, Refused, Situation, reset, GoesFirst, appends_none, gathers_more, gathers_spilled, CanEnd, CanEndFrom, LeadsToEndWith, Leading, LeadsOn, Frame, FramesFrom, outcomes_of, steps_of}
 use Rattle.snoop_engine.proofs.TakenLemmas.{frames_on, frames_run}
 
 -- what leads on from here leads on from the first place too, after these steps
@@ -39,7 +39,7 @@ module _ {protocol : Protocol} {shape : Extent} {text : List Frame → List ℕ}
 
     pub gathering_more : (holds_then : List Frame → Type 0) (next : Leading) (piece grown : List ℕ)
         → GoesFirst here step outcome after → LeadsOn now step outcome next
-        → ((steps : List Step) (outcomes : List (Result Reply Refused)) → TheRun protocol shape steps outcomes after → CanEnd next)
+        → CanEndFrom after next
         → holds_then longer → text longer ≡ text far.frames ++ piece → grown ≡ chunk ++ piece → Gathering protocol shape text holds_then first next after a b grown
     gathering_more holds_then next piece grown goes on can_end held grows e =
         let run : FramesFrom (reset protocol shape) longer after =
@@ -49,7 +49,7 @@ module _ {protocol : Protocol} {shape : Extent} {text : List Frame → List ℕ}
           frames = longer;
           run = run;
           leads = rw (map-append (λ (f : Frame). f.step) far.frames _, map-append (λ (f : Frame). f.outcome) far.frames _) leads;
-          can_end = can_end (steps_of longer) (outcomes_of longer) (frames_run longer (reset protocol shape) after run);
+          can_end = can_end protocol shape (steps_of longer) (outcomes_of longer) (frames_run longer (reset protocol shape) after run);
           held = held;
           lines = rw grows (gathers_more a b chunk grown _ piece far.lines e);
         }

@@ -1,5 +1,5 @@
 -- The frames that a view was shown: what was written of them, or stands in the chunk.
-use Rattle.snoop_engine.proofs.Common.{map-append, ◌≡◌, ℕ, ◌+◌, List, [], ◌∷◌, ◌++◌, length, length-append, Option, refl, ◌∙◌, append_assoc, append-nil, arith, Result, Ok, Err, IsErrAnd, subst, Appends, Extent, AppendsFront, Step, Protocol, WriteFault, gathers_cut, gathers_done, gathers_more, gathers_stop, appends_none_of, Reply, Refused, Situation, reset, GoesFirst, runs_go_on, TheRun, CanEnd, LeadsToEndWith, Leading, LeadsOn, fault_of_write, AreFrames, Frame, FramesFrom, Gathers, GivesSteps, lines_of_step, IsNextSeen, block_of_step, frame_seen, shown, view_text, SimFault, Seen, steps_of, outcomes_of}
+use Rattle.snoop_engine.proofs.Common.{map-append, ◌≡◌, ℕ, ◌+◌, List, [], ◌∷◌, ◌++◌, length, length-append, Option, refl, ◌∙◌, append_assoc, append-nil, arith, Result, Ok, Err, IsErrAnd, subst, Appends, Extent, AppendsFront, Step, Protocol, WriteFault, gathers_cut, gathers_done, gathers_more, gathers_stop, appends_none_of, Situation, reset, GoesFirst, runs_go_on, CanEnd, CanEndFrom, LeadsToEndWith, Leading, LeadsOn, fault_of_write, AreFrames, Frame, FramesFrom, Gathers, GivesSteps, lines_of_step, IsNextSeen, block_of_step, frame_seen, shown, view_text, SimFault, Seen, steps_of, outcomes_of}
 use Rattle.snoop_trace.specs.declared.fault.WriteFault.TheVariants as write
 use Rattle.snoop_engine.specs.{SimulatedView.{BeginsToShow, ShowsRun, SimulatesView}, declared.{input.Input.Input, fault.SimFault.TheVariants.Text}}
 use Rattle.snoop_engine.proofs.{Gathering.{Gathering, gathering_more, ends_here, ends_on}, TrueLines.lines_fit}
@@ -65,7 +65,7 @@ module _ {protocol : Protocol} {shape : Extent} {heading : Protocol → Extent �
   pub showing_more : (after_it : Protocol → Extent → List Frame → Type 0) (next : Leading) (what : Seen) (after : Situation) (grown : List ℕ) → what.number ≡ number + 1
       → GoesFirst to what.step what.outcome after → what.lines.now ≡ lines_of_step to what.step what.outcome → what.block ≡ block_of_step to what.step
       → LeadsOn now what.step what.outcome next
-      → ((steps : List Step) (outcomes : List (Result Reply Refused)) → TheRun protocol shape steps outcomes after → CanEnd next)
+      → CanEndFrom after next
       → Sees after_it what after grown after.protocol after.shape
       → Showing protocol shape heading shows after_it what.number first next after a b grown
   showing_more after_it next what after grown counted goes lines block on can_end sees =

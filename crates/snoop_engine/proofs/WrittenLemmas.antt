@@ -1,5 +1,5 @@
 -- The lines of a course's steps, written or in the chunk, and then the report.
-use Rattle.snoop_engine.proofs.Common.{arith, common_steps, ◌≡◌, ℕ, List, [], ◌∷◌, ◌++◌, Option, sym, ◌∙◌, append_assoc, append-nil, map-append, inr, ◌⊎◌, Result, Err, IsErrAnd, Appends, Extent, AppendsFront, WriteFault, Protocol, Row, Step, gathers_cut, gathers_done, gathers_stop, appends_none_of, Item, Reply, Refused, Situation, reset, GoesFirst, runs_go_on, TheRun, appends_more, front_after, CanEnd, LeadsToEndWith, Leading, LeadsOn, fault_of_write, EndsInOrder, InOrder, IsAtTheEnd, IsAtTheStart, Progress, SimFault, Frame, outcomes_of, steps_of, refl}
+use Rattle.snoop_engine.proofs.Common.{arith, common_steps, ◌≡◌, ℕ, List, [], ◌∷◌, ◌++◌, Option, sym, ◌∙◌, append_assoc, append-nil, map-append, inr, ◌⊎◌, Result, Err, IsErrAnd, Appends, Extent, AppendsFront, WriteFault, Protocol, Row, Step, gathers_cut, gathers_done, gathers_stop, appends_none_of, Item, Reply, Refused, Situation, reset, GoesFirst, runs_go_on, appends_more, front_after, CanEndFrom, LeadsToEndWith, Leading, LeadsOn, fault_of_write, EndsInOrder, InOrder, IsAtTheEnd, IsAtTheStart, Progress, SimFault, Frame, outcomes_of, steps_of, refl}
 use Rattle.snoop_history.specs.Report.{report_of}
 use Rattle.snoop_engine.specs.{Line.{line_text, line_texts}, Simulated.Begins, SimulatedRun.{BeginsRun, ReportsRun}, Written.run_text}
 use Rattle.snoop_engine.{specs.SimulatedSerial.{BeginsSerial, ReportsSerial}, proofs.{CourseLemmas.{driver_served, in_order_served}, TakenLemmas.frames_keep}}
@@ -32,7 +32,7 @@ Writing protocol shape = Gathering protocol shape (lines_of shape) (λ frames. U
 module _ {protocol : Protocol} {shape : Extent} {first now : Leading} {here : Situation} {a b : Option (List ℕ)} {chunk : List ℕ} (far : Writing protocol shape first now here a b chunk) where
   pub writing_more : (next : Leading) (step : Step) (outcome : Result Reply Refused) (after : Situation) (grown : List ℕ) → GoesFirst here step outcome after
       → LeadsOn now step outcome next
-      → ((steps : List Step) (outcomes : List (Result Reply Refused)) → TheRun protocol shape steps outcomes after → CanEnd next)
+      → CanEndFrom after next
       → grown ≡ chunk ++ line_text shape step outcome
       → Writing protocol shape first next after a b grown
   writing_more next step outcome after grown goes on can_end e = gathering_more far step outcome after (λ frames. Unit {0}) next _ grown goes on can_end tt (lines_more shape far.frames _) e

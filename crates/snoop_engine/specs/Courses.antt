@@ -1,8 +1,8 @@
 -- Courses of steps, to their ends.
 -- Source: this project's profile.
 use Rattle.std.specs.Prelude.{◌≡◌, List, ◌∷◌, Result}
-use Rattle.snoop_trace.specs.declared.step.Step.{Step}
-use Rattle.snoop_model.specs.{declared.replies.{Reply.Reply, Refused.Refused}, Pictures.Situation.Situation, Runs.Run.FirstRunFrom}
+use Rattle.snoop_trace.specs.{Extent.Extent, declared.{step.Step.Step, protocol.Protocol.Protocol}}
+use Rattle.snoop_model.specs.{declared.replies.{Reply.Reply, Refused.Refused}, Pictures.Situation.Situation, Runs.Run.{FirstRunFrom, TheRun}}
 
 -- whether these steps, answered so, lead on to this situation
 abbrev pub Leading : Type 1
@@ -19,6 +19,10 @@ pub record CanEnd (leads : Leading) : Type 0 where
   pub outcomes : List (Result Reply Refused)
   pub final : Situation
   pub way : leads steps outcomes final
+
+-- if some run from reset has led here, some steps lead to the end
+abbrev pub CanEndFrom : Situation → Leading → Type 0
+CanEndFrom here leads = (protocol : Protocol) (shape : Extent) (steps : List Step) (outcomes : List (Result Reply Refused)) → TheRun protocol shape steps outcomes here → CanEnd leads
 
 -- some steps lead to the end, and this holds of them, their outcomes and where they lead
 pub record LeadsToEndWith (leads all : Leading) : Type 0 where

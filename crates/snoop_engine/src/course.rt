@@ -6,11 +6,9 @@ ghost use Rattle.snoop_model.specs.declared.replies.Reply.{Reply as Answer};
 ghost use Rattle.snoop_model.specs.Pictures.Situation.{Situation};
 ghost use Rattle.snoop_model.specs.Moves.Move.{FirstMove};
 ghost use Rattle.snoop_model.specs.Moves.Refuses.{RefusedFor};
-ghost use Rattle.snoop_model.specs.Runs.Run.{GoesFirst, TheRun};
-ghost use Rattle.snoop_trace.specs.Extent.{Extent};
-ghost use Rattle.snoop_trace.specs.declared.protocol.Protocol.{Protocol};
+ghost use Rattle.snoop_model.specs.Runs.Run.{GoesFirst};
 ghost use Rattle.snoop_trace.specs.declared.step.Step.{Step as Given};
-ghost use Rattle.snoop_engine.specs.Courses.{CanEnd, LeadsOn};
+ghost use Rattle.snoop_engine.specs.Courses.{CanEndFrom, LeadsOn};
 ghost use Rattle.snoop_engine.specs.Round.{IsEnabled};
 
 use snoop_machine::{Machine, Refused, Reply};
@@ -47,14 +45,11 @@ pub(crate) trait Course {
         ensures fewer { (before : Self) → finds before step self.old → IfOk result (λ outcome. left self.new < left before) }
         ensures leads { (before : Self) → finds before step self.old → IfOk result (λ outcome. LeadsOn (leads before) step outcome (leads self.new)) }
 
+        // It can still go on to its end.
+        ensures can_end { IfOk result (λ _. CanEndFrom (situation self.new) (leads self.new)) }
+
         // The outer fault, `NoMemory`, never stands for a step that is refused.
         ensures memory { IfErr result (λ _. RefusedFor (situation self.old) step OutOfMemory) };
-
-    /// Wherever some steps from reset have led, the course can go on to its end. This does nothing: a proof calls it for what it
-    /// ensures.
-    fn can_end(&self)
-        ensures { (protocol : Protocol) (shape : Extent) (steps : List Given) (outcomes : List (Result Answer Cause))
-            → TheRun protocol shape steps outcomes (situation self.now) → CanEnd (leads self.now) };
 }
 
 /// Takes a step that no cause refuses.

@@ -6,6 +6,7 @@ ghost use Rattle.snoop_model.specs.Turns.Serving.{IsUnderWay};
 ghost use Rattle.snoop_engine.specs.Todo.{IsAskedWithin, todo_of, lanes_under_way, left_in, works_by};
 ghost use Rattle.snoop_engine.specs.Served.{ask_of};
 ghost use Rattle.snoop_engine.specs.Journey.{IsAtTheEnd};
+ghost use Rattle.snoop_engine.specs.Courses.{CanEnd};
 ghost use Rattle.snoop_engine.specs.Round.{AsksWhenQuiet, TakesUp, Finds, IsIdle, IsOver, IsEnabled};
 
 use crate::asks::AskQueue;
@@ -49,6 +50,7 @@ impl Driver {
         ensures situation { IfOk result (λ driver. driver.situation ≡ reset protocol shape) }
         ensures left { IfOk result (λ driver. (core : ℕ) → (todo_of driver.lanes core).left ≡ works_by asks core) }
         ensures all { IfOk result (λ driver. left_in driver.lanes ≡ length asks) }
+        ensures can_end { IfOk result (λ driver. CanEnd (IsAtTheEnd driver)) }
     {
         shape.within_limits();
         let machine = Machine::reset(alloc, protocol, shape)?;
@@ -185,10 +187,5 @@ impl Course for Driver {
     fn take(&mut self, step: Step) -> Result<Result<Reply, Refused>, NoMemory> {
         let reply = take_enabled(&mut self.machine, step)?;
         Ok(Ok(reply))
-    }
-
-    #[tactic(auto, using(crate::proofs::Completing::driver_can_end))]
-    fn can_end(&self) {
-        let _ = &self.machine;
     }
 }

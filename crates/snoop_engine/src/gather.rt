@@ -5,8 +5,9 @@ ghost use Rattle.snoop_model.specs.declared.replies.Refused.{Refused as Cause};
 ghost use Rattle.snoop_model.specs.declared.replies.Reply.{Reply as Answer};
 ghost use Rattle.snoop_trace.specs.Text.{BlamesReader};
 ghost use Rattle.snoop_trace.specs.declared.step.Row.{Row as Given};
+ghost use Rattle.snoop_engine.specs.Courses.{CanEnd};
 ghost use Rattle.snoop_engine.specs.Inputs.{GivesSteps, IsRefusedText};
-ghost use Rattle.snoop_engine.specs.Journey.{IsAtTheStart};
+ghost use Rattle.snoop_engine.specs.Journey.{IsAtTheEnd, IsAtTheStart};
 ghost use Rattle.snoop_engine.specs.SimulatedRun.{ReadsRows};
 
 use crate::asks::AskQueue;
@@ -57,6 +58,7 @@ pub(crate) fn read_driver<R: Source>(
     shape: Shape,
 ) -> Result<Driver, TextFault>
     ensures rows { IfOk result (λ driver. (rows : List Given) × (ReadsRows shape (R.remaining reader.old) (Ok rows) × IsAtTheStart protocol shape rows driver)) }
+    ensures can_end { IfOk result (λ driver. CanEnd (IsAtTheEnd driver)) }
     ensures fault { IfErr result (λ fault. ReadsRows shape (R.remaining reader.old) (Err fault)) }
     ensures never_blamed { R.never_fails ≡ true → result ≢ Err TextFault.Read }
     ensures blamed { BlamesReader (R.failed reader.old) (R.failed reader.new) (result ≡ Err TextFault.Read) }

@@ -4,6 +4,7 @@ ghost use Rattle.snoop_model.specs.Pictures.Situation.{reset};
 ghost use Rattle.snoop_model.specs.Turns.Serving.{IsUnderWay};
 ghost use Rattle.snoop_trace.specs.Grammar.{IsRowWithin};
 ghost use Rattle.snoop_engine.specs.InOrder.{EndsInOrder, TakesUpNext, row_under_way};
+ghost use Rattle.snoop_engine.specs.Courses.{CanEnd};
 ghost use Rattle.snoop_engine.specs.UnderWay.{ServesOnly, nothing};
 ghost use Rattle.snoop_engine.specs.Round.{IsEnabled};
 ghost use Rattle.snoop_engine.specs.Serial.{is_ask};
@@ -45,6 +46,7 @@ impl<'a> SerialDriver<'a> {
         requires { All (IsRowWithin shape) rows.now }
         ensures situation { IfOk result (λ driver. driver.situation ≡ reset protocol shape) }
         ensures left { IfOk result (λ driver. driver.left ≡ rows.now) }
+        ensures can_end { IfOk result (λ driver. CanEnd (EndsInOrder driver)) }
     {
         shape.within_limits();
         let machine = Machine::reset(alloc, protocol, shape)?;
@@ -132,10 +134,5 @@ impl<'a> Course for SerialDriver<'a> {
     fn take(&mut self, step: Step) -> Result<Result<Reply, Refused>, NoMemory> {
         let reply = take_enabled(&mut self.machine, step)?;
         Ok(Ok(reply))
-    }
-
-    #[tactic(auto, using(crate::proofs::Completing::in_order_can_end))]
-    fn can_end(&self) {
-        let _ = &self.machine;
     }
 }

@@ -5,7 +5,7 @@ ghost use Rattle.snoop_trace.specs.Text.{BlamesReader};
 ghost use Rattle.snoop_trace.specs.declared.fault.TextFault.{TextFault};
 ghost use Rattle.snoop_trace.specs.declared.fault.TextFault.TheVariants as text_fault;
 ghost use Rattle.snoop_model.specs.Pictures.Situation.{reset};
-ghost use Rattle.snoop_engine.specs.Courses.{LeadsToEndWith};
+ghost use Rattle.snoop_engine.specs.Courses.{CanEnd, LeadsToEndWith};
 ghost use Rattle.snoop_engine.specs.SimulatedView.{BeginsToShow, ShowsRun, SimulatesView};
 ghost use Rattle.snoop_engine.specs.Views.{view_text};
 
@@ -171,13 +171,13 @@ fn show<W: Sink, C: Course, V: View>(
     course: &mut C,
     view: &mut V,
 ) -> Result<(), WriteFault>
-    requires { let s = C.situation course.old in s ≡ reset s.protocol shape }
+    requires reset { let s = C.situation course.old in s ≡ reset s.protocol shape }
+    requires can_end { CanEnd (C.leads course.old) }
     ensures ok { let s = C.situation course.old in OnOk result (LeadsToEndWith (C.leads course.old) (λ steps _ _. ShowsRun s.protocol shape (view_text (V.heading view.old s.protocol shape) (V.shows view.old s.protocol shape) (V.ending view.old s.protocol shape)) steps (W.contents writer.old) (W.contents writer.new))) }
     ensures front { let s = C.situation course.old in OnErr result (LeadsToEndWith (C.leads course.old) (λ steps _ _. BeginsToShow s.protocol shape (view_text (V.heading view.old s.protocol shape) (V.shows view.old s.protocol shape) (V.ending view.old s.protocol shape)) steps (W.contents writer.old) (W.contents writer.new))) }
     ensures never_blamed { W.never_fails ≡ true → result ≢ Err WriteFault.Write }
     ensures blamed { BlamesWriter (W.failed writer.old) (W.failed writer.new) (result ≡ Err WriteFault.Write) }
 {
-    course.can_end();
     let mut askers = Askers::new(alloc, shape.blocks())?;
     let mut chunk = Vec::new(alloc);
     let mut lines = Vec::new(alloc);
@@ -197,7 +197,6 @@ fn show<W: Sink, C: Course, V: View>(
             lines: &lines,
         };
         view.see(&mut chunk, course.machine(), seen)?;
-        course.can_end();
         spill(writer, &mut chunk)?;
     }
     view.end(&mut chunk, course.machine())?;

@@ -7,7 +7,7 @@ ghost use Rattle.snoop_trace.specs.Text.{BlamesReader};
 ghost use Rattle.snoop_trace.specs.declared.fault.TextFault.{TextFault};
 ghost use Rattle.snoop_trace.specs.declared.fault.TextFault.TheVariants as text_fault;
 ghost use Rattle.snoop_model.specs.Pictures.Situation.{reset};
-ghost use Rattle.snoop_engine.specs.Courses.{FindsListed, LeadsListed, LeadsToEndWith};
+ghost use Rattle.snoop_engine.specs.Courses.{CanEnd, FindsListed, LeadsListed, LeadsToEndWith};
 ghost use Rattle.snoop_engine.specs.Simulated.{Simulates};
 ghost use Rattle.snoop_engine.specs.Written.{run_text};
 
@@ -63,19 +63,17 @@ pub(crate) fn write_lines<W: Sink, C: Course>(
     shape: Shape,
     course: &mut C,
 ) -> Result<(), WriteFault>
-    requires { let s = C.situation course.old in s ≡ reset s.protocol shape }
+    requires reset { let s = C.situation course.old in s ≡ reset s.protocol shape }
+    requires can_end { CanEnd (C.leads course.old) }
     ensures ok { OnOk result (LeadsToEndWith (C.leads course.old) (λ steps outcomes final. Appends (W.contents writer.old) (W.contents writer.new) (run_text shape steps outcomes final))) }
     ensures front { OnErr result (LeadsToEndWith (C.leads course.old) (λ steps outcomes final. AppendsFront (W.contents writer.old) (W.contents writer.new) (run_text shape steps outcomes final))) }
     ensures never_blamed { W.never_fails ≡ true → result ≢ Err WriteFault.Write }
     ensures blamed { BlamesWriter (W.failed writer.old) (W.failed writer.new) (result ≡ Err WriteFault.Write) }
 {
-    // For the proof alone, here and in the loop.
-    course.can_end();
     let mut chunk = Vec::new(alloc);
     while let Some(step) = course.find() {
         let outcome = course.take(step)?;
         push_line(&mut chunk, shape, step, outcome)?;
-        course.can_end();
         spill(writer, &mut chunk)?;
     }
     write_whole(writer, &chunk)?;
@@ -114,6 +112,4 @@ impl<S: Script + Drop> Course for Listed<S> {
             outcome => Ok(outcome),
         }
     }
-
-    fn can_end(&self) {}
 }

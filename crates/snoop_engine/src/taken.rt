@@ -11,7 +11,7 @@ ghost use Rattle.snoop_model.specs.Runs.Run.{GoesFirst};
 ghost use Rattle.snoop_model.specs.declared.replies.Refused.{Refused as Cause};
 ghost use Rattle.snoop_model.specs.Pictures.Situation.{Situation};
 ghost use Rattle.snoop_engine.specs.Askers.{AreAskers, AreOthersInI, IsHeadFor};
-ghost use Rattle.snoop_engine.specs.Courses.{LeadsOn};
+ghost use Rattle.snoop_engine.specs.Courses.{CanEndFrom, LeadsOn};
 ghost use Rattle.snoop_engine.specs.Views.{block_of_step};
 ghost use Rattle.snoop_engine.specs.declared.taken.Taken.TheVariants as Line;
 ghost use Rattle.snoop_engine.specs.Taken.{IsTransfer, lines_of_step, memory_at, of_arrival, of_arrival_at_memory, of_ask, of_core, of_holder, of_memory, of_request, of_requestor, of_respond, refused_by, state_at, taken_by, of_waiting_memory, unless_i};
@@ -420,6 +420,7 @@ pub(crate) fn take_step<C: Course>(
     ensures goes { IfOk result (λ outcome. GoesFirst (C.situation course.old) step outcome (C.situation course.new)) }
     ensures fewer { (before : C) → C.finds before step course.old → IfOk result (λ outcome. C.left course.new < C.left before) }
     ensures leads { (before : C) → C.finds before step course.old → IfOk result (λ outcome. LeadsOn (C.leads before) step outcome (C.leads course.new)) }
+    ensures can_end { IfOk result (λ _. CanEndFrom (C.situation course.new) (C.leads course.new)) }
     ensures lines { IfOk result (λ outcome. lines.new.items ≡ lines_of_step (C.situation course.old) step outcome) }
     ensures askers { IfOk result (λ outcome. AreAskers (C.situation course.new) askers.new.sets) }
 {

@@ -1,10 +1,10 @@
-use Rattle.snoop_engine.proofs.{Common.{[], on_err}, Gathering.{gathering_none, gathering_spilled}}
+use Rattle.snoop_engine.proofs.{Common.on_err, Gathering.{gathering_none, gathering_spilled}}
 use Rattle.snoop_engine.proofs.WrittenLemmas.{writing_cut, writing_done, writing_more, writing_report_cut, writing_stop}
 use Rattle.snoop_engine.proofs.steps.write_lines.Goals as goal
 
 pub loop-step-init : goal.loop-step-init
 loop-step-init g c =
-    (gathering_none _ _ _ _ _ _ _ _ c.requires (c.can_end.ensures _ _ [] [] c.requires) tt c.new-chunk.ensures.items, λ none. none)
+    (gathering_none _ _ _ _ _ _ _ _ c.requires.reset c.requires.can_end tt c.new-chunk.ensures.items, λ none. none)
 
 pub returns-in_err-outcome-clause-front : goal.returns-in_err-outcome-clause-front
 returns-in_err-outcome-clause-front g c = on_err c.from_residual.result _ (writing_stop c.loop-step.invariant.0)
@@ -16,14 +16,14 @@ pub loop-step-preserved : goal.loop-step-preserved
 loop-step-preserved g c =
     let far =
     writing_more c.loop-step.invariant.0 _ _ _ _ _ (rw c.in-Some.ensures.same at c.in_ok-outcome.ensures.goes) (c.in_ok-outcome.ensures.leads c.loop-step.course c.in-Some.ensures.found)
-    (c.can_end-in-Some.ensures _ _) c.in_ok-push_line.ensures.ok in
+    c.in_ok-outcome.ensures.can_end c.in_ok-push_line.ensures.ok in
     (gathering_spilled far _ _ c.in_ok-spill.ensures.ok, λ none. (c.in_ok-spill.ensures.blamed (c.loop-step.invariant.1 none)).1 (λ failed. cc))
 
 pub returns-in_err-spill-clause-front : goal.returns-in_err-spill-clause-front
 returns-in_err-spill-clause-front g c =
     let far =
     writing_more c.loop-step.invariant.0 _ _ _ _ _ (rw c.in-Some.ensures.same at c.in_ok-outcome.ensures.goes) (c.in_ok-outcome.ensures.leads c.loop-step.course c.in-Some.ensures.found)
-    (c.can_end-in-Some.ensures _ _) c.in_ok-push_line.ensures.ok in
+    c.in_ok-outcome.ensures.can_end c.in_ok-push_line.ensures.ok in
     on_err c.from_residual-in_err-spill.result _ (writing_cut far _ c.in_err-spill.ensures.front)
 
 pub returns-in_err-write_whole-clause-front : goal.returns-in_err-write_whole-clause-front
