@@ -6,13 +6,10 @@ use snoop_trace::streams::{AnyReader, AnyWriter};
 use std::io;
 use std::process::ExitCode;
 
-/// The words of the process, the program's own name first.
-fn words(rt: &HostRuntime) -> io::Result<Vec<String>> {
-    Ok(std::env::args(rt)?.collect(rt.alloc())?)
-}
-
 fn main(rt: HostRuntime) -> ExitCode {
-    let words = words(&rt);
+    // The program's own name first.
+    let words: io::Result<Vec<String>> =
+        std::env::args(&rt).and_then(|words| Ok(words.collect(rt.alloc())?));
     let mut reader = AnyReader::new(rt.stdin());
     let mut writer = AnyWriter::new(rt.stdout());
     let mut errors = AnyWriter::new(rt.stderr());
