@@ -3,25 +3,18 @@
 
 use snoop_sim::{command, refuse_words};
 use snoop_trace::streams::{AnyReader, AnyWriter};
-use std::io;
 use std::process::ExitCode;
+use std::{env, io};
 
 fn main(rt: HostRuntime) -> ExitCode {
+    let alloc = rt.alloc();
     // The program's own name first.
-    let words: io::Result<Vec<String>> =
-        std::env::args(&rt).and_then(|words| Ok(words.collect(rt.alloc())?));
+    let words: io::Result<Vec<String>> = env::args(&rt).and_then(|words| Ok(words.collect(alloc)?));
     let mut reader = AnyReader::new(rt.stdin());
     let mut writer = AnyWriter::new(rt.stdout());
     let mut errors = AnyWriter::new(rt.stderr());
     let status = match words {
-        Ok(words) => command(
-            &rt,
-            rt.alloc(),
-            &words,
-            &mut reader,
-            &mut writer,
-            &mut errors,
-        ),
+        Ok(words) => command(&rt, alloc, &words, &mut reader, &mut writer, &mut errors),
         Err(cause) => refuse_words(cause, &mut errors),
     };
     ExitCode::from(status)
