@@ -14,6 +14,7 @@ pub mod UnderWay
 pub mod Frames
 pub mod Taken
 pub mod Askers
+pub mod Requestors
 pub mod States
 pub mod TrueLines
 pub mod Views

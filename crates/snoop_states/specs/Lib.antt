@@ -1,7 +1,6 @@
 pub mod Widths
 pub mod Columns
 pub mod Each
-pub mod Asked
 pub mod Cells
 pub mod Rows
 pub mod Tables

@@ -1,7 +1,6 @@
 //! The command `states` as tables for people: for each block a row for each of its steps.
 #![tactic(auto)]
 
-mod asked;
 mod at_end;
 mod cells;
 mod column;

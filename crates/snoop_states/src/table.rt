@@ -6,12 +6,12 @@ ghost use Rattle.snoop_engine.specs.Frames.{Frame};
 ghost use Rattle.snoop_engine.specs.Line.{line_text};
 ghost use Rattle.snoop_states.specs.Cells.{cell_text};
 ghost use Rattle.snoop_engine.specs.Chosen.{Chosen};
-ghost use Rattle.snoop_states.specs.Columns.{column_name, width_of};
+ghost use Rattle.snoop_states.specs.Columns.{column_name, columns_for, width_of};
 ghost use Rattle.snoop_states.specs.Rows.{below, names_text, padded_text, to_the_right};
 ghost use Rattle.snoop_states.specs.Seen.{Grows, HasCells, IsEmpty, IsTable, Starts, pair};
 ghost use Rattle.snoop_states.specs.Tables.{first_line, first_shown, shown_of, table_text};
 ghost use Rattle.snoop_states.specs.declared.column.Column.{Column};
-ghost use Rattle.snoop_states.specs.declared.column.Column.TheVariants.{Bus, Core, Memory};
+ghost use Rattle.snoop_states.specs.declared.column.Column.TheVariants.{Core};
 
 use crate::cells::cell_text;
 use crate::column::{Column, name_of, width_of};
@@ -143,7 +143,7 @@ fn first_line(from: u64) -> &'static str
 impl Table {
     /// The table of a block for which these cores asked, without a row.
     pub(crate) fn new(alloc: Global, cores: &[u32]) -> Result<Table, NoMemory>
-        ensures { IfOk result (IsEmpty (map Core cores.now ++ Bus ∷ Memory ∷ [])) }
+        ensures { IfOk result (IsEmpty (columns_for cores.now)) }
     {
         let mut cells = core_columns(alloc, cores)?;
         add_column(alloc, &mut cells, Column::Bus)?;

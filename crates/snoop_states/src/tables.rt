@@ -5,22 +5,18 @@ ghost use Rattle.snoop_trace.specs.declared.protocol.Protocol.{Protocol};
 ghost use Rattle.snoop_model.specs.Pictures.Situation.{reset};
 ghost use Rattle.snoop_engine.specs.Frames.{Frame};
 ghost use Rattle.snoop_engine.specs.Views.{block_of_step};
-ghost use Rattle.snoop_states.specs.Asked.{has_asked};
 ghost use Rattle.snoop_engine.specs.Chosen.{Chosen};
 ghost use Rattle.snoop_states.specs.Tables.{shown_block};
-ghost use Rattle.snoop_states.specs.Columns.{columns_for};
 ghost use Rattle.snoop_states.specs.Each.{AreEach};
 ghost use Rattle.snoop_states.specs.Seen.{AreTables, HasRows, IsEmpty, IsHalfBegun, IsTable};
 ghost use Rattle.snoop_states.specs.Views.{HasSeen, IsFor, columns_in};
 ghost use Rattle.snoop_states.specs.Whole.{block_table, tables_text};
 ghost use Rattle.snoop_states.specs.declared.column.Column.{Column};
 
-use crate::asked::{asked_by, askers};
 use crate::at_end::push_end;
 use crate::table::Table;
 use crate::widths::{Widths, widths_of};
-use snoop_blocks::{BlockTable, CoreSet};
-use snoop_engine::{Choice, Seen, View};
+use snoop_engine::{Choice, Requestors, Seen, View};
 use snoop_machine::{Machine, Refused, Reply};
 use snoop_trace::{NoMemory, Shape, Step};
 use std::alloc::Global;
@@ -31,7 +27,7 @@ pub(crate) struct Tables {
     alloc: Global,
     choice: Choice,
     widths: Widths,
-    asked: BlockTable<CoreSet>,
+    requestors: Requestors,
     tables: Vec<Table>,
 }
 
@@ -46,12 +42,12 @@ impl Tables {
         ensures { IfOk result (IsFor shape choice steps.now) }
     {
         let widths = widths_of(shape, steps);
-        let asked = asked_by(alloc, shape, steps)?;
+        let requestors = Requestors::of(alloc, shape, steps)?;
         Ok(Tables {
             alloc,
             choice,
             widths,
-            asked,
+            requestors,
             tables: Vec::new(alloc),
         })
     }
@@ -71,12 +67,12 @@ fn add(tables: &mut Vec<Table>, table: Table) -> Result<(), NoMemory>
 fn empty_table(
     alloc: Global,
     shape: Shape,
-    asked: &BlockTable<CoreSet>,
+    requestors: &Requestors,
     block: u32,
 ) -> Result<Table, NoMemory>
-    ensures { IfOk result (IsEmpty (columns_for shape (has_asked asked.now block))) }
+    ensures { IfOk result (IsEmpty (columns_in shape requestors.now block)) }
 {
-    let cores = askers(alloc, shape, asked, block)?;
+    let cores = requestors.cores(alloc, shape, block)?;
     Table::new(alloc, &cores)
 }
 
@@ -85,13 +81,13 @@ fn empty_table(
 fn empty_tables(
     alloc: Global,
     shape: Shape,
-    asked: &BlockTable<CoreSet>,
+    requestors: &Requestors,
 ) -> Result<Vec<Table>, NoMemory>
-    ensures { IfOk result (λ tables. AreEach shape.blocks (λ block. IsEmpty (columns_for shape (has_asked asked.now block))) tables.items) }
+    ensures { IfOk result (λ tables. AreEach shape.blocks (λ block. IsEmpty (columns_in shape requestors.now block)) tables.items) }
 {
     let mut tables = Vec::new(alloc);
     for block in 0..shape.blocks() {
-        add(&mut tables, empty_table(alloc, shape, asked, block)?)?;
+        add(&mut tables, empty_table(alloc, shape, requestors, block)?)?;
     }
     Ok(tables)
 }
@@ -144,14 +140,14 @@ fn begin_tables(
     alloc: Global,
     choice: Choice,
     widths: Widths,
-    asked: &BlockTable<CoreSet>,
+    requestors: &Requestors,
     machine: &Machine,
 ) -> Result<Vec<Table>, NoMemory>
     ensures { machine.now.situation ≡ reset machine.now.situation.protocol machine.now.situation.shape
         → IfOk result (λ tables. AreTables machine.now.situation.shape choice
-        (λ block. IsTable widths choice machine.now.situation.protocol machine.now.situation.shape (columns_for machine.now.situation.shape (has_asked asked.now block)) [] block) tables.items) }
+        (λ block. IsTable widths choice machine.now.situation.protocol machine.now.situation.shape (columns_in machine.now.situation.shape requestors.now block) [] block) tables.items) }
 {
-    let mut tables = empty_tables(alloc, machine.shape(), asked)?;
+    let mut tables = empty_tables(alloc, machine.shape(), requestors)?;
     if choice.from() == 1 {
         start_tables(alloc, choice, widths, &mut tables, machine)?;
         Ok(tables)
@@ -253,10 +249,10 @@ impl View for Tables {
 
     ghost shows = { λ view protocol shape frames frame. [] };
 
-    ghost ending = { λ view protocol shape frames final. tables_text view.widths view.choice protocol shape (columns_in shape view) frames final };
+    ghost ending = { λ view protocol shape frames final. tables_text view.widths view.choice protocol shape (columns_in shape view.requestors) frames final };
 
     fn begin(&mut self, _out: &mut Vec<u8>, machine: &Machine) -> Result<(), NoMemory> {
-        self.tables = begin_tables(self.alloc, self.choice, self.widths, &self.asked, machine)?;
+        self.tables = begin_tables(self.alloc, self.choice, self.widths, &self.requestors, machine)?;
         Ok(())
     }
 

@@ -1,12 +1,13 @@
-use Rattle.std.proofs.Common.{◌≡◌, [], arith}
-use Rattle.snoop_engine.proofs.RangeLemmas.{range_piece}
-use Rattle.snoop_draw.specs.Panels.{columns, panel_with}
+use Rattle.std.proofs.Common.{◌≡◌, ◌<◌, [], arith}
+use Rattle.snoop_engine.{proofs.RangeLemmas.range_piece, specs.Requestors.requestors}
+use Rattle.snoop_draw.specs.Panels.{panel_with}
 use Rattle.snoop_draw.proofs.panels.all_panels.Goals as goal
 
 pub loop-block-preserved : goal.loop-block-preserved
 loop-block-preserved c steps is =
-    range_piece (λ block. panel_with block (columns c.args.shape steps block)) c.loop-block.block [] _ _
-    (c.loop-block.invariant steps is) (rw (c.in_ok-cores.ensures steps is) at c.in_ok-push_panel.ensures)
+    let low : c.loop-block.block < c.args.shape.blocks = omega (arith, c.blocks-block-end.ensures.value) in
+    range_piece (λ block. panel_with block (requestors c.args.shape steps block)) c.loop-block.block [] _ _
+    (c.loop-block.invariant steps is) (rw (c.in_ok-cores.ensures.asking steps is low) at c.in_ok-push_panel.ensures)
 
 pub returns : goal.returns
 returns c steps is =

@@ -1,8 +1,8 @@
 use Rattle.std.proofs.{Common.{suc, zero}, lemmas.Result.on_err_weaker}
 use Rattle.snoop_trace.{proofs.OutputLemmas.on_err, specs.declared.step.Step.Step}
-use Rattle.snoop_engine.proofs.{RangeLemmas.filter_range, ShownLemmas.{begins_nothing, begun_so, shown_so}, ViewLemmas.quiet_view}
+use Rattle.snoop_engine.proofs.{RequestorLemmas.those_who_ask, ShownLemmas.{begins_nothing, begun_so, shown_so}, ViewLemmas.quiet_view}
 use Rattle.snoop_engine.specs.{Frames.AreFrames, Views.view_text}
-use Rattle.snoop_states.proofs.Common.{[], ℕ, ◌+◌, ◌<◌, ◌∙◌, ◌≡◌, ◌≤◌, AreAskers, arith, block_table, Bool, Chosen, Column, columns_for, columns_in, Extent, flat_map, Frame, is_asker, List, has_asked, on_ok_weaker, Protocol, range_with_len, refl, Situation}
+use Rattle.snoop_states.proofs.Common.{[], ℕ, ◌+◌, ◌<◌, ◌∙◌, ◌≡◌, ◌≤◌, arith, block_table, Chosen, Column, columns_in, Extent, flat_map, Frame, List, on_ok_weaker, Protocol, range_with_len, refl, Situation}
 use Rattle.snoop_states.specs.{Columns.columns_of, Views.IsFor, Whole.{states_table_text, tables_text}, Widths.widths_of}
 use Rattle.snoop_states.specs.declared.tables.Tables.{Tables}
 use Rattle.snoop_states.proofs.simulate.write_tables.Goals as goal
@@ -12,21 +12,15 @@ flat_same : (f g : ℕ → List ℕ) (a n : ℕ) → ((k : ℕ) → a ≤ k → 
 flat_same f g a zero h = refl
 flat_same f g a (suc n) h = rw (h a (omega arith) (omega arith), flat_same f g (a + 1) n (λ k low high. h k (omega arith) (omega arith))) refl
 
--- the columns of a block are those of the cores that ask for it
-columns_are : (shape : Extent) (test : ℕ → ℕ → Bool) (asked : List (List ℕ)) → AreAskers shape test asked → (block : ℕ) → block < shape.blocks
-    → columns_for shape (has_asked asked block) ≡ columns_for shape (test block)
-columns_are shape test asked are block low =
-    rw (filter_range (has_asked asked block) (test block) 0 shape.cores (λ core up inside. are.each block core low (omega arith))) refl
-
 -- the text of the view that is for these steps is theirs
 text_same : {protocol : Protocol} {shape : Extent} {choice : Chosen} {steps : List Step} {view : Tables} → IsFor shape choice steps view
     → (frames : List Frame) (final : Situation) → AreFrames protocol shape steps frames final
-    → view_text [] (λ fs f. []) (λ fs s. tables_text view.widths view.choice protocol shape (columns_in shape view) fs s) frames final ≡ states_table_text protocol shape choice frames final
+    → view_text [] (λ fs f. []) (λ fs s. tables_text view.widths view.choice protocol shape (columns_in shape view.requestors) fs s) frames final ≡ states_table_text protocol shape choice frames final
 text_same {protocol = protocol} {shape = shape} {choice = choice} {steps = steps} {view = view} for_steps frames final are =
     let table : (ℕ → List Column) → ℕ → List ℕ = λ columns. block_table (widths_of shape steps) choice protocol shape columns frames in
-    let same = flat_same (table (columns_in shape view)) (table (columns_of shape steps)) 0 shape.blocks
-    (λ block low high. rw (columns_are shape (is_asker steps) view.asked for_steps.asked block (omega arith))) in
-    quiet_view (λ fs s. tables_text view.widths view.choice protocol shape (columns_in shape view) fs s) frames final ∙ rw (for_steps.widths, for_steps.choice, are.whole, same) refl
+    let same = flat_same (table (columns_in shape view.requestors)) (table (columns_of shape steps)) 0 shape.blocks
+    (λ block low high. rw (those_who_ask shape steps view.requestors block for_steps.requestors (omega arith)) refl) in
+    quiet_view (λ fs s. tables_text view.widths view.choice protocol shape (columns_in shape view.requestors) fs s) frames final ∙ rw (for_steps.widths, for_steps.choice, are.whole, same) refl
 
 pub returns-in_err-view-clause-front : goal.returns-in_err-view-clause-front
 returns-in_err-view-clause-front g c =

@@ -1,0 +1,12 @@
+use Rattle.std.proofs.{Common.{ℕ, Bool, arith, sym, subst, take}, lemmas.List.Folds.list_any_more}
+use Rattle.snoop_trace.specs.declared.step.{Op.TheVariants.Load, Step.TheVariants.Ask}
+use Rattle.snoop_engine.specs.Requestors.{AreSets, asks_for, is_requestor}
+use Rattle.snoop_engine.proofs.requestors.Requestors.of.Goals as goal
+
+pub loop-step-preserved : goal.loop-step-preserved
+loop-step-preserved c =
+    let steps = c.args.steps.now in
+    let i = c.loop-step.step-index in
+    subst (λ (test : ℕ → ℕ → Bool). AreSets c.args.shape test c.add.new.sets)
+    (λ j block core. sym (list_any_more (asks_for block core) steps i (Ask 0 0 0 Load) c.loop-step-test.true) j)
+    (c.add.ensures c.args.shape (is_requestor (take i steps)) (omega (arith, c.within_limits.ensures)) c.loop-step.invariant)

@@ -1,0 +1,28 @@
+-- The cores that ask for a block in some steps.
+-- Source: this project's profile.
+use Rattle.std.specs.Prelude.{◌≡◌, ◌<◌, ◌==◌, ◌&&◌, ℕ, Bool, false, List, filter, length}
+use Rattle.std.specs.List.{list_any, range_with_len}
+use Rattle.snoop_trace.specs.{Extent.Extent, declared.step.Step.{Step, TheVariants.Ask}}
+use Rattle.snoop_blocks.specs.CoreSet.{has, set_of}
+
+-- in this step the core asks for the block
+abbrev pub asks_for : ℕ → ℕ → Step → Bool
+asks_for block core (Ask asker asked word op) = (asked == block) && (asker == core)
+asks_for block core _ = false
+
+-- the core asks for the block in one of the steps
+abbrev pub is_requestor : List Step → ℕ → ℕ → Bool
+is_requestor steps block core = list_any (asks_for block core) steps
+
+-- the cores of the shape that ask for the block in one of the steps, by rising number
+abbrev pub requestors : Extent → List Step → ℕ → List ℕ
+requestors shape steps block = filter (is_requestor steps block) (range_with_len 0 shape.cores)
+
+-- the core is in the set of the block
+abbrev pub in_sets : List (List ℕ) → ℕ → ℕ → Bool
+in_sets sets block core = has (set_of sets block) core
+
+-- there is a set for each block of the shape, and it has those of its cores that pass the test
+pub record AreSets (shape : Extent) (test : ℕ → ℕ → Bool) (sets : List (List ℕ)) : Type 0 where
+  pub count : length sets ≡ shape.blocks
+  pub each : (block core : ℕ) → block < shape.blocks → core < shape.cores → in_sets sets block core ≡ test block core
