@@ -1,4 +1,4 @@
-use Rattle.std.proofs.{Common.{◌+◌, ◌∷◌, [], inl, inr, refl, sym, ◌∙◌, arith}}
+use Rattle.std.proofs.{Common.{◌∷◌, [], inl, inr, refl, sym, ◌∙◌, arith}}
 use Rattle.snoop_trace.proofs.Common.{All-push, append-nil, err_from_is_err_and, fields_of, length-append, nat_tests}
 use Rattle.snoop_trace.{proofs.TextLemmas.{done, further, no_heading, refused}, specs.Progress.IsPlain}
 use Rattle.snoop_trace.proofs.text.take_text.Goals.{in-Some+in_ok-check-in-Some, in_default+in_ok-from_record-in_default+in_ok-append-in_default}

@@ -1,4 +1,4 @@
-use Rattle.snoop_machine.proofs.Common.{rules, ap, ◌∙◌, sym, Line, Cell, line_in, arith, common_steps}
+use Rattle.snoop_machine.proofs.Common.{rules, Cell, line_in, arith, common_steps}
 use Rattle.snoop_machine.proofs.lines.Cache.take_row.Goals as goal
 
 pub returns-then-eq-clause-row : goal.returns-then-eq-clause-row
