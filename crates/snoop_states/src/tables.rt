@@ -252,7 +252,13 @@ impl View for Tables {
     ghost ending = { λ view protocol shape frames final. tables_text view.widths view.choice protocol shape (columns_in shape view.requestors) frames final };
 
     fn begin(&mut self, _out: &mut Vec<u8>, machine: &Machine) -> Result<(), NoMemory> {
-        self.tables = begin_tables(self.alloc, self.choice, self.widths, &self.requestors, machine)?;
+        self.tables = begin_tables(
+            self.alloc,
+            self.choice,
+            self.widths,
+            &self.requestors,
+            machine,
+        )?;
         Ok(())
     }
 
