@@ -8,8 +8,8 @@ use std::{env, io};
 
 fn main(rt: HostRuntime) -> ExitCode {
     let alloc = rt.alloc();
-    // The program's own name first.
-    let words: io::Result<Vec<String>> = env::args(&rt).and_then(|words| Ok(words.collect(alloc)?));
+    // The words of the process, the program's own name first.
+    let words: io::Result<Vec<String>> = env::args(&rt).and_then(|args| Ok(args.collect(alloc)?));
     let mut reader = AnyReader::new(rt.stdin());
     let mut writer = AnyWriter::new(rt.stdout());
     let mut errors = AnyWriter::new(rt.stderr());

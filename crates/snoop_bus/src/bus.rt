@@ -26,6 +26,12 @@ impl Model for Queue {
 }
 
 impl Queue {
+    fn has_room(&self) -> bool
+        ensures { IsTrue result ↔ (0 < self.now.room) }
+    {
+        self.requests.len() < self.requests.capacity()
+    }
+
     fn head(&self) -> Option<(Request, u32)>
         ensures { result ≡ slice_get self.now.requests 0 }
     {
@@ -127,14 +133,14 @@ impl<K: Copy> Bus<K> {
         ensures queue { self.new.queues ≡ slice_set self.old.queues core (record { requests = (waiting_of self.old core).requests; room = (waiting_of self.new core).room }) }
         ensures transactions { self.new.transactions ≡ self.old.transactions }
     {
-        let requests = &mut self.queues[core as usize].requests;
+        let queue = &mut self.queues[core as usize];
         // The usual case, at no cost.
-        if requests.len() < requests.capacity() {
+        if queue.has_room() {
             return Ok(());
         }
         // The room alone decides: a refused growth may have left some.
-        let grown = requests.reserve(1);
-        if requests.len() == requests.capacity() {
+        let grown = queue.requests.reserve(1);
+        if !queue.has_room() {
             grown?;
         }
         Ok(())
@@ -146,7 +152,7 @@ impl<K: Copy> Bus<K> {
     {
         self.queues
             .get(core as usize)
-            .is_some_and(|queue| queue.requests.len() < queue.requests.capacity())
+            .is_some_and(|queue| queue.has_room())
     }
 
     /// Puts a request for a block last in the core's queue.

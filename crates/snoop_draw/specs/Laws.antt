@@ -3,7 +3,7 @@
 use Rattle.std.specs.Prelude.{◌≡◌, ◌≢◌, ⊤, ℕ, false, List, [], ◌∷◌, All}
 use Rattle.snoop_rules.specs.declared.names.CacheState.TheVariants.{I}
 use Rattle.snoop_model.specs.Pictures.Situation.{Situation, reset, state_of}
-use Rattle.snoop_engine.specs.{Frames.{Frame, OfAnySteps}, Requestors.is_requestor}
+use Rattle.snoop_engine.specs.{Frames.{Frame, OfAnySteps}, Askers.is_asker}
 use Rattle.snoop_draw.specs.{declared.marks.Mark.TheVariants.{Blank, MayWrite}, Events.may, Rows.held_in}
 
 -- where a core is marked as one that may write, no other has a mark
@@ -21,4 +21,4 @@ HoldsNothing block core (frame ∷ frames) = (state_of frame.after core block �
 
 -- in the run of some steps a core that asks for a block in none of them is in I throughout: the columns that are left out would hold nothing
 abbrev pub UnaskedHoldNothing : Type 0
-UnaskedHoldNothing = OfAnySteps (λ protocol shape steps frames final. (block core : ℕ) → is_requestor steps block core ≡ false → HoldsNothing block core frames)
+UnaskedHoldNothing = OfAnySteps (λ protocol shape steps frames final. (block core : ℕ) → is_asker steps block core ≡ false → HoldsNothing block core frames)

@@ -3,7 +3,7 @@
 use Rattle.std.specs.Prelude.{ℕ, List, [], ◌∷◌, Option, Some, None, nat_lt, if◌then◌else◌}
 use Rattle.std.specs.List.{flat_map, range_with_len}
 use Rattle.snoop_trace.specs.{Extent.Extent, declared.step.Step.Step}
-use Rattle.snoop_engine.specs.Requestors.{requestors}
+use Rattle.snoop_engine.specs.Askers.{askers}
 
 -- what is drawn of a block: a column for each of these cores, the bus, and memory
 pub record Panel : Type 0 where
@@ -17,5 +17,5 @@ panel_with block (core ∷ cores) = record { block = block; cores = core ∷ cor
 
 -- the panel of the block that is chosen, or that of each block that a core asks for, rising
 abbrev pub panels_for : Extent → List Step → Option ℕ → List Panel
-panels_for shape steps None = flat_map (λ block. panel_with block (requestors shape steps block)) (range_with_len 0 shape.blocks)
-panels_for shape steps (Some block) = if nat_lt block shape.blocks then record { block = block; cores = requestors shape steps block } ∷ [] else []
+panels_for shape steps None = flat_map (λ block. panel_with block (askers shape steps block)) (range_with_len 0 shape.blocks)
+panels_for shape steps (Some block) = if nat_lt block shape.blocks then record { block = block; cores = askers shape steps block } ∷ [] else []

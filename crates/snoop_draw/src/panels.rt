@@ -1,10 +1,10 @@
 //! Which panels a drawing has, and which columns.
 ghost use Rattle.std.specs.Prelude.{◌≡◌, ◌++◌, List, IfOk, OnOk};
 ghost use Rattle.snoop_trace.specs.declared.step.Step.{Step as Given};
-ghost use Rattle.snoop_engine.specs.Requestors.{AreSets, is_requestor};
+ghost use Rattle.snoop_engine.specs.Askers.{AreSetsBy, is_asker};
 ghost use Rattle.snoop_draw.specs.Panels.{panel_with, panels_for};
 
-use snoop_engine::Requestors;
+use snoop_engine::Askers;
 use snoop_trace::{NoMemory, Shape, Step};
 use std::alloc::Global;
 use std::marker::Model;
@@ -54,12 +54,12 @@ fn push_panel(panels: &mut Vec<Panel>, block: u32, cores: Vec<u32>) -> Result<()
 }
 
 // A panel for each block that a core asks for.
-fn all_panels(alloc: Global, shape: Shape, requestors: &Requestors) -> Result<Vec<Panel>, NoMemory>
-    ensures { (steps : List Given) → AreSets shape (is_requestor steps) requestors.now → IfOk result (λ panels. panels.items ≡ panels_for shape steps None) }
+fn all_panels(alloc: Global, shape: Shape, askers: &Askers) -> Result<Vec<Panel>, NoMemory>
+    ensures { (steps : List Given) → AreSetsBy shape (is_asker steps) askers.now → IfOk result (λ panels. panels.items ≡ panels_for shape steps None) }
 {
     let mut panels = Vec::new(alloc);
     for block in 0..shape.blocks() {
-        let cores = requestors.cores(alloc, shape, block)?;
+        let cores = askers.cores(alloc, shape, block)?;
         push_panel(&mut panels, block, cores)?;
     }
     Ok(panels)
@@ -69,16 +69,16 @@ fn all_panels(alloc: Global, shape: Shape, requestors: &Requestors) -> Result<Ve
 fn one_panel(
     alloc: Global,
     shape: Shape,
-    requestors: &Requestors,
+    askers: &Askers,
     block: u32,
 ) -> Result<Vec<Panel>, NoMemory>
-    ensures { (steps : List Given) → AreSets shape (is_requestor steps) requestors.now → IfOk result (λ panels. panels.items ≡ panels_for shape steps (Some block)) }
+    ensures { (steps : List Given) → AreSetsBy shape (is_asker steps) askers.now → IfOk result (λ panels. panels.items ≡ panels_for shape steps (Some block)) }
 {
     let mut panels = Vec::new(alloc);
     if block >= shape.blocks() {
         return Ok(panels);
     }
-    let cores = requestors.cores(alloc, shape, block)?;
+    let cores = askers.cores(alloc, shape, block)?;
     match panels.push(Panel { block, cores }) {
         Ok(()) => Ok(panels),
         Err(_) => Err(NoMemory),
@@ -95,9 +95,9 @@ pub fn panels_for(
 ) -> Result<Vec<Panel>, NoMemory>
     ensures { IfOk result (λ panels. panels.items ≡ panels_for shape steps.now block) }
 {
-    let requestors = Requestors::of(alloc, shape, steps)?;
+    let askers = Askers::of(alloc, shape, steps)?;
     match block {
-        None => all_panels(alloc, shape, &requestors),
-        Some(block) => one_panel(alloc, shape, &requestors, block),
+        None => all_panels(alloc, shape, &askers),
+        Some(block) => one_panel(alloc, shape, &askers, block),
     }
 }

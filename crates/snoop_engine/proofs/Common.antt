@@ -21,7 +21,7 @@ pub use Rattle.snoop_model.specs.{Pictures.{Lines.Line, Picture.{Picture, held_a
 pub use Rattle.snoop_model.specs.{Pictures.Situation.{Situation, picture_of, reset, state_of, nothing_there, untouched}, Turns.Turn.turn_of}
 pub use Rattle.snoop_model.specs.{Runs.Run.{FirstRunFrom, GoesFirst, TheRun}, Turns.Serving.{IsUnderWay, steps_paid, IsServing, has_transaction, steps_owed}}
 pub use Rattle.snoop_model.specs.declared.replies.{Refused.{Refused, TheVariants.{BusTaken, Stalled, NoTransaction}}, Reply.Reply}
-pub use Rattle.snoop_engine.specs.{Askers.{AreAskers, AreOthersInI}, Chosen.{Chosen, is_shown}, Fault.fault_of_write, Words.spaced}
+pub use Rattle.snoop_engine.specs.{PossibleHolders.{ArePossibleHolders, AreOthersInI}, Chosen.{Chosen, is_shown}, Fault.fault_of_write, Words.spaced}
 pub use Rattle.snoop_engine.specs.Counts.{takes_memory_row, takes_row, all_lines, counts_text, frames_counts_text, memory_count_at, cache_count_at}
 pub use Rattle.snoop_engine.specs.{Courses.{CanEnd, CanEndFrom, LeadsListed, LeadsToEndWith, Leading, LeadsOn}, Inputs.{GivesSteps, StepsServe, StepsServeSerially}}
 pub use Rattle.snoop_engine.specs.{Frames.{Frame, FramesAreTheRun, FramesFrom, outcomes_of, steps_of, AreFrames}, Journey.{IsAtTheEnd, IsAtTheStart}}

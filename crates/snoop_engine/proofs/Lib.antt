@@ -1,7 +1,7 @@
 pub mod Common
 pub mod TakenLemmas
+pub mod PossibleHolderLemmas
 pub mod AskerLemmas
-pub mod RequestorLemmas
 pub mod Driving
 pub mod Dealing
 pub mod WrittenLemmas

@@ -1,24 +1,28 @@
--- What is known before a step is taken: the cores that may hold something of a block, and the request that an Order takes.
+-- The cores that ask for a block in some steps.
 -- Source: this project's profile.
-use Rattle.std.specs.Prelude.{◌≡◌, ℕ, false, List, length, Option, Some, None, slice_get}
-use Rattle.snoop_trace.specs.declared.step.Step.{Step, TheVariants.{Ask, Order, Respond}}
-use Rattle.snoop_rules.specs.declared.names.{CacheState.TheVariants.I, Request.Request}
-use Rattle.snoop_bus.specs.Queues.{queue_of}
+use Rattle.std.specs.Prelude.{◌≡◌, ◌<◌, ◌==◌, ◌&&◌, ℕ, Bool, false, List, filter, length}
+use Rattle.std.specs.List.{list_any, range_with_len}
+use Rattle.snoop_trace.specs.{Extent.Extent, declared.step.Step.{Step, TheVariants.Ask}}
 use Rattle.snoop_blocks.specs.CoreSet.{has, set_of}
-use Rattle.snoop_model.specs.Pictures.Situation.{IsHead, Situation, state_of}
 
--- each core that is not in the set is in I of the block
-abbrev pub AreOthersInI : Situation → ℕ → List ℕ → Type 0
-AreOthersInI s block set = (core : ℕ) → has set core ≡ false → state_of s core block ≡ I
+-- in this step the core asks for the block
+abbrev pub asks_for : ℕ → ℕ → Step → Bool
+asks_for block core (Ask asker asked word op) = (asked == block) && (asker == core)
+asks_for block core _ = false
 
--- there is a set for each block of the shape, outside of which each core is in I of the block
-pub record AreAskers (s : Situation) (sets : List (List ℕ)) : Type 0 where
-  pub many : length sets ≡ s.shape.blocks
-  pub others : (block : ℕ) → AreOthersInI s block (set_of sets block)
+-- the core asks for the block in one of the steps
+abbrev pub is_asker : List Step → ℕ → ℕ → Bool
+is_asker steps block core = list_any (asks_for block core) steps
 
--- what an Order takes: the core's oldest request and its block, or nothing where none waits
-abbrev pub IsHeadFor : Situation → Step → Option (Request × ℕ) → Type 0
-IsHeadFor s (Order core) (Some head) = IsHead s core head.0 head.1
-IsHeadFor s (Order core) None = slice_get (queue_of s.queues core) 0 ≡ None
-IsHeadFor s (Ask core block word asking) head = head ≡ None
-IsHeadFor s (Respond block) head = head ≡ None
+-- the cores of the shape that ask for the block in one of the steps, by rising number
+abbrev pub askers : Extent → List Step → ℕ → List ℕ
+askers shape steps block = filter (is_asker steps block) (range_with_len 0 shape.cores)
+
+-- the core is in the set of the block
+abbrev pub is_in_set_of : List (List ℕ) → ℕ → ℕ → Bool
+is_in_set_of sets block core = has (set_of sets block) core
+
+-- there is a set for each block of the shape; of the shape's cores it has exactly those that pass the test for the block
+pub record AreSetsBy (shape : Extent) (test : ℕ → ℕ → Bool) (sets : List (List ℕ)) : Type 0 where
+  pub count : length sets ≡ shape.blocks
+  pub each : (block core : ℕ) → block < shape.blocks → core < shape.cores → is_in_set_of sets block core ≡ test block core

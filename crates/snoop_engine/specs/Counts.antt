@@ -86,7 +86,7 @@ counts_text protocol counts of_memory = counts_header ++ cache_counts protocol c
 abbrev pub all_lines : List Frame → List Taken
 all_lines frames = flat_map (λ frame. lines_of_step frame.before frame.step frame.outcome) frames
 
--- the text of how often each row of the tables is taken in the frames; a count stops at the largest u64
+-- the text of how often each row of the tables is taken in the frames, without the rows of a core in I at another's request, which do nothing; a count stops at the largest u64
 abbrev pub frames_counts_text : Protocol → List Frame → List ℕ
 frames_counts_text protocol frames =
     counts_text protocol (λ state event. capped (times (all_lines frames) state event)) (λ state event. capped (memory_times (all_lines frames) state event))

@@ -26,7 +26,7 @@ GivesSteps protocol shape Steps text steps = Reads protocol shape text (Ok steps
 GivesSteps protocol shape Rows text steps = (rows : List Row) × (ReadsRows shape text (Ok rows) × StepsServe protocol shape rows steps)
 GivesSteps protocol shape SerialRows text steps = (rows : List Row) × (ReadsRows shape text (Ok rows) × StepsServeSerially protocol shape rows steps)
 
--- a text, where its bytes are known, was refused by this fault: its first one, a failure to read it, or want of memory
+-- this fault refuses a text: where its bytes are known, it is the text's first fault, or a failed read, or out of memory
 abbrev pub IsRefusedText : Protocol → Extent → Input → Option (List ℕ) → TextFault → Type 0
 IsRefusedText protocol shape Steps text fault = Reads protocol shape text (Err fault)
 IsRefusedText protocol shape Rows text fault = ReadsRows shape text (Err fault)

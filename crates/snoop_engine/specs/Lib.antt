@@ -13,8 +13,8 @@ pub mod SimulatedSerial
 pub mod UnderWay
 pub mod Frames
 pub mod Taken
+pub mod PossibleHolders
 pub mod Askers
-pub mod Requestors
 pub mod States
 pub mod TrueLines
 pub mod Views

@@ -18,7 +18,7 @@ pub record Reports (protocol : Protocol) (shape : Extent) (steps : List Step) (o
   pub run : TheRun protocol shape steps outcomes final
   pub output : Appends old new (line_texts shape steps outcomes ++ report_of shape.words final.log)
 
--- the writer got a beginning of these lines and the report, which may be empty or the whole
+-- the writer got a beginning, perhaps empty or whole, of the lines of the run of the steps and the report of its history
 pub record Begins (protocol : Protocol) (shape : Extent) (steps : List Step) (old new : Option (List ℕ)) : Type 0 where
   pub outcomes : List (Result Reply Refused)
   pub final : Situation

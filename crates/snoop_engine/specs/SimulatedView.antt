@@ -15,7 +15,7 @@ pub record ShowsRun (protocol : Protocol) (shape : Extent) (text : List Frame �
   pub rows : All ShowsRows frames
   pub output : Appends old new (text frames final)
 
--- the writer got a beginning of this text of the frames of the run of the steps, which may be empty or the whole
+-- the writer got a beginning, perhaps empty or whole, of this text of the frames of the run of the steps; the lines of a frame are the rows that the controllers take
 pub record BeginsToShow (protocol : Protocol) (shape : Extent) (text : List Frame → Situation → List ℕ) (steps : List Step) (old new : Option (List ℕ)) : Type 0 where
   pub frames : List Frame
   pub final : Situation

@@ -20,7 +20,7 @@ state_at s core block = if nat_lt core s.shape.cores && nat_lt block s.shape.blo
 abbrev pub memory_at : Situation → ℕ → Option MemState
 memory_at s block = if nat_lt block s.shape.blocks then Some (picture_of s block).memory.state else None
 
--- the line of a core that meets the event, or none; no line where the shape has no such core or no such block
+-- the line of a core, which meets this event, if one is given; no line where the shape has no such core or no such block
 abbrev pub of_core : Situation → ℕ → ℕ → Option CacheEvent → List Taken
 of_core s core block event = option_map_or (λ before. Core core block event before ∷ []) (state_at s core block) []
 
@@ -33,7 +33,7 @@ abbrev pub event_asked : Op → CacheState → Option CacheEvent
 event_asked op.Evict I = None
 event_asked asking _ = Some (asked asking)
 
--- the line of an Ask: its core meets what is asked
+-- the line of an Ask: its core meets what is asked, if that is an event
 abbrev pub of_ask : Situation → ℕ → ℕ → Op → List Taken
 of_ask s core block asking = option_map_or (λ before. Core core block (event_asked asking before) before ∷ []) (state_at s core block) []
 
@@ -42,21 +42,21 @@ abbrev pub unless_i : CacheState → Taken → List Taken
 unless_i I line = []
 unless_i _ line = line ∷ []
 
--- a core that holds something of the block meets another's request, or its own
+-- the line of a core that holds something of the block: it meets another's request, or its own
 abbrev pub of_holder : Situation → ℕ → ℕ → Request → ℕ → List Taken
 of_holder s requestor block request core =
     option_map_or (λ before. unless_i before (Core core block (Some (seen_by core requestor request)) before)) (state_at s core block) []
 
--- the lines of an Order of this request: the cores, by rising number, and then memory meet it
+-- the lines of an Order of this request: the cores that are not in I, by rising number, and then memory meet it
 abbrev pub of_request : Situation → ℕ → ℕ → Request → List Taken
 of_request s core block request =
     flat_map (of_holder s core block request) (range_with_len 0 s.shape.cores) ++ of_memory s block (at_memory request)
 
--- the lines of an Order of this block: those of the request for it with which the core waits
+-- the lines of an Order of this core's request for this block; which request it is, the core's state says
 abbrev pub of_order : Situation → ℕ → ℕ → List Taken
 of_order s core block = option_map_or (of_request s core block) (waiting_request (state_of s core block)) []
 
--- what comes is an event at the core, or none
+-- the line of a core that meets what comes, if that is an event; else no line
 abbrev pub of_arrival : Situation → ℕ → ℕ → Option CacheEvent → List Taken
 of_arrival s core block None = []
 of_arrival s core block (Some event) = of_core s core block (Some event)
@@ -67,18 +67,18 @@ pub record IsTransfer (opened : Open) (core : ℕ) (request : Request) (payload 
   pub requests : opened.request ≡ request
   pub sends : opened.payload ≡ payload
 
--- the requestor meets what comes to it; after a PutM nothing comes
+-- the line of the requestor, which meets what comes to it; no line after a PutM, for nothing comes
 abbrev pub of_requestor : Request → Situation → ℕ → Open → List Taken
 of_requestor PutM s block opened = []
 of_requestor GetS s block opened = of_arrival s opened.core block (arrival opened.payload)
 of_requestor GetM s block opened = of_arrival s opened.core block (arrival opened.payload)
 
--- what comes is an event at memory, or none
+-- the line of memory, which meets what comes, if that is an event; else no line
 abbrev pub of_arrival_at_memory : Situation → ℕ → Option MemEvent → List Taken
 of_arrival_at_memory s block None = []
 of_arrival_at_memory s block (Some event) = of_memory s block event
 
--- memory meets what comes, where it takes the payload
+-- the line of memory, which meets what comes where it takes the payload
 abbrev pub of_waiting_memory : Situation → ℕ → Open → List Taken
 of_waiting_memory s block opened =
     option_map_or (λ before. if takes_payload opened.request before then of_arrival_at_memory s block (arrival_at_memory opened.payload) else []) (memory_at s block) []

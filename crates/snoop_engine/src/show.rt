@@ -9,12 +9,12 @@ ghost use Rattle.snoop_engine.specs.Courses.{CanEnd, LeadsToEndWith};
 ghost use Rattle.snoop_engine.specs.SimulatedView.{BeginsToShow, ShowsRun, SimulatesView};
 ghost use Rattle.snoop_engine.specs.Views.{view_text};
 
-use crate::askers::Askers;
 use crate::course::Course;
 use crate::fault::SimFault;
 use crate::gather::read_driver;
 use crate::input::Input;
 use crate::packed::StepQueue;
+use crate::possible_holders::PossibleHolders;
 use crate::script::Script;
 use crate::seen::Seen;
 use crate::serial_driver::SerialDriver;
@@ -178,7 +178,7 @@ fn show<W: Sink, C: Course, V: View>(
     ensures never_blamed { W.never_fails ≡ true → result ≢ Err WriteFault.Write }
     ensures blamed { BlamesWriter (W.failed writer.old) (W.failed writer.new) (result ≡ Err WriteFault.Write) }
 {
-    let mut askers = Askers::new(alloc, shape.blocks())?;
+    let mut possible_holders = PossibleHolders::new(alloc, shape.blocks())?;
     let mut chunk = Vec::new(alloc);
     let mut lines = Vec::new(alloc);
     let mut number = 0;
@@ -188,7 +188,7 @@ fn show<W: Sink, C: Course, V: View>(
         lines.clear();
         let head = head_for(course.machine(), step);
         let block = block_of(step, head);
-        let outcome = take_step(&mut lines, course, &mut askers, step, head)?;
+        let outcome = take_step(&mut lines, course, &mut possible_holders, step, head)?;
         let seen = Seen {
             number,
             step,

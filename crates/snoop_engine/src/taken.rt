@@ -10,15 +10,15 @@ ghost use Rattle.snoop_model.specs.Moves.Refuses.{Refuses};
 ghost use Rattle.snoop_model.specs.Runs.Run.{GoesFirst};
 ghost use Rattle.snoop_model.specs.declared.replies.Refused.{Refused as Cause};
 ghost use Rattle.snoop_model.specs.Pictures.Situation.{Situation};
-ghost use Rattle.snoop_engine.specs.Askers.{AreAskers, AreOthersInI, IsHeadFor};
+ghost use Rattle.snoop_engine.specs.PossibleHolders.{ArePossibleHolders, AreOthersInI, IsHeadFor};
 ghost use Rattle.snoop_engine.specs.Courses.{CanEndFrom, LeadsOn};
 ghost use Rattle.snoop_engine.specs.Views.{block_of_step};
 ghost use Rattle.snoop_engine.specs.declared.taken.Taken.TheVariants as Line;
 ghost use Rattle.snoop_engine.specs.Taken.{IsTransfer, lines_of_step, memory_at, of_arrival, of_arrival_at_memory, of_ask, of_core, of_holder, of_memory, of_request, of_requestor, of_respond, refused_by, state_at, taken_by, of_waiting_memory, unless_i};
 
-use crate::askers::Askers;
 use crate::course::Course;
 use crate::events::event_asked;
+use crate::possible_holders::PossibleHolders;
 use snoop_blocks::CoreSet;
 use snoop_machine::{Machine, Refused, Reply};
 use snoop_rules::{
@@ -211,38 +211,38 @@ fn add_holder(
 fn add_holders(
     lines: &mut Vec<Taken>,
     machine: &Machine,
-    askers: &mut Askers,
+    possible_holders: &mut PossibleHolders,
     requestor: u32,
     block: u32,
     request: Request,
 ) -> Result<(), NoMemory>
-    requires { AreAskers machine.now.situation askers.old.sets }
+    requires { ArePossibleHolders machine.now.situation possible_holders.old.sets }
     ensures lines { OnOk result (lines.new.items ≡ lines.old.items ++ flat_map (of_holder machine.now.situation requestor block request) (range_with_len 0 machine.now.situation.shape.cores)) }
-    ensures askers { AreAskers machine.now.situation askers.new.sets }
+    ensures possible_holders { ArePossibleHolders machine.now.situation possible_holders.new.sets }
 {
-    let mut cores = askers.of(block);
+    let mut cores = possible_holders.of(block);
     let mut from = 0;
     while let Some(core) = cores.next(from) {
         add_holder(lines, machine, &mut cores, requestor, block, request, core)?;
         from = core + 1;
     }
-    askers.leave(block, cores);
+    possible_holders.leave(block, cores);
     Ok(())
 }
 
 fn add_request(
     lines: &mut Vec<Taken>,
     machine: &Machine,
-    askers: &mut Askers,
+    possible_holders: &mut PossibleHolders,
     requestor: u32,
     block: u32,
     request: Request,
 ) -> Result<(), NoMemory>
-    requires { AreAskers machine.now.situation askers.old.sets }
+    requires { ArePossibleHolders machine.now.situation possible_holders.old.sets }
     ensures lines { OnOk result (lines.new.items ≡ lines.old.items ++ of_request machine.now.situation requestor block request) }
-    ensures askers { AreAskers machine.now.situation askers.new.sets }
+    ensures possible_holders { ArePossibleHolders machine.now.situation possible_holders.new.sets }
 {
-    add_holders(lines, machine, askers, requestor, block, request)?;
+    add_holders(lines, machine, possible_holders, requestor, block, request)?;
     add_memory(lines, machine, block, event_at_memory(request))
 }
 
@@ -329,14 +329,14 @@ fn add_respond(
 fn add_taken(
     lines: &mut Vec<Taken>,
     machine: &Machine,
-    askers: &mut Askers,
+    possible_holders: &mut PossibleHolders,
     step: Step,
     head: Option<(Request, u32)>,
 ) -> Result<(), NoMemory>
-    requires askers { AreAskers machine.now.situation askers.old.sets }
+    requires possible_holders { ArePossibleHolders machine.now.situation possible_holders.old.sets }
     requires head { IsHeadFor machine.now.situation step head }
     ensures lines { OnOk result (lines.new.items ≡ lines.old.items ++ taken_by machine.now.situation step) }
-    ensures askers { AreAskers machine.now.situation askers.new.sets }
+    ensures possible_holders { ArePossibleHolders machine.now.situation possible_holders.new.sets }
 {
     match step {
         Step::Ask {
@@ -347,7 +347,9 @@ fn add_taken(
         } => add_ask(lines, machine, core, block, op),
         Step::Order { core } => match head {
             None => Ok(()),
-            Some((request, block)) => { add_request(lines, machine, askers, core, block, request) }
+            Some((request, block)) => {
+                add_request(lines, machine, possible_holders, core, block, request)
+            }
         },
         Step::Respond { block } => match machine.transfer(block) {
             None => Ok(()),
@@ -409,29 +411,29 @@ fn is_bus_taken(machine: &Machine, step: Step, head: Option<(Request, u32)>) -> 
 pub(crate) fn take_step<C: Course>(
     lines: &mut Vec<Taken>,
     course: &mut C,
-    askers: &mut Askers,
+    possible_holders: &mut PossibleHolders,
     step: Step,
     head: Option<(Request, u32)>,
 ) -> Result<Result<Reply, Refused>, NoMemory>
     requires empty { lines.old.items ≡ [] }
     requires found { (before : C) × C.finds before step course.old }
-    requires askers { AreAskers (C.situation course.old) askers.old.sets }
+    requires possible_holders { ArePossibleHolders (C.situation course.old) possible_holders.old.sets }
     requires head { IsHeadFor (C.situation course.old) step head }
     ensures goes { IfOk result (λ outcome. GoesFirst (C.situation course.old) step outcome (C.situation course.new)) }
     ensures fewer { (before : C) → C.finds before step course.old → IfOk result (λ outcome. C.left course.new < C.left before) }
     ensures leads { (before : C) → C.finds before step course.old → IfOk result (λ outcome. LeadsOn (C.leads before) step outcome (C.leads course.new)) }
     ensures can_end { IfOk result (λ _. CanEndFrom (C.situation course.new) (C.leads course.new)) }
     ensures lines { IfOk result (λ outcome. lines.new.items ≡ lines_of_step (C.situation course.old) step outcome) }
-    ensures askers { IfOk result (λ outcome. AreAskers (C.situation course.new) askers.new.sets) }
+    ensures possible_holders { IfOk result (λ outcome. ArePossibleHolders (C.situation course.new) possible_holders.new.sets) }
 {
     let machine = course.machine();
     machine.shape().within_limits();
     if !is_bus_taken(machine, step, head) {
-        add_taken(lines, machine, askers, step, head)?;
+        add_taken(lines, machine, possible_holders, step, head)?;
     }
     let outcome = course.take(step)?;
     match outcome {
-        Ok(_) => askers.follow(step),
+        Ok(_) => possible_holders.follow(step),
         Err(cause) => {
             lines.clear();
             add_refused(lines, course.machine(), step, cause)?;

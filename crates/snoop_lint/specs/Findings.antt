@@ -39,7 +39,7 @@ findings_from fault n (row ∷ rest) = option_to_list (finding fault n row) ++ f
 abbrev pub findings : Form → Protocol → Extent → List (List (List ℕ)) → List Finding
 findings form protocol shape rows = findings_from (fault_at form protocol shape) 1 rows
 
--- the fault of the first of these faulty records; none where no record is faulty
+-- the fault of the first faulty record; none where no record is faulty
 abbrev pub first_fault : List Finding → Option TextFault
 first_fault [] = None
 first_fault (f ∷ rest) = Some f.fault

@@ -61,7 +61,7 @@ memory_matrix protocol =
     line_of (codes "state") memory_event_name events
     ++ flat_map (λ state. line_of (memory_state_name state) (memory_field protocol state) events) (filter (is_memory_state protocol) memory_states)
 
--- the cache table or the memory table as a matrix: a line with the names of the events, and then one for each state, which has the action and the next state at each event, and an empty field where the pair is impossible
+-- the cache table or the memory table as a matrix: a line with the names of the protocol's events, and then a line for each of its states; a field has the action and the next state, and is empty where the pair is impossible
 abbrev pub matrix_text : Protocol → Which → List ℕ
 matrix_text protocol Cache = cache_matrix protocol
 matrix_text protocol Memory = memory_matrix protocol

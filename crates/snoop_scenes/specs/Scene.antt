@@ -132,7 +132,7 @@ missed_store core number block value = record { core = core; number = number; bl
 abbrev pub hit_load : ℕ → ℕ → ℕ → ℕ → Did
 hit_load core number block value = record { core = core; number = number; block = block; word = 0; load = true; value = value; hit = true }
 
--- a store that hit
+-- the core's operation of this number, counted from 0: a store of the value in the block's first word that hit
 abbrev pub hit_store : ℕ → ℕ → ℕ → ℕ → Did
 hit_store core number block value = record { core = core; number = number; block = block; word = 0; load = false; value = value; hit = true }
 

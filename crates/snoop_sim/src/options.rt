@@ -697,7 +697,7 @@ fn says(options: &ArgMatches, name: &str, value: &str) -> bool
     }
 }
 
-/// The shape that was named. 0, which no shape has, stands for what is no number.
+/// The shape that was named. An option without a number counts as 0, which no shape has.
 fn shape_in(options: &ArgMatches) -> Result<Shape, ShapeFault>
     ensures { IsShapeOf (rows_of (found_of options.now)) result }
 {

@@ -2,7 +2,7 @@
 -- Source: this project's profile.
 use Rattle.std.specs.{Prelude.{ℕ, ◌+◌, List, [], ◌∷◌, ◌++◌, codes, map}, Fmt.decimal}
 use Rattle.snoop_trace.specs.{Extent.Extent, declared.step.Step.Step}
-use Rattle.snoop_engine.specs.Requestors.{requestors}
+use Rattle.snoop_engine.specs.Askers.{askers}
 use Rattle.snoop_states.specs.declared.{column.Column.{Column, TheVariants.{Core, Bus, Memory}}, widths.Widths.Widths}
 
 -- a column for each of these cores, then the bus and memory
@@ -11,7 +11,7 @@ columns_for cores = map Core cores ++ Bus ∷ Memory ∷ []
 
 -- the columns of a block's table: each core that asks for it, the bus and memory
 abbrev pub columns_of : Extent → List Step → ℕ → List Column
-columns_of shape steps block = columns_for (requestors shape steps block)
+columns_of shape steps block = columns_for (askers shape steps block)
 
 -- the name of a column
 abbrev pub column_name : Column → List ℕ

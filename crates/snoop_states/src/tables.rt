@@ -16,7 +16,7 @@ ghost use Rattle.snoop_states.specs.declared.column.Column.{Column};
 use crate::at_end::push_end;
 use crate::table::Table;
 use crate::widths::{Widths, widths_of};
-use snoop_engine::{Choice, Requestors, Seen, View};
+use snoop_engine::{Choice, Askers, Seen, View};
 use snoop_machine::{Machine, Refused, Reply};
 use snoop_trace::{NoMemory, Shape, Step};
 use std::alloc::Global;
@@ -27,7 +27,7 @@ pub(crate) struct Tables {
     alloc: Global,
     choice: Choice,
     widths: Widths,
-    requestors: Requestors,
+    askers: Askers,
     tables: Vec<Table>,
 }
 
@@ -42,12 +42,12 @@ impl Tables {
         ensures { IfOk result (IsFor shape choice steps.now) }
     {
         let widths = widths_of(shape, steps);
-        let requestors = Requestors::of(alloc, shape, steps)?;
+        let askers = Askers::of(alloc, shape, steps)?;
         Ok(Tables {
             alloc,
             choice,
             widths,
-            requestors,
+            askers,
             tables: Vec::new(alloc),
         })
     }
@@ -67,12 +67,12 @@ fn add(tables: &mut Vec<Table>, table: Table) -> Result<(), NoMemory>
 fn empty_table(
     alloc: Global,
     shape: Shape,
-    requestors: &Requestors,
+    askers: &Askers,
     block: u32,
 ) -> Result<Table, NoMemory>
-    ensures { IfOk result (IsEmpty (columns_in shape requestors.now block)) }
+    ensures { IfOk result (IsEmpty (columns_in shape askers.now block)) }
 {
-    let cores = requestors.cores(alloc, shape, block)?;
+    let cores = askers.cores(alloc, shape, block)?;
     Table::new(alloc, &cores)
 }
 
@@ -81,13 +81,13 @@ fn empty_table(
 fn empty_tables(
     alloc: Global,
     shape: Shape,
-    requestors: &Requestors,
+    askers: &Askers,
 ) -> Result<Vec<Table>, NoMemory>
-    ensures { IfOk result (λ tables. AreEach shape.blocks (λ block. IsEmpty (columns_in shape requestors.now block)) tables.items) }
+    ensures { IfOk result (λ tables. AreEach shape.blocks (λ block. IsEmpty (columns_in shape askers.now block)) tables.items) }
 {
     let mut tables = Vec::new(alloc);
     for block in 0..shape.blocks() {
-        add(&mut tables, empty_table(alloc, shape, requestors, block)?)?;
+        add(&mut tables, empty_table(alloc, shape, askers, block)?)?;
     }
     Ok(tables)
 }
@@ -140,14 +140,14 @@ fn begin_tables(
     alloc: Global,
     choice: Choice,
     widths: Widths,
-    requestors: &Requestors,
+    askers: &Askers,
     machine: &Machine,
 ) -> Result<Vec<Table>, NoMemory>
     ensures { machine.now.situation ≡ reset machine.now.situation.protocol machine.now.situation.shape
         → IfOk result (λ tables. AreTables machine.now.situation.shape choice
-        (λ block. IsTable widths choice machine.now.situation.protocol machine.now.situation.shape (columns_in machine.now.situation.shape requestors.now block) [] block) tables.items) }
+        (λ block. IsTable widths choice machine.now.situation.protocol machine.now.situation.shape (columns_in machine.now.situation.shape askers.now block) [] block) tables.items) }
 {
-    let mut tables = empty_tables(alloc, machine.shape(), requestors)?;
+    let mut tables = empty_tables(alloc, machine.shape(), askers)?;
     if choice.from() == 1 {
         start_tables(alloc, choice, widths, &mut tables, machine)?;
         Ok(tables)
@@ -249,14 +249,14 @@ impl View for Tables {
 
     ghost shows = { λ view protocol shape frames frame. [] };
 
-    ghost ending = { λ view protocol shape frames final. tables_text view.widths view.choice protocol shape (columns_in shape view.requestors) frames final };
+    ghost ending = { λ view protocol shape frames final. tables_text view.widths view.choice protocol shape (columns_in shape view.askers) frames final };
 
     fn begin(&mut self, _out: &mut Vec<u8>, machine: &Machine) -> Result<(), NoMemory> {
         self.tables = begin_tables(
             self.alloc,
             self.choice,
             self.widths,
-            &self.requestors,
+            &self.askers,
             machine,
         )?;
         Ok(())

@@ -46,11 +46,12 @@ module _ (shape : Extent) (limits : IsWithinLimits shape) where
     pub address_before : word_address shape block word < block * shape.block_bytes + shape.block_bytes
     address_before = omega (arith, word_starts)
 
--- the word that is asked for is one that the block has
+-- if an address lies in one of the block's words, so does what is asked for
 pub asked_of_few : (shape : Extent) (address : ℕ) (op : Op) → word_in_block shape address < shape.words → word_asked shape address op < shape.words
 asked_of_few shape address Evict few = omega (arith, few)
 asked_of_few shape address op few = few
 
+-- the word that is asked for is one that the block has
 pub asked_within : (shape : Extent) (address : ℕ) (op : Op) → IsWithinLimits shape → word_asked shape address op < shape.words
 asked_within shape address op limits = asked_of_few shape address op (word_within shape limits address)
 

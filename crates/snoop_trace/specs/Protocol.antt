@@ -3,7 +3,7 @@
 use Rattle.std.specs.Prelude.{ℕ, List, codes}
 use Rattle.snoop_trace.specs.declared.protocol.Protocol.{Protocol, TheVariants.{Msi, Mesi}}
 
--- the name of a protocol, as a program's words have it: `msi` or `mesi`
+-- the name of a protocol in small letters: `msi` or `mesi`
 abbrev pub protocol_name : Protocol → List ℕ
 protocol_name Msi = codes "msi"
 protocol_name Mesi = codes "mesi"

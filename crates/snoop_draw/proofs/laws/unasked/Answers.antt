@@ -1,6 +1,6 @@
 use Rattle.std.{proofs.{Common.{◌≡◌, ℕ, List, [], ◌∷◌, false, ap, arith}, lemmas.Bool.or_parts}, specs.Prelude.{Ok, Err, Result}}
 use Rattle.snoop_engine.proofs.Common.{Ask, GoesFirst, I, Line, Refused, Reply, Step, nat_tests}
-use Rattle.snoop_engine.{proofs.AskerLemmas.{IsAskOf, stays_in_i}, specs.{Frames.{Frame, FramesFrom, steps_of}, Requestors.{asks_for, is_requestor}}}
+use Rattle.snoop_engine.{proofs.AskerLemmas.{IsAskOf, stays_in_i}, specs.{Frames.{Frame, FramesFrom, steps_of}, Askers.{asks_for, is_asker}}}
 use Rattle.snoop_model.proofs.{Common.{Situation, reset, state_of}, Invariant.Runs.reset_line}
 use Rattle.snoop_draw.specs.Laws.{HoldsNothing}
 use Rattle.snoop_draw.proofs.laws.unasked.Goals as goal
@@ -17,10 +17,10 @@ module _ (block core : ℕ) where
       another _ never is = is
 
   frames_stay : (old : Situation) (frames : List Frame) (final : Situation) → FramesFrom old frames final
-      → is_requestor (steps_of frames) block core ≡ false → state_of old core block ≡ I → HoldsNothing block core frames
+      → is_asker (steps_of frames) block core ≡ false → state_of old core block ≡ I → HoldsNothing block core frames
   frames_stay old [] final run never idle = tt
   frames_stay old (frame ∷ frames) final run never idle =
-      let parts = or_parts (asks_for block core frame.step) (is_requestor (steps_of frames) block core) never in
+      let parts = or_parts (asks_for block core frame.step) (is_asker (steps_of frames) block core) never in
       let after = step_stays frame.before frame.after frame.step frame.outcome run.0.goes parts.0 (rw run.0.before idle) in
       (after, frames_stay frame.after frames final run.1 parts.1 after)
 

@@ -2,8 +2,8 @@ use Rattle.snoop_engine.proofs.{Common.{◌∙◌, ◌≡◌}, Common.{ap, sym, 
 use Rattle.snoop_engine.proofs.ShownLemmas.{ends_with_nothing, showing_cut, showing_cut_at_end, showing_done, showing_more, showing_stop}
 use Rattle.snoop_engine.proofs.show.show.Goals as goal
 
-pub returns-in_err-askers-clause-front : goal.returns-in_err-askers-clause-front
-returns-in_err-askers-clause-front g c =
+pub returns-in_err-possible_holders-clause-front : goal.returns-in_err-possible_holders-clause-front
+returns-in_err-possible_holders-clause-front g c =
     on_err c.from_residual.result _ (ends_with_nothing _ _ _ _ _ _ c.requires.can_end (g.W.Write.contents c.args.writer.now))
 
 pub returns-in_err-begin-clause-front : goal.returns-in_err-begin-clause-front
@@ -19,7 +19,7 @@ loop-step-init g c =
             (rw append-nil (rw (c.machine.ensures, same, c.new-chunk.ensures.items) at c.in_ok-begin.ensures.text));
       },
       (λ none. none),
-      rw c.requires.reset (c.in_ok-askers.ensures s.protocol c.args.shape (sym c.blocks-2.ensures.value)),
+      rw c.requires.reset (c.in_ok-possible_holders.ensures s.protocol c.args.shape (sym c.blocks-2.ensures.value)),
     )
 
 pub returns-in_err-number-clause-front : goal.returns-in_err-number-clause-front
@@ -39,7 +39,7 @@ loop-step-preserved g c =
     (c.in_ok-outcome.ensures.leads c.loop-step.course c.in-Some.ensures.found) c.in_ok-outcome.ensures.can_end (rw c.machine-in-Some-2.ensures at (c.in_ok-see.ensures c.args.view.now)) in (
       record { so_far = gathering_spilled far.so_far _ _ c.in_ok-spill.ensures.ok },
       (λ none. (c.in_ok-spill.ensures.blamed (c.loop-step.invariant.1 none)).1 (λ failed. cc)),
-      c.in_ok-outcome.ensures.askers,
+      c.in_ok-outcome.ensures.possible_holders,
     )
 
 pub returns-in_err-spill-clause-front : goal.returns-in_err-spill-clause-front

@@ -1,4 +1,4 @@
-use Rattle.snoop_engine.proofs.{Common.{ℕ, List, arith, of_holder, Taken}, AskerLemmas.{no_line_in_i, no_line_past}}
+use Rattle.snoop_engine.proofs.{Common.{ℕ, List, arith, of_holder, Taken}, PossibleHolderLemmas.{no_line_in_i, no_line_past}}
 use Rattle.snoop_engine.proofs.RangeLemmas.{range_piece, range_same, range_stops}
 use Rattle.snoop_engine.proofs.taken.add_holders.Goals as goal
 

@@ -1,10 +1,12 @@
-use Rattle.snoop_engine.proofs.{Common.◌∙◌, Common.{[], sym, get_or_from_slice_get, unwrap_or-slice_get}, AskerLemmas.has_nothing}
+use Rattle.std.proofs.{Common.{ℕ, Bool, arith, sym, subst, take}, lemmas.List.Folds.list_any_more}
+use Rattle.snoop_trace.specs.declared.step.{Op.TheVariants.Load, Step.TheVariants.Ask}
+use Rattle.snoop_engine.specs.Askers.{AreSetsBy, asks_for, is_asker}
 use Rattle.snoop_engine.proofs.askers.Askers.of.Goals as goal
 
-pub returns-in-None : goal.returns-in-None
-returns-in-None c = λ s are core out.
-    let nothing = rw (sym c.get.ensures ∙ c.in-None.is) at (sym (unwrap_or-slice_get c.args.self.now.sets c.args.block [])) in
-    are.others c.args.block core (rw nothing (has_nothing core))
-
-pub returns-in-Some : goal.returns-in-Some
-returns-in-Some c = λ s are core out. are.others c.args.block core (rw (get_or_from_slice_get c.args.self.now.sets c.args.block c.in-Some.cores [] (sym c.get.ensures ∙ c.in-Some.is)) out)
+pub loop-step-preserved : goal.loop-step-preserved
+loop-step-preserved c =
+    let steps = c.args.steps.now in
+    let i = c.loop-step.step-index in
+    subst (λ (test : ℕ → ℕ → Bool). AreSetsBy c.args.shape test c.add.new.sets)
+    (λ j block core. sym (list_any_more (asks_for block core) steps i (Ask 0 0 0 Load) c.loop-step-test.true) j)
+    (c.add.ensures c.args.shape (is_asker (take i steps)) (omega (arith, c.within_limits.ensures)) c.loop-step.invariant)

@@ -1,5 +1,5 @@
-use Rattle.snoop_engine.proofs.AskerLemmas.{follow_ask, follow_other}
-use Rattle.snoop_engine.proofs.askers.Askers.follow.Goals as goal
+use Rattle.snoop_engine.proofs.PossibleHolderLemmas.{follow_ask, follow_other}
+use Rattle.snoop_engine.proofs.possible_holders.PossibleHolders.follow.Goals as goal
 
 pub returns-in-Ask : goal.returns-in-Ask
 returns-in-Ask c = λ old new answer are few goes.

@@ -1,5 +1,5 @@
-use Rattle.snoop_engine.proofs.{Common.◌∙◌, Common.{[], sym, get_or_from_slice_get, unwrap_or-slice_get}, AskerLemmas.has_nothing}
-use Rattle.snoop_engine.proofs.requestors.in_sets.Goals as goal
+use Rattle.snoop_engine.proofs.{Common.◌∙◌, Common.{[], sym, get_or_from_slice_get, unwrap_or-slice_get}, PossibleHolderLemmas.has_nothing}
+use Rattle.snoop_engine.proofs.askers.is_in_set_of.Goals as goal
 
 -- a block that is not there has no set
 pub returns-in-None : goal.returns-in-None

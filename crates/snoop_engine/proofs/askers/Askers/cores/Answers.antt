@@ -1,6 +1,6 @@
 use Rattle.std.proofs.{Common.◌∙◌, lemmas.Result.IfOk-weaker}
-use Rattle.snoop_engine.proofs.RequestorLemmas.{those_who_ask}
-use Rattle.snoop_engine.proofs.requestors.Requestors.cores.Goals as goal
+use Rattle.snoop_engine.proofs.AskerLemmas.{those_who_ask}
+use Rattle.snoop_engine.proofs.askers.Askers.cores.Goals as goal
 
 pub returns-clause-asking : goal.returns-clause-asking
 returns-clause-asking c steps are low =
