@@ -16,7 +16,7 @@ ghost use Rattle.snoop_states.specs.declared.column.Column.{Column};
 use crate::at_end::push_end;
 use crate::table::Table;
 use crate::widths::{Widths, widths_of};
-use snoop_engine::{Choice, Askers, Seen, View};
+use snoop_engine::{Askers, Choice, Seen, View};
 use snoop_machine::{Machine, Refused, Reply};
 use snoop_trace::{NoMemory, Shape, Step};
 use std::alloc::Global;
@@ -64,12 +64,7 @@ fn add(tables: &mut Vec<Table>, table: Table) -> Result<(), NoMemory>
 }
 
 // The table of a block without a row.
-fn empty_table(
-    alloc: Global,
-    shape: Shape,
-    askers: &Askers,
-    block: u32,
-) -> Result<Table, NoMemory>
+fn empty_table(alloc: Global, shape: Shape, askers: &Askers, block: u32) -> Result<Table, NoMemory>
     ensures { IfOk result (IsEmpty (columns_in shape askers.now block)) }
 {
     let cores = askers.cores(alloc, shape, block)?;
@@ -78,11 +73,7 @@ fn empty_table(
 
 // A table without a row for each block.
 #[tactic(auto, using(crate::proofs::TableLemmas::each_more))]
-fn empty_tables(
-    alloc: Global,
-    shape: Shape,
-    askers: &Askers,
-) -> Result<Vec<Table>, NoMemory>
+fn empty_tables(alloc: Global, shape: Shape, askers: &Askers) -> Result<Vec<Table>, NoMemory>
     ensures { IfOk result (λ tables. AreEach shape.blocks (λ block. IsEmpty (columns_in shape askers.now block)) tables.items) }
 {
     let mut tables = Vec::new(alloc);
@@ -252,13 +243,7 @@ impl View for Tables {
     ghost ending = { λ view protocol shape frames final. tables_text view.widths view.choice protocol shape (columns_in shape view.askers) frames final };
 
     fn begin(&mut self, _out: &mut Vec<u8>, machine: &Machine) -> Result<(), NoMemory> {
-        self.tables = begin_tables(
-            self.alloc,
-            self.choice,
-            self.widths,
-            &self.askers,
-            machine,
-        )?;
+        self.tables = begin_tables(self.alloc, self.choice, self.widths, &self.askers, machine)?;
         Ok(())
     }
 

@@ -1,6 +1,6 @@
 use Rattle.std.{proofs.{Common.{◌≡◌, ℕ, List, [], ◌∷◌, false, ap, arith}, lemmas.Bool.or_parts}, specs.Prelude.{Ok, Err, Result}}
 use Rattle.snoop_engine.proofs.Common.{Ask, GoesFirst, I, Line, Refused, Reply, Step, nat_tests}
-use Rattle.snoop_engine.{proofs.AskerLemmas.{IsAskOf, stays_in_i}, specs.{Frames.{Frame, FramesFrom, steps_of}, Askers.{asks_for, is_asker}}}
+use Rattle.snoop_engine.{proofs.PossibleHolderLemmas.{IsAskOf, stays_in_i}, specs.{Frames.{Frame, FramesFrom, steps_of}, Askers.{asks_for, is_asker}}}
 use Rattle.snoop_model.proofs.{Common.{Situation, reset, state_of}, Invariant.Runs.reset_line}
 use Rattle.snoop_draw.specs.Laws.{HoldsNothing}
 use Rattle.snoop_draw.proofs.laws.unasked.Goals as goal
