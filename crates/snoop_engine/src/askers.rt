@@ -1,27 +1,28 @@
 //! The cores that ask for a block in some steps.
-ghost use Rattle.std.specs.Prelude.{◌≡◌, ◌<◌, ◌≤◌, ◌||◌, ℕ, Bool, List, false, filter, IfOk};
-ghost use Rattle.std.specs.List.{range_with_len};
+ghost use Rattle.std.specs.Prelude.{◌≡◌, ◌≤◌, ◌||◌, ℕ, Bool, false, [], slice_index_or, IfOk};
 ghost use Rattle.snoop_trace.specs.Extent.{Extent};
-ghost use Rattle.snoop_trace.specs.declared.step.Step.{Step as Given};
-ghost use Rattle.snoop_engine.specs.Askers.{AreSetsBy, asks_for, is_in_set_of, is_asker, askers};
+ghost use Rattle.snoop_engine.specs.Askers.{AreSetsBy, all_askers, asks_for, cores_in};
 
 use snoop_blocks::{BlockTable, CoreSet};
 use snoop_trace::{NoMemory, Shape, Step};
 use std::alloc::Global;
 use std::marker::Model;
 
-/// For each block of a shape, a set of the cores that ask for it in some steps.
+/// For each block of a shape, the cores that ask for it in some steps.
 #[derive(Drop)]
 pub struct Askers {
+    alloc: Global,
+    cores: u32,
     sets: BlockTable<CoreSet>,
 }
 
 impl Model for Askers {
-    ghost use Rattle.std.specs.Prelude.{ℕ, List};
+    ghost use Rattle.std.specs.Prelude.{ℕ, List, map};
+    ghost use Rattle.snoop_engine.specs.Askers.{cores_in};
 
     ghost Value = { List (List ℕ) };
 
-    ghost view = { λ r. r.sets };
+    ghost view = { λ a. map (cores_in a.cores) a.sets };
 }
 
 // A set for each block, with no core in it.
@@ -46,31 +47,12 @@ fn add(sets: &mut BlockTable<CoreSet>, step: Step)
     }
 }
 
-// Whether the core is in the set of the block.
-fn is_in_set_of(sets: &BlockTable<CoreSet>, block: u32, core: u32) -> bool
-    ensures { result ≡ is_in_set_of sets.now block core }
+// Of so many cores those in the set, by rising number.
+fn cores_in(alloc: Global, cores: u32, set: &CoreSet) -> Result<Vec<u32>, NoMemory>
+    ensures { IfOk result (λ listed. listed.items ≡ cores_in cores set.now) }
 {
-    match sets.get(block) {
-        None => false,
-        Some(cores) => cores.has(core),
-    }
-}
-
-// The cores of the shape that are in the set of the block, by rising number.
-fn cores_in(
-    alloc: Global,
-    shape: Shape,
-    sets: &BlockTable<CoreSet>,
-    block: u32,
-) -> Result<Vec<u32>, NoMemory>
-    ensures { IfOk result (λ cores. cores.items ≡ filter (is_in_set_of sets.now block) (range_with_len 0 shape.cores)) }
-{
-    let cores = shape.cores();
-    match (0..cores)
-        .filter(|core| is_in_set_of(sets, block, *core))
-        .collect(alloc)
-    {
-        Ok(cores) => Ok(cores),
+    match (0..cores).filter(|core| set.has(*core)).collect(alloc) {
+        Ok(listed) => Ok(listed),
         Err(_) => Err(NoMemory),
     }
 }
@@ -79,23 +61,26 @@ impl Askers {
     /// For each block of the shape, finds the cores that ask for it in these steps, however they are answered. Cores and blocks
     /// that the shape hasn't are left out. `NoMemory` where a growth was refused.
     pub fn of(alloc: Global, shape: Shape, steps: &[Step]) -> Result<Self, NoMemory>
-        ensures { IfOk result (AreSetsBy shape (is_asker steps.now)) }
+        ensures { IfOk result (λ found. found ≡ all_askers shape steps.now) }
     {
         shape.within_limits();
         let mut sets = empty_sets(alloc, shape)?;
         for step in steps {
             add(&mut sets, *step);
         }
-        Ok(Askers { sets })
+        Ok(Askers {
+            alloc,
+            cores: shape.cores(),
+            sets,
+        })
     }
 
-    /// The cores of the shape, which is that of `of`, that ask for the block, by rising number; none for a block that the shape
-    /// hasn't. `NoMemory` where a growth was refused; nothing has changed.
-    pub fn cores(&self, alloc: Global, shape: Shape, block: u32) -> Result<Vec<u32>, NoMemory>
-        ensures value { IfOk result (λ cores. cores.items ≡ filter (is_in_set_of self.now block) (range_with_len 0 shape.cores)) }
-        // For that shape and the steps of `of`: exactly the cores that ask.
-        ensures asking { (steps : List Given) → AreSetsBy shape (is_asker steps) self.now → block < shape.blocks → IfOk result (λ cores. cores.items ≡ askers shape steps block) }
+    /// The cores that ask for the block, by rising number; none for a block that the shape hasn't. `NoMemory` where a growth was
+    /// refused; nothing has changed.
+    pub fn cores(&self, block: u32) -> Result<Vec<u32>, NoMemory>
+        ensures { IfOk result (λ cores. cores.items ≡ slice_index_or self.now block []) }
     {
-        cores_in(alloc, shape, &self.sets, block)
+        let askers = self.sets.get_or(block, CoreSet::empty());
+        cores_in(self.alloc, self.cores, &askers)
     }
 }
