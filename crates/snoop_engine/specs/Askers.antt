@@ -18,7 +18,7 @@ is_asker steps block core = list_any (asks_for block core) steps
 abbrev pub askers : Extent → List Step → ℕ → List ℕ
 askers shape steps block = filter (is_asker steps block) (range_with_len 0 shape.cores)
 
--- these, for each block of the shape
+-- for each block of the shape the cores that ask for it in one of the steps, by rising number
 abbrev pub all_askers : Extent → List Step → List (List ℕ)
 all_askers shape steps = map (askers shape steps) (range_with_len 0 shape.blocks)
 
