@@ -1,7 +1,7 @@
 //! Which panels a drawing has, and which columns.
 ghost use Rattle.std.specs.Prelude.{◌≡◌, ◌++◌, List, IfOk, OnOk};
 ghost use Rattle.snoop_trace.specs.declared.step.Step.{Step as Given};
-ghost use Rattle.snoop_engine.specs.Askers.{AreSetsBy, is_asker};
+ghost use Rattle.snoop_engine.specs.Askers.{all_askers};
 ghost use Rattle.snoop_draw.specs.Panels.{panel_with, panels_for};
 
 use snoop_engine::Askers;
@@ -55,11 +55,11 @@ fn push_panel(panels: &mut Vec<Panel>, block: u32, cores: Vec<u32>) -> Result<()
 
 // A panel for each block that a core asks for.
 fn all_panels(alloc: Global, shape: Shape, askers: &Askers) -> Result<Vec<Panel>, NoMemory>
-    ensures { (steps : List Given) → AreSetsBy shape (is_asker steps) askers.now → IfOk result (λ panels. panels.items ≡ panels_for shape steps None) }
+    ensures { (steps : List Given) → askers.now ≡ all_askers shape steps → IfOk result (λ panels. panels.items ≡ panels_for shape steps None) }
 {
     let mut panels = Vec::new(alloc);
     for block in 0..shape.blocks() {
-        let cores = askers.cores(alloc, shape, block)?;
+        let cores = askers.cores(block)?;
         push_panel(&mut panels, block, cores)?;
     }
     Ok(panels)
@@ -72,13 +72,13 @@ fn one_panel(
     askers: &Askers,
     block: u32,
 ) -> Result<Vec<Panel>, NoMemory>
-    ensures { (steps : List Given) → AreSetsBy shape (is_asker steps) askers.now → IfOk result (λ panels. panels.items ≡ panels_for shape steps (Some block)) }
+    ensures { (steps : List Given) → askers.now ≡ all_askers shape steps → IfOk result (λ panels. panels.items ≡ panels_for shape steps (Some block)) }
 {
     let mut panels = Vec::new(alloc);
     if block >= shape.blocks() {
         return Ok(panels);
     }
-    let cores = askers.cores(alloc, shape, block)?;
+    let cores = askers.cores(block)?;
     match panels.push(Panel { block, cores }) {
         Ok(()) => Ok(panels),
         Err(_) => Err(NoMemory),

@@ -1,8 +1,8 @@
 -- The view of a run as tables.
 -- Source: this project's profile.
-use Rattle.std.specs.{Prelude.{◌≡◌, ℕ, List}, List.{filter, range_with_len}}
+use Rattle.std.specs.Prelude.{◌≡◌, ℕ, List, [], slice_index_or}
 use Rattle.snoop_trace.specs.{Extent.Extent, declared.{protocol.Protocol.Protocol, step.Step.Step}}
-use Rattle.snoop_engine.specs.{Frames.Frame, Chosen.Chosen, Askers.{AreSetsBy, is_in_set_of, is_asker}}
+use Rattle.snoop_engine.specs.{Frames.Frame, Chosen.Chosen, Askers.all_askers}
 use Rattle.snoop_states.specs.{declared.{column.Column.Column, tables.Tables.Tables}, Columns.columns_for}
 use Rattle.snoop_states.specs.{Seen.{AreTables, IsTable}, Widths.widths_of}
 
@@ -10,14 +10,14 @@ use Rattle.snoop_states.specs.{Seen.{AreTables, IsTable}, Widths.widths_of}
 pub record IsFor (shape : Extent) (wanted : Chosen) (steps : List Step) (view : Tables) : Type 0 where
   pub choice : view.choice ≡ wanted
   pub widths : view.widths ≡ widths_of shape steps
-  pub askers : AreSetsBy shape (is_asker steps) view.askers
+  pub askers : view.askers ≡ all_askers shape steps
 
--- the columns of a block's table, by the sets of those that ask
-abbrev pub columns_in : Extent → List (List ℕ) → ℕ → List Column
-columns_in shape sets block = columns_for (filter (is_in_set_of sets block) (range_with_len 0 shape.cores))
+-- the columns of a block's table, by the cores that ask for each block
+abbrev pub columns_in : List (List ℕ) → ℕ → List Column
+columns_in askers block = columns_for (slice_index_or askers block [])
 
 -- the view that was begun has seen these frames, and is this now
 pub record HasSeen (first : Tables) (protocol : Protocol) (shape : Extent) (frames : List Frame) (now : Tables) : Type 0 where
   pub choice : now.choice ≡ first.choice
   pub widths : now.widths ≡ first.widths
-  pub tables : AreTables shape now.choice (λ block. IsTable now.widths now.choice protocol shape (columns_in shape first.askers block) frames block) now.tables.items
+  pub tables : AreTables shape now.choice (λ block. IsTable now.widths now.choice protocol shape (columns_in first.askers block) frames block) now.tables.items

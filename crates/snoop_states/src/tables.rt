@@ -64,21 +64,21 @@ fn add(tables: &mut Vec<Table>, table: Table) -> Result<(), NoMemory>
 }
 
 // The table of a block without a row.
-fn empty_table(alloc: Global, shape: Shape, askers: &Askers, block: u32) -> Result<Table, NoMemory>
-    ensures { IfOk result (IsEmpty (columns_in shape askers.now block)) }
+fn empty_table(alloc: Global, askers: &Askers, block: u32) -> Result<Table, NoMemory>
+    ensures { IfOk result (IsEmpty (columns_in askers.now block)) }
 {
-    let cores = askers.cores(alloc, shape, block)?;
+    let cores = askers.cores(block)?;
     Table::new(alloc, &cores)
 }
 
 // A table without a row for each block.
 #[tactic(auto, using(crate::proofs::TableLemmas::each_more))]
 fn empty_tables(alloc: Global, shape: Shape, askers: &Askers) -> Result<Vec<Table>, NoMemory>
-    ensures { IfOk result (λ tables. AreEach shape.blocks (λ block. IsEmpty (columns_in shape askers.now block)) tables.items) }
+    ensures { IfOk result (λ tables. AreEach shape.blocks (λ block. IsEmpty (columns_in askers.now block)) tables.items) }
 {
     let mut tables = Vec::new(alloc);
     for block in 0..shape.blocks() {
-        add(&mut tables, empty_table(alloc, shape, askers, block)?)?;
+        add(&mut tables, empty_table(alloc, askers, block)?)?;
     }
     Ok(tables)
 }
@@ -136,7 +136,7 @@ fn begin_tables(
 ) -> Result<Vec<Table>, NoMemory>
     ensures { machine.now.situation ≡ reset machine.now.situation.protocol machine.now.situation.shape
         → IfOk result (λ tables. AreTables machine.now.situation.shape choice
-        (λ block. IsTable widths choice machine.now.situation.protocol machine.now.situation.shape (columns_in machine.now.situation.shape askers.now block) [] block) tables.items) }
+        (λ block. IsTable widths choice machine.now.situation.protocol machine.now.situation.shape (columns_in askers.now block) [] block) tables.items) }
 {
     let mut tables = empty_tables(alloc, machine.shape(), askers)?;
     if choice.from() == 1 {
@@ -240,7 +240,7 @@ impl View for Tables {
 
     ghost shows = { λ view protocol shape frames frame. [] };
 
-    ghost ending = { λ view protocol shape frames final. tables_text view.widths view.choice protocol shape (columns_in shape view.askers) frames final };
+    ghost ending = { λ view protocol shape frames final. tables_text view.widths view.choice protocol shape (columns_in view.askers) frames final };
 
     fn begin(&mut self, _out: &mut Vec<u8>, machine: &Machine) -> Result<(), NoMemory> {
         self.tables = begin_tables(self.alloc, self.choice, self.widths, &self.askers, machine)?;

@@ -29,15 +29,15 @@ fn cores_that_ask(rt: HostRuntime) -> Result<(), Fail> {
         Step::Respond { block: 1 },
     ];
     let askers = Askers::of(rt.alloc(), shape, &steps)?;
-    let cores = askers.cores(rt.alloc(), shape, 1)?;
+    let cores = askers.cores(1)?;
     if cores.as_slice() != [0, 2].as_slice() {
         return Err(Fail::from("the cores that ask for block 1"));
     }
-    let nobody = askers.cores(rt.alloc(), shape, 0)?;
+    let nobody = askers.cores(0)?;
     if !nobody.is_empty() {
         return Err(Fail::from("the cores that ask for block 0"));
     }
-    let outside = askers.cores(rt.alloc(), shape, 2)?;
+    let outside = askers.cores(2)?;
     if !outside.is_empty() {
         return Err(Fail::from("the cores that ask for a block that is not there"));
     }

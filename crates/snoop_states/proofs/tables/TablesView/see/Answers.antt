@@ -7,4 +7,4 @@ returns c first frames before has next =
     let s = c.args.machine.now.situation in
     on_ok_weaker c.show_step.result
     (λ are. (record { choice = has.choice; widths = has.widths; tables = are }, sym (append-nil c.args._out.now.items)))
-    (c.show_step.ensures s.protocol (columns_in s.shape first.askers) frames (frame_seen before c.args.seen s) refl refl refl next.number next.block has.tables)
+    (c.show_step.ensures s.protocol (columns_in first.askers) frames (frame_seen before c.args.seen s) refl refl refl next.number next.block has.tables)
