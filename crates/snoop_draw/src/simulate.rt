@@ -16,7 +16,7 @@ use crate::widths::widths_for;
 use snoop_engine::{Choice, Input, SimFault, read_input, show_steps};
 use snoop_rules::Protocol;
 use snoop_trace::streams::{Sink, Source};
-use snoop_trace::{Shape, Step, WriteFault};
+use snoop_trace::{Shape, Step};
 use std::alloc::Global;
 
 /// Reads a text to its end, runs the steps that it gives, in order, on a machine at reset for the protocol and the shape, and
@@ -46,9 +46,7 @@ pub fn simulate_drawing<R: Source, W: Sink>(
     ensures read_blamed { BlamesReader (R.failed reader.old) (R.failed reader.new) (result ≡ Err (DrawFault.Simulation (SimFault.Text text_fault.Read))) }
     ensures blamed { BlamesWriter (W.failed writer.old) (W.failed writer.new) (result ≡ Err (DrawFault.Simulation SimFault.Write)) }
 {
-    let steps = read_input(alloc, reader, protocol, shape, input).map_err(|fault| {
-        DrawFault::Simulation(SimFault::Text(fault))
-    })?;
+    let steps = read_input(alloc, reader, protocol, shape, input)?;
     draw_steps(alloc, writer, protocol, shape, charset, choice, &steps)
 }
 
@@ -67,20 +65,13 @@ fn draw_steps<W: Sink>(
     ensures never_blamed { W.never_fails ≡ true → result ≢ Err (DrawFault.Simulation SimFault.Write) }
     ensures blamed { BlamesWriter (W.failed writer.old) (W.failed writer.new) (result ≡ Err (DrawFault.Simulation SimFault.Write)) }
 {
-    let Ok(panels) = panels_for(alloc, shape, steps, choice.block()) else {
-        return Err(DrawFault::Simulation(SimFault::NoMemory));
-    };
+    let panels = panels_for(alloc, shape, steps, choice.block())?;
     if !is_small(choice, steps.len() as u64, &panels) {
         return Err(DrawFault::TooLarge);
     }
-    let Ok(widths) = widths_for(alloc, shape, steps) else {
-        return Err(DrawFault::Simulation(SimFault::NoMemory));
-    };
+    let widths = widths_for(alloc, shape, steps)?;
     let style = Style { charset, widths };
     let mut drawing = Drawing::new(alloc, style, panels, choice);
-    match show_steps(alloc, writer, protocol, shape, steps, &mut drawing) {
-        Ok(()) => Ok(()),
-        Err(WriteFault::NoMemory) => Err(DrawFault::Simulation(SimFault::NoMemory)),
-        Err(WriteFault::Write) => Err(DrawFault::Simulation(SimFault::Write)),
-    }
+    show_steps(alloc, writer, protocol, shape, steps, &mut drawing)?;
+    Ok(())
 }

@@ -53,9 +53,7 @@ pub fn simulate_svg<R: Source, W: Sink>(
     ensures read_blamed { BlamesReader (R.failed reader.old) (R.failed reader.new) (result ≡ Err (DrawFault.Simulation (SimFault.Text text_fault.Read))) }
     ensures blamed { BlamesWriter (W.failed writer.old) (W.failed writer.new) (result ≡ Err (DrawFault.Simulation SimFault.Write)) }
 {
-    let steps = read_input(alloc, reader, protocol, shape, input).map_err(|fault| {
-        DrawFault::Simulation(SimFault::Text(fault))
-    })?;
+    let steps = read_input(alloc, reader, protocol, shape, input)?;
     draw_steps(alloc, writer, protocol, shape, choice, paper, &steps)
 }
 
@@ -131,14 +129,9 @@ fn draw_steps<W: Sink>(
     ensures never_blamed { W.never_fails ≡ true → result ≢ Err (DrawFault.Simulation SimFault.Write) }
     ensures blamed { BlamesWriter (W.failed writer.old) (W.failed writer.new) (result ≡ Err (DrawFault.Simulation SimFault.Write)) }
 {
-    let plan = match plan_steps(alloc, protocol, shape, choice, paper, steps) {
-        Ok(Some(plan)) => plan,
-        Ok(None) => return Err(DrawFault::TooLarge),
-        Err(_) => return Err(DrawFault::Simulation(SimFault::NoMemory)),
+    let Some(plan) = plan_steps(alloc, protocol, shape, choice, paper, steps)? else {
+        return Err(DrawFault::TooLarge);
     };
-    match draw_planned(alloc, writer, protocol, shape, steps, plan) {
-        Ok(()) => Ok(()),
-        Err(WriteFault::NoMemory) => Err(DrawFault::Simulation(SimFault::NoMemory)),
-        Err(WriteFault::Write) => Err(DrawFault::Simulation(SimFault::Write)),
-    }
+    draw_planned(alloc, writer, protocol, shape, steps, plan)?;
+    Ok(())
 }
