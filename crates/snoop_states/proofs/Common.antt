@@ -4,6 +4,6 @@ pub use Rattle.std.{proofs.lemmas.{Bool.both_ways, List.{length_push, map-append
 pub use Rattle.snoop_trace.specs.{Extent.Extent, declared.protocol.Protocol.Protocol}
 pub use Rattle.snoop_model.specs.Pictures.Situation.{Situation}
 pub use Rattle.snoop_engine.specs.{Chosen.Chosen, Frames.Frame, Line.line_text}
-pub use Rattle.snoop_states.specs.{Cells.cell_text, Columns.{column_name, width_of}, Each.AreEach}
-pub use Rattle.snoop_states.specs.{Rows.{below, padded_text}, Seen.{AreTables, Grows, IsEmpty, IsTable, pair}, Views.columns_in, Whole.block_table}
+pub use Rattle.snoop_states.specs.{Cells.cell_text, Columns.{column_name, columns_in, width_of}, Each.AreEach}
+pub use Rattle.snoop_states.specs.{Rows.{below, padded_text}, Seen.{AreTables, Grows, IsEmpty, IsTable, pair}, Whole.block_table}
 pub use Rattle.snoop_states.specs.declared.column.Column.{Column}

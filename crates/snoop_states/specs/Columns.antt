@@ -1,17 +1,21 @@
 -- The columns of a block's table.
 -- Source: this project's profile.
-use Rattle.std.specs.{Prelude.{ℕ, ◌+◌, List, [], ◌∷◌, ◌++◌, codes, map}, Fmt.decimal}
+use Rattle.std.specs.{Prelude.{ℕ, ◌+◌, List, [], ◌∷◌, ◌++◌, codes, map, slice_index_or}, Fmt.decimal}
 use Rattle.snoop_trace.specs.{Extent.Extent, declared.step.Step.Step}
-use Rattle.snoop_engine.specs.Askers.{askers}
+use Rattle.snoop_engine.specs.Askers.{all_askers}
 use Rattle.snoop_states.specs.declared.{column.Column.{Column, TheVariants.{Core, Bus, Memory}}, widths.Widths.Widths}
 
 -- a column for each of these cores, then the bus and memory
 abbrev pub columns_for : List ℕ → List Column
 columns_for cores = map Core cores ++ Bus ∷ Memory ∷ []
 
--- the columns of a block's table: each core that asks for it, the bus and memory
+-- the columns of a block's table, by the cores that ask for each block
+abbrev pub columns_in : List (List ℕ) → ℕ → List Column
+columns_in askers block = columns_for (slice_index_or askers block [])
+
+-- the columns of a block's table: each core that asks for it in one of the steps, the bus and memory
 abbrev pub columns_of : Extent → List Step → ℕ → List Column
-columns_of shape steps block = columns_for (askers shape steps block)
+columns_of shape steps = columns_in (all_askers shape steps)
 
 -- the name of a column
 abbrev pub column_name : Column → List ℕ

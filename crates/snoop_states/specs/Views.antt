@@ -1,9 +1,9 @@
 -- The view of a run as tables.
 -- Source: this project's profile.
-use Rattle.std.specs.Prelude.{◌≡◌, ℕ, List, [], slice_index_or}
+use Rattle.std.specs.Prelude.{◌≡◌, List}
 use Rattle.snoop_trace.specs.{Extent.Extent, declared.{protocol.Protocol.Protocol, step.Step.Step}}
 use Rattle.snoop_engine.specs.{Frames.Frame, Chosen.Chosen, Askers.all_askers}
-use Rattle.snoop_states.specs.{declared.{column.Column.Column, tables.Tables.Tables}, Columns.columns_for}
+use Rattle.snoop_states.specs.{declared.tables.Tables.Tables, Columns.columns_in}
 use Rattle.snoop_states.specs.{Seen.{AreTables, IsTable}, Widths.widths_of}
 
 -- the view is for these steps
@@ -11,10 +11,6 @@ pub record IsFor (shape : Extent) (wanted : Chosen) (steps : List Step) (view : 
   pub choice : view.choice ≡ wanted
   pub widths : view.widths ≡ widths_of shape steps
   pub askers : view.askers ≡ all_askers shape steps
-
--- the columns of a block's table, by the cores that ask for each block
-abbrev pub columns_in : List (List ℕ) → ℕ → List Column
-columns_in askers block = columns_for (slice_index_or askers block [])
 
 -- the view that was begun has seen these frames, and is this now
 pub record HasSeen (first : Tables) (protocol : Protocol) (shape : Extent) (frames : List Frame) (now : Tables) : Type 0 where

@@ -9,7 +9,8 @@ ghost use Rattle.snoop_engine.specs.Chosen.{Chosen};
 ghost use Rattle.snoop_states.specs.Tables.{shown_block};
 ghost use Rattle.snoop_states.specs.Each.{AreEach};
 ghost use Rattle.snoop_states.specs.Seen.{AreTables, HasRows, IsEmpty, IsHalfBegun, IsTable};
-ghost use Rattle.snoop_states.specs.Views.{HasSeen, IsFor, columns_in};
+ghost use Rattle.snoop_states.specs.Columns.{columns_in};
+ghost use Rattle.snoop_states.specs.Views.{HasSeen, IsFor};
 ghost use Rattle.snoop_states.specs.Whole.{block_table, tables_text};
 ghost use Rattle.snoop_states.specs.declared.column.Column.{Column};
 
