@@ -39,9 +39,10 @@ Most words say a thing differently from the code. Which request waits is read fr
 where the code has queues; flat values and counts are computed from the whole history, where it has
 running numbers. Some follow the code closely: the controllers' tables (`cell_of`,
 `memory_cell_of`), a line for each row as in docs/PROTOCOL.md; how a record is read, field by field
-(`Grammar.antt`); the command line (`IsSnoop`), by the groups of options that the code has too; and
-how counts grow by one item (`tallied` in `Journal.antt`), for which it is proved that the result is
-the count of the whole list.
+(`Grammar.antt`); the command line (`IsSnoop`), by the groups of options that the code has too; the
+sentences of `lint` and the sheets of a drawing, piece by piece as they are written; `ranked`, which
+sorts by insertion; and how counts grow by one item (`tallied` in `Journal.antt`), for which it is
+proved that the result is the count of the whole list.
 
 A core's list of waiting blocks is its *queue*; a *line* is a cache line.
 
