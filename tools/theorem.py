@@ -65,7 +65,8 @@ before an earlier miss of the same core that still waits, and it may load the ol
 that its own earlier store has yet to write. Some definitions of coherence require a core's
 operations on one word to keep the order of its program; that is not a clause. For cores that wait
 for their operations it follows from the clauses by hand; the prover has checked it only for runs
-that serve rows, one at a time for each core (docs/PROVED.md, "Served").
+that serve rows, one at a time for each core (docs/PROVED.md, "Served"), and for cores that threads
+use (docs/THREADS.md, "Joining").
 
 This page begins with the machine in words and an example run. It then explains the notation, gives
 the theorem, says in outline why it holds and what it leaves out, and ends with every type and
