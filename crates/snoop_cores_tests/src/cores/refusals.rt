@@ -3,7 +3,7 @@
 use crate::cores::scene::{Scene, row, work};
 use snoop_cores::{
     AdvanceFault, Free, GatherFault, Late, MakeFault, RunFault, Seat, SeatFault, Shared, Turn,
-    ViewFault,
+    ViewFault, Work,
 };
 use snoop_history::Did;
 use snoop_rules::Protocol;
@@ -24,6 +24,38 @@ fn a_row_outside_the_shape(rt: HostRuntime) -> Result<(), Fail> {
         return Err(Fail::from("how many steps"));
     }
     Ok(())
+}
+
+#[test]
+fn a_refused_call_takes_no_step(rt: HostRuntime) -> Result<(), Fail> {
+    let mut scene = Scene::new(&rt, rt.alloc(), 2)?;
+    let stored = scene.call(&rt, 0, work(Op::Store(1)));
+    let refused = [
+        scene.call(&rt, 0, of_block_4(Op::Load)),
+        scene.call(&rt, 0, of_block_4(Op::Store(2))),
+        scene.call(&rt, 0, of_block_4(Op::Evict)),
+    ];
+    let shown = scene.shown(&rt, rt.alloc());
+    scene.end(&rt);
+    if stored != Some(Ok(Turn::Stored)) {
+        return Err(Fail::from("the store"));
+    }
+    if refused != [Some(Err(SeatFault::NoBlock)); 3] {
+        return Err(Fail::from("the calls outside the shape"));
+    }
+    // The store's Ask, Order and Respond.
+    if shown.map(|shown| shown.steps) != Some(3) {
+        return Err(Fail::from("how many steps"));
+    }
+    Ok(())
+}
+
+/// The operation on a block that is not there.
+fn of_block_4(op: Op) -> Work {
+    Work {
+        block: 4,
+        ..work(op)
+    }
 }
 
 #[test]
