@@ -272,9 +272,10 @@ first steps of a run are a run, so it is about each situation on the way too. An
 oldest request and no step is refused as out of memory, is one of these runs, and so coherent. Every
 list of steps has such a run (`runs_go_on`). That the code does as the model says is not on this
 page: docs/PROVED.md has it, with what the functions named here promise. There each step of the
-code, taken or refused, is a step of such a run (`Machine::step` for one step, `run_steps` for a
-list), and its Orders take a core's oldest request. PROVED also says what is trusted: above all the
-prover of the Rattle toolchain, in whose language Snoop is written, which has checked all of it.
+code, taken or refused, goes as a step of `EveryRun` does, from the situation that the machine is in
+(`Machine::step` for one step, `run_steps` for a list), and its Orders take a core's oldest request.
+A machine that `reset` made is in a situation of a run. PROVED also says what is trusted: above all
+the prover of the Rattle toolchain, in whose language Snoop is written, which has checked all of it.
 
 `Orders`, which `orders` and `by_table` mention, is a move without the bounds on core and block
 (`IsWithin`). It needs none: outside the shape no request waits.
