@@ -7,10 +7,10 @@
 
 A solution is what `snoop states --as csv` wrote. To be found are what each controller does at a step (FOUND) and what came with a
 response; the reply tells too much, so it is neither on the sheet nor marked. A cell counts if the solution or the answer has something in
-it. Answers may be separated by commas, semicolons or tabs. Small and capital letters are the same, and so are "IM_AD", "IM^AD" and "IM AD".
+it. Commas, semicolons and tabs between fields are the same, and so are small and capital letters, and "IM_AD", "IM^AD" and "IM AD".
 """
+import codecs
 import csv
-import io
 import pathlib
 import sys
 
@@ -19,9 +19,11 @@ FOUND = ("before", "action", "after", "value", "place")
 
 def lines(name):
     """The lines of a file by step and controller, each with its cells by the names of their fields."""
-    text = pathlib.Path(name).read_text(encoding="utf-8-sig", errors="replace")
-    separator = max(",;\t", key=text.partition("\n")[0].count)
-    return {(plain(line.get("step")), plain(line.get("controller"))): line for line in csv.DictReader(io.StringIO(text), delimiter=separator)}
+    content = pathlib.Path(name).read_bytes()
+    is_wide = content.startswith((codecs.BOM_UTF16_LE, codecs.BOM_UTF16_BE))
+    rows = content.decode("utf-16" if is_wide else "utf-8-sig", errors="replace").splitlines()
+    separator = max(",;\t", key="".join(rows[:1]).count)
+    return {(plain(line.get("step")), plain(line.get("controller"))): line for line in csv.DictReader(rows, delimiter=separator)}
 
 
 def plain(cell):
@@ -57,7 +59,7 @@ def marks(solution, names):
     for name in names:
         cells = [plain(right) == plain(given) for _, right, given in compared(solution, lines(name))]
         found.append((sum(cells), len(cells), name))
-    for right, count, name in sorted(found, key=lambda mark: (-mark[0] / mark[1], mark[2])):
+    for right, count, name in sorted(found, key=lambda mark: (-mark[0] / max(mark[1], 1), mark[2])):
         print(f"{right} of {count} {name}")
 
 
@@ -74,7 +76,7 @@ def main():
     if (command, len(names)) != (["sheet"], 1) and not (command in (["marks"], ["mistakes"]) and len(names) > 1):
         sys.exit(__doc__.strip())
     solution = lines(names[0])
-    if not all(line.get("record") for line in solution.values()) or not solution:
+    if not solution or not all(line.get("record") for line in solution.values()):
         sys.exit(f"{names[0]}: this is not what snoop states --as csv writes")
     if command == ["sheet"]:
         sheet(solution)
