@@ -26,8 +26,8 @@ begins_on core now was dids (new, is) =
 
 -- what a seat keeps holds on once its reader has gone on
 pub reader_on : (s : Inside) (after : Viewing)
-    → IsOfShape s.reader s.share.shape × (s.core < s.share.shape.cores) × StartsWith (answers_of s.reader.seen s.core) s.answers.items → GoesOn s.reader after
-    → IsOfShape after s.share.shape × (s.core < s.share.shape.cores) × StartsWith (answers_of after.seen s.core) s.answers.items
+    → IsOfShape s.reader s.share.share.shape × (s.core < s.share.share.shape.cores) × StartsWith (answers_of s.reader.seen s.core) s.answers.items → GoesOn s.reader after
+    → IsOfShape after s.share.share.shape × (s.core < s.share.share.shape.cores) × StartsWith (answers_of after.seen s.core) s.answers.items
 reader_on s after (shape, inside, begins) on = (
   (on.shape.0 ∙ shape.0, on.shape.1 ∙ shape.1, on.shape.2 ∙ shape.2),
   inside,

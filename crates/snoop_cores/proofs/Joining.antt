@@ -67,7 +67,7 @@ first_less items core n (d ∷ answers) first few =
 
 -- a seat that stands where none does
 abbrev pub no_seat : Seating
-no_seat = record { core = 0; shape = record { cores = 0; blocks = 0; block_bytes = 0; words = 0 }; seen = []; answers = []; pending = None; strange = None; stop = None }
+no_seat = record { core = 0; shape = record { cores = 0; blocks = 0; block_bytes = 0; words = 0 }; seen = []; answers = []; pending = None; strange = None; stop = None; turns = 0 }
 
 -- two first strange cores are one
 strange_one : (cores : ℕ) (seats : List Seating) (a b : ℕ) → IsFirstOutside cores seats a → IsFirstOutside cores seats b → a ≡ b

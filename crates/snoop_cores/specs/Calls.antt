@@ -33,10 +33,11 @@ pub record IsSettled (s : Seating) : Type 0 where
   pub pending : s.pending ≡ None
   pub strange : s.strange ≡ None
 
--- the call is over: the operation could begin, these are its answers, and the seat is settled
+-- the call is over: the operation could begin, the count of turns has changed, these are the answers, and the seat is settled
 pub record Completes (work : Work) (dids : List Did) (s t : Seating) : Type 0 where
   pub began : MayBegin work s
   pub stays : Stays s t
+  pub turned : t.turns ≢ s.turns
   pub answers : t.answers ≡ s.answers ++ dids
   pub settled : IsSettled t
 
@@ -51,14 +52,14 @@ pub record IsStranger (did : Did) (work : Work) (dids answers : List Did) : Type
   pub more : dids ≢ answers
   pub other : (own : Did) → Does own work → dids ≢ answers ++ own ∷ []
 
--- when each fault comes, and what it leaves
+-- when each fault comes, and what it leaves; a seat that is as it was has taken no turn
 abbrev pub Fails : SeatFault → Work → Seating → Seating → Type 0
 Fails NoBlock work s t = (¬ IsHere s.shape work) × (t ≡ s)
 Fails (Busy other) work s t = (s.strange ≡ None) × (s.pending ≡ Some other) × (other ≢ work) × (t ≡ s)
 Fails NoMemory work s t = MayBegin work s × AddsNoAnswer s t × (t.pending ≡ Some work) × (t.strange ≡ None) × (t.seen ≡ s.seen)
 Fails (Stranger did) work s t = ((s.strange ≡ Some did) × (t ≡ s)) ⊎ (MayBegin work s × AddsNoAnswer s t × (t.pending ≡ Some work) × (t.strange ≡ Some did) × IsStranger did work (answers_of t.seen s.core) s.answers × HasSeenHistory t)
 
--- the fault that is answered before any turn
+-- which fault has to be answered, by what the seat shows before the call; `Fails` then leaves the seat as it was, its count of turns too
 pub record RefusedAtOnce (work : Work) (s : Seating) (answered : SeatFault → Type 0) : Type 0 where
   pub outside : ¬ IsHere s.shape work → answered NoBlock
   pub stranger : (did : Did) → IsHere s.shape work → s.strange ≡ Some did → answered (Stranger did)

@@ -11,7 +11,7 @@ pub record Setup : Type 0 where
   pub protocol : Protocol
   pub shape : Extent
 
--- a seat: its core, the shape, the list that it has seen, its answers, its pending operation, the operation that it reported as a stranger's, and where its rows stopped
+-- a seat: its core, the shape, the list that it has seen, its answers, its pending operation, the operation that it reported as a stranger's, where its rows stopped, and a count that changes whenever it takes turns
 pub record Seating : Type 0 where
   pub core : ℕ
   pub shape : Extent
@@ -20,6 +20,7 @@ pub record Seating : Type 0 where
   pub pending : Option Work
   pub strange : Option Did
   pub stop : Option Stop
+  pub turns : ℕ
 
 -- a watch: the shape, and the list that it has seen
 pub record Watching : Type 0 where
@@ -31,10 +32,11 @@ pub record SeesOn (shape : Extent) (before after : List Item) : Type 0 where
   pub history : IsHistoryFor shape after
   pub begins : StartsWith after before
 
--- a seat that has done nothing
+-- a seat that has done nothing; what it has seen is the history of a machine
 pub record IsNew (core : ℕ) (shape : Extent) (seat : Seating) : Type 0 where
   pub core_is : seat.core ≡ core
   pub shape_is : seat.shape ≡ shape
+  pub history : IsHistoryFor shape seat.seen
   pub answers : seat.answers ≡ []
   pub pending : seat.pending ≡ None
   pub strange : seat.strange ≡ None
@@ -47,6 +49,11 @@ AreSeats shape seats = (length seats ≡ shape.cores) × ((core : ℕ) (d : Seat
 abbrev pub AreInOrder : List Seating → Type 0
 AreInOrder seats = (core : ℕ) (d : Seating) → core < length seats → (slice_index_or seats core d).core ≡ core
 
--- so many watches, of this shape
+-- a watch of this shape; what it has seen is the history of a machine
+pub record IsNewWatch (shape : Extent) (watch : Watching) : Type 0 where
+  pub shape_is : watch.shape ≡ shape
+  pub history : IsHistoryFor shape watch.seen
+
+-- so many new watches, of this shape
 abbrev pub AreWatches : ℕ → Extent → List Watching → Type 0
-AreWatches count shape watches = (length watches ≡ count) × All (λ watch. watch.shape ≡ shape) watches
+AreWatches count shape watches = (length watches ≡ count) × All (IsNewWatch shape) watches

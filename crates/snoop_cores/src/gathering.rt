@@ -15,7 +15,7 @@ use snoop_machine::laws::taken_once;
 use snoop_machine::turns_are_served;
 use snoop_trace::{NoMemory, Protocol, Shape, Step};
 use std::alloc::Global;
-use std::sync::{MutexGuard, Wait};
+use std::sync::Wait;
 
 /// A log that joins what the seats were answered, and the steps that made it from reset, with the protocol and the shape that they
 /// are for.
@@ -47,10 +47,9 @@ pub fn gather<R: Wait>(
     if let Some(core) = odd_core(seats, shared.shape().cores()) {
         return Err(GatherFault::NotAllSeats { core });
     }
-    let bench = shared.lock(rt);
-    bench.kept();
-    let joined = join(alloc, &bench, seats);
-    MutexGuard::unlock(bench);
+    let held = shared.lock(rt);
+    let joined = join(alloc, held.bench(), seats);
+    held.unlock();
     joined
 }
 

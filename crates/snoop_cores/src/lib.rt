@@ -23,6 +23,3 @@ pub use shared::{Shared, end_seats, end_watches};
 pub use snoop_bench::{AdvanceFault, Bench, Evicted, Turn, Work};
 pub use stop::Stop;
 pub use watch::Watch;
-
-#[cfg(test)]
-mod tests;

@@ -6,7 +6,7 @@ ghost use Rattle.snoop_history.specs.declared.items.Did.{Did};
 ghost use Rattle.snoop_history.specs.History.{answers_of, flat};
 ghost use Rattle.snoop_history.specs.Totals.{capped_totals, totals_of};
 ghost use Rattle.snoop_bench.specs.Works.{Does};
-ghost use Rattle.snoop_versions.specs.Readings.{IsOfShape, StartsWith};
+ghost use Rattle.snoop_versions.specs.Readings.{IsHistoryFor, IsOfShape, StartsWith};
 ghost use Rattle.snoop_cores.specs.Seats.{IsNew, SeesOn};
 ghost use Rattle.snoop_cores.specs.Calls.{MayBegin, Completes, Fails, RefusedAtOnce};
 ghost use Rattle.snoop_cores.specs.Rows.{FailsRow, Grows, IsNotLate, Ran, shown};
@@ -15,7 +15,7 @@ ghost use Rattle.snoop_cores.specs.declared.fault.ViewFault.TheVariants.{NoBlock
 use crate::fault::{SeatFault, ViewFault};
 use crate::gate::Gate;
 use crate::own::{find_own, find_same};
-use crate::share::Share;
+use crate::share::SeatShare;
 use crate::stop::Stop;
 use crate::view::{read_totals, read_value};
 use snoop_bench::{Evicted, Turn, Work};
@@ -34,7 +34,7 @@ use std::sync::Wait;
 /// It is not `Drop`: end it by `end`.
 pub struct Seat {
     core: u32,
-    share: Share,
+    share: SeatShare,
     reader: VersionReader,
     answers: Vec<Did>,
     pending: Option<Work>,
@@ -50,18 +50,19 @@ impl Model for Seat {
 
     ghost Value = { Seating };
 
-    ghost view = { λ s. record { core = s.core; shape = s.share.shape; seen = s.reader.seen; answers = s.answers.items; pending = s.pending; strange = s.strange; stop = s.stop } };
+    ghost view = { λ s. record { core = s.core; shape = s.share.share.shape; seen = s.reader.seen; answers = s.answers.items; pending = s.pending; strange = s.strange; stop = s.stop; turns = s.share.turns } };
 
-    ghost invariant = { λ s. IsOfShape s.reader s.share.shape
-        × (s.core < s.share.shape.cores) × StartsWith (answers_of s.reader.seen s.core) s.answers.items };
+    ghost invariant = { λ s. IsOfShape s.reader s.share.share.shape
+        × (s.core < s.share.share.shape.cores) × StartsWith (answers_of s.reader.seen s.core) s.answers.items };
 }
 
 impl Seat {
     // A seat that has done nothing.
-    pub(crate) fn new(alloc: Global, share: Share, reader: VersionReader, core: u32) -> Seat
-        requires core { core < share.shape.cores }
-        requires reader { IsOfShape reader share.shape }
-        ensures { IsNew core share.shape result }
+    pub(crate) fn new(alloc: Global, share: SeatShare, reader: VersionReader, core: u32) -> Seat
+        requires core { core < share.share.shape.cores }
+        requires reader { IsOfShape reader share.share.shape }
+        requires history { IsHistoryFor share.share.shape reader.seen }
+        ensures { IsNew core share.share.shape result }
     {
         Seat {
             core,

@@ -1,21 +1,21 @@
 //! The shared machine, its seats and its watches.
 ghost use Rattle.std.specs.Prelude.{◌≡◌, ◌+◌, ◌^◌, ◌<◌, ◌≤◌, [], Err, IfOk, OnOk};
 ghost use Rattle.std.specs.Sync.Mutex.{mutex_guard_value};
-ghost use Rattle.snoop_versions.specs.Readings.{IsOfShape};
+ghost use Rattle.snoop_cores.specs.Joined.{IsHeld};
 ghost use Rattle.snoop_cores.specs.Seats.{AreSeats, AreWatches};
 ghost use Rattle.snoop_cores.specs.declared.fault.MakeFault.TheVariants.{NoPlace};
 
 use crate::fault::MakeFault;
 use crate::seat::Seat;
-use crate::share::Share;
+use crate::share::{Held, Lock, Share};
 use crate::watch::Watch;
 use snoop_bench::Bench;
 use snoop_rules::Protocol;
 use snoop_trace::{NoMemory, Shape};
-use snoop_versions::{Readers, VersionReader};
+use snoop_versions::Readers;
 use std::alloc::Global;
 use std::marker::Model;
-use std::sync::{MutexGuard, Wait};
+use std::sync::Wait;
 
 /// A machine under a lock.
 ///
@@ -60,13 +60,16 @@ impl Shared {
             bench.end(rt);
             return Err(MakeFault::NoMemory);
         };
-        let Ok(share) = Share::new(rt, alloc, bench) else {
+        let Ok(lock) = Lock::new(rt, alloc, bench) else {
             return Err(MakeFault::NoMemory);
         };
-        let shared = Shared { share };
         let mut seats = Vec::new(alloc);
         let mut all = Vec::new(alloc);
-        match shared.fill(rt, alloc, &readers, watches, &mut seats, &mut all) {
+        let filled = Shared::fill(rt, alloc, &lock, &readers, watches, &mut seats, &mut all);
+        let shared = Shared {
+            share: lock.into_share(),
+        };
+        match filled {
             Ok(()) => Ok((shared, seats, all)),
             Err(fault) => {
                 end_seats(rt, seats);
@@ -79,37 +82,42 @@ impl Shared {
 
     // Adds the seats and the watches, or reports why one cannot be made.
     fn fill<R: Wait>(
-        &self,
         rt: &R,
         alloc: Global,
+        lock: &Lock,
         readers: &Readers,
         count: u32,
         seats: &mut Vec<Seat>,
         watches: &mut Vec<Watch>,
     ) -> Result<(), MakeFault>
-        requires readers { readers.now ≡ self.now.shape }
+        requires readers { readers.now ≡ lock.now.share.shape }
         requires empty { (seats.old.items ≡ []) × (watches.old.items ≡ []) }
-        ensures seats { OnOk result (AreSeats self.now.shape seats.new.items) }
-        ensures watches { OnOk result (AreWatches count self.now.shape watches.new.items) }
+        ensures seats { OnOk result (AreSeats lock.now.share.shape seats.new.items) }
+        ensures watches { OnOk result (AreWatches count lock.now.share.shape watches.new.items) }
     {
-        self.add_seats(rt, alloc, readers, seats)?;
-        self.add_watches(rt, readers, count, watches)
+        Shared::add_seats(rt, alloc, lock, readers, seats)?;
+        Shared::add_watches(rt, lock, readers, count, watches)
     }
 
     // Adds a seat for each core, or reports why one cannot be made.
     fn add_seats<R: Wait>(
-        &self,
         rt: &R,
         alloc: Global,
+        lock: &Lock,
         readers: &Readers,
         seats: &mut Vec<Seat>,
     ) -> Result<(), MakeFault>
-        requires readers { readers.now ≡ self.now.shape }
+        requires readers { readers.now ≡ lock.now.share.shape }
         requires empty { seats.old.items ≡ [] }
-        ensures { OnOk result (AreSeats self.now.shape seats.new.items) }
+        ensures { OnOk result (AreSeats lock.now.share.shape seats.new.items) }
     {
-        for core in 0..self.share.shape().cores() {
-            let (share, reader) = self.entrance(readers)?;
+        for core in 0..lock.shape().cores() {
+            let Some(reader) = readers.reader() else {
+                return Err(MakeFault::NoPlace);
+            };
+            let Ok(share) = lock.seat() else {
+                return Err(MakeFault::NoMemory);
+            };
             let seat = Seat::new(alloc, share, reader, core);
             if let Err(failed) = seats.push(seat) {
                 failed.value.end(rt);
@@ -121,18 +129,23 @@ impl Shared {
 
     // Adds `count` watches, or reports why one cannot be made.
     fn add_watches<R: Wait>(
-        &self,
         rt: &R,
+        lock: &Lock,
         readers: &Readers,
         count: u32,
         watches: &mut Vec<Watch>,
     ) -> Result<(), MakeFault>
-        requires readers { readers.now ≡ self.now.shape }
+        requires readers { readers.now ≡ lock.now.share.shape }
         requires empty { watches.old.items ≡ [] }
-        ensures { OnOk result (AreWatches count self.now.shape watches.new.items) }
+        ensures { OnOk result (AreWatches count lock.now.share.shape watches.new.items) }
     {
         for _ in 0..count {
-            let (share, reader) = self.entrance(readers)?;
+            let Some(reader) = readers.reader() else {
+                return Err(MakeFault::NoPlace);
+            };
+            let Ok(share) = lock.watch() else {
+                return Err(MakeFault::NoMemory);
+            };
             let watch = Watch::new(share, reader);
             if let Err(failed) = watches.push(watch) {
                 failed.value.end(rt);
@@ -140,21 +153,6 @@ impl Shared {
             }
         }
         Ok(())
-    }
-
-    // A share of the lock and a reader of versions, for a seat or a watch.
-    fn entrance(&self, readers: &Readers) -> Result<(Share, VersionReader), MakeFault>
-        requires { readers.now ≡ self.now.shape }
-        ensures share { IfOk result (λ entrance. entrance.0.shape ≡ self.now.shape) }
-        ensures reader { IfOk result (λ entrance. IsOfShape entrance.1 self.now.shape) }
-    {
-        let Some(reader) = readers.reader() else {
-            return Err(MakeFault::NoPlace);
-        };
-        let Ok(share) = self.share.another() else {
-            return Err(MakeFault::NoMemory);
-        };
-        Ok((share, reader))
     }
 
     /// The machine's protocol.
@@ -171,10 +169,9 @@ impl Shared {
         self.share.shape()
     }
 
-    /// Takes the lock. End the guard by `unlock`.
-    pub(crate) fn lock<R: Wait>(&self, rt: &R) -> MutexGuard<'_, Bench>
-        ensures protocol { (mutex_guard_value result).situation.protocol ≡ self.now.protocol }
-        ensures shape { (mutex_guard_value result).situation.shape ≡ self.now.shape }
+    /// Takes the lock, to read what is under it.
+    pub(crate) fn lock<R: Wait>(&self, rt: &R) -> Held<'_>
+        ensures { IsHeld self.now.protocol self.now.shape (mutex_guard_value result.bench) }
     {
         self.share.lock(rt)
     }

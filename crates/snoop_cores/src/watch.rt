@@ -2,8 +2,8 @@
 ghost use Rattle.std.specs.Prelude.{◌≡◌, ◌≤◌, ◌⊎◌, ◌↔◌, Err, IfOk, IfErr, OnOk, OnErr};
 ghost use Rattle.snoop_history.specs.History.{flat};
 ghost use Rattle.snoop_history.specs.Totals.{capped_totals, totals_of};
-ghost use Rattle.snoop_versions.specs.Readings.{IsOfShape};
-ghost use Rattle.snoop_cores.specs.Seats.{SeesOn};
+ghost use Rattle.snoop_versions.specs.Readings.{IsHistoryFor, IsOfShape};
+ghost use Rattle.snoop_cores.specs.Seats.{IsNewWatch, SeesOn};
 ghost use Rattle.snoop_cores.specs.declared.fault.ViewFault.TheVariants.{NoBlock, NoVersion};
 
 use crate::fault::ViewFault;
@@ -36,8 +36,9 @@ impl Model for Watch {
 impl Watch {
     // A watch with its share of the lock.
     pub(crate) fn new(share: Share, reader: VersionReader) -> Watch
-        requires { IsOfShape reader share.shape }
-        ensures { result.shape ≡ share.shape }
+        requires reader { IsOfShape reader share.shape }
+        requires history { IsHistoryFor share.shape reader.seen }
+        ensures { IsNewWatch share.shape result }
     {
         Watch { share, reader }
     }

@@ -18,7 +18,7 @@ use Rattle.snoop_sim.specs.declared.fault.ThreadsFault.TheVariants as threads
 abbrev no_seat : Seating
 no_seat =
     let none : Extent = record { cores = 0; blocks = 0; block_bytes = 0; words = 0 } in
-    record { core = 0; shape = none; seen = []; answers = []; pending = None; strange = None; stop = None }
+    record { core = 0; shape = none; seen = []; answers = []; pending = None; strange = None; stop = None; turns = 0 }
 
 -- a seat that did nothing before has done its rows: its answers, which are its core's operations, are theirs
 answered_rows : (shape : Extent) (rows : List Row) (core : ℕ) (s t : Seating) (log : List Item) → IsNew core shape s → Grows (rows_of_core s.core rows) s t

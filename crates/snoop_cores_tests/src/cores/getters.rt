@@ -1,5 +1,6 @@
 //! What seats, watches, shared machines and benches say of themselves.
 
+use crate::cores::scene::counts;
 use snoop_cores::{Bench, Seat, Shared, Watch, end_seats, end_watches, gather};
 use snoop_rules::Protocol;
 use snoop_trace::Shape;
@@ -59,13 +60,15 @@ fn an_end_takes_no_turn(rt: HostRuntime) -> Result<(), Fail> {
     }
     let steps = gather(&rt, rt.alloc(), &shared, seats.as_slice()).map(|all| all.steps.len());
     end_seats(&rt, seats);
+    shared.end(&rt);
     let read = watches.first_mut().map(|watch| (
-        watch.totals().map(|totals| totals.stores),
+        watch.totals().map(|totals| counts(totals)),
         watch.value(0, 0),
     ));
     end_watches(&rt, watches);
-    shared.end(&rt);
-    if stored && steps == Ok(3) && read == Some((Ok(1), Ok(7))) {
+    // One store, by a GetM that memory answers.
+    let expected = [0, 0, 1, 0, 0, 1, 0, 1, 0, 0, 0, 0];
+    if stored && steps == Ok(3) && read == Some((Ok(expected), Ok(7))) {
         Ok(())
     } else {
         Err(Fail::from("what an end leaves"))

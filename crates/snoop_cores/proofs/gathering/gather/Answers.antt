@@ -1,5 +1,5 @@
-use Rattle.std.proofs.Common.{◌∙◌, ℕ, List, ap, arith, sym, subst, Result, Err, IfErr}
-use Rattle.snoop_cores.proofs.{Common.{Extent, IsHeld, IsKept, Locked, OneForEach, RefusesGather, RefusesJoin, Seating}, Joining.{odd_one, not_odd}}
+use Rattle.std.proofs.Common.{ℕ, List, ap, arith, sym, subst, Result, Err, IfErr}
+use Rattle.snoop_cores.proofs.{Common.{Extent, IsHeld, Locked, OneForEach, RefusesGather, RefusesJoin, Seating}, Joining.{odd_one, not_odd}}
 use Rattle.snoop_trace.specs.declared.protocol.Protocol.{Protocol}
 use Rattle.snoop_cores.specs.declared.{gathering.Gathered.Gathered, fault.GatherFault.{GatherFault, TheVariants.NotAllSeats}}
 use Rattle.snoop_cores.proofs.gathering.gather.Goals as goal
@@ -19,8 +19,6 @@ refuses protocol shape seats b answer one_each held joined = grind arith
 
 pub returns-clause-err : goal.returns-clause-err
 returns-clause-err g c =
-    let protocol = ap (λ (b : Locked). b.situation.protocol) c.deref-2.ensures ∙ c.lock-bench.ensures.protocol in
-    let shape = ap (λ (b : Locked). b.situation.shape) c.deref-2.ensures ∙ c.lock-bench.ensures.shape in
-    refuses c.args.shared.now.protocol c.args.shared.now.shape c.args.seats.now c.deref-2.result.now c.join-joined.result
+    refuses c.args.shared.now.protocol c.args.shared.now.shape c.args.seats.now c.bench.result.now c.join-joined.result
     (rw (c.cores.ensures.value, c.shape.ensures) at c.in_default.ensures.none)
-    (record { kept = subst IsKept (c.deref.ensures ∙ sym c.deref-2.ensures) c.kept.ensures.kept; protocol_is = protocol; shape_is = shape }) c.join-joined.ensures.err
+    (subst (IsHeld c.args.shared.now.protocol c.args.shared.now.shape) (sym c.bench.ensures) c.lock-held.ensures) c.join-joined.ensures.err

@@ -5,7 +5,6 @@ use crate::{
 };
 use snoop_rules::Protocol;
 use snoop_trace::{Op, Shape};
-use std::sync::MutexGuard;
 use std::test::Fail;
 
 /// The store of the value in word 0 of block 0.
@@ -34,18 +33,18 @@ fn a_turn_closes_the_work_of_another_core(rt: HostRuntime) -> Result<(), Fail> {
     };
     let mut held = shared.lock(&rt);
     let turns = [
-        held.advance(&rt, 0, store(1)),
-        held.advance(&rt, 1, store(2)),
-        held.advance(&rt, 0, store(1)),
-        held.advance(&rt, 1, store(2)),
-        held.advance(&rt, 0, load(0)),
-        held.advance(&rt, 0, store(1)),
-        held.advance(&rt, 2, store(1)),
-        held.advance(&rt, 0, load(4)),
+        held.bench.advance(&rt, 0, store(1)),
+        held.bench.advance(&rt, 1, store(2)),
+        held.bench.advance(&rt, 0, store(1)),
+        held.bench.advance(&rt, 1, store(2)),
+        held.bench.advance(&rt, 0, load(0)),
+        held.bench.advance(&rt, 0, store(1)),
+        held.bench.advance(&rt, 2, store(1)),
+        held.bench.advance(&rt, 0, load(4)),
     ];
-    let left = (held.work(0), held.work(1));
-    let steps = held.steps().len();
-    MutexGuard::unlock(held);
+    let left = (held.bench.work(0), held.bench.work(1));
+    let steps = held.bench.steps().len();
+    held.unlock();
     end_seats(&rt, seats);
     end_watches(&rt, watches);
     shared.end(&rt);
@@ -84,22 +83,25 @@ fn readings_while_the_lock_is_held(rt: HostRuntime) -> Result<(), Fail> {
     let seated = seats
         .get_mut(0)
         .map(|seat| (seat.totals().is_ok(), seat.value(0, 0)));
-    let asked = held.advance(&rt, 0, store(7));
-    MutexGuard::unlock(held);
+    let asked = held.bench.advance(&rt, 0, store(7));
+    held.unlock();
     let pending = gather(&rt, rt.alloc(), &shared, seats.as_slice()).err();
     let mut held = shared.lock(&rt);
     let turns = [
         asked,
-        held.advance(&rt, 0, store(7)),
-        held.advance(&rt, 0, store(7)),
+        held.bench.advance(&rt, 0, store(7)),
+        held.bench.advance(&rt, 0, store(7)),
     ];
-    MutexGuard::unlock(held);
+    held.unlock();
     // The seat did not make that store. Its own load is core 0's second operation.
     let strange = seats.get_mut(0).map(|seat| (
         seat.load(&rt, 0, 0),
         seat.store(&rt, 1, 0, 2),
         seat.load(&rt, 4, 0),
     ));
+    let held = shared.lock(&rt);
+    let steps = held.bench().steps().len();
+    held.unlock();
     end_seats(&rt, seats);
     end_watches(&rt, watches);
     shared.end(&rt);
@@ -126,6 +128,10 @@ fn readings_while_the_lock_is_held(rt: HostRuntime) -> Result<(), Fail> {
     }
     if outside != Err(SeatFault::NoBlock) {
         return Err(Fail::from("a block outside the shape"));
+    }
+    // The store's Ask, Order and Respond, and the Ask of the load that hits: the calls that are refused at once take none.
+    if steps != 4 {
+        return Err(Fail::from("how many steps"));
     }
     Ok(())
 }
