@@ -3,7 +3,7 @@
 
     tools/docs.py states FOLDER     of examples/README.md, each table that follows a scene state by state: SCENE.PROTOCOL.states
     tools/docs.py programs FOLDER   of docs/LIBRARY.md, each program and what it prints: CRATE.rt and CRATE.stdout
-    tools/docs.py commands FOLDER   of README.md, docs/GUIDE.md, docs/TEACHING.md and docs/THEOREM.md, each command after "$ " and the output that it
+    tools/docs.py commands FOLDER   of README.md, docs/GUIDE.md and docs/TEACHING.md, each command after "$ " and the output that it
                                     shows: N.command and N.out
     tools/docs.py mistakes          lines of prose that are too wide, files that are named and not there, and public functions of the
                                     program's crates that docs/PROVED.md does not name
@@ -38,7 +38,7 @@ def programs():
 
 def commands():
     """Each example of a console."""
-    text = "".join((TOP / name).read_text() for name in ("README.md", "docs/GUIDE.md", "docs/TEACHING.md", "docs/THEOREM.md"))
+    text = "".join((TOP / name).read_text() for name in ("README.md", "docs/GUIDE.md", "docs/TEACHING.md"))
     for number, (command, output) in enumerate(re.findall(r"```console\n\$ (.*)\n((?:.*\n)*?)```\n", text)):
         yield f"{number}.command", command + "\n"
         yield f"{number}.out", output

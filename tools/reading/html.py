@@ -1,4 +1,4 @@
-"""A drawing of a run as a page, by docs/DRAWING.md: sheets of rows, and a line that tells of the step that is looked at."""
+"""A drawing of a run as a page: sheets of rows, and a line that tells of the step that is looked at."""
 from .svg import Above, STYLES, drawing_of, sheet
 
 ROWS = 24

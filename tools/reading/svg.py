@@ -1,4 +1,4 @@
-"""A drawing of a run as SVG, by docs/DRAWING.md: a row for each drawn step, with a panel for each block. All numbers are whole pixels."""
+"""A drawing of a run as SVG: a row for each drawn step, with a panel for each block. All numbers are whole pixels."""
 from typing import NamedTuple
 
 from . import pictures

@@ -1,5 +1,5 @@
 //! The drawing of a run as SVG, or as a page with SVGs: a row for each step, a panel for each block, a column for each
-//! core, the bus and memory. docs/DRAWING.md has the format.
+//! core, the bus and memory. docs/DRAWING.md says how to read it.
 #![tactic(auto)]
 
 mod bands;
