@@ -8,4 +8,3 @@ mod scene;
 mod seats;
 mod storms;
 mod together;
-mod words;

@@ -1,9 +1,7 @@
-//! Tests of versions, the bench, seats, watches and gatherings: they use public calls alone, so they stand in a crate of their own, and
-//! the crates are proved once.
+//! Tests of versions, seats, watches and gatherings: they use public calls alone, so they stand in a crate of their own, and the crates
+//! are proved once.
 #![tactic(auto)]
 
-#[cfg(test)]
-mod bench;
 #[cfg(test)]
 mod cores;
 #[cfg(test)]

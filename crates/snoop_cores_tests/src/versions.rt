@@ -1,2 +1,1 @@
-mod memory;
 mod readers;

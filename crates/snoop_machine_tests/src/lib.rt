@@ -1,5 +1,5 @@
-//! Tests of texts, tables, the history, the bus and the machine: they use public calls alone, so they stand in a crate of their own,
-//! and the crates are proved once.
+//! Tests of texts of steps, the history, the bus and the machine: they use public calls alone, so they stand in a crate of their own, and
+//! the crates are proved once.
 #![tactic(auto)]
 
 #[cfg(test)]
@@ -9,8 +9,4 @@ mod history;
 #[cfg(test)]
 mod machine;
 #[cfg(test)]
-mod rules;
-#[cfg(test)]
 mod trace;
-#[cfg(test)]
-mod writers;

@@ -1,9 +1,6 @@
 mod lines;
 mod memory;
-mod memory_states;
-mod queues;
 mod runs;
 mod steps;
 mod storm;
 mod support;
-mod words;

@@ -70,6 +70,28 @@ writebacks 1 clean 0 stale 0
 block 0 value 2
 ";
 
+/// Rows: core 0 stores 1 and loads, and core 1 stores 2, all in one block.
+pub(crate) const RACE: &str = "S,0,0,1\nS,1,0,2\nL,0,0\n";
+
+/// The steps that serve them: the cores take turns, so core 1 asks before core 0 goes on.
+pub(crate) const RACE_STEPS: &str = "S,0,0,1\nS,1,0,2\nO,0\nR,0\nL,0,0\nO,1\nR,0\n";
+
+const RACE_OUTPUT: &str = "\
+S,0,0,1: issued GetM
+S,1,0,2: issued GetM
+O,0: ordered GetM
+R,0: Data from memory, store 1
+L,0,0: hit 1
+O,1: ordered GetM
+R,0: Data from core 0, store 2
+loads 1 hits 1
+stores 2 hits 0
+GetS 0 GetM 2 PutM 0
+from memory 1 from caches 1
+writebacks 0 clean 0 stale 0
+block 0 value 2
+";
+
 /// Rows of core 0 alone, so that its thread's steps are known: it stores, evicts and loads in one block.
 const ALONE: &str = "S,0,0,4\nE,0,0\nL,0,0\n";
 
@@ -79,7 +101,7 @@ const ALONE_STEPS: &str = "V,2,msi,2,4,64,1\nS,0,0,4\nO,0\nR,0\nE,0,0\nO,0\nR,0\
 const LOAD: &str = "L,0,0\nO,0\nR,0\n";
 
 /// The rows that the controllers take.
-const LOAD_STATES: &str = "\
+pub(crate) const LOAD_STATES: &str = "\
 step,record,reply,block,controller,event,before,action,after,value,place
 1,\"L,0,0\",issued GetS,0,core 0,Load,I,issue GetS,IS_AD,,1
 2,\"O,0\",ordered GetS,0,core 0,OwnGetS,IS_AD,none,IS_D,,
@@ -183,4 +205,24 @@ fn threads_ended(answer: Result<(), ThreadsFault>) -> Ended {
         Err(ThreadsFault::Write(WriteFault::Write)) => Ended::Write,
         Err(_) => Ended::Otherwise,
     }
+}
+
+/// In which order cores take turns no contract says.
+#[test]
+fn cores_take_turns(rt: HostRuntime) -> Result<(), Fail> {
+    let shape = Shape::new(2, 4, 64)?;
+    for protocol in [Protocol::Msi, Protocol::Mesi] {
+        let mut output = Vec::new(rt.alloc());
+        simulate_run(
+            rt.alloc(),
+            &mut RACE.as_bytes(),
+            &mut output,
+            protocol,
+            shape,
+        )?;
+        if output.as_slice() != RACE_OUTPUT.as_bytes() {
+            return Err(Fail::from("the output of a run"));
+        }
+    }
+    Ok(())
 }

@@ -7,6 +7,7 @@ use snoop_sim::{SimFault, command, simulate_steps};
 use snoop_trace::streams::{AnyReader, AnyWriter};
 use snoop_trace::{Shape, TextFault};
 use std::alloc::Global;
+use std::io::{ErrorKind, Read, Write};
 use std::sync::Wait;
 use std::test::Fail;
 use std::thread::Threads;
@@ -113,25 +114,6 @@ fn a_fault_before_a_failing_read_is_named(rt: HostRuntime) -> Result<(), Fail> {
 /// Core 0 loads block 0.
 const LOAD: &[u8] = b"L,0,0\nO,0\nR,0\n";
 
-/// Each reader stops at another byte of the text.
-#[test]
-fn a_load_that_is_not_read_whole(rt: HostRuntime) -> Result<(), Fail> {
-    let shape = Shape::new(2, 4, 64)?;
-    for left in 0..LOAD.len() {
-        let mut reader = AnyReader::new(FailingReader {
-            text: LOAD,
-            left,
-            most: AMPLE,
-        });
-        let mut written = Vec::new(rt.alloc());
-        let answer = simulate_steps(rt.alloc(), &mut reader, &mut written, Protocol::Msi, shape);
-        if answer != Err(SimFault::Text(TextFault::Read)) || !written.is_empty() {
-            Err(left)?
-        }
-    }
-    Ok(())
-}
-
 /// The writers take twelve bytes in all, in calls of so many at most.
 #[test]
 fn a_writer_of_twelve_bytes(rt: HostRuntime) -> Result<(), Fail> {
@@ -175,6 +157,37 @@ fn writers_that_fail(rt: HostRuntime) -> Result<(), Fail> {
                 Err(trial)?
             }
         }
+    }
+    Ok(())
+}
+
+// The kind of the error of a read that fails.
+fn kind_of_read() -> Option<ErrorKind> {
+    let mut reader = AnyReader::new(FailingReader {
+        text: LOAD,
+        left: 0,
+        most: 1,
+    });
+    let mut bytes = [0; 4];
+    reader.read(&mut bytes).err().map(|error| error.kind())
+}
+
+// The kind of the error of a first write that fails.
+fn kind_of_write(alloc: Global, fault: Fault) -> Option<ErrorKind> {
+    let mut writer = AnyWriter::new(FailingWriter::new(alloc, 0, 1, fault));
+    writer.write(b"V").err().map(|error| error.kind())
+}
+
+#[test]
+fn errors_keep_their_kind(rt: HostRuntime) -> Result<(), Fail> {
+    if kind_of_read() != Some(ErrorKind::Interrupted) {
+        return Err(Fail::from("a read"));
+    }
+    if kind_of_write(rt.alloc(), Fault::Refuses) != Some(ErrorKind::Interrupted) {
+        return Err(Fail::from("a write"));
+    }
+    if kind_of_write(rt.alloc(), Fault::TakesNothing) != Some(ErrorKind::WriteZero) {
+        return Err(Fail::from("a write that takes nothing"));
     }
     Ok(())
 }

@@ -12,8 +12,6 @@ mod messages;
 #[cfg(test)]
 mod streams;
 #[cfg(test)]
-mod threads;
-#[cfg(test)]
 mod view;
 #[cfg(test)]
 mod words;

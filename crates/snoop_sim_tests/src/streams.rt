@@ -65,7 +65,7 @@ impl Write for FailingWriter {
     }
 }
 
-/// A reader over a text that gives so many bytes, at most some of them a call, and then fails.
+/// A reader over a text that gives so many bytes, at most some of them a call, and then fails once: who asks again gets more.
 #[derive(Drop)]
 pub struct FailingReader<'a> {
     pub text: &'a [u8],
@@ -76,6 +76,7 @@ pub struct FailingReader<'a> {
 impl Read for FailingReader<'_> {
     fn read(&mut self, buf: &mut [u8]) -> io::Result<usize> {
         if self.left == 0 {
+            self.left = usize::MAX;
             return Err(io::Error::from(ErrorKind::Interrupted));
         }
         let most = buf.len().min(self.most).min(self.left);

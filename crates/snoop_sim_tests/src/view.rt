@@ -2,11 +2,11 @@
 ghost use Rattle.std.specs.Prelude.{[], ◌++◌, codes, ⊤};
 ghost use Rattle.snoop_engine.specs.Line.{outcome_text};
 
-use snoop_engine::{Input, Seen, View, push_outcome, show_steps, simulate_view};
+use snoop_engine::{Input, Seen, View, push_outcome, simulate_view};
 use snoop_machine::Machine;
 use snoop_rules::Protocol;
 use snoop_trace::streams::push_byte;
-use snoop_trace::{NoMemory, Op, Shape, Step};
+use snoop_trace::{NoMemory, Shape};
 use std::test::Fail;
 
 /// Each answer on a line.
@@ -55,34 +55,6 @@ fn the_answers_to_a_text(rt: HostRuntime) -> Result<(), Fail> {
         Protocol::Msi,
         shape,
         Input::Steps,
-        &mut Answers,
-    )?;
-    if shown.as_slice() != ANSWERS.as_bytes() {
-        return Err(Fail::from("the answers that are shown"));
-    }
-    Ok(())
-}
-
-#[test]
-fn the_answers_to_a_list_of_steps(rt: HostRuntime) -> Result<(), Fail> {
-    let shape = Shape::new(2, 4, 64)?;
-    let steps = [
-        Step::Ask {
-            core: 0,
-            block: 1,
-            word: 0,
-            op: Op::Load,
-        },
-        Step::Order { core: 0 },
-        Step::Respond { block: 1 },
-    ];
-    let mut shown = Vec::new(rt.alloc());
-    show_steps(
-        rt.alloc(),
-        &mut shown,
-        Protocol::Msi,
-        shape,
-        &steps,
         &mut Answers,
     )?;
     if shown.as_slice() != ANSWERS.as_bytes() {

@@ -183,11 +183,11 @@ fn a_pending_store_is_handed_over_once(rt: HostRuntime) -> Result<(), Fail> {
     if stored == Some(Err(SeatFault::NoMemory)) {
         stored = goes_on(&mut scene, &rt, rt.alloc());
     }
-    let own = scene.seated(0, 0, 0);
+    let own = scene.seated(0);
     let before = scene.counted();
     let loaded = scene.call_at_last(&rt, 1, work(Op::Load));
     let after = scene.counted();
-    let value = scene.watched(0, 0);
+    let value = scene.watched();
     let first = handed_over(&scene, &rt, rt.alloc());
     let second = handed_over(&scene, &rt, rt.alloc());
     scene.end(&rt);

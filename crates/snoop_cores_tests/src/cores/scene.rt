@@ -1,7 +1,4 @@
 //! A small shared machine for the tests: 4 blocks of 64 bytes, and a watch.
-ghost use Rattle.std.specs.Prelude.{◌≡◌, IfOk, IfSome};
-ghost use Rattle.snoop_trace.specs.declared.protocol.Protocol.TheVariants.{Msi};
-ghost use Rattle.snoop_cores.specs.Seats.{AreSeats, AreWatches};
 
 use snoop_cores::{
     Gate, GatherFault, Gathered, RunFault, Seat, SeatFault, Shared, Stop, Turn, ViewFault, Watch,
@@ -23,10 +20,7 @@ pub(super) struct Scene {
 
 impl Scene {
     /// A scene under MSI. Where one was refused, it is asked for again.
-    pub(super) fn new<R: Wait>(rt: &R, alloc: Global, cores: u32) -> Result<Scene, Fail>
-        ensures shared { IfOk result (λ scene. scene.shared ≡ record { protocol = Msi; shape = record { cores = cores; blocks = 4; block_bytes = 64; words = 1 } }) }
-        ensures seats { IfOk result (λ scene. AreSeats scene.shared.shape scene.seats.items × AreWatches 1 scene.shared.shape scene.watches.items) }
-    {
+    pub(super) fn new<R: Wait>(rt: &R, alloc: Global, cores: u32) -> Result<Scene, Fail> {
         if let Some(scene) = Scene::make(rt, alloc, Protocol::Msi, cores) {
             return Ok(scene);
         }
@@ -42,23 +36,8 @@ impl Scene {
         alloc: Global,
         protocol: Protocol,
         cores: u32,
-    ) -> Option<Scene>
-        ensures shared { IfSome result (λ scene. scene.shared ≡ record { protocol = protocol; shape = record { cores = cores; blocks = 4; block_bytes = 64; words = 1 } }) }
-        ensures seats { IfSome result (λ scene. AreSeats scene.shared.shape scene.seats.items × AreWatches 1 scene.shared.shape scene.watches.items) }
-    {
-        Scene::in_shape(rt, alloc, protocol, Shape::new(cores, 4, 64).ok()?)
-    }
-
-    /// A scene of another shape. `None` where it is refused.
-    pub(super) fn in_shape<R: Wait>(
-        rt: &R,
-        alloc: Global,
-        protocol: Protocol,
-        shape: Shape,
-    ) -> Option<Scene>
-        ensures shared { IfSome result (λ scene. scene.shared ≡ record { protocol = protocol; shape = shape }) }
-        ensures seats { IfSome result (λ scene. AreSeats shape scene.seats.items × AreWatches 1 shape scene.watches.items) }
-    {
+    ) -> Option<Scene> {
+        let shape = Shape::new(cores, 4, 64).ok()?;
         let (shared, seats, watches) = Shared::new(rt, alloc, protocol, shape, 1).ok()?;
         Some(Scene {
             shared,
@@ -124,19 +103,14 @@ impl Scene {
             })
     }
 
-    /// The value that the core's seat reads.
-    pub(super) fn seated(
-        &mut self,
-        core: u32,
-        block: u32,
-        word: u32,
-    ) -> Option<Result<u64, ViewFault>> {
-        Some(self.seats.get_mut(core as usize)?.value(block, word))
+    /// The value of block 0 that the core's seat reads.
+    pub(super) fn seated(&mut self, core: u32) -> Option<Result<u64, ViewFault>> {
+        Some(self.seats.get_mut(core as usize)?.value(0, 0))
     }
 
-    /// The value that the watch reads.
-    pub(super) fn watched(&mut self, block: u32, word: u32) -> Option<Result<u64, ViewFault>> {
-        Some(self.watches.get_mut(0)?.value(block, word))
+    /// The value of block 0 that the watch reads.
+    pub(super) fn watched(&mut self) -> Option<Result<u64, ViewFault>> {
+        Some(self.watches.get_mut(0)?.value(0, 0))
     }
 
     /// The counts that the watch reads.
@@ -157,7 +131,7 @@ impl Scene {
         Some(Shown {
             steps: gathered.steps.len(),
             counts: counts(log.totals()),
-            values: [log.flat(0, 0), log.flat(0, 1), log.flat(1, 0)],
+            values: [log.flat(0, 0), log.flat(1, 0)],
         })
     }
 
@@ -183,12 +157,12 @@ impl Scene {
     }
 }
 
-/// What a gathering shows: how many steps, the counts, and the values of words 0 and 1 of block 0 and of word 0 of block 1.
+/// What a gathering shows: how many steps, the counts, and the values of blocks 0 and 1.
 #[derive(Clone, Copy, PartialEq, Eq)]
 pub(super) struct Shown {
     pub steps: usize,
     pub counts: [u64; 12],
-    pub values: [Option<u64>; 3],
+    pub values: [Option<u64>; 2],
 }
 
 /// Whether each seat has done all its rows.
@@ -222,16 +196,12 @@ pub(super) fn counts(totals: Totals) -> [u64; 12] {
     ]
 }
 
-pub(super) fn row(core: u32, op: Op, address: u64) -> Row
-    ensures { result ≡ record { core = core; op = op; address = address } }
-{
+pub(super) fn row(core: u32, op: Op, address: u64) -> Row {
     Row { core, op, address }
 }
 
 /// The operation, on word 0 of block 0.
-pub(super) fn work(op: Op) -> Work
-    ensures { result ≡ record { block = 0; word = 0; op = op } }
-{
+pub(super) fn work(op: Op) -> Work {
     Work {
         block: 0,
         word: 0,

@@ -1,8 +1,4 @@
 //! What the tests share.
-ghost use Rattle.std.specs.Prelude.{◌≡◌, IfOk};
-ghost use Rattle.snoop_trace.specs.declared.protocol.Protocol.TheVariants.{Msi};
-ghost use Rattle.snoop_trace.specs.declared.step.Step.TheVariants.{Ask, Order, Respond};
-ghost use Rattle.snoop_model.specs.Pictures.Situation.{reset};
 
 use snoop_history::Did;
 use snoop_machine::{Machine, Refused, Reply};
@@ -176,24 +172,18 @@ const STORE_OF_6: Did = Did {
 };
 
 /// So many cores, four blocks of 64 bytes.
-pub fn machine_of(alloc: Global, protocol: Protocol, cores: u32) -> Result<Machine, Fail>
-    ensures { IfOk result (λ machine. machine.situation ≡ reset protocol (record { cores = cores; blocks = 4; block_bytes = 64; words = 1 })) }
-{
+pub(crate) fn machine_of(alloc: Global, protocol: Protocol, cores: u32) -> Result<Machine, Fail> {
     let shape = Shape::new(cores, 4, 64)?;
     Ok(Machine::reset(alloc, protocol, shape)?)
 }
 
 /// Two cores, four blocks of 64 bytes, MSI.
-pub fn two_cores(alloc: Global) -> Result<Machine, Fail>
-    ensures { IfOk result (λ machine. machine.situation ≡ reset Msi (record { cores = 2; blocks = 4; block_bytes = 64; words = 1 })) }
-{
+pub(crate) fn two_cores(alloc: Global) -> Result<Machine, Fail> {
     machine_of(alloc, Protocol::Msi, 2)
 }
 
 /// The core asks for word 0 of the block.
-pub fn ask(core: u32, block: u32, op: Op) -> Step
-    ensures { result ≡ Ask core block 0 op }
-{
+pub(crate) fn ask(core: u32, block: u32, op: Op) -> Step {
     Step::Ask {
         core,
         block,
@@ -203,15 +193,11 @@ pub fn ask(core: u32, block: u32, op: Op) -> Step
 }
 
 /// The core's request is ordered.
-pub fn order(core: u32) -> Step
-    ensures { result ≡ Order core }
-{
+pub(crate) fn order(core: u32) -> Step {
     Step::Order { core }
 }
 
 /// The block's open transaction gets its response.
-pub fn respond(block: u32) -> Step
-    ensures { result ≡ Respond block }
-{
+pub(crate) fn respond(block: u32) -> Step {
     Step::Respond { block }
 }

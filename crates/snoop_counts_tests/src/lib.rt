@@ -1,5 +1,0 @@
-//! Tests of the tables of counts.
-#![tactic(auto)]
-
-#[cfg(test)]
-mod tables;
