@@ -36,32 +36,9 @@ impl Scene {
         alloc: Global,
         protocol: Protocol,
         cores: u32,
-<<<<<<< HEAD
     ) -> Option<Scene> {
         let shape = Shape::new(cores, 4, 64).ok()?;
         let (shared, seats, watches) = Shared::new(rt, alloc, protocol, shape, 1).ok()?;
-=======
-    ) -> Option<Scene>
-        ensures shared { IfSome result (λ scene. scene.shared ≡ record { protocol = protocol; shape = record { cores = cores; blocks = 4; block_bytes = 64; words = 1 } }) }
-        ensures seats { IfSome result (λ scene. AreSeats scene.shared.shape scene.seats.items × AreWatches 1 scene.shared.shape scene.watches.items) }
-    {
-        Scene::in_shape(rt, alloc, protocol, Shape::new(cores, 4, 64).ok()?)
-    }
-
-    /// A scene of another shape. `None` where it is refused.
-    pub(super) fn in_shape<R: Wait>(
-        rt: &R,
-        alloc: Global,
-        protocol: Protocol,
-        shape: Shape,
-    ) -> Option<Scene>
-        ensures shared { IfSome result (λ scene. scene.shared ≡ record { protocol = protocol; shape = shape }) }
-        ensures seats { IfSome result (λ scene. AreSeats scene.shared.shape scene.seats.items × AreWatches 1 scene.shared.shape scene.watches.items) }
-    {
-        let Ok((shared, seats, watches)) = Shared::new(rt, alloc, protocol, shape, 1) else {
-            return None;
-        };
->>>>>>> f62a141d (snoop_cores_tests: the scene says what its seats and watches are by its own machine)
         Some(Scene {
             shared,
             seats,
