@@ -6,7 +6,7 @@ use snoop_sim::{
     simulate_steps, simulate_threads,
 };
 use snoop_trace::streams::{Sink, Source};
-use snoop_trace::{Shape, TextFault, WriteFault};
+use snoop_trace::{Shape, WriteFault};
 use std::alloc::Global;
 use std::sync::Wait;
 use std::test::Fail;
@@ -149,7 +149,7 @@ impl Engine {
         }
     }
 
-    /// How the simulation ends, with 2 cores and 4 blocks.
+    /// How the simulation ends, with 2 cores and 4 blocks. A fault of the threads is told as `NoMemory`.
     pub(crate) fn simulate<T: Threads + Wait + Sync, R: Source, W: Sink>(
         self,
         rt: &T,
@@ -160,50 +160,29 @@ impl Engine {
     ) -> Result<Ended, Fail> {
         let shape = Shape::new(2, 4, 64)?;
         Ok(match self {
-            Engine::Steps => steps_ended(simulate_steps(alloc, reader, writer, protocol, shape)),
-            Engine::Run => steps_ended(simulate_run(alloc, reader, writer, protocol, shape)),
-            Engine::Serial => steps_ended(simulate_serial(alloc, reader, writer, protocol, shape)),
-            Engine::States => steps_ended(simulate_states(
-                alloc,
-                reader,
-                writer,
-                protocol,
-                shape,
-                Input::Steps,
-                Choice::new(shape, None, 1, u64::MAX)?,
-            )),
-            Engine::Threads => threads_ended(simulate_threads(
-                rt, alloc, reader, writer, protocol, shape,
-            )),
+            Engine::Steps => simulate_steps(alloc, reader, writer, protocol, shape),
+            Engine::Run => simulate_run(alloc, reader, writer, protocol, shape),
+            Engine::Serial => simulate_serial(alloc, reader, writer, protocol, shape),
+            Engine::States => {
+                let all = Choice::new(shape, None, 1, u64::MAX)?;
+                simulate_states(alloc, reader, writer, protocol, shape, Input::Steps, all)
+            }
+            Engine::Threads => {
+                threads_ended(simulate_threads(rt, alloc, reader, writer, protocol, shape))
+            }
         })
     }
 }
 
 /// How a simulation ends.
-#[derive(Clone, Copy, PartialEq, Eq)]
-pub enum Ended {
-    Done,
-    Text(TextFault),
-    Memory,
-    Write,
-    Otherwise,
-}
-
-fn steps_ended(answer: Result<(), SimFault>) -> Ended {
-    match answer {
-        Ok(()) => Ended::Done,
-        Err(SimFault::Text(fault)) => Ended::Text(fault),
-        Err(SimFault::NoMemory) => Ended::Memory,
-        Err(SimFault::Write) => Ended::Write,
-    }
-}
+pub(crate) type Ended = Result<(), SimFault>;
 
 fn threads_ended(answer: Result<(), ThreadsFault>) -> Ended {
     match answer {
-        Ok(()) => Ended::Done,
-        Err(ThreadsFault::Text(fault)) => Ended::Text(fault),
-        Err(ThreadsFault::Write(WriteFault::Write)) => Ended::Write,
-        Err(_) => Ended::Otherwise,
+        Ok(()) => Ok(()),
+        Err(ThreadsFault::Text(fault)) => Err(SimFault::Text(fault)),
+        Err(ThreadsFault::Write(WriteFault::Write)) => Err(SimFault::Write),
+        Err(_) => Err(SimFault::NoMemory),
     }
 }
 

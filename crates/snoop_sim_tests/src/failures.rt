@@ -43,8 +43,8 @@ impl Trial {
             .simulate(rt, alloc, &mut reader, &mut writer, Protocol::Msi)?;
         let left = &writer.inner;
         let is_well = match ended {
-            Ended::Done => left.held.as_slice() == output,
-            Ended::Text(_) => left.held.is_empty(),
+            Ok(()) => left.held.as_slice() == output,
+            Err(SimFault::Text(_)) => left.held.is_empty(),
             _ => output.starts_with(&left.held) && left.held.len() >= self.calls && left.failed,
         };
         if is_well && left.calls_after == 0 {
@@ -59,8 +59,8 @@ impl Trial {
         for calls in 0..AMPLE {
             let trial = Trial { calls, ..self };
             match trial.ends(rt, alloc)? {
-                Ended::Write => {}
-                Ended::Done => return Ok(calls),
+                Err(SimFault::Write) => {}
+                Ok(()) => return Ok(calls),
                 _ => Err(trial)?,
             }
         }
@@ -81,7 +81,7 @@ fn readers_that_fail(rt: HostRuntime) -> Result<(), Fail> {
                     fault: Fault::Refuses,
                 };
                 let ended = trial.ends(&rt, rt.alloc())?;
-                if ended != Ended::Text(TextFault::Read) {
+                if ended != Err(SimFault::Text(TextFault::Read)) {
                     Err(trial)?
                 }
             }
@@ -101,7 +101,7 @@ fn a_fault_before_a_failing_read_is_named(rt: HostRuntime) -> Result<(), Fail> {
         });
         let mut written = Vec::new(rt.alloc());
         let ended = engine.simulate(&rt, rt.alloc(), &mut reader, &mut written, Protocol::Msi)?;
-        if ended != Ended::Text(TextFault::BadKind(2)) {
+        if ended != Err(SimFault::Text(TextFault::BadKind(2))) {
             return Err(Fail::from("the fault that is named"));
         }
         if !written.is_empty() {

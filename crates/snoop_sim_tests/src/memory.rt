@@ -2,6 +2,7 @@
 
 use crate::engine::{Ended, Engine};
 use snoop_rules::Protocol;
+use snoop_sim::SimFault;
 use snoop_trace::TextFault;
 use std::alloc::Global;
 use std::sync::Wait;
@@ -12,9 +13,9 @@ use std::thread::Threads;
 /// nothing where reading was out of memory. A vector that can't grow is a writer that fails.
 fn is_left(ended: Ended, written: &[u8], whole: &[u8]) -> bool {
     match ended {
-        Ended::Done => written == whole,
-        Ended::Text(TextFault::NoMemory) => written.is_empty(),
-        Ended::Memory | Ended::Write => whole.starts_with(written),
+        Ok(()) => written == whole,
+        Err(SimFault::Text(TextFault::NoMemory)) => written.is_empty(),
+        Err(SimFault::NoMemory | SimFault::Write) => whole.starts_with(written),
         _ => false,
     }
 }
@@ -47,7 +48,7 @@ fn leaves_a_beginning<T: Threads + Wait + Sync>(
         if !is_second_left {
             return Err(Fail::from("what the second run leaves"));
         }
-        if first != Ended::Done && second != Ended::Done {
+        if first.is_err() && second.is_err() {
             return Err(Fail::from("both runs fail"));
         }
     }
