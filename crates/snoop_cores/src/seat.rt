@@ -50,7 +50,16 @@ impl Model for Seat {
 
     ghost Value = { Seating };
 
-    ghost view = { λ s. record { core = s.core; shape = s.share.share.shape; seen = s.reader.seen; answers = s.answers.items; pending = s.pending; strange = s.strange; stop = s.stop; turns = s.share.turns } };
+    ghost view = { λ s. record {
+      core = s.core;
+      shape = s.share.share.shape;
+      seen = s.reader.seen;
+      answers = s.answers.items;
+      pending = s.pending;
+      strange = s.strange;
+      stop = s.stop;
+      turns = s.share.turns;
+    } };
 
     ghost invariant = { λ s. IsOfShape s.reader s.share.share.shape
         × (s.core < s.share.share.shape.cores) × StartsWith (answers_of s.reader.seen s.core) s.answers.items };

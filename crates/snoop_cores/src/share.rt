@@ -39,7 +39,8 @@ pub(crate) struct Held<'a> {
 impl Lock {
     /// A lock round this bench. `NoMemory` also ends the bench.
     pub(crate) fn new<R: Wait>(rt: &R, alloc: Global, bench: Bench) -> Result<Lock, NoMemory>
-        ensures { IfOk result (λ lock. (lock.share.protocol ≡ bench.situation.protocol) × (lock.share.shape ≡ bench.situation.shape)) }
+        ensures { IfOk result (λ lock. (lock.share.protocol ≡ bench.situation.protocol)
+            × (lock.share.shape ≡ bench.situation.shape)) }
     {
         let protocol = bench.protocol();
         let shape = bench.shape();
@@ -171,7 +172,7 @@ impl SeatShare {
         self.share.shape()
     }
 
-    /// Takes turns of the core until its work is over, and reports the last of them. Whatever comes of it, the count has changed.
+    /// Takes turns of the core until its work is over, and reports the last of them. The count has changed, whatever it reports.
     pub(crate) fn finish<R: Wait>(
         &mut self,
         rt: &R,
