@@ -149,7 +149,7 @@ impl Engine {
         }
     }
 
-    /// How the simulation ends, with 2 cores and 4 blocks. A fault of the threads is told as `NoMemory`.
+    /// How the simulation ends, with 2 cores and 4 blocks. A fault of the threads is reported as `NoMemory`.
     pub(crate) fn simulate<T: Threads + Wait + Sync, R: Source, W: Sink>(
         self,
         rt: &T,
